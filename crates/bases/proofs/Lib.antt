@@ -1,0 +1,9 @@
+pub mod Below
+pub mod Covering
+pub mod Leading
+pub mod MoreMembers
+pub mod NormalForms
+pub mod Normalizing
+pub mod Places
+pub mod SVectors
+pub mod Textbook

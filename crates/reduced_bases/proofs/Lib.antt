@@ -1,0 +1,4 @@
+pub mod Comparing
+pub mod Dropping
+pub mod Sorting
+pub mod Tails

@@ -1,0 +1,12 @@
+use Rattle.std.proofs.Common.{arith, ◌<◌}
+use Rattle.syzygy_laws.proofs.Kernels.{IsCovered_raised}
+use Rattle.syzygy_laws.proofs.LiftingByMarks.{HasFreeTerms_lowered, IsNormal_lowered, lift_cofactors, normal_form_raised}
+use Rattle.syzygy_laws.proofs.kernel_laws.lifts_by_marks.Goals as goal
+
+pub returns : goal.returns
+returns c = record {
+  member = λ n p m monomials F G v w domain order basis inside normal free member. normal_form_raised p m monomials F G domain order basis v w inside normal free member;
+  cofactors = λ n p m F v b domain ranks rv member. lift_cofactors p m F v b (let h : 1 < p = domain.above_one in omega arith) ranks rv member;
+  normal = λ n p m r s monomials b h. IsNormal_lowered p m r s monomials b h;
+  free = λ n p m monomials F G H b domain list part h. HasFreeTerms_lowered m G H (IsCovered_raised p m monomials F G H domain list part) b h;
+}
