@@ -1,0 +1,312 @@
+-- Two jobs out at once on (x^2 + y, xy, y^3 + x), event by event
+use Rattle.std.proofs.Common.{List, [], ap, arith, cond, inl, inr, refl, subst, suc, sym, zero, ℕ, ◌+◌, ◌<◌, ◌∷◌, ◌≡◌, ◌⊎◌}
+use Rattle.monomials.specs.Exponents.{cons, head, nil, tail}
+use Rattle.formal_sums.proofs.Comparing.{IsSame_compared}
+use Rattle.formal_sums.proofs.Sameness.{IsSame_of}
+use Rattle.bases.proofs.Leading.{IsLead_of_monic, lead_unique}
+use Rattle.bases.proofs.NormalForms.{IsMonicLead_normal}
+use Rattle.bases.specs.Bases.{IsCovered}
+use Rattle.bases.specs.Representations.{HasLcmRepresentation}
+use Rattle.base_examples.proofs.Bases.{lawful, x_apart, y_apart}
+use Rattle.base_examples.proofs.Histories.{basis_12, leaves_0, leaves_1, monic_2, occurs_at, occurs_cases, occurs_none, queued_of}
+use Rattle.base_examples.proofs.Vectors.{membership_sum}
+use Rattle.base_examples.specs.Crossings.{budget_met, crossing, crossing_1, crossing_2, crossing_3, crossing_first, crossing_last, cubic, cubic_member, new_members, old_members, one_pair, only_y, square_row, y_member}
+use Rattle.base_examples.specs.Examples.{at, generators, membership_cofactors, setting, square_plus, xy, y_squared}
+use Rattle.base_examples.specs.Histories.{member_0, member_1, state_4, two_members}
+use Rattle.basis_steps.specs.Criteria.{CriterionApplies}
+use Rattle.basis_steps.specs.Divisions.{IsMonicMember, LeavesMember, LeavesNothing, Makes}
+use Rattle.basis_steps.specs.Outcomes.{AreJobProducts, HasLeadBelowJob, IsMadeOf, IsOutcome, Occurs, OccursBefore}
+use Rattle.basis_steps.specs.Pairs.{Pair, count}
+use Rattle.basis_steps.specs.Queues.{is_new_pair}
+use Rattle.basis_steps.specs.States.{Product, Put, Take, cofactor_lists, vectors}
+use Rattle.basis_steps.specs.Steps.{Begins, Replays, Step, generator_rows}
+
+monic_cubic : IsMonicMember setting cubic
+monic_cubic = record {
+  monic = IsMonicLead_normal setting lawful cubic (record { descends = ((refl, tt), (tt, tt)); residues = ((omega arith, omega arith), ((omega arith, omega arith), tt)) }) refl;
+  ranked = (omega arith, (omega arith, tt));
+}
+
+monic_y : IsMonicMember setting only_y
+monic_y = record {
+  monic = IsMonicLead_normal setting lawful only_y (record { descends = (tt, tt); residues = ((omega arith, omega arith), tt) }) refl;
+  ranked = (omega arith, tt);
+}
+
+-- ---- the members
+free_cubic : IsCovered generators (at 0 0 3) → ⊥
+free_cubic (zero, h, d) = x_apart 2 0 0 3 (omega arith) d
+free_cubic (suc zero, h, d) = x_apart 1 1 0 3 (omega arith) d
+free_cubic (suc (suc i), h, d) = absurd (omega arith)
+
+free_y : IsCovered (vectors old_members) (at 0 0 1) → ⊥
+free_y (zero, h, d) = x_apart 2 0 0 1 (omega arith) d
+free_y (suc zero, h, d) = x_apart 1 1 0 1 (omega arith) d
+free_y (suc (suc zero), h, d) = y_apart 0 3 0 1 (omega arith) d
+free_y (suc (suc (suc i)), h, d) = absurd (omega arith)
+
+leaves_cubic : LeavesMember setting two_members cubic_member [] 1 1 cubic_member
+leaves_cubic = record { quotients = tt; at_most = inr refl; inverse = record { same = refl }; vector = IsSame_of 101 _ _ refl; cofactors = IsSame_of 101 _ _ refl; member = monic_cubic; free = free_cubic }
+
+leaves_y : LeavesMember setting old_members y_member [] 1 1 y_member
+leaves_y = record { quotients = tt; at_most = inr refl; inverse = record { same = refl }; vector = IsSame_of 101 _ _ refl; cofactors = IsSame_of 101 _ _ refl; member = monic_y; free = free_y }
+
+-- y^2 is y times the newest member
+leaves_nothing : LeavesNothing setting new_members square_row ((at 3 0 1, 1) ∷ [])
+leaves_nothing = record { quotients = ((omega arith, inr refl), tt); vector = IsSame_of 101 _ _ refl }
+
+makes_old : Makes setting [] (generator_rows 0 crossing.generators) old_members
+makes_old = inr ([], 1, 1, member_0, member_1 ∷ (cubic_member ∷ []), leaves_0, refl, inr ([], 1, 1, member_1, cubic_member ∷ [], leaves_1, refl, inr ([], 1, 1, cubic_member, [], leaves_cubic, refl, refl)))
+
+-- ---- the queues
+first_queue : (i j : ℕ) → i < j → j < 3 → count (i, j) ((0, 1) ∷ ((1, 2) ∷ ((0, 2) ∷ []))) ≡ count (i, j) [] + cond (is_new_pair 0 (vectors old_members) (i, j)) 1 0
+first_queue i zero lt h = absurd (omega arith)
+first_queue zero (suc zero) lt h = refl
+first_queue (suc i) (suc zero) lt h = absurd (omega arith)
+first_queue zero (suc (suc zero)) lt h = refl
+first_queue (suc zero) (suc (suc zero)) lt h = refl
+first_queue (suc (suc i)) (suc (suc zero)) lt h = absurd (omega arith)
+first_queue i (suc (suc (suc j))) lt h = absurd (omega arith)
+
+-- the pairs with y
+y_queue : List Pair
+y_queue = (1, 3) ∷ ((2, 3) ∷ ((0, 3) ∷ []))
+
+new_queue : (i j : ℕ) → i < j → j < 4 → count (i, j) y_queue ≡ count (i, j) [] + cond (is_new_pair 3 (vectors new_members) (i, j)) 1 0
+unfolding y_queue
+new_queue i zero lt h = absurd (omega arith)
+new_queue zero (suc zero) lt h = refl
+new_queue (suc i) (suc zero) lt h = absurd (omega arith)
+new_queue zero (suc (suc zero)) lt h = refl
+new_queue (suc zero) (suc (suc zero)) lt h = refl
+new_queue (suc (suc i)) (suc (suc zero)) lt h = absurd (omega arith)
+new_queue zero (suc (suc (suc zero))) lt h = refl
+new_queue (suc zero) (suc (suc (suc zero))) lt h = refl
+new_queue (suc (suc zero)) (suc (suc (suc zero))) lt h = refl
+new_queue (suc (suc (suc i))) (suc (suc (suc zero))) lt h = absurd (omega arith)
+new_queue i (suc (suc (suc (suc j)))) lt h = absurd (omega arith)
+
+same_queue : (i j : ℕ) → i < j → j < 4 → count (i, j) y_queue ≡ count (i, j) y_queue + cond (is_new_pair 4 (vectors new_members) (i, j)) 1 0
+unfolding y_queue
+same_queue i zero lt h = absurd (omega arith)
+same_queue zero (suc zero) lt h = refl
+same_queue (suc i) (suc zero) lt h = absurd (omega arith)
+same_queue zero (suc (suc zero)) lt h = refl
+same_queue (suc zero) (suc (suc zero)) lt h = refl
+same_queue (suc (suc i)) (suc (suc zero)) lt h = absurd (omega arith)
+same_queue zero (suc (suc (suc zero))) lt h = refl
+same_queue (suc zero) (suc (suc (suc zero))) lt h = refl
+same_queue (suc (suc zero)) (suc (suc (suc zero))) lt h = refl
+same_queue (suc (suc (suc i))) (suc (suc (suc zero))) lt h = absurd (omega arith)
+same_queue i (suc (suc (suc (suc j)))) lt h = absurd (omega arith)
+
+-- ---- the criteria: to (0, 1) and (1, 2) none applies
+not_01 : (waits : Pair → ℕ) → CriterionApplies setting (vectors old_members) waits (0, 1) → ⊥
+not_01 waits (inl (one, e)) = let q : ◌≡◌ {A = ℕ} 3 2 = ap head e in absurd (omega arith)
+not_01 waits (inr (zero, c)) = c.left refl
+not_01 waits (inr (suc zero, c)) = c.right refl
+not_01 waits (inr (suc (suc zero), c)) = y_apart 0 3 2 1 (omega arith) c.divides
+not_01 waits (inr (suc (suc (suc k)), c)) = let w = c.within in absurd (omega arith)
+
+not_12 : (waits : Pair → ℕ) → CriterionApplies setting (vectors old_members) waits (1, 2) → ⊥
+not_12 waits (inl (one, e)) = let q : ◌≡◌ {A = ℕ} 4 3 = ap (λ m. head (tail m)) e in absurd (omega arith)
+not_12 waits (inr (zero, c)) = x_apart 2 0 1 3 (omega arith) c.divides
+not_12 waits (inr (suc zero, c)) = c.left refl
+not_12 waits (inr (suc (suc zero), c)) = c.right refl
+not_12 waits (inr (suc (suc (suc k)), c)) = let w = c.within in absurd (omega arith)
+
+-- ---- the outcome y of the job (1, 2)
+-- y^2 (xy), x (y^3 + x) and x^2 + y
+y_products : List (Product 2)
+y_products = (1, cons 0 (cons 2 nil)) ∷ ((2, cons 1 (cons 0 nil)) ∷ ((0, cons 0 (cons 0 nil)) ∷ []))
+
+y_represents : HasLcmRepresentation setting (square_plus ∷ (xy ∷ (cubic ∷ (only_y ∷ [])))) 1 2
+y_represents = record {
+  cofactors = (at 0 0 0, 100) ∷ ((at 3 0 0, 1) ∷ []);
+  below = ((omega arith, refl), ((omega arith, refl), tt));
+  sums = IsSame_compared _ _ (record { same = refl }, (record { same = refl }, (record { same = refl }, (record { same = refl }, (record { same = refl }, (record { same = refl }, tt))))));
+}
+
+y_low : HasLeadBelowJob setting (vectors old_members) ((1, 2) ∷ []) only_y
+y_low k h = ((1, 2), omega arith, ap (λ l. setting.compare l (at 0 1 3)) (lead_unique setting lawful only_y k (at 0 0 1) h (IsLead_of_monic setting lawful monic_y.monic)))
+
+y_job_products : AreJobProducts 101 (vectors old_members) ((1, 2) ∷ []) y_products
+unfolding y_products
+y_job_products zero h = (omega arith, inl ((1, 2), omega arith, refl))
+y_job_products (suc zero) h = (omega arith, inl ((1, 2), omega arith, refl))
+y_job_products (suc (suc zero)) h = (omega arith, inr (1, omega arith, omega arith, occurs_at ((at 0 1 3, 1) ∷ ((at 0 2 0, 1) ∷ [])) (at 0 2 0) refl))
+y_job_products (suc (suc (suc i))) h = absurd (omega arith)
+
+y_made : IsMadeOf 101 (vectors old_members) y_products only_y
+unfolding y_products
+y_made k h = go (occurs_cases (at 0 0 1, 1) [] k h)
+  where
+    go : (k ≡ at 0 0 1) ⊎ Occurs 101 [] k → OccursBefore 101 (vectors old_members) y_products 3 k
+    go (inl e) = (2, omega arith, omega arith, subst (Occurs 101 ((at 0 2 0, 1) ∷ ((at 0 0 1, 1) ∷ []))) (sym e) (occurs_at ((at 0 2 0, 1) ∷ ((at 0 0 1, 1) ∷ [])) (at 0 0 1) refl))
+    go (inr q) = absurd (occurs_none k q)
+
+y_cofactors_made : IsMadeOf 101 (cofactor_lists old_members) y_products y_member.cofactors
+unfolding y_products
+y_cofactors_made k h = first (occurs_cases (at 0 0 0, 1) ((at 1 0 2, 1) ∷ ((at 2 1 0, 100) ∷ [])) k h)
+  where
+    third : (k ≡ at 2 1 0) ⊎ Occurs 101 [] k → OccursBefore 101 (cofactor_lists old_members) y_products 3 k
+    third (inl e) = (1, omega arith, omega arith, subst (Occurs 101 ((at 2 1 0, 1) ∷ [])) (sym e) (occurs_at ((at 2 1 0, 1) ∷ []) (at 2 1 0) refl))
+    third (inr q) = absurd (occurs_none k q)
+
+    second : (k ≡ at 1 0 2) ⊎ Occurs 101 ((at 2 1 0, 100) ∷ []) k → OccursBefore 101 (cofactor_lists old_members) y_products 3 k
+    second (inl e) = (0, omega arith, omega arith, subst (Occurs 101 ((at 1 0 2, 1) ∷ [])) (sym e) (occurs_at ((at 1 0 2, 1) ∷ []) (at 1 0 2) refl))
+    second (inr q) = third (occurs_cases (at 2 1 0, 100) [] k q)
+
+    first : (k ≡ at 0 0 0) ⊎ Occurs 101 ((at 1 0 2, 1) ∷ ((at 2 1 0, 100) ∷ [])) k → OccursBefore 101 (cofactor_lists old_members) y_products 3 k
+    first (inl e) = (2, omega arith, omega arith, subst (Occurs 101 ((at 0 0 0, 1) ∷ [])) (sym e) (occurs_at ((at 0 0 0, 1) ∷ []) (at 0 0 0) refl))
+    first (inr q) = second (occurs_cases (at 1 0 2, 1) ((at 2 1 0, 100) ∷ []) k q)
+
+y_outcome : IsOutcome crossing old_members ((1, 2) ∷ []) (y_member ∷ []) y_products
+y_outcome = record {
+  some = omega arith;
+  pairs = (record { ordered = omega arith; within = omega arith; position = refl }, tt);
+  represented = (y_represents, tt);
+  few = omega arith;
+  low = (y_low, tt);
+  combined = (IsSame_compared _ _ (record { same = refl }, (record { same = refl }, (record { same = refl }, (record { same = refl }, (record { same = refl }, (record { same = refl }, tt)))))), tt);
+  job_products = y_job_products;
+  vectors_made = (y_made, tt);
+  cofactors_made = (y_cofactors_made, tt);
+}
+
+-- ---- the outcome y^2 of the job (0, 1)
+-- y (x^2 + y) and x (xy)
+square_products : List (Product 2)
+square_products = (0, cons 0 (cons 1 nil)) ∷ ((1, cons 1 (cons 0 nil)) ∷ [])
+
+square_represents : HasLcmRepresentation setting (square_plus ∷ (xy ∷ (cubic ∷ (y_squared ∷ [])))) 0 1
+square_represents = record {
+  cofactors = (at 3 0 0, 1) ∷ [];
+  below = ((omega arith, refl), tt);
+  sums = IsSame_compared _ _ (record { same = refl }, (record { same = refl }, (record { same = refl }, (record { same = refl }, tt))));
+}
+
+square_low : HasLeadBelowJob setting (vectors old_members) ((0, 1) ∷ []) y_squared
+square_low k h = ((0, 1), omega arith, ap (λ l. setting.compare l (at 0 2 1)) (lead_unique setting lawful y_squared k (at 0 0 2) h (IsLead_of_monic setting lawful monic_2.monic)))
+
+square_job_products : AreJobProducts 101 (vectors old_members) ((0, 1) ∷ []) square_products
+unfolding square_products
+square_job_products zero h = (omega arith, inl ((0, 1), omega arith, refl))
+square_job_products (suc zero) h = (omega arith, inl ((0, 1), omega arith, refl))
+square_job_products (suc (suc i)) h = absurd (omega arith)
+
+square_made : IsMadeOf 101 (vectors old_members) square_products y_squared
+unfolding square_products
+square_made k h = go (occurs_cases (at 0 0 2, 1) [] k h)
+  where
+    go : (k ≡ at 0 0 2) ⊎ Occurs 101 [] k → OccursBefore 101 (vectors old_members) square_products 2 k
+    go (inl e) = (0, omega arith, omega arith, subst (Occurs 101 ((at 0 2 1, 1) ∷ ((at 0 0 2, 1) ∷ []))) (sym e) (occurs_at ((at 0 2 1, 1) ∷ ((at 0 0 2, 1) ∷ [])) (at 0 0 2) refl))
+    go (inr q) = absurd (occurs_none k q)
+
+square_cofactors_made : IsMadeOf 101 (cofactor_lists old_members) square_products membership_cofactors
+unfolding square_products
+square_cofactors_made k h = go (occurs_cases (at 0 0 1, 1) ((at 1 1 0, 100) ∷ []) k h)
+  where
+    last : (k ≡ at 1 1 0) ⊎ Occurs 101 [] k → OccursBefore 101 (cofactor_lists old_members) square_products 2 k
+    last (inl e) = (1, omega arith, omega arith, subst (Occurs 101 ((at 1 1 0, 1) ∷ [])) (sym e) (occurs_at ((at 1 1 0, 1) ∷ []) (at 1 1 0) refl))
+    last (inr q) = absurd (occurs_none k q)
+
+    go : (k ≡ at 0 0 1) ⊎ Occurs 101 ((at 1 1 0, 100) ∷ []) k → OccursBefore 101 (cofactor_lists old_members) square_products 2 k
+    go (inl e) = (0, omega arith, omega arith, subst (Occurs 101 ((at 0 0 1, 1) ∷ [])) (sym e) (occurs_at ((at 0 0 1, 1) ∷ []) (at 0 0 1) refl))
+    go (inr q) = last (occurs_cases (at 1 1 0, 100) [] k q)
+
+square_outcome : IsOutcome crossing old_members ((0, 1) ∷ []) (square_row ∷ []) square_products
+square_outcome = record {
+  some = omega arith;
+  pairs = (record { ordered = omega arith; within = omega arith; position = refl }, tt);
+  represented = (square_represents, tt);
+  few = omega arith;
+  low = (square_low, tt);
+  combined = (membership_sum, tt);
+  job_products = square_job_products;
+  vectors_made = (square_made, tt);
+  cofactors_made = (square_cofactors_made, tt);
+}
+
+-- ---- the beginning and the events
+begins : Begins crossing crossing_first
+begins = record {
+  makes = makes_old;
+  queues = record { sorted = ((refl, (refl, tt)), ((refl, tt), (tt, tt))); same = queued_of 0 (vectors old_members) [] ((0, 1) ∷ ((1, 2) ∷ ((0, 2) ∷ []))) tt ((omega arith, omega arith), ((omega arith, omega arith), ((omega arith, omega arith), tt))) first_queue };
+  out = refl;
+  taken = refl;
+  ended = refl;
+  stop = refl;
+  history = refl;
+}
+
+step_1 : Step crossing crossing_first (Take 0 ((0, 2) ∷ []) ((0, 1) ∷ [])) crossing_1
+step_1 = (
+  512,
+  record { known = omega arith; works = refl; free = refl; some = omega arith },
+  inr (
+    (0, 1) ∷ ((1, 2) ∷ []),
+    record {
+      unstopped = refl;
+      skips = ((0, 1) ∷ ((1, 2) ∷ []), [], refl, (not_01 _, (not_12 _, tt)), inl (refl, refl), refl);
+      none_applies = (not_01 _, (not_12 _, tt));
+      gives = refl;
+      after = refl;
+    },
+  ),
+)
+
+step_2 : Step crossing crossing_1 (Take 1 [] ((1, 2) ∷ [])) crossing_2
+step_2 = (512, record { known = omega arith; works = refl; free = refl; some = omega arith }, inr ((1, 2) ∷ [], record { unstopped = refl; skips = refl; none_applies = (not_12 _, tt); gives = refl; after = refl }))
+
+step_3 : Step crossing crossing_2 (Put 1 (y_member ∷ [])) crossing_3
+unfolding y_queue
+step_3 = record {
+  known = omega arith;
+  works = refl;
+  base = 3;
+  had = omega arith;
+  rows = y_member ∷ [];
+  products = y_products;
+  outcome = y_outcome;
+  makes = inr ([], 1, 1, y_member, [], leaves_y, refl, refl);
+  queue = y_queue;
+  queues = record { sorted = ((refl, (refl, tt)), ((refl, tt), (tt, tt))); same = queued_of 3 (vectors new_members) [] y_queue tt ((omega arith, omega arith), ((omega arith, omega arith), ((omega arith, omega arith), tt))) new_queue };
+  after = refl;
+}
+
+step_4 : Step crossing crossing_3 (Put 0 []) crossing_last
+unfolding y_queue
+step_4 = record {
+  known = omega arith;
+  works = refl;
+  base = 3;
+  had = omega arith;
+  rows = square_row ∷ [];
+  products = square_products;
+  outcome = square_outcome;
+  makes = inl ((at 3 0 1, 1) ∷ [], leaves_nothing, refl);
+  queue = y_queue;
+  queues = record { sorted = ((refl, (refl, tt)), ((refl, tt), (tt, tt))); same = queued_of 4 (vectors new_members) y_queue y_queue ((omega arith, omega arith), ((omega arith, omega arith), ((omega arith, omega arith), tt))) ((omega arith, omega arith), ((omega arith, omega arith), ((omega arith, omega arith), tt))) same_queue };
+  after = refl;
+}
+
+pub crossing_replays : Replays crossing crossing_last
+crossing_replays = (crossing_first, begins, (crossing_1, step_1, (crossing_2, step_2, (crossing_3, step_3, (crossing_last, step_4, refl)))))
+
+-- a Take that meets the budget of one pair
+pub budget_step : Step one_pair state_4 (Take 0 ((0, 2) ∷ []) []) budget_met
+budget_step = (
+  512,
+  record { known = omega arith; works = refl; free = refl; some = omega arith },
+  inr (
+    (1, 2) ∷ [],
+    record {
+      unstopped = refl;
+      skips = ((1, 2) ∷ [], [], refl, (basis_12 _, tt), inl (refl, refl), refl);
+      none_applies = (basis_12 _, tt);
+      gives = refl;
+      after = refl;
+    },
+  ),
+)

@@ -1,0 +1,350 @@
+-- Each event keeps the invariant
+use Rattle.std.proofs.Common.{Bool, List, [], None, Option, Some, ap, append-nil, append_assoc, arith, cond, drop, eq-eqb, eqb-true, false, filter, get_or, inl, inr, leb, length, length-append, ltb, map, nat_eq, not, refl, set, subst, suc, sym, take, true, zero, ℕ, ◌&&◌, ◌++◌, ◌+◌, ◌<◌, ◌==◌, ◌∙◌, ◌∷◌, ◌≡◌, ◌≤◌, ◌⊎◌}
+use Rattle.std.proofs.Common.{Less}
+use Rattle.std.proofs.lemmas.Bool.{cases_lt, leb-true, ltb-true}
+use Rattle.std.proofs.lemmas.List.{get_or-set_other, length-set, length-take}
+use Rattle.monomials.proofs.Monomials.{and_left, and_right}
+use Rattle.formal_sums.proofs.WeightedSums.{Each_append}
+use Rattle.formal_sums.specs.Combinations.{IsMember}
+use Rattle.formal_sums.specs.FormalSums.{Each, FormalSum}
+use Rattle.bases.specs.Leads.{leads}
+use Rattle.bases.specs.Settings.{Setting}
+use Rattle.basis_steps.proofs.Counting.{count-append, count-split, count_out_with, count_workers, pairs_out-append}
+use Rattle.basis_steps.proofs.Covering.{gives_covered, put_covered, skips_covered}
+use Rattle.basis_steps.proofs.Growing.{leads_front, length-vectors, vectors-append}
+use Rattle.basis_steps.proofs.Making.{makes_combined, makes_members, makes_new_leads, module_more}
+use Rattle.basis_steps.specs.Criteria.{AreCovered, IsPair, Skips, waiting}
+use Rattle.basis_steps.specs.Divisions.{Makes}
+use Rattle.basis_steps.specs.Invariant.{HoldsInvariant}
+use Rattle.basis_steps.specs.Pairs.{Pair, count}
+use Rattle.basis_steps.specs.Queues.{IsSorted, compare_pairs, is_new_pair, share}
+use Rattle.basis_steps.specs.States.{Degree, End, Ended, Ending, Event, IsLawfulRun, Member, MoreWork, Pairs, Put, Run, State, Stop, StopReason, Take, Trail, job_given, job_of, pairs_out, pairs_taken, vectors, with_others}
+use Rattle.basis_steps.specs.Steps.{Ends, FindsStop, MayTake, Puts, Step, Stops, Takes, ended_after, ending_of, first_stop, is_empty, is_stopped, out_with, stop_of_take}
+use Rattle.basis_steps.specs.Trails.{IsTrail}
+
+taken-append : {n : ℕ} (es : List (Event n)) (e : Event n) → pairs_taken (es ++ (e ∷ [])) ≡ pairs_taken es ++ job_given e
+taken-append [] e = append-nil (job_given e)
+taken-append (f ∷ es) e = ap (λ x. job_given f ++ x) (taken-append es e) ∙ sym (append_assoc (job_given f) (pairs_taken es) (job_given e))
+
+-- an event without a job
+taken_same : {n : ℕ} (es : List (Event n)) (e : Event n) → job_given e ≡ [] → pairs_taken (es ++ (e ∷ [])) ≡ pairs_taken es
+taken_same es e h = taken-append es e ∙ ap (λ x. pairs_taken es ++ x) h ∙ append-nil (pairs_taken es)
+
+-- what is left after the skips was queued
+skips_less :
+    {n : ℕ} (S : Setting n) (G : List (FormalSum n)) (out : List (Pair × ℕ)) (queue skipped left : List Pair)
+    → Skips S G out queue skipped left → (x : Pair) → count x left ≤ count x queue
+skips_less S G out queue [] left d x = omega (arith, ap (count x) d)
+skips_less S G out queue (y ∷ skipped) left (front, back, e, none, applies, rest) x =
+    omega (arith, skips_less S G out (front ++ back) skipped left rest x, ap (count x) e, count-append x front (y ∷ back), count-append x front back)
+
+-- a part of a sorted queue
+each_without : (P : Pair → Type 0) (front back : List Pair) (x : Pair) → Each P (front ++ (x ∷ back)) → Each P (front ++ back)
+each_without P [] back x h = h.1
+each_without P (y ∷ front) back x h = (h.0, each_without P front back x h.1)
+
+sorted_without :
+    {n : ℕ} (S : Setting n) (G : List (FormalSum n)) (front back : List Pair) (x : Pair)
+    → IsSorted S G (front ++ (x ∷ back)) → IsSorted S G (front ++ back)
+sorted_without S G [] back x h = h.1
+sorted_without S G (y ∷ front) back x h = (each_without (λ z. compare_pairs S G y z ≡ Less) front back x h.0, sorted_without S G front back x h.1)
+
+sorted_skips :
+    {n : ℕ} (S : Setting n) (G : List (FormalSum n)) (out : List (Pair × ℕ)) (queue skipped left : List Pair)
+    → Skips S G out queue skipped left → IsSorted S G queue → IsSorted S G left
+sorted_skips S G out queue [] left d h = subst (IsSorted S G) (sym d) h
+sorted_skips S G out queue (y ∷ skipped) left (front, back, e, none, applies, rest) h = sorted_skips S G out (front ++ back) skipped left rest (sorted_without S G front back y (subst (IsSorted S G) e h))
+
+sorted_drop : {n : ℕ} (S : Setting n) (G : List (FormalSum n)) (k : ℕ) (xs : List Pair) → IsSorted S G xs → IsSorted S G (drop k xs)
+sorted_drop S G zero xs h = h
+sorted_drop S G (suc k) [] h = tt
+sorted_drop S G (suc k) (x ∷ xs) h = sorted_drop S G k xs h.1
+
+out_with_each : (P : Pair × ℕ → Type 0) (w : ℕ) → ((x : Pair) → P (x, w)) → (xs : List Pair) → Each P (out_with w xs)
+out_with_each P w h [] = tt
+out_with_each P w h (x ∷ xs) = (h x, out_with_each P w h xs)
+
+others_each : (P : Pair × ℕ → Type 0) (w : ℕ) (out : List (Pair × ℕ)) → Each P out → Each P (with_others w out)
+others_each P w [] h = tt
+others_each P w (e ∷ out) h = go (e.1 == w) (others_each P w out h.1)
+  where
+    go : (c : Bool) → Each P (with_others w out) → Each P (cond (not c) (e ∷ with_others w out) (with_others w out))
+    go true r = r
+    go false r = (h.0, r)
+
+-- a worker with nothing out
+none_of : (w : ℕ) (out : List (Pair × ℕ)) → job_of w out ≡ [] → Each (λ e. e.1 ≡ w → ⊥) out
+none_of w [] h = tt
+none_of w (e ∷ out) h = go (e.1 == w) refl h (none_of w out)
+  where
+    go : (c : Bool) → (e.1 == w) ≡ c → map (λ (e : Pair × ℕ). e.0) (cond c (e ∷ filter (λ e. e.1 == w) out) (filter (λ e. e.1 == w) out)) ≡ [] → (job_of w out ≡ [] → Each (λ e. e.1 ≡ w → ⊥) out) → Each (λ e. e.1 ≡ w → ⊥) (e ∷ out)
+    go true d q f = absurd (cc)
+    go false d q f = (λ s. absurd (let z : (e.1 == w) ≡ true = eq-eqb e.1 w s in cc), f q)
+
+out_keeps :
+    (w : ℕ) (ended : List Bool) (out : List (Pair × ℕ)) → Each (λ e. e.1 ≡ w → ⊥) out
+    → Each (λ e. get_or ended e.1 true ≡ false) out → Each (λ e. get_or (set ended w true) e.1 true ≡ false) out
+out_keeps w ended [] h g = tt
+out_keeps w ended (e ∷ out) h g = (get_or-set_other ended w e.1 true true h.0 ∙ g.0, out_keeps w ended out h.1 g.1)
+
+-- the first k stay the first k
+take_front : {A : Type 0} (k : ℕ) (xs ys : List A) → k ≤ length xs → take k (xs ++ ys) ≡ take k xs
+take_front zero xs ys h = refl
+take_front (suc k) [] ys h = absurd (omega arith)
+take_front (suc k) (x ∷ xs) ys h = ap (λ l. x ∷ l) (take_front k xs ys (omega arith))
+
+-- a trail stays one as members are added and pairs taken
+trail_more :
+    {n : ℕ} (r : Run n) (G N : List (Member n)) (taken more : List Pair) (way : Trail n)
+    → ((x : Pair) → count x taken ≤ count x more) → IsTrail r G taken way → IsTrail r (G ++ N) more way
+trail_more r G N taken more way le h =
+    let m = h.members in
+    let same : take m.first (G ++ N) ≡ take m.first G = take_front m.first G N m.there in
+    record {
+      members = record {
+        first = m.first;
+        there = omega (arith, m.there, length-append G N);
+        rows = m.rows;
+        combined = m.combined;
+        made = m.made;
+        makes = subst (λ l. Makes r.setting l m.rows m.made) (sym same) m.makes;
+        same = m.same ∙ ap (λ l. l ++ m.made) (sym same);
+      };
+      start = omega (arith, h.start, le way.start);
+      pair = h.pair;
+      products = h.products;
+      monomial = h.monomial;
+      above = h.above;
+    }
+
+trail_taken :
+    {n : ℕ} (r : Run n) (G : List (Member n)) (taken more : List Pair) (way : Trail n)
+    → ((x : Pair) → count x taken ≤ count x more) → IsTrail r G taken way → IsTrail r G more way
+trail_taken r G taken more way le h = record {
+  members = h.members;
+  start = omega (arith, h.start, le way.start);
+  pair = h.pair;
+  products = h.products;
+  monomial = h.monomial;
+  above = h.above;
+}
+
+-- a pair with a new member
+abbrev IsNew : {n : ℕ} → State n → List (Member n) → Pair → Type 0
+IsNew s made x = (length s.members ≤ x.1) × IsPair (vectors (s.members ++ made)) x
+
+-- a pair of the list that the test finds new
+pub pair_of_new : {n : ℕ} (k : ℕ) (G : List (FormalSum n)) (x : Pair) → is_new_pair k G x ≡ true → (k ≤ x.1) × IsPair G x
+pair_of_new k G x e =
+    let same = nat_eq (leads G x.0).0 (leads G x.1).0 in
+    let e1 : (ltb x.1 (length G) && (ltb x.0 x.1 && same)) ≡ true = and_right (leb k x.1) _ e in
+    let e2 : (ltb x.0 x.1 && same) ≡ true = and_right (ltb x.1 (length G)) _ e1 in (
+      leb-true k x.1 (and_left (leb k x.1) _ e),
+      record {
+        ordered = ltb-true x.0 x.1 (and_left (ltb x.0 x.1) same e2);
+        within = ltb-true x.1 (length G) (and_left (ltb x.1 (length G)) (ltb x.0 x.1 && same) e1);
+        position = eqb-true (leads G x.0).0 (leads G x.1).0 (and_right (ltb x.0 x.1) same e2);
+      },
+    )
+
+module _ {n : ℕ} (r : Run n) (ok : IsLawfulRun r) (s : State n) (inv : HoldsInvariant r s) where
+  -- an event that only the history shows
+  kept_note : (e : Event n) → job_given e ≡ [] → HoldsInvariant r (record s { history = s.history ++ (e ∷ []) })
+  kept_note e h =
+      let same = taken_same s.history e h in
+      record {
+        members = inv.members;
+        combined = inv.combined;
+        generators = inv.generators;
+        new_leads = inv.new_leads;
+        covered = inv.covered;
+        real = λ x p. inv.real x (subst (λ l. 0 < count x s.queue + count x l) same p);
+        sorted = inv.sorted;
+        once = λ x. omega (arith, inv.once x, ap (count x) same);
+        out_taken = λ x. omega (arith, inv.out_taken x, ap (count x) same);
+        counted = inv.counted ∙ ap length (sym same);
+        within_budget = inv.within_budget;
+        workers = inv.workers;
+        at_work = inv.at_work;
+        somebody = inv.somebody;
+        trail = λ way e. subst (λ l. IsTrail r s.members l way) (sym same) (inv.trail way e);
+      }
+
+  pub kept_stopped : (w : ℕ) (skipped job : List Pair) (t : State n) → FindsStop s w skipped job t → HoldsInvariant r t
+  kept_stopped w skipped job t f = subst (HoldsInvariant r) (sym f.after) (kept_note (Take w skipped job) f.gives_none)
+
+  pub kept_take :
+      (w most : ℕ) (skipped job left : List Pair) (t : State n)
+      → MayTake r s w most → Takes r s w most skipped job left t → HoldsInvariant r t
+  kept_take w most skipped job left t may h =
+      let S = r.setting in
+      let G = vectors s.members in
+      let k = share r G s.taken most left in
+      let same = taken-append s.history (Take w skipped job) in
+      let less : (x : Pair) → count x left ≤ count x s.queue = skips_less S G s.out s.queue skipped left h.skips in
+      let split : (x : Pair) → count x job + count x (drop k left) ≡ count x left = λ x. ap (λ j. count x j + count x (drop k left)) h.gives ∙ count-split x k left in
+      let given : (x : Pair) → count x (pairs_taken (s.history ++ (Take w skipped job ∷ []))) ≡ count x (pairs_taken s.history) + count x job = λ x. ap (count x) same ∙ count-append x (pairs_taken s.history) job in
+      let outside : (x : Pair) → count x (pairs_out (s.out ++ out_with w job)) ≡ count x (pairs_out s.out) + count x job =
+      λ x. ap (count x) (pairs_out-append s.out (out_with w job)) ∙ count-append x (pairs_out s.out) (pairs_out (out_with w job)) ∙ ap (λ z. count x (pairs_out s.out) + z) (count_out_with x w job) in
+      let long : length job ≡ length (take k left) = ap length h.gives in
+      subst (HoldsInvariant r) (sym h.after) (record {
+        members = inv.members;
+        combined = inv.combined;
+        generators = inv.generators;
+        new_leads = inv.new_leads;
+        covered = subst (λ j. AreCovered S G (waiting (drop k left) (s.out ++ out_with w j))) (sym h.gives)
+            (gives_covered S ok.setting G inv.members s.out left w k
+            (skips_covered S ok.setting G inv.members s.out s.queue skipped left h.skips (λ x p. inv.real x (omega arith)) inv.covered));
+        real = λ x p. inv.real x (omega (arith, less x, split x, given x));
+        sorted = sorted_drop S G k left (sorted_skips S G s.out s.queue skipped left h.skips inv.sorted);
+        once = λ x. omega (arith, inv.once x, less x, split x, given x);
+        out_taken = λ x. omega (arith, inv.out_taken x, outside x, given x);
+        counted = omega (arith, inv.counted, ap length same, length-append (pairs_taken s.history) job);
+        within_budget = omega (arith, inv.within_budget, length-take k left);
+        workers = inv.workers;
+        at_work = λ e. Each_append (λ e. get_or s.ended e.1 true ≡ false) s.out (out_with w job) (inv.at_work h.unstopped) (out_with_each (λ e. get_or s.ended e.1 true ≡ false) w (λ x. may.works) job);
+        somebody = λ e p. (w, may.known, may.works);
+        trail = λ way e. absurd (no_degree left s.taken way e);
+      })
+    where
+      no_degree : (left : List Pair) (taken : ℕ) (way : Trail n) → stop_of_take r taken left ≡ Some (Degree way) → ⊥
+      no_degree [] taken way e = cc
+      no_degree (x ∷ left) taken way e = go (nat_eq taken r.budget) e
+        where
+          go : (b : Bool) → ◌≡◌ {A = Option (StopReason n)} (cond b (Some Pairs) None) (Some (Degree way)) → ⊥
+          go true e = cc
+          go false e = cc
+
+  pub kept_put : (w : ℕ) (made : List (Member n)) (t : State n) → Puts r s w made t → HoldsInvariant r t
+  kept_put w made t h =
+      let S = r.setting in
+      let G = s.members in
+      let vs = vectors-append G made in
+      let same = taken_same s.history (Put w made) refl in
+      subst (HoldsInvariant r) (sym h.after) (record {
+        members = makes_members S ok.setting G h.rows made h.makes inv.members;
+        combined = makes_combined S ok.setting r.generators G h.rows made h.makes h.outcome.combined inv.combined;
+        generators = λ i l. subst (λ v. IsMember S.modulus v (get_or r.generators i [])) (sym vs) (module_more S ok.setting (vectors G) (vectors made) (get_or r.generators i []) (inv.generators i l));
+        new_leads = makes_new_leads S ok.setting G h.rows made h.makes inv.new_leads;
+        covered = put_covered S ok.setting G h.rows made h.base h.makes h.had s.queue h.queue s.out w h.outcome.pairs h.outcome.represented h.queues inv.covered;
+        real = λ x p. real x (new_cases x) (subst (λ l. 0 < count x h.queue + count x l) same p);
+        sorted = h.queues.sorted;
+        once = λ x. once x (new_cases x);
+        out_taken = λ x. omega (arith, inv.out_taken x, ap (count x) same, count_workers x w s.out);
+        counted = inv.counted ∙ ap length (sym same);
+        within_budget = inv.within_budget;
+        workers = inv.workers;
+        at_work = λ e. others_each (λ e. get_or s.ended e.1 true ≡ false) w s.out (inv.at_work e);
+        somebody = λ e p. (w, h.known, h.works);
+        trail = λ way e. trail_more r G made (pairs_taken s.history) _ way (λ x. omega (arith, ap (count x) same)) (inv.trail way e);
+      })
+    where
+      H : List (FormalSum n)
+      H = vectors (s.members ++ made)
+
+      longer : length H ≡ length s.members + length made
+      longer = length-vectors (s.members ++ made) ∙ length-append s.members made
+
+      grown : (x : Pair) → IsPair (vectors s.members) x → IsPair H x
+      grown x p =
+          let front : (i : ℕ) → i < length s.members → leads H i ≡ leads (vectors s.members) i = λ i q. ap (λ v. leads v i) (vectors-append s.members made) ∙ leads_front (vectors s.members) (vectors made) i (omega (arith, length-vectors s.members)) in
+          let old = length-vectors s.members in
+          record {
+            ordered = p.ordered;
+            within = omega (arith, p.within, longer);
+            position = ap (λ k. k.0) (front x.0 (omega (arith, p.ordered, p.within))) ∙ p.position ∙ ap (λ k. k.0) (sym (front x.1 (omega (arith, p.within))));
+          }
+
+      new_cases : (x : Pair) → (IsNew s made x × (count x h.queue ≡ count x s.queue + 1)) ⊎ (count x h.queue ≡ count x s.queue)
+      new_cases x = go (is_new_pair (length s.members) H x) refl
+        where
+          go : (c : Bool) → is_new_pair (length s.members) H x ≡ c → (IsNew s made x × (count x h.queue ≡ count x s.queue + 1)) ⊎ (count x h.queue ≡ count x s.queue)
+          go true e = inl (pair_of_new (length s.members) H x e, h.queues.same x ∙ ap (λ c. count x s.queue + cond c 1 0) e)
+          go false e = inr (h.queues.same x ∙ ap (λ c. count x s.queue + cond c 1 0) e ∙ omega arith)
+
+      real : (x : Pair) → (IsNew s made x × (count x h.queue ≡ count x s.queue + 1)) ⊎ (count x h.queue ≡ count x s.queue) → 0 < count x h.queue + count x (pairs_taken s.history) → IsPair H x
+      real x (inl (new, e)) p = new.1
+      real x (inr e) p = grown x (inv.real x (omega arith))
+
+      -- a new pair was neither queued nor taken
+      fresh : (x : Pair) → IsNew s made x → count x s.queue + count x (pairs_taken s.history) ≡ 0
+      fresh x new = elim (cases_lt 0 (count x s.queue + count x (pairs_taken s.history))) [
+        | inl p ↦ absurd (let q = inv.real x p in omega (arith, q.within, new.0, length-vectors s.members))
+        | inr z ↦ omega arith
+      ]
+
+      once : (x : Pair) → (IsNew s made x × (count x h.queue ≡ count x s.queue + 1)) ⊎ (count x h.queue ≡ count x s.queue) → count x h.queue + count x (pairs_taken (s.history ++ (Put w made ∷ []))) ≤ 1
+      once x (inl (new, e)) = omega (arith, fresh x new, ap (count x) (taken_same s.history (Put w made) refl))
+      once x (inr e) = omega (arith, inv.once x, ap (count x) (taken_same s.history (Put w made) refl))
+
+  pub kept_end : (w : ℕ) (ending : Ending) (t : State n) → Ends r s w ending t → HoldsInvariant r t
+  kept_end w ending t h = subst (HoldsInvariant r) (sym h.after) (go ending h.answers)
+    where
+      go : (e : Ending) → e ≡ ending_of s → HoldsInvariant r (record s { ended = ended_after s w e; history = s.history ++ (End w e ∷ []) })
+      go MoreWork a = kept_note (End w MoreWork) refl
+      go Ended a =
+          let k = kept_note (End w Ended) refl in
+          record {
+            members = k.members;
+            combined = k.combined;
+            generators = k.generators;
+            new_leads = k.new_leads;
+            covered = k.covered;
+            real = k.real;
+            sorted = k.sorted;
+            once = k.once;
+            out_taken = k.out_taken;
+            counted = k.counted;
+            within_budget = k.within_budget;
+            workers = length-set s.ended w true ∙ inv.workers;
+            at_work = λ e. out_keeps w s.ended s.out (none_of w s.out (h.may.done e).0) (inv.at_work e);
+            somebody = λ e p. absurd (nothing s.queue s.stop e a p);
+            trail = k.trail;
+          }
+        where
+          nothing : (q : List Pair) (o : Option (StopReason n)) → o ≡ None → Ended ≡ cond (is_stopped o) Ended (cond (is_empty q) Ended MoreWork) → 0 < length q → ⊥
+          nothing q (Some r) e a p = cc
+          nothing [] None e a p = omega arith
+          nothing (x ∷ q) None e a p = cc
+
+  pub kept_stop : (w : ℕ) (reason : StopReason n) (t : State n) → Stops r s w reason t → HoldsInvariant r t
+  kept_stop w reason t h =
+      let k = kept_note (Stop w reason) refl in
+      subst (HoldsInvariant r) (sym h.after) (record {
+        members = k.members;
+        combined = k.combined;
+        generators = k.generators;
+        new_leads = k.new_leads;
+        covered = k.covered;
+        real = k.real;
+        sorted = k.sorted;
+        once = k.once;
+        out_taken = k.out_taken;
+        counted = k.counted;
+        within_budget = k.within_budget;
+        workers = k.workers;
+        at_work = λ e. absurd (never s.stop e);
+        somebody = λ e p. absurd (never s.stop e);
+        trail = λ way e. kept s.stop refl way e;
+      })
+    where
+      never : (o : Option (StopReason n)) → first_stop o reason ≡ None → ⊥
+      never None e = cc
+      never (Some q) e = cc
+
+      some : (p q : StopReason n) → ◌≡◌ {A = Option (StopReason n)} (Some p) (Some q) → p ≡ q
+      some p q e = cc
+
+      moved : (way : Trail n) → IsTrail r s.members (pairs_taken s.history) way → IsTrail r s.members (pairs_taken (s.history ++ (Stop w reason ∷ []))) way
+      moved way q = subst (λ l. IsTrail r s.members l way) (sym (taken_same s.history (Stop w reason) refl)) q
+
+      kept : (o : Option (StopReason n)) → s.stop ≡ o → (way : Trail n) → first_stop o reason ≡ Some (Degree way) → IsTrail r s.members (pairs_taken (s.history ++ (Stop w reason ∷ []))) way
+      kept None d way e = moved way (h.trail way (some reason (Degree way) e))
+      kept (Some q) d way e = moved way (inv.trail way (d ∙ e))
+
+  pub kept_step : (e : Event n) (t : State n) → Step r s e t → HoldsInvariant r t
+  kept_step (Take w skipped job) t (most, may, inl f) = kept_stopped w skipped job t f
+  kept_step (Take w skipped job) t (most, may, inr (left, h)) = kept_take w most skipped job left t may h
+  kept_step (Put w made) t h = kept_put w made t h
+  kept_step (End w ending) t h = kept_end w ending t h
+  kept_step (Stop w reason) t h = kept_stop w reason t h

@@ -1,0 +1,11 @@
+pub mod Counting
+pub mod Growing
+pub mod Sparing
+pub mod Dividing
+pub mod Making
+pub mod Covering
+pub mod Keeping
+pub mod Starting
+pub mod Closing
+pub mod Taking
+pub mod Answering

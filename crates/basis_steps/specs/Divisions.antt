@@ -1,0 +1,55 @@
+-- Rows divided by members until none divides the lead, and the members that this makes (IVA chapter 2, sections 3 and 7)
+use Rattle.std.specs.Prelude.{List, [], length, ℕ, ◌*◌, ◌++◌, ◌-◌, ◌<◌, ◌∷◌, ◌≡◌, ◌⊎◌}
+use Rattle.std.specs.declared.cmp.Ordering.TheVariants.{Less}
+use Rattle.residues.specs.Residues.{IsCongruent}
+use Rattle.monomials.specs.Exponents.{unit}
+use Rattle.formal_sums.specs.Combinations.{combination}
+use Rattle.formal_sums.specs.FormalSums.{Each, FormalSum, HasRank, IsSame, Key, scale}
+use Rattle.bases.specs.Bases.{IsCovered}
+use Rattle.bases.specs.Leads.{IsMonicLead, head_key}
+use Rattle.bases.specs.Representations.{place}
+use Rattle.bases.specs.Settings.{Setting}
+use Rattle.basis_steps.specs.States.{Member, cofactor_lists, vectors}
+
+-- the first key of v is its lead, with coefficient 1, and v has the setting's rank
+pub record IsMonicMember {n : ℕ} (S : Setting n) (v : FormalSum n) : Type 0 where
+  pub monic : IsMonicLead S v (head_key v)
+  pub ranked : HasRank S.rank v
+
+-- the member's vector is the combination of the generators F by its cofactors
+abbrev pub IsCombined : {n : ℕ} → ℕ → List (FormalSum n) → Member n → Type 0
+IsCombined p F m = IsSame p (combination F m.cofactors) m.vector
+
+-- the one key is below the other or the same
+abbrev pub IsKeyAtMost : {n : ℕ} → Setting n → Key n → Key n → Type 0
+IsKeyAtMost S k l = (S.compare k l ≡ Less) ⊎ (k ≡ l)
+
+-- the products of members of G by the quotients a stand at most at k (IVA chapter 2, section 3)
+abbrev pub AreQuotients : {n : ℕ} → Setting n → List (FormalSum n) → Key n → FormalSum n → Type 0
+AreQuotients S G k a = Each (λ t. (t.0.0 < length G) × IsKeyAtMost S (place G t) k) a
+
+-- v - w modulo p
+abbrev pub difference : {n : ℕ} → ℕ → FormalSum n → FormalSum n → FormalSum n
+difference {n} p v w = v ++ scale (p - 1) (unit n) w
+
+-- division of the row by the members G with the quotients a leaves c times g, and d times what is left is the monic g: no lead of G divides its lead (IVA chapter 2, section 3)
+pub record LeavesMember {n : ℕ} (S : Setting n) (G : List (Member n)) (row : Member n) (a : FormalSum n) (c d : ℕ) (g : Member n) : Type 0 where
+  pub quotients : AreQuotients S (vectors G) (head_key row.vector) a
+  pub at_most : IsKeyAtMost S (head_key g.vector) (head_key row.vector)
+  pub inverse : IsCongruent S.modulus (c * d) 1
+  pub vector : IsSame S.modulus g.vector (scale d (unit n) (difference S.modulus row.vector (combination (vectors G) a)))
+  pub cofactors : IsSame S.modulus g.cofactors (scale d (unit n) (difference S.modulus row.cofactors (combination (cofactor_lists G) a)))
+  pub member : IsMonicMember S g.vector
+  pub free : IsCovered (vectors G) (head_key g.vector) → ⊥
+
+-- division of the row by the members G with the quotients a leaves 0 (IVA chapter 2, section 3)
+pub record LeavesNothing {n : ℕ} (S : Setting n) (G : List (Member n)) (row : Member n) (a : FormalSum n) : Type 0 where
+  pub quotients : AreQuotients S (vectors G) (head_key row.vector) a
+  pub vector : IsSame S.modulus row.vector (combination (vectors G) a)
+
+-- each row in turn is divided by the members of that moment, older and newer ones and those that the rows before it made, and becomes a member where it is not 0
+abbrev pub Makes : {n : ℕ} → Setting n → List (Member n) → List (Member n) → List (Member n) → Type 0
+Makes S G [] made = made ≡ []
+Makes {n} S G (row ∷ rows) made =
+    ((a : FormalSum n) × LeavesNothing S G row a × Makes S G rows made)
+    ⊎ ((a : FormalSum n) × (c : ℕ) × (d : ℕ) × (g : Member n) × (later : List (Member n)) × LeavesMember S G row a c d g × (made ≡ g ∷ later) × Makes S (G ++ (g ∷ [])) rows later)

@@ -1,0 +1,9 @@
+pub mod Pairs
+pub mod States
+pub mod Criteria
+pub mod Queues
+pub mod Divisions
+pub mod Outcomes
+pub mod Trails
+pub mod Steps
+pub mod Invariant
