@@ -1,0 +1,5 @@
+pub mod Terms
+pub mod SquareBasis
+pub mod SquareMaps
+pub mod SquareTable
+pub mod SquareNumerator

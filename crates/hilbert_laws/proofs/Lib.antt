@@ -1,0 +1,4 @@
+pub mod Recurrence
+pub mod Orders
+pub mod OneMore
+pub mod Sizes

@@ -1,0 +1,14 @@
+pub mod Clearing
+pub mod Splitting
+pub mod Chains
+pub mod Grading
+pub mod Presenting
+pub mod SameMaps
+pub mod Cancelling
+pub mod Parts
+pub mod CanonicalGrading
+pub mod CanonicalPresenting
+pub mod Falling
+pub mod Rows
+pub mod Searching
+pub mod OneCancellation

@@ -1,0 +1,133 @@
+-- Each operation from reduced bases alone
+use Rattle.std.proofs.Common.{List, [], arith, length, map, suc, ℕ, ◌*◌, ◌+◌, ◌++◌, ◌∷◌, ◌≡◌}
+use Rattle.std.specs.declared.cmp.Ordering.{Ordering}
+use Rattle.monomials.specs.Exponents.{Exponents}
+use Rattle.std.specs.Prelude.{◌↔◌}
+use Rattle.std.proofs.Common.{subst, sym}
+use Rattle.formal_sums.proofs.OfRank.{HasRank_kept, IsSame_kept, kept}
+use Rattle.formal_sums.proofs.Combining.{Each_map, IsMember_same}
+use Rattle.formal_sums.proofs.Sameness.{IsSame_sym}
+use Rattle.formal_sums.proofs.WeightedSums.{Each_append}
+use Rattle.formal_sums.specs.Combinations.{IsMember, IsSyzygy}
+use Rattle.formal_sums.specs.FormalSums.{Each, FormalSum, HasRank, IsOfRank, IsSame, product}
+use Rattle.bases.specs.Bases.{IsReducedBasis}
+use Rattle.bases.specs.Settings.{IsLawful, Setting}
+use Rattle.bases.proofs.Leading.{positive}
+use Rattle.orders.specs.MonomialOrders.{IsMonomialOrder}
+use Rattle.division_laws.specs.Elimination.{has_none_of_first}
+use Rattle.syzygy_laws.specs.Syzygies.{marked}
+use Rattle.operation_laws.proofs.Linear.{Each_of, Each_of_map, IsSame_linear}
+use Rattle.operation_laws.proofs.More.{picked_rank, sum_members}
+use Rattle.operation_laws.proofs.Multiply.{IsLinear_product, IsLinear_product_left}
+use Rattle.operation_laws.proofs.Saturate.{HasRank_product, IsLinear_power_times}
+use Rattle.operation_laws.proofs.RankFacts.{back_rank, eliminated_rank, intersection_rank, kernel_rank, marked_rank, saturation_rank}
+use Rattle.operation_laws.proofs.RunFacts.{run_of}
+use Rattle.operation_laws.proofs.Running.{blocks_rank, colon_run, eliminate_run, intersect_run, kernel_run, lawful_elimination, lawful_position, multiples_rank, quotient_run, run_generates, saturate_run, stacked_rank}
+use Rattle.operation_laws.specs.Operations.{IsCombinationOfKept, IsInSaturation, IsRun, IsSumOfMembers, back, blocks, eliminated, elimination_setting, first_components, intersection_list, kernel_of, multiples_of, position_setting, power_times, products_of, saturation_list, stacked}
+
+back_of : {n : ℕ} (S : Setting n) → IsLawful S → (L G : List (FormalSum (suc n))) (R : List (FormalSum n)) → IsRun (elimination_setting (suc n) 1 S) L G → IsReducedBasis S (back G) R → IsRun S (back G) R
+back_of S lawful L G R run b = run_of S lawful (back G) R (back_rank S.rank G run.ranks) b
+
+pub intersect_plain :
+    {n : ℕ} (S : Setting n) (F H : List (FormalSum n)) (G : List (FormalSum (suc n))) (R : List (FormalSum n)) (v : FormalSum n) → IsLawful S
+    → Each (HasRank S.rank) F → Each (HasRank S.rank) H
+    → IsReducedBasis (elimination_setting (suc n) 1 S) (intersection_list S.modulus F H) G → IsReducedBasis S (back G) R
+    → IsMember S.modulus R v ↔ (IsMember S.modulus F v × IsMember S.modulus H v)
+intersect_plain {n} S F H G R v lawful f h a b =
+    let run = run_of (elimination_setting (suc n) 1 S) (lawful_elimination (suc n) 1 S lawful) (intersection_list S.modulus F H) G (intersection_rank S.modulus S.rank F H f h) a in
+    intersect_run S F H G R v lawful run (back_of S lawful (intersection_list S.modulus F H) G R run b)
+
+-- the list of a syzygy run is a run
+pub marked_run :
+    {n : ℕ} (S : Setting n) (monomials : Exponents n → Exponents n → Ordering) (q : ℕ) (F G : List (FormalSum n)) → IsLawful S → IsMonomialOrder monomials → Each (HasRank q) F
+    → IsReducedBasis (position_setting monomials (q + length F) S) (marked q 0 F) G → IsRun (position_setting monomials (q + length F) S) (marked q 0 F) G
+marked_run S monomials q F G lawful o r a = run_of (position_setting monomials (q + length F) S) (lawful_position monomials (q + length F) S o lawful) (marked q 0 F) G (marked_rank q F r) a
+
+pub eliminate_plain :
+    {n : ℕ} (S : Setting n) (k : ℕ) (F G R : List (FormalSum n)) (v : FormalSum n) → IsLawful S → Each (HasRank S.rank) F
+    → IsReducedBasis (elimination_setting n k S) F G → IsReducedBasis S (eliminated k G) R
+    → IsMember S.modulus R v ↔ IsCombinationOfKept S.modulus (has_none_of_first k) F v
+eliminate_plain {n} S k F G R v lawful r a b =
+    let run = run_of (elimination_setting n k S) (lawful_elimination n k S lawful) F G r a in
+    eliminate_run S k F G R v lawful run (run_of S lawful (eliminated k G) R (eliminated_rank S.rank k G run.ranks) b)
+
+pub kernel_plain :
+    {n : ℕ} (S K : Setting n) (monomials : Exponents n → Exponents n → Ordering) (q : ℕ) (F G R : List (FormalSum n)) (a : FormalSum n)
+    → IsLawful S → IsLawful K → K.modulus ≡ S.modulus → K.rank ≡ length F → IsMonomialOrder monomials → Each (HasRank q) F
+    → IsReducedBasis (position_setting monomials (q + length F) S) (marked q 0 F) G → IsReducedBasis K (kernel_of q G) R
+    → IsMember S.modulus R a ↔ IsSyzygy S.modulus F a
+kernel_plain S K monomials q F G R a lawful k_lawful same ranks o r x y =
+    let run = marked_run S monomials q F G lawful o r x in
+    kernel_run S K monomials q F G R a lawful k_lawful same o r run
+    (run_of K k_lawful (kernel_of q G) R (subst (λ m. Each (HasRank m) (kernel_of q G)) (sym ranks) (kernel_rank q (length F) G run.ranks)) y)
+
+first_rank : {n : ℕ} (m : ℕ) (H : List (FormalSum n)) → Each (HasRank m) (map (first_components m) H)
+first_rank m H = Each_of_map (HasRank m) (first_components m) H (Each_of _ H (picked_rank m))
+
+-- what is proved of the components of v below the rank is so of v
+of_rank :
+    {n : ℕ} (p m : ℕ) (R : List (FormalSum n)) (P : FormalSum n → Type 0) (v : FormalSum n) → IsOfRank p m v
+    → ((u w : FormalSum n) → IsSame p u w → P u → P w) → IsMember p R (kept m v) ↔ P (kept m v) → IsMember p R v ↔ P v
+of_rank p m R P v r same h =
+    let e = IsSame_kept m v r in (
+      λ a. same (kept m v) v e (h.0 (IsMember_same R v (kept m v) (IsSame_sym e) a)),
+      λ b. IsMember_same R (kept m v) v e (h.1 (same v (kept m v) (IsSame_sym e) b)),
+    )
+
+pub quotient_plain :
+    {n : ℕ} (S : Setting n) (monomials : Exponents n → Exponents n → Ordering) (f : FormalSum n) (F G R : List (FormalSum n)) (v : FormalSum n) → IsLawful S → IsMonomialOrder monomials
+    → Each (HasRank S.rank) F → IsOfRank S.modulus S.rank v
+    → IsReducedBasis (position_setting monomials (S.rank + length (multiples_of S.rank f ++ F)) S) (marked S.rank 0 (multiples_of S.rank f ++ F)) G
+    → IsReducedBasis S (map (first_components S.rank) (kernel_of S.rank G)) R
+    → IsMember S.modulus R v ↔ IsMember S.modulus F (product f v)
+quotient_plain {n} S monomials f F G R v lawful o r vr a b =
+    of_rank S.modulus S.rank R (λ u. IsMember S.modulus F (product f u)) v vr
+    (λ u w e m. IsMember_same F (product f u) (product f w) (IsSame_linear (positive S lawful) (product f) (IsLinear_product f) u w e) m)
+    (quotient_run S monomials f F G R (kept S.rank v) lawful o r (HasRank_kept S.rank v)
+    (marked_run S monomials S.rank (multiples_of S.rank f ++ F) G lawful o (Each_append (HasRank S.rank) (multiples_of S.rank f) F (multiples_rank S.rank f) r) a)
+    (run_of S lawful (map (first_components S.rank) (kernel_of S.rank G)) R (first_rank S.rank (kernel_of S.rank G)) b))
+
+pub colon_plain :
+    {n : ℕ} (S U : Setting n) (monomials : Exponents n → Exponents n → Ordering) (F C G R : List (FormalSum n)) (v : FormalSum n)
+    → IsLawful S → IsLawful U → U.modulus ≡ S.modulus → U.rank ≡ 1 → IsMonomialOrder monomials
+    → Each (HasRank S.rank) F → Each (HasRank S.rank) C → IsOfRank S.modulus 1 v
+    → IsReducedBasis (position_setting monomials (S.rank * length C + length (stacked S.rank 0 C ∷ blocks S.rank 0 (length C) F)) S) (marked (S.rank * length C) 0 (stacked S.rank 0 C ∷ blocks S.rank 0 (length C) F)) G
+    → IsReducedBasis U (map (first_components 1) (kernel_of (S.rank * length C) G)) R
+    → IsMember S.modulus R v ↔ Each (λ c. IsMember S.modulus F (product v c)) C
+colon_plain {n} S U monomials F C G R v lawful u_lawful same one o r cr vr a b =
+    let q = S.rank * length C in
+    let L : List (FormalSum n) = stacked S.rank 0 C ∷ blocks S.rank 0 (length C) F in
+    of_rank S.modulus 1 R (λ u. Each (λ c. IsMember S.modulus F (product u c)) C) v vr
+    (λ u w e m. Each_map (λ c. IsMember S.modulus F (product u c)) (λ c. IsMember S.modulus F (product w c)) C
+    (λ c h. IsMember_same F (product u c) (product w c) (IsSame_linear (positive S lawful) (λ x. product x c) (IsLinear_product_left c) u w e) h) m)
+    (colon_run S U monomials F C G R (kept 1 v) lawful u_lawful same o r cr (HasRank_kept 1 v)
+    (marked_run S monomials q L G lawful o (stacked_rank S.rank 0 C q (omega arith) cr, blocks_rank S.rank 0 (length C) F q (omega arith) r) a)
+    (run_of U u_lawful (map (first_components 1) (kernel_of q G)) R (subst (λ m. Each (HasRank m) (map (first_components 1) (kernel_of q G))) (sym one) (first_rank 1 (kernel_of q G))) b))
+
+pub saturate_plain :
+    {n : ℕ} (S : Setting n) (f : FormalSum n) (F : List (FormalSum n)) (G : List (FormalSum (suc n))) (R : List (FormalSum n)) (v : FormalSum n) → IsLawful S
+    → Each (HasRank S.rank) F → IsOfRank S.modulus S.rank v
+    → IsReducedBasis (elimination_setting (suc n) 1 S) (saturation_list S.modulus S.rank f F) G → IsReducedBasis S (back G) R
+    → IsMember S.modulus R v ↔ IsInSaturation S.modulus f F v
+saturate_plain {n} S f F G R v lawful r vr a b =
+    let run = run_of (elimination_setting (suc n) 1 S) (lawful_elimination (suc n) 1 S lawful) (saturation_list S.modulus S.rank f F) G (saturation_rank S.modulus S.rank f F r) a in
+    of_rank S.modulus S.rank R (IsInSaturation S.modulus f F) v vr
+    (λ u w e m. record { power = m.power; positive = m.positive; inside = IsMember_same F (power_times f m.power u) (power_times f m.power w) (IsSame_linear (positive S lawful) (power_times f m.power) (IsLinear_power_times f m.power) u w e) m.inside })
+    (saturate_run S f F G R (kept S.rank v) lawful (HasRank_kept S.rank v) run (back_of S lawful (saturation_list S.modulus S.rank f F) G R run b))
+
+pub sum_plain :
+    {n : ℕ} (S : Setting n) (F H R : List (FormalSum n)) (v : FormalSum n) → IsLawful S → Each (HasRank S.rank) F → Each (HasRank S.rank) H
+    → IsReducedBasis S (F ++ H) R → IsMember S.modulus R v ↔ IsSumOfMembers S.modulus F H v
+sum_plain S F H R v lawful f h b =
+    let e = run_generates S lawful (F ++ H) R (run_of S lawful (F ++ H) R (Each_append (HasRank S.rank) F H f h) b) v in
+    let s = sum_members (positive S lawful) F H v in
+    (λ a. s.0 (e.0 a), λ a. e.1 (s.1 a))
+
+pub product_plain :
+    {n : ℕ} (S : Setting n) (F H R : List (FormalSum n)) (v : FormalSum n) → IsLawful S → Each (HasRank S.rank) H
+    → IsReducedBasis S (products_of F H) R → IsMember S.modulus R v ↔ IsMember S.modulus (products_of F H) v
+product_plain {n} S F H R v lawful h b = run_generates S lawful (products_of F H) R (run_of S lawful (products_of F H) R (ranks F) b) v
+  where
+    ranks : (F : List (FormalSum n)) → Each (HasRank S.rank) (products_of F H)
+    ranks [] = tt
+    ranks (f ∷ F) = Each_append (HasRank S.rank) (map (product f) H) (products_of F H) (Each_of_map (HasRank S.rank) (product f) H (Each_map (HasRank S.rank) (λ g. HasRank S.rank (product f g)) H (λ g r. HasRank_product S.rank f g r) h)) (ranks F)

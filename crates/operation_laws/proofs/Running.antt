@@ -1,0 +1,165 @@
+-- What the runs of an operation give
+use Rattle.std.proofs.Common.{List, [], arith, length, map, refl, subst, suc, zero, ℕ, ◌*◌, ◌+◌, ◌++◌, ◌<◌, ◌∷◌, ◌≡◌, ◌≤◌}
+use Rattle.std.specs.Prelude.{◌↔◌}
+use Rattle.std.specs.declared.cmp.Ordering.{Ordering}
+use Rattle.monomials.specs.Exponents.{Exponents}
+use Rattle.formal_sums.proofs.Combining.{Each_map, IsMember_itself, IsMember_through}
+use Rattle.formal_sums.proofs.OfRank.{IsSyzygy_member}
+use Rattle.formal_sums.proofs.WeightedSums.{Each_append}
+use Rattle.formal_sums.specs.Combinations.{IsMember, IsSyzygy}
+use Rattle.formal_sums.specs.FormalSums.{Each, FormalSum, HasRank, product}
+use Rattle.orders.proofs.Eliminating.{elimination_order}
+use Rattle.orders.proofs.Positions.{pot_order, top_order}
+use Rattle.orders.specs.MonomialOrders.{IsMonomialOrder, elimination}
+use Rattle.bases.proofs.Leading.{positive}
+use Rattle.bases.specs.Bases.{IsReducedBasis}
+use Rattle.bases.specs.Settings.{IsLawful, Setting}
+use Rattle.division_laws.proofs.Generating.{IsGroebnerBasis_generates}
+use Rattle.division_laws.proofs.Keeping.{IsDownClosed_elimination}
+use Rattle.division_laws.specs.Elimination.{has_none_of_first}
+use Rattle.syzygy_laws.specs.Syzygies.{marked, raised}
+use Rattle.operation_laws.proofs.Colon.{colon_from, colon_to}
+use Rattle.operation_laws.proofs.Eliminate.{eliminate_from, eliminate_to}
+use Rattle.operation_laws.proofs.Front.{front_from, front_to}
+use Rattle.operation_laws.proofs.Intersect.{intersection_from, intersection_left, intersection_right}
+use Rattle.operation_laws.proofs.Kernel.{kernel_all, kernel_syzygies}
+use Rattle.operation_laws.proofs.Linear.{Each_at, Each_of_map}
+use Rattle.operation_laws.proofs.Quotient.{quotient_from, quotient_to}
+use Rattle.operation_laws.proofs.Saturate.{HasRank_product, saturation_from, saturation_to}
+use Rattle.operation_laws.specs.Operations.{IsCombinationOfKept, IsInSaturation, IsRun, back, basis_vector, blocks, eliminated, elimination_setting, first_components, intersection_list, kernel_of, listed, multiples_of, position_setting, saturation_list, stacked, with_first}
+
+pub lawful_elimination : {n : ℕ} (l k : ℕ) (S : Setting n) → IsLawful S → IsLawful (elimination_setting l k S)
+lawful_elimination l k S lawful = record { domain = lawful.domain; order = top_order S.rank (elimination k) (elimination_order l k) }
+
+pub lawful_position : {n : ℕ} (monomials : Exponents n → Exponents n → Ordering) (r : ℕ) (S : Setting n) → IsMonomialOrder monomials → IsLawful S → IsLawful (position_setting monomials r S)
+lawful_position monomials r S o lawful = record { domain = lawful.domain; order = pot_order r monomials o }
+
+-- a run generates the module of its list
+pub run_generates : {n : ℕ} (S : Setting n) → IsLawful S → (F G : List (FormalSum n)) → IsRun S F G → (v : FormalSum n) → IsMember S.modulus G v ↔ IsMember S.modulus F v
+run_generates S lawful F G run v = (IsMember_through (positive S lawful) F G run.reduced.reduced.basis.members v, IsGroebnerBasis_generates S lawful F G run.list run.reduced.reduced.basis v)
+
+-- the basis is the reduced basis of its own module
+pub run_itself : {n : ℕ} (S : Setting n) → IsLawful S → (F G : List (FormalSum n)) → IsRun S F G → IsReducedBasis S G G
+run_itself S lawful F G run = record {
+  reduced = record {
+    basis = record {
+      members = IsMember_itself S.modulus G;
+      covers = λ v k m lead. run.reduced.reduced.basis.covers v k ((run_generates S lawful F G run v).0 m) lead;
+    };
+    normal = run.reduced.reduced.normal;
+    monic = run.reduced.reduced.monic;
+    apart = run.reduced.reduced.apart;
+  };
+  descends = run.reduced.descends;
+}
+
+through : {A B C : Type 0} → A ↔ B → B ↔ C → A ↔ C
+through f g = (λ a. g.0 (f.0 a), λ c. f.1 (g.1 c))
+
+pub eliminate_run :
+    {n : ℕ} (S : Setting n) (k : ℕ) (F G R : List (FormalSum n)) (v : FormalSum n) → IsLawful S → IsRun (elimination_setting n k S) F G → IsRun S (eliminated k G) R
+    → IsMember S.modulus R v ↔ IsCombinationOfKept S.modulus (has_none_of_first k) F v
+eliminate_run {n} S k F G R v lawful run last =
+    through (run_generates S lawful (eliminated k G) R last v)
+    (let T = elimination_setting n k S in let l = lawful_elimination n k S lawful in (
+      eliminate_to T l F G run.list run.reduced.reduced.normal run.reduced.reduced.basis (has_none_of_first k) (IsDownClosed_elimination T k refl) v,
+      eliminate_from T l F G run.list run.reduced.reduced.normal run.reduced.reduced.basis (has_none_of_first k) (IsDownClosed_elimination T k refl) v,
+    ))
+
+-- a list in one more variable, back in fewer
+pub back_run :
+    {n : ℕ} (S : Setting n) (L G : List (FormalSum (suc n))) (R : List (FormalSum n)) (v : FormalSum n) → IsLawful S → IsRun (elimination_setting (suc n) 1 S) L G → IsRun S (back G) R
+    → IsMember S.modulus R v ↔ IsMember S.modulus L (with_first v)
+back_run {n} S L G R v lawful run last =
+    through (run_generates S lawful (back G) R last v)
+    (let T = elimination_setting (suc n) 1 S in let l = lawful_elimination (suc n) 1 S lawful in
+    (front_to T l L G run.list run.reduced.reduced.normal run.reduced.reduced.basis refl v, front_from T l L G run.list run.reduced.reduced.normal run.reduced.reduced.basis refl v))
+
+pub intersect_run :
+    {n : ℕ} (S : Setting n) (F H : List (FormalSum n)) (G : List (FormalSum (suc n))) (R : List (FormalSum n)) (v : FormalSum n) → IsLawful S
+    → IsRun (elimination_setting (suc n) 1 S) (intersection_list S.modulus F H) G → IsRun S (back G) R
+    → IsMember S.modulus R v ↔ (IsMember S.modulus F v × IsMember S.modulus H v)
+intersect_run S F H G R v lawful run last =
+    through (back_run S (intersection_list S.modulus F H) G R v lawful run last)
+    (let pos = positive S lawful in
+    (λ a. (intersection_left pos F H v a, intersection_right pos F H v a), λ h. intersection_from pos F H v h.0 h.1))
+
+pub saturate_run :
+    {n : ℕ} (S : Setting n) (f : FormalSum n) (F : List (FormalSum n)) (G : List (FormalSum (suc n))) (R : List (FormalSum n)) (v : FormalSum n) → IsLawful S → HasRank S.rank v
+    → IsRun (elimination_setting (suc n) 1 S) (saturation_list S.modulus S.rank f F) G → IsRun S (back G) R
+    → IsMember S.modulus R v ↔ IsInSaturation S.modulus f F v
+saturate_run S f F G R v lawful r run last =
+    through (back_run S (saturation_list S.modulus S.rank f F) G R v lawful run last)
+    (let pos = positive S lawful in
+    (λ a. let q = saturation_to pos S.rank f F v a in record { power = q.0; positive = q.1; inside = q.2 }, λ h. saturation_from pos S.rank f F v h.power r h.inside))
+
+-- what a syzygy run gives
+pub syzygy_run :
+    {n : ℕ} (S : Setting n) (monomials : Exponents n → Exponents n → Ordering) (q : ℕ) (F G : List (FormalSum n)) → IsLawful S → IsMonomialOrder monomials → Each (HasRank q) F
+    → IsRun (position_setting monomials (q + length F) S) (marked q 0 F) G
+    → Each (IsSyzygy S.modulus F) (kernel_of q G) × ((a : FormalSum n) → IsSyzygy S.modulus F a → IsMember S.modulus (kernel_of q G) a)
+syzygy_run S monomials q F G lawful o r run =
+    let T = position_setting monomials (q + length F) S in
+    let l = lawful_position monomials (q + length F) S o lawful in
+    let f = Each_at (HasRank q) [] F r in
+    (kernel_syzygies T l monomials refl q F G f run.list run.reduced.reduced.normal run.ranks run.reduced.reduced.basis, kernel_all T l monomials refl q F G f run.list run.reduced.reduced.normal run.ranks run.reduced.reduced.basis)
+
+pub multiples_rank : {n : ℕ} (m : ℕ) (f : FormalSum n) → Each (HasRank m) (multiples_of m f)
+multiples_rank m f = go 0 m (omega arith)
+  where
+    go : (i s : ℕ) → i + s ≡ m → Each (HasRank m) (listed i s (λ j. product f (basis_vector j)))
+    go i zero e = tt
+    go i (suc s) e = (HasRank_product m f (basis_vector i) (omega (arith, e), tt), go (suc i) s (omega (arith, e)))
+
+raised_rank : {n : ℕ} (m i q : ℕ) (v : FormalSum n) → m + i ≤ q → HasRank m v → HasRank q (raised i v)
+raised_rank m i q v le h = Each_of_map (λ t. t.0.0 < q) (λ t. ((i + t.0.0, t.0.1), t.1)) v (Each_map (λ t. t.0.0 < m) (λ t. i + t.0.0 < q) v (λ t r. omega (arith, le, r)) h)
+
+pub stacked_rank : {n : ℕ} (m i : ℕ) (C : List (FormalSum n)) (q : ℕ) → i + m * length C ≤ q → Each (HasRank m) C → HasRank q (stacked m i C)
+stacked_rank m i [] q le h = tt
+stacked_rank m i (c ∷ C) q le h =
+    let split : m * suc (length C) ≡ m + m * length C = omega arith in
+    Each_append (λ t. t.0.0 < q) (raised i c) (stacked m (m + i) C) (raised_rank m i q c (omega (arith, le, split)) h.0) (stacked_rank m (m + i) C q (omega (arith, le, split)) h.1)
+
+pub blocks_rank : {n : ℕ} (m i s : ℕ) (F : List (FormalSum n)) (q : ℕ) → i + m * s ≤ q → Each (HasRank m) F → Each (HasRank q) (blocks m i s F)
+blocks_rank m i zero F q le h = tt
+blocks_rank m i (suc s) F q le h =
+    let split : m * suc s ≡ m + m * s = omega arith in
+    Each_append (HasRank q) (map (raised i) F) (blocks m (m + i) s F)
+    (Each_of_map (HasRank q) (raised i) F (Each_map (HasRank m) (λ v. HasRank q (raised i v)) F (λ v r. raised_rank m i q v (omega (arith, le, split)) r) h))
+    (blocks_rank m (m + i) s F q (omega (arith, le, split)) h)
+
+-- the run on the kernel: the syzygies of F
+pub kernel_run :
+    {n : ℕ} (S K : Setting n) (monomials : Exponents n → Exponents n → Ordering) (q : ℕ) (F G R : List (FormalSum n)) (a : FormalSum n) → IsLawful S → IsLawful K → K.modulus ≡ S.modulus → IsMonomialOrder monomials → Each (HasRank q) F
+    → IsRun (position_setting monomials (q + length F) S) (marked q 0 F) G → IsRun K (kernel_of q G) R
+    → IsMember S.modulus R a ↔ IsSyzygy S.modulus F a
+kernel_run S K monomials q F G R a lawful k_lawful same o r run last =
+    let s = syzygy_run S monomials q F G lawful o r run in
+    through (subst (λ p. IsMember p R a ↔ IsMember p (kernel_of q G) a) same (run_generates K k_lawful (kernel_of q G) R last a))
+    (IsSyzygy_member (positive S lawful) F (kernel_of q G) (Each_at (IsSyzygy S.modulus F) [] (kernel_of q G) s.0) a, s.1 a)
+
+pub quotient_run :
+    {n : ℕ} (S : Setting n) (monomials : Exponents n → Exponents n → Ordering) (f : FormalSum n) (F G R : List (FormalSum n)) (v : FormalSum n) → IsLawful S → IsMonomialOrder monomials
+    → Each (HasRank S.rank) F → HasRank S.rank v
+    → IsRun (position_setting monomials (S.rank + length (multiples_of S.rank f ++ F)) S) (marked S.rank 0 (multiples_of S.rank f ++ F)) G
+    → IsRun S (map (first_components S.rank) (kernel_of S.rank G)) R
+    → IsMember S.modulus R v ↔ IsMember S.modulus F (product f v)
+quotient_run S monomials f F G R v lawful o r vr run last =
+    let s = syzygy_run S monomials S.rank (multiples_of S.rank f ++ F) G lawful o (Each_append (HasRank S.rank) (multiples_of S.rank f) F (multiples_rank S.rank f) r) run in
+    through (run_generates S lawful (map (first_components S.rank) (kernel_of S.rank G)) R last v)
+    (quotient_to (positive S lawful) S.rank f F (kernel_of S.rank G) s.0 s.1 v vr, quotient_from (positive S lawful) S.rank f F (kernel_of S.rank G) s.0 s.1 v vr)
+
+-- U is the setting of polynomials
+pub colon_run :
+    {n : ℕ} (S U : Setting n) (monomials : Exponents n → Exponents n → Ordering) (F C G R : List (FormalSum n)) (v : FormalSum n) → IsLawful S → IsLawful U → U.modulus ≡ S.modulus → IsMonomialOrder monomials
+    → Each (HasRank S.rank) F → Each (HasRank S.rank) C → HasRank 1 v
+    → IsRun (position_setting monomials (S.rank * length C + length (stacked S.rank 0 C ∷ blocks S.rank 0 (length C) F)) S) (marked (S.rank * length C) 0 (stacked S.rank 0 C ∷ blocks S.rank 0 (length C) F)) G
+    → IsRun U (map (first_components 1) (kernel_of (S.rank * length C) G)) R
+    → IsMember S.modulus R v ↔ Each (λ c. IsMember S.modulus F (product v c)) C
+colon_run S U monomials F C G R v lawful u_lawful same o r cr vr run last =
+    let q = S.rank * length C in
+    let L : List (FormalSum _) = stacked S.rank 0 C ∷ blocks S.rank 0 (length C) F in
+    let ranks : Each (HasRank q) L = (stacked_rank S.rank 0 C q (omega arith) cr, blocks_rank S.rank 0 (length C) F q (omega arith) r) in
+    let s = syzygy_run S monomials q L G lawful o ranks run in
+    through (subst (λ p. IsMember p R v ↔ IsMember p (map (first_components 1) (kernel_of q G)) v) same (run_generates U u_lawful (map (first_components 1) (kernel_of q G)) R last v))
+    (colon_to (positive S lawful) S.rank F r C cr (kernel_of q G) s.0 s.1 v vr, colon_from (positive S lawful) S.rank F r C cr (kernel_of q G) s.0 s.1 v vr)

@@ -1,0 +1,9 @@
+use Rattle.operation_laws.proofs.Plain.{eliminate_plain}
+use Rattle.operation_laws.proofs.Running.{eliminate_run}
+use Rattle.operation_laws.proofs.module_operations.eliminations.Goals as goal
+
+pub returns : goal.returns
+returns c = record {
+  reduced = λ n k S F G R v. eliminate_plain S k F G R v;
+  members = λ n k S F G R v. eliminate_run S k F G R v;
+}

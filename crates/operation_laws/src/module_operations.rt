@@ -1,0 +1,120 @@
+//! What the runs of each operation give.
+
+ghost use Rattle.std.specs.Prelude.{ℕ, suc, ◌≡◌, ◌<◌, ◌+◌, ◌*◌, ◌++◌, ◌∷◌, List, [], map, length, ◌↔◌};
+ghost use Rattle.std.specs.declared.cmp.Ordering.{Ordering};
+ghost use Rattle.monomials.specs.Exponents.{Exponents};
+ghost use Rattle.formal_sums.specs.FormalSums.{FormalSum, IsOfRank, IsSame, HasRank, Each, product};
+ghost use Rattle.formal_sums.specs.Combinations.{combination, IsMember, IsSyzygy};
+ghost use Rattle.orders.specs.MonomialOrders.{IsMonomialOrder};
+ghost use Rattle.bases.specs.Bases.{IsReducedBasis};
+ghost use Rattle.bases.specs.Settings.{Setting, IsLawful};
+ghost use Rattle.division_laws.specs.Elimination.{has_none_of_first};
+ghost use Rattle.syzygy_laws.specs.Syzygies.{marked};
+ghost use Rattle.operation_laws.specs.Operations.{IsRun, IsSumOfMembers, IsCombinationOfKept, IsInSaturation, products_of, eliminated, back, elimination_setting, position_setting, intersection_list, saturation_list, multiples_of, kernel_of, first_components, stacked, blocks, power_times, basis_vector};
+
+/// A run generates the module of its list.
+pub fn runs()
+    ensures itself { (n : ℕ) (S : Setting n) (F G : List (FormalSum n)) → IsLawful S → IsRun S F G → IsReducedBasis S G G }
+    ensures members { (n : ℕ) (S : Setting n) (F G : List (FormalSum n)) (v : FormalSum n)
+        → IsLawful S → IsRun S F G → IsMember S.modulus G v ↔ IsMember S.modulus F v }
+    ensures reduced { (n : ℕ) (S : Setting n) (F G : List (FormalSum n))
+        → IsLawful S → Each (HasRank S.rank) F → IsReducedBasis S F G → IsRun S F G }
+    ensures same { (n : ℕ) (S : Setting n) (F H G : List (FormalSum n))
+        → IsLawful S → Each (IsMember S.modulus F) H → Each (IsMember S.modulus H) F → IsRun S F G → IsRun S H G }
+{}
+
+/// The module of the joined list is the sum of the modules (UAG chapter 5, section 3).
+pub fn joined_lists()
+    ensures reduced { (n : ℕ) (S : Setting n) (F H R : List (FormalSum n)) (v : FormalSum n)
+        → IsLawful S → Each (HasRank S.rank) F → Each (HasRank S.rank) H → IsReducedBasis S (F ++ H) R
+        → IsMember S.modulus R v ↔ IsSumOfMembers S.modulus F H v }
+    ensures members { (n p : ℕ) (F H : List (FormalSum n)) (v : FormalSum n)
+        → 0 < p → IsMember p (F ++ H) v ↔ IsSumOfMembers p F H v }
+{}
+
+/// The products of the members of two lists, one of polynomials, generate the product of their modules (IVA chapter 4,
+/// section 3): it has the products of members of the two, and is what the lists' products generate.
+pub fn products_of_lists()
+    ensures reduced { (n : ℕ) (S : Setting n) (F H R : List (FormalSum n)) (v : FormalSum n)
+        → IsLawful S → Each (HasRank S.rank) H → IsReducedBasis S (products_of F H) R
+        → IsMember S.modulus R v ↔ IsMember S.modulus (products_of F H) v }
+    ensures members { (n p : ℕ) (F H : List (FormalSum n)) (u v : FormalSum n)
+        → 0 < p → IsMember p F u → IsMember p H v → IsMember p (products_of F H) (product u v) }
+{}
+
+/// Elimination gives the combinations of the members without the first k variables.
+pub fn eliminations()
+    ensures reduced { (n k : ℕ) (S : Setting n) (F G R : List (FormalSum n)) (v : FormalSum n)
+        → IsLawful S → Each (HasRank S.rank) F → IsReducedBasis (elimination_setting n k S) F G → IsReducedBasis S (eliminated k G) R
+        → IsMember S.modulus R v ↔ IsCombinationOfKept S.modulus (has_none_of_first k) F v }
+    ensures members { (n k : ℕ) (S : Setting n) (F G R : List (FormalSum n)) (v : FormalSum n)
+        → IsLawful S → IsRun (elimination_setting n k S) F G → IsRun S (eliminated k G) R
+        → IsMember S.modulus R v ↔ IsCombinationOfKept S.modulus (has_none_of_first k) F v }
+{}
+
+/// The intersection of two modules.
+pub fn intersections()
+    ensures members { (n : ℕ) (S : Setting n) (F H R : List (FormalSum n)) (G : List (FormalSum (suc n))) (v : FormalSum n)
+        → IsLawful S → IsRun (elimination_setting (suc n) 1 S) (intersection_list S.modulus F H) G → IsRun S (back G) R
+        → IsMember S.modulus R v ↔ (IsMember S.modulus F v × IsMember S.modulus H v) }
+    ensures reduced { (n : ℕ) (S : Setting n) (F H R : List (FormalSum n)) (G : List (FormalSum (suc n))) (v : FormalSum n)
+        → IsLawful S → Each (HasRank S.rank) F → Each (HasRank S.rank) H
+        → IsReducedBasis (elimination_setting (suc n) 1 S) (intersection_list S.modulus F H) G → IsReducedBasis S (back G) R
+        → IsMember S.modulus R v ↔ (IsMember S.modulus F v × IsMember S.modulus H v) }
+{}
+
+/// The saturation of a module by a polynomial.
+pub fn saturations()
+    ensures members { (n : ℕ) (S : Setting n) (f : FormalSum n) (F R : List (FormalSum n)) (G : List (FormalSum (suc n))) (v : FormalSum n)
+        → IsLawful S → HasRank S.rank v
+        → IsRun (elimination_setting (suc n) 1 S) (saturation_list S.modulus S.rank f F) G → IsRun S (back G) R
+        → IsMember S.modulus R v ↔ IsInSaturation S.modulus f F v }
+    ensures powers { (n k : ℕ) (f v : FormalSum n) → product (power_times f k (basis_vector 0)) v ≡ power_times f k v }
+    ensures reduced { (n : ℕ) (S : Setting n) (f : FormalSum n) (F R : List (FormalSum n)) (G : List (FormalSum (suc n))) (v : FormalSum n)
+        → IsLawful S → Each (HasRank S.rank) F → IsOfRank S.modulus S.rank v
+        → IsReducedBasis (elimination_setting (suc n) 1 S) (saturation_list S.modulus S.rank f F) G → IsReducedBasis S (back G) R
+        → IsMember S.modulus R v ↔ IsInSaturation S.modulus f F v }
+{}
+
+/// The syzygies of a list.
+pub fn kernels()
+    ensures reduced { (n q : ℕ) (S K : Setting n) (monomials : Exponents n → Exponents n → Ordering) (F G R : List (FormalSum n)) (a : FormalSum n)
+        → IsLawful S → IsLawful K → K.modulus ≡ S.modulus → K.rank ≡ length F → IsMonomialOrder monomials → Each (HasRank q) F
+        → IsReducedBasis (position_setting monomials (q + length F) S) (marked q 0 F) G → IsReducedBasis K (kernel_of q G) R
+        → IsMember S.modulus R a ↔ IsSyzygy S.modulus F a }
+    ensures members { (n q : ℕ) (S K : Setting n) (monomials : Exponents n → Exponents n → Ordering) (F G R : List (FormalSum n)) (a : FormalSum n)
+        → IsLawful S → IsLawful K → K.modulus ≡ S.modulus → IsMonomialOrder monomials → Each (HasRank q) F
+        → IsRun (position_setting monomials (q + length F) S) (marked q 0 F) G → IsRun K (kernel_of q G) R
+        → IsMember S.modulus R a ↔ IsSyzygy S.modulus F a }
+{}
+
+/// The quotient of a module by a polynomial.
+pub fn quotients()
+    ensures reduced { (n : ℕ) (S : Setting n) (monomials : Exponents n → Exponents n → Ordering) (f : FormalSum n) (F G R : List (FormalSum n)) (v : FormalSum n)
+        → IsLawful S → IsMonomialOrder monomials → Each (HasRank S.rank) F → IsOfRank S.modulus S.rank v
+        → IsReducedBasis (position_setting monomials (S.rank + length (multiples_of S.rank f ++ F)) S) (marked S.rank 0 (multiples_of S.rank f ++ F)) G
+        → IsReducedBasis S (map (first_components S.rank) (kernel_of S.rank G)) R
+        → IsMember S.modulus R v ↔ IsMember S.modulus F (product f v) }
+    ensures members { (n : ℕ) (S : Setting n) (monomials : Exponents n → Exponents n → Ordering) (f : FormalSum n) (F G R : List (FormalSum n)) (v : FormalSum n)
+        → IsLawful S → IsMonomialOrder monomials → Each (HasRank S.rank) F → HasRank S.rank v
+        → IsRun (position_setting monomials (S.rank + length (multiples_of S.rank f ++ F)) S) (marked S.rank 0 (multiples_of S.rank f ++ F)) G
+        → IsRun S (map (first_components S.rank) (kernel_of S.rank G)) R
+        → IsMember S.modulus R v ↔ IsMember S.modulus F (product f v) }
+{}
+
+/// The polynomials that take the members of one module into another.
+pub fn colons()
+    ensures reduced { (n : ℕ) (S U : Setting n) (monomials : Exponents n → Exponents n → Ordering) (F C G R : List (FormalSum n)) (v : FormalSum n)
+        → IsLawful S → IsLawful U → U.modulus ≡ S.modulus → U.rank ≡ 1 → IsMonomialOrder monomials
+        → Each (HasRank S.rank) F → Each (HasRank S.rank) C → IsOfRank S.modulus 1 v
+        → IsReducedBasis (position_setting monomials (S.rank * length C + length (stacked S.rank 0 C ∷ blocks S.rank 0 (length C) F)) S) (marked (S.rank * length C) 0 (stacked S.rank 0 C ∷ blocks S.rank 0 (length C) F)) G
+        → IsReducedBasis U (map (first_components 1) (kernel_of (S.rank * length C) G)) R
+        → IsMember S.modulus R v ↔ Each (λ c. IsMember S.modulus F (product v c)) C }
+    ensures members { (n : ℕ) (S U : Setting n) (monomials : Exponents n → Exponents n → Ordering) (F C G R : List (FormalSum n)) (v : FormalSum n)
+        → IsLawful S → IsLawful U → U.modulus ≡ S.modulus → IsMonomialOrder monomials
+        → Each (HasRank S.rank) F → Each (HasRank S.rank) C → HasRank 1 v
+        → IsRun (position_setting monomials (S.rank * length C + length (stacked S.rank 0 C ∷ blocks S.rank 0 (length C) F)) S) (marked (S.rank * length C) 0 (stacked S.rank 0 C ∷ blocks S.rank 0 (length C) F)) G
+        → IsRun U (map (first_components 1) (kernel_of (S.rank * length C) G)) R
+        → IsMember S.modulus R v ↔ Each (λ c. IsMember S.modulus F (product v c)) C }
+    ensures empty { (n p : ℕ) (v : FormalSum n) → IsOfRank p 1 v → IsMember p (basis_vector 0 ∷ []) v }
+{}
