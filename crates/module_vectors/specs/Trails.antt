@@ -1,0 +1,83 @@
+-- A trail: a chain of products that leads to one of too great a degree
+use Rattle.std.specs.Prelude.{Contains, List, Option, Some, None, [], get_or, length, map, sum, ⊤, ℕ, ◌∷◌, ◌++◌, ◌+◌, ◌<◌, ◌≡◌, ◌⊎◌}
+use Rattle.monomials.specs.Exponents.{exponents_of}
+use Rattle.formal_sums.specs.FormalSums.{Each, FormalSum, Key, shift}
+use Rattle.bases.specs.Leads.{head_key}
+use Rattle.bases.specs.Representations.{key_lcm}
+use Rattle.module_vectors.specs.Rings.{variables}
+use Rattle.module_vectors.specs.Vectors.{sum_of}
+use Rattle.module_vectors.specs.Stops.{HasMonomial}
+use Rattle.module_vectors.specs.declared.key.Key.{Key as CodeKey}
+use Rattle.module_vectors.specs.declared.trail.KeptTrail.{KeptTrail}
+use Rattle.module_vectors.specs.declared.trail.TrailStart.{TrailStart}
+use Rattle.module_vectors.specs.declared.trail.TrailStart.TheVariants.{Pair, Term, Product}
+
+-- a step (k, t): the product of the monomial t and member k
+abbrev pub Step : Type 0
+Step = ℕ × List ℕ
+
+-- the key of a term of the vector
+abbrev pub HasKey : {n : ℕ} → FormalSum n → Key n → Type 0
+HasKey v k = Contains (map (λ t. t.0) v) k
+
+-- the member of a step
+abbrev pub member_of : (n : ℕ) → List (List (CodeKey × ℕ)) → Step → FormalSum n
+member_of n members s = sum_of n (get_or members s.0 [])
+
+-- the lead of a step's product
+abbrev pub product_lead : (n : ℕ) → List (List (CodeKey × ℕ)) → Step → Key n
+product_lead n members s = shift (exponents_of n s.1) (head_key (member_of n members s))
+
+-- k is a key of a step's product
+abbrev pub IsInProduct : (n : ℕ) → List (List (CodeKey × ℕ)) → Key n → Step → Type 0
+IsInProduct n members k s = (l : Key n) × HasKey (member_of n members s) l × (k ≡ shift (exponents_of n s.1) l)
+
+-- k is a key of the vector or of the product of an earlier step
+abbrev pub IsMet : (n : ℕ) → FormalSum n → List (List (CodeKey × ℕ)) → List Step → Key n → Type 0
+IsMet n v members earlier k = HasKey v k ⊎ ((s : Step) × Contains earlier s × IsInProduct n members k s)
+
+-- the leads of these products are met, each by the vector or by the products before it
+abbrev pub AreMet : (n : ℕ) → FormalSum n → List (List (CodeKey × ℕ)) → List Step → List Step → Type 0
+AreMet n v members earlier [] = ⊤
+AreMet n v members earlier (s ∷ steps) = IsMet n v members earlier (product_lead n members s) × AreMet n v members (earlier ++ s ∷ []) steps
+
+-- the lead of each member: the key of its first term
+abbrev pub lead_at : (n : ℕ) → List (List (CodeKey × ℕ)) → ℕ → Key n
+lead_at n members i = head_key (sum_of n (get_or members i []))
+
+-- a start by a pair: two members with leads at one position, whose lcm is the lead of the first product
+pub record IsPairStart (n : ℕ) (members : List (List (CodeKey × ℕ))) (i j : ℕ) (first : Step) : Type 0 where
+  pub left : i < length members
+  pub right : j < length members
+  pub apart : i ≡ j → ⊥
+  pub position : (lead_at n members i).0 ≡ (lead_at n members j).0
+  pub lcm : product_lead n members first ≡ key_lcm (lead_at n members i) (lead_at n members j)
+
+-- how the first product is met, and that nothing stands behind it where the trail is of one product
+abbrev pub Begins : (n : ℕ) → TrailStart → List (CodeKey × ℕ) → List (List (CodeKey × ℕ)) → Step → List Step → Type 0
+Begins n (Pair i j) vector members first later = IsPairStart n members i j first × (vector ≡ [])
+Begins n Term vector members first later = HasKey (sum_of n vector) (product_lead n members first)
+Begins n Product vector members first later = HasMonomial vector first.1 × (later ≡ [])
+
+-- the last of a list that is not empty
+abbrev pub last_step : Step → List Step → Step
+last_step s [] = s
+last_step s (t ∷ steps) = last_step t steps
+
+-- a monomial of a step's member, or of its cofactors where they are kept
+abbrev pub IsOfStep : List (List (CodeKey × ℕ)) → Option (List (List (CodeKey × ℕ))) → Step → List ℕ → Type 0
+IsOfStep members None s m = HasMonomial (get_or members s.0 []) m
+IsOfStep members (Some cofs) s m = HasMonomial (get_or members s.0 []) m ⊎ HasMonomial (get_or cofs s.0 []) m
+
+-- the steps of a trail that begins with `first`
+pub record IsChain (n : ℕ) (t : KeptTrail) (first : Step) (later : List Step) : Type 0 where
+  pub steps : t.steps.items ≡ first ∷ later
+  pub known : Each (λ s. s.0 < length t.members) (first ∷ later)
+  pub begins : Begins n t.start t.vector t.members first later
+  pub met : AreMet n (sum_of n t.vector) t.members (first ∷ []) later
+  pub last : IsOfStep t.members t.cofs (last_step first later) t.last
+  pub too_great : 65535 < sum (last_step first later).1 + sum t.last
+
+-- t is a trail: it has a step, each product is met before it is made, and the last one has too great a degree
+abbrev pub IsTrail : KeptTrail → Type 0
+IsTrail t = (first : Step) × (later : List Step) × IsChain (variables t.ring) t first later

@@ -1,0 +1,36 @@
+// Module monomials.
+ghost use Rattle.std.specs.Prelude.{◌≡◌, ◌≤◌, ◌↔◌, IsTrue, IsOk, IfOk, length};
+
+use crate::NoMemory;
+use monomial_orders::Mono;
+use std::alloc::Global;
+
+/// A module monomial: a monomial at a position of a free module, counted from 0, of which the first is the greatest.
+#[derive(Drop)]
+pub struct Key {
+    pub position: u128,
+    pub monomial: Mono,
+}
+
+impl Key {
+    /// The same key again. `NoMemory` over more than 16 variables alone.
+    pub fn try_copy(&self, alloc: Global) -> Result<Key, NoMemory>
+        ensures ok { IfOk result (λ key. key ≡ self.now) }
+        ensures no_memory { length self.now.monomial ≤ 16 → IsOk result }
+    {
+        Ok(Key {
+            position: self.position,
+            monomial: self.monomial.try_copy(alloc)?,
+        })
+    }
+
+    /// Are the two one key? No memory.
+    pub fn equal(&self, other: &Key) -> bool
+        ensures { IsTrue result ↔ (self.now ≡ other.now) }
+    {
+        if self.position != other.position {
+            return false;
+        }
+        self.monomial.exponents() == other.monomial.exponents()
+    }
+}

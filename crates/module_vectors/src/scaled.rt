@@ -1,0 +1,71 @@
+// Multiples of a vector by a term.
+ghost use Rattle.std.specs.Prelude.{◌≡◌, ◌<◌, ◌≤◌, ◌+◌, List, ℕ, length, sum, IfOk, IfErr, OnOk};
+ghost use Rattle.monomials.specs.Exponents.{exponents_of};
+ghost use Rattle.formal_sums.specs.FormalSums.{scale};
+ghost use Rattle.module_vectors.specs.Rings.{variables};
+ghost use Rattle.module_vectors.specs.Vectors.{sum_of, IsVectorOver, StandsFor};
+ghost use Rattle.module_vectors.specs.Multiples.{IsMultiple, ProductStops};
+ghost use Rattle.module_vectors.specs.Stops.{Fits, ScaledStops};
+
+use crate::{Frame, Key, VectStop};
+use monomial_orders::{Mono, MonoStop};
+use std::alloc::Global;
+use zp_field::Modulus;
+
+// c m t, for a term t.
+fn scaled_term(
+    alloc: Global,
+    modulus: &Modulus,
+    c: u32,
+    m: &Mono,
+    t: &(Key, u32),
+) -> Result<(Key, u32), VectStop>
+    requires factor { c < modulus.now.value }
+    requires residue { t.now.1 < modulus.now.value }
+    requires variables { length m.now ≡ length t.now.0.monomial }
+    ensures term { IfOk result (IsMultiple (length m.now) modulus.now.value c m.now t.now) }
+    ensures fits { OnOk result (sum m.now + sum t.now.0.monomial ≤ 65535) }
+    ensures stop { IfErr result (ProductStops m.now t.now.0.monomial) }
+{
+    match Mono::mul(alloc, m, &t.0.monomial) {
+        Ok(monomial) => Ok((
+            Key {
+                position: t.0.position,
+                monomial,
+            },
+            modulus.mul(c, t.1),
+        )),
+        Err(MonoStop::Memory) => Err(VectStop::Memory),
+        Err(MonoStop::Degree) => {
+            let left = m.try_copy(alloc)?;
+            let right = t.0.monomial.try_copy(alloc)?;
+            Err(VectStop::Degree(left, right))
+        }
+    }
+}
+
+/// The terms of c m v, for a c that is not 0.
+pub(crate) fn scaled_terms<F: Frame>(
+    alloc: Global,
+    frame: &F,
+    c: u32,
+    m: &Mono,
+    v: &[(Key, u32)],
+) -> Result<Vec<(Key, u32)>, VectStop>
+    requires nonzero { 0 < c }
+    requires factor { c < (F.over frame.now).modulus.value }
+    requires variables { length m.now ≡ variables (F.over frame.now) }
+    requires vector { IsVectorOver (F.over frame.now) (F.compare frame.now) v.now }
+    ensures vector { IfOk result (λ u. IsVectorOver (F.over frame.now) (F.compare frame.now) u.items) }
+    ensures sum { let n = variables (F.over frame.now) in IfOk result (λ u. StandsFor (F.over frame.now) u.items (scale c (exponents_of n m.now) (sum_of n v.now))) }
+    ensures fits { OnOk result (Fits m.now v.now) }
+    ensures stop { IfErr result (ScaledStops c m.now v.now) }
+{
+    let modulus = &frame.ring().modulus;
+    modulus.domain();
+    let mut out = Vec::with_capacity(alloc, v.len())?;
+    for term in v {
+        out.push_reserved(scaled_term(alloc, modulus, c, m, term)?);
+    }
+    Ok(out)
+}

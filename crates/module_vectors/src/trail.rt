@@ -1,0 +1,81 @@
+// How a product of too great a degree was met.
+ghost use Rattle.std.specs.Prelude.{◌≡◌};
+ghost use Rattle.module_vectors.specs.declared.trail.WorkStop.TheVariants.{Memory};
+
+use crate::{NoMemory, Ring, Vect, VectList};
+use monomial_orders::Mono;
+use std::alloc::{AllocError, AllocFailed};
+
+/// Where the first product of a trail comes from.
+#[derive(Clone, Copy, Debug, PartialEq, Eq)]
+pub enum TrailStart {
+    /// Its lead is the least common multiple of the leads of these two members.
+    Pair(u64, u64),
+    /// Its lead is a monomial of the trail's vector.
+    Term,
+    /// It is the only product, by a monomial of the trail's vector.
+    Product,
+}
+
+/// A chain of products of terms and members that leads to one of total degree above 65,535.
+#[derive(Drop)]
+pub struct KeptTrail {
+    /// The ring in which the products were made.
+    pub ring: Ring,
+    /// The rank and the generators of the run, and 0 and none outside a run.
+    pub rank: u128,
+    pub generators: VectList,
+    /// In a resolution the columns of the maps that induce the order of the leads; else none.
+    pub below: Vec<VectList>,
+    pub start: TrailStart,
+    /// What was divided or multiplied; zero where the trail starts with a pair.
+    pub vector: Vect,
+    pub members: VectList,
+    /// The cofactors of the members, where they are kept.
+    pub cofs: Option<VectList>,
+    /// Each (k, t) stands for the product of the monomial t and member k.
+    pub steps: Vec<(u64, Mono)>,
+    /// A monomial of the last step's member or of its cofactors, too great for the last t.
+    pub last: Mono,
+}
+
+/// Why a piece of work was not done.
+#[derive(Drop)]
+pub enum WorkStop {
+    /// There was no memory.
+    Memory,
+    /// A product of total degree above 65,535 was needed.
+    Degree(KeptTrail),
+}
+
+impl From<AllocError> for WorkStop {
+    ghost from_gives = { λ _ stop. stop ≡ Memory };
+
+    fn from(_error: AllocError) -> WorkStop {
+        WorkStop::Memory
+    }
+}
+
+impl<T: Drop> From<AllocFailed<T>> for WorkStop {
+    ghost from_gives = { λ _ stop. stop ≡ Memory };
+
+    fn from(_error: AllocFailed<T>) -> WorkStop {
+        WorkStop::Memory
+    }
+}
+
+impl From<NoMemory> for WorkStop {
+    ghost from_gives = { λ _ stop. stop ≡ Memory };
+
+    fn from(_error: NoMemory) -> WorkStop {
+        WorkStop::Memory
+    }
+}
+
+impl From<monomial_orders::NoMemory> for WorkStop {
+    ghost from_gives = { λ _ stop. stop ≡ Memory };
+
+    fn from(_error: monomial_orders::NoMemory) -> WorkStop {
+        WorkStop::Memory
+    }
+}

@@ -1,0 +1,20 @@
+//! Monomials as lists of exponents with their total degree, and the orders of monomials and of module monomials.
+//!
+//! A monomial is seen as its list of exponents; the comparisons are those of the crate `orders`, and each order
+//! comes with its laws: total, kept under multiplication, 1 is least, well-founded.
+#![tactic(auto)]
+
+mod compare;
+mod mono;
+mod order;
+mod order_laws;
+mod places;
+mod stop;
+
+pub use mono::Mono;
+pub use order::{ModOrder, MonomialOrder, Order};
+pub use order_laws::key_orders;
+pub use stop::{MonoStop, NoMemory};
+
+#[cfg(test)]
+mod tests;
