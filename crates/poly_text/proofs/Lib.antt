@@ -1,0 +1,6 @@
+pub mod Writing
+pub mod Entries
+pub mod Splitting
+pub mod Decimals
+pub mod Terms
+pub mod Values

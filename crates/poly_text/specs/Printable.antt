@@ -1,0 +1,30 @@
+-- Terms, polynomials and vectors that have texts of their own
+use Rattle.std.specs.Prelude.{List, length, ℕ, ℤ, negsuc, pos, ◌<◌, ◌≡◌, ◌^◌}
+use Rattle.std.specs.declared.cmp.Ordering.{Ordering}
+use Rattle.formal_sums.specs.FormalSums.{Each, Key as KeyOf}
+use Rattle.orders.specs.KeyOrders.{Descends}
+use Rattle.module_vectors.specs.Vectors.{HasPositions, sum_of}
+use Rattle.module_vectors.specs.declared.key.Key.{Key}
+
+-- the term has n variables, its residue is not 0, and its numbers have at most 64 bits
+pub record IsPrintable (n : ℕ) (t : Key × ℕ) : Type 0 where
+  pub variables : length t.0.monomial ≡ n
+  pub nonzero : 0 < t.1
+  pub residue : t.1 < 2 ^ 64
+  pub exponents : Each (λ e. e < 2 ^ 64) t.0.monomial
+
+-- a polynomial: such terms, all at position 0, in any order
+pub record IsPrintablePolynomial (n : ℕ) (terms : List (Key × ℕ)) : Type 0 where
+  pub each : Each (IsPrintable n) terms
+  pub positions : Each (λ t. t.0.position ≡ 0) terms
+
+-- a vector: such terms at positions below the rank, their keys strictly descending
+pub record IsPrintableVector (n rank : ℕ) (compare : KeyOf n → KeyOf n → Ordering) (terms : List (Key × ℕ)) : Type 0 where
+  pub each : Each (IsPrintable n) terms
+  pub positions : HasPositions rank terms
+  pub descends : Descends compare (sum_of n terms)
+
+-- a signed number of 128 bits
+abbrev pub IsPrintableNumber : ℤ → Type 0
+IsPrintableNumber (pos n) = n < 2 ^ 127
+IsPrintableNumber (negsuc n) = n < 2 ^ 127

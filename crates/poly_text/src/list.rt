@@ -1,0 +1,33 @@
+// The text of a list of vectors. After an error the lines that were written stand there.
+ghost use Rattle.std.specs.Prelude.{◌≡◌, ◌++◌, OnOk, OnErr};
+ghost use Rattle.formal_sums.specs.FormalSums.{Each};
+ghost use Rattle.module_vectors.specs.Rings.{variables};
+ghost use Rattle.module_vectors.specs.Vectors.{HasVariables};
+ghost use Rattle.poly_text.specs.Texts.{list_text, names_of};
+ghost use Rattle.poly_text.specs.Writing.{Begins};
+
+use crate::{NoMemory, push_vect};
+use module_vectors::{Ring, Vect};
+use std::alloc::Global;
+
+/// Appends each vector on a line of its own.
+pub fn append_list(
+    alloc: Global,
+    out: &mut Vec<u8>,
+    ring: &Ring,
+    rank: u128,
+    vectors: &[Vect],
+) -> Result<(), NoMemory>
+    requires { Each (λ v. Each (HasVariables (variables ring.now)) v) vectors.now }
+    ensures ok { OnOk result (out.new.items ≡ out.old.items ++ list_text (names_of ring.now) rank vectors.now) }
+    ensures err { OnErr result (Begins out.old.items out.new.items) }
+{
+    for v in vectors {
+        match push_vect(alloc, out, ring, rank, v) {
+            Ok(()) => {}
+            Err(early) => return Err(early),
+        }
+        out.push(b'\n')?;
+    }
+    Ok(())
+}

@@ -1,0 +1,4 @@
+pub mod Degrees
+pub mod Multiples
+pub mod Powers
+pub mod Stops

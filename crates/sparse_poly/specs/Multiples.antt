@@ -1,0 +1,19 @@
+-- Products of the terms of one polynomial with another
+use Rattle.std.specs.Prelude.{List, [], ◌∷◌, ℕ, ◌≡◌}
+use Rattle.module_vectors.specs.declared.key.Key.{Key as CodeKey}
+use Rattle.module_vectors.specs.declared.product.Product.{Product}
+use Rattle.module_vectors.specs.declared.stop.VectStop.{VectStop}
+use Rattle.module_vectors.specs.declared.stop.VectStop.TheVariants.{Memory, Degree}
+
+-- item by item, xs are the products of the terms and v
+abbrev pub AreMultiples : List (CodeKey × ℕ) → List (CodeKey × ℕ) → List Product → Type 0
+AreMultiples v [] [] = Unit {0}
+AreMultiples v [] (x ∷ xs) = ⊥
+AreMultiples v (t ∷ terms) [] = ⊥
+AreMultiples v (t ∷ terms) (x ∷ xs) =
+    (x.residue ≡ t.1) × (x.monomial.now ≡ t.0.monomial) × (x.vector.now ≡ v) × AreMultiples v terms xs
+
+-- the stop with its two monomials exchanged
+abbrev pub exchanged : VectStop → VectStop
+exchanged Memory = Memory
+exchanged (Degree s t) = Degree t s

@@ -1,0 +1,34 @@
+-- When a product or a power needs a monomial whose degree is too great
+use Rattle.std.specs.Prelude.{List, ⊤, ℕ, ◌+◌, ◌≤◌}
+use Rattle.residues.specs.Residues.{IsCongruent}
+use Rattle.monomials.specs.Exponents.{Exponents, degree, exponents_of}
+use Rattle.formal_sums.specs.FormalSums.{Each, FormalSum, coefficient}
+use Rattle.module_vectors.specs.declared.key.Key.{Key as CodeKey}
+use Rattle.module_vectors.specs.declared.stop.VectStop.{VectStop}
+use Rattle.module_vectors.specs.declared.stop.VectStop.TheVariants.{Memory, Degree}
+use Rattle.module_vectors.specs.Stops.{Fits, HasMonomial, IsTooGreat}
+use Rattle.sparse_poly.specs.Powers.{power}
+
+-- each monomial of a times each of b fits
+abbrev pub ProductFits : List (CodeKey × ℕ) → List (CodeKey × ℕ) → Type 0
+ProductFits a b = Each (λ t. Fits t.0.monomial b) a
+
+-- Degree comes where a monomial of a times one of b has too great a degree, and carries these two
+abbrev pub ProductStops : List (CodeKey × ℕ) → List (CodeKey × ℕ) → VectStop → Type 0
+ProductStops a b Memory = ⊤
+ProductStops a b (Degree s t) = HasMonomial a s × HasMonomial b t × IsTooGreat s t
+
+-- the polynomial has a term with this monomial, modulo p
+abbrev pub Occurs : {n : ℕ} → ℕ → FormalSum n → Exponents n → Type 0
+Occurs p v m = IsCongruent p (coefficient v (0, m)) 0 → ⊥
+
+-- each monomial of a power times each of another fits, where the exponents sum to at most k
+abbrev pub PowersFit : {n : ℕ} → ℕ → FormalSum n → ℕ → Type 0
+PowersFit {n} p v k =
+    (i j : ℕ) (a b : Exponents n) → i + j ≤ k → Occurs p (power v i) a → Occurs p (power v j) b → degree a + degree b ≤ 65535
+
+-- Degree comes where monomials of two powers, with exponents that sum to at most k, have too great a degree together
+abbrev pub PowerStops : (n p : ℕ) → FormalSum n → ℕ → VectStop → Type 0
+PowerStops n p v k Memory = ⊤
+PowerStops n p v k (Degree s t) =
+    (i : ℕ) × (j : ℕ) × (i + j ≤ k) × Occurs p (power v i) (exponents_of n s) × Occurs p (power v j) (exponents_of n t) × IsTooGreat s t

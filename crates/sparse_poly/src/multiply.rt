@@ -1,0 +1,81 @@
+// Products of two polynomials.
+ghost use Rattle.std.specs.Prelude.{◌≡◌, ◌+◌, ◌≤◌, ℕ, IfOk, IfErr, OnOk, OnErr, Err};
+ghost use Rattle.formal_sums.specs.FormalSums.{product};
+ghost use Rattle.module_vectors.specs.Rings.{variables};
+ghost use Rattle.module_vectors.specs.Vectors.{sum_of, IsVectorOver, StandsFor, HasPositions};
+ghost use Rattle.sparse_poly.specs.Degrees.{IsWithinDegree};
+ghost use Rattle.sparse_poly.specs.Multiples.{AreMultiples, exchanged};
+ghost use Rattle.sparse_poly.specs.Stops.{ProductFits, ProductStops};
+
+use module_vectors::{Frame, Key, NoMemory, Product, Vect, VectStop};
+use std::alloc::Global;
+
+/// The product of two polynomials. `Degree` exactly where a monomial of `a` and one of `b` have total degrees that sum to
+/// more than 65,535; it carries two such.
+pub fn mul<F: Frame>(alloc: Global, frame: &F, a: &Vect, b: &Vect) -> Result<Vect, VectStop>
+    requires left { IsVectorOver (F.over frame.now) (F.compare frame.now) a.now }
+    requires right { IsVectorOver (F.over frame.now) (F.compare frame.now) b.now }
+    requires left_polynomial { HasPositions 1 a.now }
+    requires right_polynomial { HasPositions 1 b.now }
+    ensures vector { IfOk result (λ v. IsVectorOver (F.over frame.now) (F.compare frame.now) v) }
+    ensures polynomial { IfOk result (λ v. HasPositions 1 v) }
+    ensures product { let n = variables (F.over frame.now) in IfOk result (λ v. StandsFor (F.over frame.now) v (product (sum_of n a.now) (sum_of n b.now))) }
+    ensures fits { OnOk result (ProductFits a.now b.now) }
+    ensures stop { IfErr result (ProductStops a.now b.now) }
+    ensures within { (d e : ℕ) → IsWithinDegree d a.now → IsWithinDegree e b.now → IfOk result (IsWithinDegree (d + e)) }
+    ensures memory { (d e : ℕ) → IsWithinDegree d a.now → IsWithinDegree e b.now → d + e ≤ 65535 → OnErr result (result ≡ Err VectStop.Memory) }
+{
+    // One product for each term of the shorter factor: so fewer vectors are merged.
+    if a.terms().len() <= b.terms().len() {
+        mul_terms(alloc, frame, a, b)
+    } else {
+        match mul_terms(alloc, frame, b, a) {
+            Ok(v) => Ok(v),
+            Err(stop) => Err(exchange(stop)),
+        }
+    }
+}
+
+/// The product of two polynomials, as the sum of the products of each term of `a` with `b`.
+fn mul_terms<F: Frame>(alloc: Global, frame: &F, a: &Vect, b: &Vect) -> Result<Vect, VectStop>
+    requires left { IsVectorOver (F.over frame.now) (F.compare frame.now) a.now }
+    requires right { IsVectorOver (F.over frame.now) (F.compare frame.now) b.now }
+    ensures vector { IfOk result (λ v. IsVectorOver (F.over frame.now) (F.compare frame.now) v) }
+    ensures product { let n = variables (F.over frame.now) in IfOk result (λ v. StandsFor (F.over frame.now) v (product (sum_of n a.now) (sum_of n b.now))) }
+    ensures fits { OnOk result (ProductFits a.now b.now) }
+    ensures stop { IfErr result (ProductStops a.now b.now) }
+{
+    match multiples(alloc, a.terms(), b) {
+        Ok(products) => Vect::sum_of_products(alloc, frame, &products),
+        Err(_) => Err(VectStop::Memory),
+    }
+}
+
+/// The products of the terms and `v`.
+fn multiples<'a>(
+    alloc: Global,
+    terms: &'a [(Key, u32)],
+    v: &'a Vect,
+) -> Result<Vec<Product<'a>>, NoMemory>
+    ensures { IfOk result (λ products. AreMultiples v.now terms.now products.items) }
+{
+    let mut products = Vec::with_capacity(alloc, terms.len())?;
+    for term in terms {
+        products.push(Product {
+            residue: term.1,
+            monomial: &term.0.monomial,
+            vector: v,
+        })?;
+    }
+    Ok(products)
+}
+
+/// The stop with its two monomials exchanged.
+fn exchange(stop: VectStop) -> VectStop
+    ensures { result ≡ exchanged stop }
+{
+    match stop {
+        VectStop::Memory => VectStop::Memory,
+        VectStop::Degree(s, t) => VectStop::Degree(t, s),
+    }
+}

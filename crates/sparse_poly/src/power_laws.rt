@@ -1,0 +1,45 @@
+//! Powers of polynomials, and the degrees of products and powers.
+
+ghost use Rattle.std.specs.Prelude.{ℕ, ◌≡◌, ◌+◌, ◌*◌, ◌<◌, ◌≤◌};
+ghost use Rattle.residues.specs.Residues.{IsDomain};
+ghost use Rattle.monomials.specs.Exponents.{Exponents, degree, times};
+ghost use Rattle.formal_sums.specs.FormalSums.{FormalSum, IsPolynomial, IsSame, product};
+ghost use Rattle.sparse_poly.specs.Degrees.{HasDegreeWithin};
+ghost use Rattle.sparse_poly.specs.Powers.{power};
+ghost use Rattle.sparse_poly.specs.Stops.{Occurs, PowersFit};
+ghost use Rattle.bases.specs.Leads.{IsLead};
+ghost use Rattle.bases.specs.Settings.{Setting, IsLawful};
+
+/// Products depend on the coefficients of both factors alone and associate; so powers depend on the coefficients alone,
+/// and exponents add up. Powers are polynomials.
+pub fn powers()
+    ensures products { (n p : ℕ) (u v w x : FormalSum n)
+        → 0 < p → IsSame p u w → IsSame p v x → IsSame p (product u v) (product w x) }
+    ensures associative { (n p : ℕ) (u v w : FormalSum n)
+        → IsSame p (product (product u v) w) (product u (product v w)) }
+    ensures same { (n p k : ℕ) (v w : FormalSum n)
+        → 0 < p → IsSame p v w → IsSame p (power v k) (power w k) }
+    ensures sum { (n p i j : ℕ) (v : FormalSum n)
+        → 0 < p → IsSame p (power v (i + j)) (product (power v i) (power v j)) }
+    ensures polynomial { (n k : ℕ) (v : FormalSum n) → IsPolynomial (power v k) }
+{}
+
+/// The degree of a product is at most the sum of the degrees, and that of a power at most its exponent times the degree.
+pub fn degrees()
+    ensures product { (n p d e : ℕ) (u v : FormalSum n)
+        → HasDegreeWithin p d u → HasDegreeWithin p e v → HasDegreeWithin p (d + e) (product u v) }
+    ensures power { (n p d k : ℕ) (v : FormalSum n)
+        → HasDegreeWithin p d v → HasDegreeWithin p (k * d) (power v k) }
+{}
+
+/// In a domain the lead of a product of polynomials is the product of the leads (IVA chapter 2, section 2). So where the
+/// monomials of two powers fit, those of all powers fit whose exponents sum to no more.
+pub fn top_degrees()
+    ensures product { (n : ℕ) (S : Setting n) (u v : FormalSum n) (a b : Exponents n)
+        → IsLawful S → IsPolynomial u → IsPolynomial v → IsLead S u (0, a) → IsLead S v (0, b)
+        → IsLead S (product u v) (0, times a b) }
+    ensures powers { (n p i j : ℕ) (v : FormalSum n)
+        → IsDomain p → IsPolynomial v
+        → ((a b : Exponents n) → Occurs p (power v i) a → Occurs p (power v j) b → degree a + degree b ≤ 65535)
+        → PowersFit p v (i + j) }
+{}
