@@ -1,0 +1,2 @@
+pub mod CombinedSums
+pub mod Differences

@@ -1,0 +1,2 @@
+pub mod PairsOfLeads
+pub mod SparedPairs

@@ -1,0 +1,10 @@
+pub mod Factors
+pub mod Members
+pub mod Occurring
+pub mod Retaining
+pub mod Subtracting
+pub mod Chains
+pub mod Advancing
+pub mod Looping
+pub mod Quotients
+pub mod Masking

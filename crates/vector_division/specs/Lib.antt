@@ -1,0 +1,4 @@
+pub mod Divisions
+pub mod Reductions
+pub mod Progress
+pub mod Marks

@@ -1,0 +1,40 @@
+-- The products that a division takes away, in the order in which it does
+use Rattle.std.specs.Prelude.{List, [], get_or, length, map, ⊤, ℕ, ◌++◌, ◌<◌, ◌∷◌, ◌≡◌}
+use Rattle.std.specs.declared.cmp.Ordering.{Ordering}
+use Rattle.std.specs.declared.cmp.Ordering.TheVariants.{Greater}
+use Rattle.monomials.specs.Exponents.{exponents_of}
+use Rattle.formal_sums.specs.FormalSums.{Each, FormalSum, Key}
+use Rattle.module_vectors.specs.Stops.{Fits}
+use Rattle.module_vectors.specs.Trails.{IsMet, Step, product_lead}
+use Rattle.module_vectors.specs.declared.key.Key.{Key as CodeKey}
+use Rattle.vector_division.specs.declared.reduction.Quotient.{Quotient}
+
+-- the step of a quotient's term
+abbrev pub step_of : Quotient → Step
+step_of q = (q.index, q.monomial)
+
+-- the term of a cofactor that a quotient's term is
+abbrev pub term_of : Quotient → CodeKey × ℕ
+term_of q = (record { position = q.index; monomial = q.monomial }, q.residue)
+
+-- the quotients as cofactors of the list: position i for vector i
+abbrev pub cofactors_of : (n : ℕ) → List Quotient → FormalSum n
+cofactors_of n qs = map (λ q. ((q.index, exponents_of n q.monomial), q.residue)) qs
+
+-- a term of a quotient: of a vector of the list, with n variables, a residue that is not 0, and a product that fits
+pub record IsQuotient (n p : ℕ) (list : List (List (CodeKey × ℕ))) (q : Quotient) : Type 0 where
+  pub index : q.index < length list
+  pub variables : length q.monomial ≡ n
+  pub nonzero : 0 < q.residue
+  pub reduced : q.residue < p
+  pub fits : Fits q.monomial (get_or list q.index [])
+
+-- each product's lead is a key of v or of the product of an earlier one
+abbrev pub AreMetFrom : (n : ℕ) → FormalSum n → List (List (CodeKey × ℕ)) → List Step → List Quotient → Type 0
+AreMetFrom n v list earlier [] = ⊤
+AreMetFrom n v list earlier (q ∷ qs) =
+    IsMet n v list earlier (product_lead n list (step_of q)) × AreMetFrom n v list (earlier ++ step_of q ∷ []) qs
+
+-- each product's lead is at most k
+abbrev pub HaveLeadsUpTo : (n : ℕ) → (Key n → Key n → Ordering) → List (List (CodeKey × ℕ)) → Key n → List Quotient → Type 0
+HaveLeadsUpTo n compare list k qs = Each (λ q. compare (product_lead n list (step_of q)) k ≡ Greater → ⊥) qs

@@ -1,0 +1,127 @@
+// The loop of a division.
+ghost use Rattle.std.specs.Prelude.{◌≡◌, ◌++◌, [], IfOk, IfErr};
+ghost use Rattle.formal_sums.specs.FormalSums.{Each};
+ghost use Rattle.formal_sums.specs.Combinations.{combination};
+ghost use Rattle.bases.specs.Leads.{head_key};
+ghost use Rattle.module_vectors.specs.Rings.{variables};
+ghost use Rattle.module_vectors.specs.Vectors.{sum_of, sums_of, IsVectorOver, AreVectorsOver, StandsFor};
+ghost use Rattle.vector_division.specs.Divisions.{IsReducedBy, HasReducedLead, DivisionStops};
+ghost use Rattle.vector_division.specs.Reductions.{cofactors_of, IsQuotient, AreMetFrom, HaveLeadsUpTo};
+
+use crate::divisors::find_divisor;
+use crate::marks::marks_of;
+use crate::steps::{bound_key, take_away};
+use module_vectors::{Frame, Vect, Vectors, WorkStop};
+use monomial_orders::Mono;
+use std::alloc::Global;
+
+/// A term of a quotient: residue times monomial times the vector with this index was taken away.
+#[derive(Drop)]
+pub struct Quotient {
+    pub index: u64,
+    pub residue: u32,
+    pub monomial: Mono,
+}
+
+/// What a reduction took away, in that order, and what it left.
+#[derive(Drop)]
+pub struct Reduction {
+    pub quotients: Vec<Quotient>,
+    pub rest: Vect,
+}
+
+/// Takes products of the list's vectors away from `v` until no key of it is divisible by a lead of the list, the
+/// greatest key first and by the first vector of which the lead divides it. IVA chapter 2, section 3.
+///
+/// `Degree` comes with a trail to a product of total degree above 65,535, `Memory` where a growth was refused; both leave
+/// every argument as it was.
+pub fn reduce<F: Frame, L: Vectors>(
+    alloc: Global,
+    frame: &F,
+    v: &Vect,
+    list: &L,
+) -> Result<Reduction, WorkStop>
+    requires vector { IsVectorOver (F.over frame.now) (F.compare frame.now) v.now }
+    requires list { AreVectorsOver (F.over frame.now) (F.compare frame.now) (L.listed list.now) }
+    ensures quotients { IfOk result (λ r. Each (IsQuotient (variables (F.over frame.now)) (F.over frame.now).modulus.value (L.listed list.now)) r.quotients.items) }
+    ensures met { let n = variables (F.over frame.now) in IfOk result (λ r. AreMetFrom n (sum_of n v.now) (L.listed list.now) [] r.quotients.items) }
+    ensures bounded { let n = variables (F.over frame.now) in IfOk result (λ r. HaveLeadsUpTo n (F.compare frame.now n) (L.listed list.now) (head_key (sum_of n v.now)) r.quotients.items) }
+    ensures sum { let n = variables (F.over frame.now) in IfOk result (λ r. StandsFor (F.over frame.now) v.now (combination (sums_of n (L.listed list.now)) (cofactors_of n r.quotients.items) ++ sum_of n r.rest)) }
+    ensures rest { IfOk result (λ r. IsVectorOver (F.over frame.now) (F.compare frame.now) r.rest) }
+    ensures reduced { let n = variables (F.over frame.now) in IfOk result (λ r. IsReducedBy (sums_of n (L.listed list.now)) (sum_of n r.rest)) }
+    ensures stop { IfErr result (DivisionStops (F.over frame.now) v.now (L.listed list.now)) }
+{
+    let marks = marks_of(alloc, list)?;
+    let mut work = v.try_copy(alloc)?;
+    let mut quotients = Vec::new(alloc);
+    // The terms before this index stay.
+    let mut at = 0;
+    loop {
+        if at == work.terms().len() {
+            return Ok(Reduction {
+                quotients,
+                rest: work,
+            });
+        }
+        match find_divisor(alloc, &work.terms()[at].0, list, &marks)? {
+            None => {
+                at += 1;
+                bound_key(&work, at);
+            }
+            Some(divisor) => {
+                take_away(
+                    alloc,
+                    frame,
+                    v,
+                    list,
+                    divisor,
+                    at,
+                    &mut work,
+                    &mut quotients,
+                )?;
+            }
+        }
+    }
+}
+
+/// Takes products of the list's vectors away from `v` until its lead is divisible by no lead of the list. It stops as
+/// `reduce` does.
+pub fn reduce_lead<F: Frame, L: Vectors>(
+    alloc: Global,
+    frame: &F,
+    v: &Vect,
+    list: &L,
+) -> Result<Reduction, WorkStop>
+    requires vector { IsVectorOver (F.over frame.now) (F.compare frame.now) v.now }
+    requires list { AreVectorsOver (F.over frame.now) (F.compare frame.now) (L.listed list.now) }
+    ensures quotients { IfOk result (λ r. Each (IsQuotient (variables (F.over frame.now)) (F.over frame.now).modulus.value (L.listed list.now)) r.quotients.items) }
+    ensures met { let n = variables (F.over frame.now) in IfOk result (λ r. AreMetFrom n (sum_of n v.now) (L.listed list.now) [] r.quotients.items) }
+    ensures bounded { let n = variables (F.over frame.now) in IfOk result (λ r. HaveLeadsUpTo n (F.compare frame.now n) (L.listed list.now) (head_key (sum_of n v.now)) r.quotients.items) }
+    ensures sum { let n = variables (F.over frame.now) in IfOk result (λ r. StandsFor (F.over frame.now) v.now (combination (sums_of n (L.listed list.now)) (cofactors_of n r.quotients.items) ++ sum_of n r.rest)) }
+    ensures rest { IfOk result (λ r. IsVectorOver (F.over frame.now) (F.compare frame.now) r.rest) }
+    ensures reduced { let n = variables (F.over frame.now) in IfOk result (λ r. HasReducedLead (sums_of n (L.listed list.now)) (sum_of n r.rest)) }
+    ensures stop { IfErr result (DivisionStops (F.over frame.now) v.now (L.listed list.now)) }
+{
+    let marks = marks_of(alloc, list)?;
+    let mut work = v.try_copy(alloc)?;
+    let mut quotients = Vec::new(alloc);
+    loop {
+        if work.terms().is_empty() {
+            return Ok(Reduction {
+                quotients,
+                rest: work,
+            });
+        }
+        match find_divisor(alloc, &work.terms()[0].0, list, &marks)? {
+            None => {
+                return Ok(Reduction {
+                    quotients,
+                    rest: work,
+                });
+            }
+            Some(divisor) => {
+                take_away(alloc, frame, v, list, divisor, 0, &mut work, &mut quotients)?;
+            }
+        }
+    }
+}
