@@ -1,0 +1,10 @@
+pub mod Complete
+pub mod Degrees
+pub mod Names
+pub mod Nesting
+pub mod Numbers
+pub mod NumbersOfSteps
+pub mod Sound
+pub mod Unique
+pub mod Whole
+pub mod Worths

@@ -1,0 +1,102 @@
+//! The formal degree of a polynomial.
+
+ghost use Rattle.std.specs.Prelude.{◌≡◌, ◌*◌, reverse, IfOk};
+ghost use Rattle.poly_grammar.specs.Algebras.{worth_of_steps, worth_step};
+ghost use Rattle.poly_grammar.specs.Degrees.{bounded, degrees, formal_degree};
+ghost use Rattle.poly_grammar.specs.Numerals.{number_of, value_of};
+ghost use Rattle.poly_grammar.specs.Machine.{greater, left_by};
+ghost use Rattle.poly_grammar.specs.Steps.{steps as steps_of};
+ghost use Rattle.poly_grammar.specs.Trees.{Poly};
+
+use crate::numeral::{number, text};
+use crate::step::Step;
+use std::alloc::{AllocError, Global};
+
+/// The greatest formal degree that is allowed.
+const GREATEST: u64 = 1000;
+
+/// A degree, if it is allowed.
+fn bounded(n: u64) -> Option<u32>
+    ensures { result ≡ bounded n }
+{
+    if n <= GREATEST { Some(n as u32) } else { None }
+}
+
+/// The degree of a power, if it is allowed.
+fn raised(degree: u32, exponent: &[u8]) -> Option<u32>
+    ensures { result ≡ bounded (degree * number_of exponent.now) }
+{
+    if degree == 0 {
+        return Some(0);
+    }
+    match number(exponent) {
+        Some(n) if n <= 1000 => bounded(u64::from(degree) * n as u64),
+        _ => None,
+    }
+}
+
+/// Puts the greater of the two degrees on top in their place.
+fn push_greater(stack: &mut Vec<u32>) -> Result<bool, AllocError>
+    ensures { IfOk result (λ done. left_by done stack.new.items ≡ greater (reverse stack.old.items)) }
+{
+    let (Some(right), Some(left)) = (stack.pop(), stack.pop()) else {
+        return Ok(false);
+    };
+    stack.push(left.max(right))?;
+    Ok(true)
+}
+
+/// Does one step on the stack of degrees, and says whether it could be done.
+fn step_degree(line: &[u8], step: Step, stack: &mut Vec<u32>) -> Result<bool, AllocError>
+    ensures { IfOk result (λ done. left_by done stack.new.items ≡ worth_step (degrees (value_of line.now)) step (reverse stack.old.items)) }
+{
+    match step {
+        Step::Number(_) => stack.push(0)?,
+        Step::Name(_) => stack.push(1)?,
+        Step::Power(exponent) => {
+            let Some(base) = stack.pop() else {
+                return Ok(false);
+            };
+            let Some(power) = raised(base, text(line, exponent)) else {
+                return Ok(false);
+            };
+            stack.push(power)?;
+        }
+        Step::Multiply => {
+            let (Some(right), Some(left)) = (stack.pop(), stack.pop()) else {
+                return Ok(false);
+            };
+            let Some(product) = bounded(u64::from(left) + u64::from(right)) else {
+                return Ok(false);
+            };
+            stack.push(product)?;
+        }
+        Step::Add | Step::Subtract => return push_greater(stack),
+        Step::Negate => return Ok(!stack.is_empty()),
+    }
+    Ok(true)
+}
+
+/// The degree that steps leave on top.
+fn degree_left(alloc: Global, line: &[u8], steps: &[Step]) -> Result<Option<u32>, AllocError>
+    ensures { IfOk result (λ found. found ≡ worth_of_steps (degrees (value_of line.now)) steps.now) }
+{
+    let mut stack = Vec::new(alloc);
+    for step in steps {
+        if !step_degree(line, *step, &mut stack)? {
+            return Ok(None);
+        }
+    }
+    Ok(stack.pop())
+}
+
+/// The formal degree of the polynomial of a line that has these steps, as `read_polynomial` gives them.
+///
+/// A number has degree 0 and a name 1; a power has its base's degree times the exponent, a product the sum of its
+/// factors' degrees, a sum the greatest of its terms'. None exactly where the degree of some part is above 1,000.
+/// Answers `AllocError` where a growth was refused.
+pub fn formal_degree(alloc: Global, line: &[u8], steps: &[Step]) -> Result<Option<u32>, AllocError>
+    ensures { (p : Poly) → steps.now ≡ steps_of p → IfOk result (λ found. found ≡ formal_degree (value_of line.now) p) }
+{
+    degree_left(alloc, line, steps)
+}

@@ -1,0 +1,8 @@
+use Rattle.std.proofs.Common.{reverse}
+use Rattle.poly_value.proofs.Steps.{subtracted}
+use Rattle.poly_value.proofs.stack.subtract_top.Goals as goal
+
+pub returns : goal.returns
+returns g c =
+    subtracted (g.F.Frame.over c.args.frame.now) c.args.line.now (reverse c.args.stack.now.items) (reverse c.take_top.new.stack.items) (reverse c.take_top-2.new.stack.items) (reverse c.put_top.new.stack.items)
+    c.in-Some-take_top.left c.in-Some.right c.oppose.new.terms c.in_ok-terms.terms c.put_top.result c.in-Some.ensures c.in-Some-take_top.ensures c.oppose.ensures c.in_ok-terms.ensures c.put_top.ensures

@@ -1,0 +1,17 @@
+use Rattle.std.proofs.Common.{drop, refl, reverse}
+use Rattle.std.proofs.lemmas.List.{drop_all}
+use Rattle.poly_value.proofs.Steps.{normal_stands, working_ends, working_on}
+use Rattle.poly_value.proofs.value.polynomial_value.Goals as goal
+
+pub loop-step-preserved : goal.loop-step-preserved
+loop-step-preserved g c =
+    working_on (g.F.Frame.over c.args.frame.now) c.args.line.now c.args.steps.now c.loop-step.step-index _ _ (reverse c.loop-step.stack.items) (reverse c.do_step.new.stack.items) c.requires.worth.0
+    c.loop-step-test.true refl c.requires.worth.1 c.loop-step.invariant c.in_ok-do_step.ensures
+
+pub returns-clause-value : goal.returns-clause-value
+returns-clause-value g c = λ x w.
+    let ring = g.F.Frame.over c.args.frame.now in
+    normal_stands (λ v. v) ring x c.in-Some.terms.items c.normal.result
+    (working_ends ring c.args.line.now c.args.steps.now (drop c.loop-step.step-index c.args.steps.now) (reverse c.loop-step.stack.items) (reverse c.take_top.new.stack.items) c.in-Some.terms x
+    (drop_all c.loop-step.step-index c.args.steps.now c.loop-step-test.false) c.in-Some.ensures w c.loop-step.invariant)
+    c.normal.ensures.same

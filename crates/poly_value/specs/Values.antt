@@ -1,0 +1,48 @@
+-- What a POLY is worth in a ring: a polynomial as a formal sum of terms
+use Rattle.std.specs.Prelude.{List, None, Option, Some, [], if◌then◌else◌, nat_eq, ℕ, ◌++◌, ◌+◌, ◌-◌, ◌∷◌, ◌≡◌}
+use Rattle.std.specs.Cmp.Lexicographic.{pointwise}
+use Rattle.std.specs.Option.{option_map}
+use Rattle.script_tokens.specs.declared.token.Token.{Token}
+use Rattle.poly_grammar.specs.Algebras.{Algebra, worth}
+use Rattle.poly_grammar.specs.Numerals.{text_of, value_of}
+use Rattle.poly_grammar.specs.Trees.{Poly}
+use Rattle.monomials.specs.Exponents.{unit}
+use Rattle.formal_sums.specs.FormalSums.{FormalSum, product, scale}
+use Rattle.monomial_orders.specs.Monomials.{variable}
+use Rattle.module_vectors.specs.Rings.{variables}
+use Rattle.module_vectors.specs.Vectors.{StandsFor}
+use Rattle.module_vectors.specs.declared.key.Key.{Key}
+use Rattle.module_vectors.specs.declared.ring.Ring.{Ring}
+use Rattle.sparse_poly.specs.Powers.{constant, power}
+
+-- the place, from 0, at which a name stands first among names
+abbrev pub place_of : List (List ℕ) → List ℕ → Option ℕ
+place_of [] text = None
+place_of (v ∷ vars) text = if pointwise nat_eq v text then Some 0 else option_map (λ i. i + 1) (place_of vars text)
+
+-- the variable with this index
+abbrev pub variable_sum : (n i : ℕ) → FormalSum n
+variable_sum n i = ((0, variable n i), 1) ∷ []
+
+-- the polynomials in variables with these names, modulo p, where tokens have these texts and numbers: a name stands for
+-- its variable, and minus is times p - 1
+abbrev pub polynomials : (n p : ℕ) → List (List ℕ) → (Token → List ℕ) → (Token → ℕ) → Algebra (FormalSum n)
+polynomials n p vars text value = record {
+  number = λ token. Some (constant n (value token));
+  name = λ token. option_map (variable_sum n) (place_of vars (text token));
+  raised = λ v exponent. Some (power v (value exponent));
+  product = λ v w. Some (product v w);
+  sum = λ v w. Some (v ++ w);
+  difference = λ v w. Some (v ++ scale (p - 1) (unit n) w);
+  opposite = λ v. Some (scale (p - 1) (unit n) v);
+}
+
+-- the polynomials of a ring, where tokens are those of the line
+abbrev pub polynomials_of : (ring : Ring) → List ℕ → Algebra (FormalSum (variables ring))
+polynomials_of ring line = polynomials (variables ring) ring.modulus.value ring.vars (text_of line) (value_of line)
+
+-- terms stand for the value of the line's POLY
+pub record IsValue (ring : Ring) (line : List ℕ) (p : Poly) (terms : List (Key × ℕ)) : Type 0 where
+  pub value : FormalSum (variables ring)
+  pub worth_is : worth (polynomials_of ring line) p ≡ Some value
+  pub stands : StandsFor ring terms value

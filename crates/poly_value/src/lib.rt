@@ -1,0 +1,13 @@
+//! What the polynomials of the script language are worth in a ring.
+//!
+//! Steps are worked out on a stack of sums of terms, and the end is brought to normal form; no call goes deeper where
+//! the text nests deeper or is longer.
+#![tactic(auto)]
+
+mod names;
+mod parts;
+mod stack;
+mod value;
+
+pub use names::place;
+pub use value::polynomial_value;

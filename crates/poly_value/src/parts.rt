@@ -1,0 +1,141 @@
+//! Sums of terms at position 0, in any order and with repeats, and what polynomials are made of them.
+//!
+//! A sum is only joined; it is brought to normal form where it is multiplied. Where the formal degree of a product or power
+//! is at most 65,535, as it is in what `polynomial_value` works out, `NoMemory` comes only where a growth was refused.
+
+ghost use Rattle.std.specs.Prelude.{◌≡◌, ◌-◌, ◌<◌, ◌++◌, ℕ, IfOk};
+ghost use Rattle.monomials.specs.Exponents.{unit};
+ghost use Rattle.formal_sums.specs.FormalSums.{Each, FormalSum, product, scale};
+ghost use Rattle.module_vectors.specs.Multiples.{rescaled};
+ghost use Rattle.module_vectors.specs.Rings.{variables};
+ghost use Rattle.module_vectors.specs.Vectors.{HasPositions, IsVectorOver, StandsFor, sum_of};
+ghost use Rattle.sparse_poly.specs.Powers.{constant, power};
+ghost use Rattle.poly_value.specs.Parts.{IsPart, IsSum};
+ghost use Rattle.poly_value.specs.Values.{variable_sum};
+
+use module_vectors::{Frame, Key, NoMemory, Vect};
+use monomial_orders::Mono;
+use sparse_poly::{formal_constant, mul, pow};
+use std::alloc::Global;
+use zp_field::Modulus;
+
+/// The vector that terms stand for.
+pub fn normal<F: Frame>(alloc: Global, frame: &F, terms: Vec<(Key, u32)>) -> Result<Vect, NoMemory>
+    requires { IsSum (F.over frame.now) terms.items }
+    ensures vector { IfOk result (λ v. IsVectorOver (F.over frame.now) (F.compare frame.now) v) }
+    ensures polynomial { IfOk result (λ v. HasPositions 1 v) }
+    ensures same { IfOk result (λ v. StandsFor (F.over frame.now) v (sum_of (variables (F.over frame.now)) terms.items)) }
+{
+    Vect::from_terms(alloc, frame, terms)
+}
+
+/// Turns the sign of each term.
+fn negate(modulus: &Modulus, terms: &mut Vec<(Key, u32)>)
+    requires { Each (λ t. t.1 < modulus.now.value) terms.old.items }
+    ensures { terms.new.items ≡ rescaled modulus.now.value (modulus.now.value - 1) terms.old.items }
+{
+    modulus.domain();
+    let minus_one = modulus.value() - 1;
+    for i in 0..terms.len() {
+        let residue = modulus.mul(minus_one, terms[i].1);
+        terms[i].1 = residue;
+    }
+}
+
+/// Turns the sign of a sum.
+pub fn oppose<F: Frame>(frame: &F, terms: &mut Vec<(Key, u32)>)
+    requires { IsSum (F.over frame.now) terms.old.items }
+    ensures { (v : FormalSum (variables (F.over frame.now))) → IsPart (F.over frame.now) v terms.old.items
+        → IsPart (F.over frame.now) (scale ((F.over frame.now).modulus.value - 1) (unit (variables (F.over frame.now))) v) terms.new.items }
+{
+    let modulus = &frame.ring().modulus;
+    modulus.domain();
+    negate(modulus, terms);
+}
+
+/// The terms of a sum: the right ones are moved behind the left ones.
+pub fn joined(left: Vec<(Key, u32)>, right: Vec<(Key, u32)>) -> Result<Vec<(Key, u32)>, NoMemory>
+    ensures { IfOk result (λ terms. terms.items ≡ left.items ++ right.items) }
+{
+    let mut terms = left;
+    let mut more = right;
+    terms.append(&mut more)?;
+    Ok(terms)
+}
+
+/// The terms of a constant.
+pub fn constant_part<F: Frame>(
+    alloc: Global,
+    frame: &F,
+    n: u128,
+) -> Result<Vec<(Key, u32)>, NoMemory>
+    ensures { IfOk result (λ terms. IsPart (F.over frame.now) (constant (variables (F.over frame.now)) n) terms.items) }
+{
+    match formal_constant(alloc, frame, n) {
+        Ok(v) => Ok(v.into_terms()),
+        Err(_) => Err(NoMemory),
+    }
+}
+
+/// The term of a variable, by its index from 0.
+pub fn variable_part<F: Frame>(
+    alloc: Global,
+    frame: &F,
+    i: usize,
+) -> Result<Vec<(Key, u32)>, NoMemory>
+    requires { i < variables (F.over frame.now) }
+    ensures { IfOk result (λ terms. IsPart (F.over frame.now) (variable_sum (variables (F.over frame.now)) i) terms.items) }
+{
+    let ring = frame.ring();
+    ring.modulus.domain();
+    let monomial = Mono::variable(alloc, ring.vars.len(), i)?;
+    let mut terms = Vec::new(alloc);
+    terms.push((
+        Key {
+            position: 0,
+            monomial,
+        },
+        1,
+    ))?;
+    Ok(terms)
+}
+
+/// The terms of a product.
+pub fn product_part<F: Frame>(
+    alloc: Global,
+    frame: &F,
+    left: Vec<(Key, u32)>,
+    right: Vec<(Key, u32)>,
+) -> Result<Vec<(Key, u32)>, NoMemory>
+    requires left { IsSum (F.over frame.now) left.items }
+    requires right { IsSum (F.over frame.now) right.items }
+    ensures { (v w : FormalSum (variables (F.over frame.now))) → IsPart (F.over frame.now) v left.items → IsPart (F.over frame.now) w right.items
+        → IfOk result (λ terms. IsPart (F.over frame.now) (product v w) terms.items) }
+{
+    frame.ring().modulus.domain();
+    let left = normal(alloc, frame, left)?;
+    let right = normal(alloc, frame, right)?;
+    match mul(alloc, frame, &left, &right) {
+        Ok(v) => Ok(v.into_terms()),
+        Err(_) => Err(NoMemory),
+    }
+}
+
+/// The terms of a power.
+pub fn power_part<F: Frame>(
+    alloc: Global,
+    frame: &F,
+    base: Vec<(Key, u32)>,
+    n: u128,
+) -> Result<Vec<(Key, u32)>, NoMemory>
+    requires { IsSum (F.over frame.now) base.items }
+    ensures { (v : FormalSum (variables (F.over frame.now))) → IsPart (F.over frame.now) v base.items
+        → IfOk result (λ terms. IsPart (F.over frame.now) (power v n) terms.items) }
+{
+    frame.ring().modulus.domain();
+    let base = normal(alloc, frame, base)?;
+    match pow(alloc, frame, &base, n) {
+        Ok(v) => Ok(v.into_terms()),
+        Err(_) => Err(NoMemory),
+    }
+}

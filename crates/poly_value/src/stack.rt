@@ -1,0 +1,185 @@
+//! One step of working out, on a stack of sums of terms with the last operand on top.
+//!
+//! Steps that have a worth find their operands there, numbers below 2^128 and names of variables; a step that does not
+//! answers `NoMemory`, and leaves the stack to be dropped.
+
+ghost use Rattle.std.specs.Prelude.{◌≡◌, ◌∷◌, [], reverse, MatchOption, OnOk};
+ghost use Rattle.poly_grammar.specs.declared.step.Step.TheVariants as steps;
+ghost use Rattle.poly_value.specs.Parts.{Advances, IsStack};
+
+use crate::names::place;
+use crate::parts::{constant_part, joined, oppose, power_part, product_part, variable_part};
+use module_vectors::{Frame, Key, NoMemory};
+use poly_grammar::{Step, number, text};
+use script_tokens::Token;
+use std::alloc::Global;
+
+/// Takes what is on top.
+pub fn take_top(stack: &mut Vec<Vec<(Key, u32)>>) -> Option<Vec<(Key, u32)>>
+    ensures { MatchOption result (reverse stack.old.items ≡ []) (λ terms. reverse stack.old.items ≡ terms ∷ reverse stack.new.items) }
+{
+    stack.pop()
+}
+
+/// Puts terms on top.
+fn put_top(stack: &mut Vec<Vec<(Key, u32)>>, terms: Vec<(Key, u32)>) -> Result<(), NoMemory>
+    ensures { OnOk result (reverse stack.new.items ≡ terms ∷ reverse stack.old.items) }
+{
+    stack.push(terms)?;
+    Ok(())
+}
+
+/// Puts a number.
+fn put_number<F: Frame>(
+    alloc: Global,
+    frame: &F,
+    line: &[u8],
+    token: Token,
+    stack: &mut Vec<Vec<(Key, u32)>>,
+) -> Result<(), NoMemory>
+    ensures { OnOk result (Advances (F.over frame.now) line.now (steps.Number token) (reverse stack.old.items) (reverse stack.new.items)) }
+{
+    let Some(n) = number(text(line, token)) else {
+        return Err(NoMemory);
+    };
+    let terms = constant_part(alloc, frame, n)?;
+    put_top(stack, terms)
+}
+
+/// Puts the variable of a name.
+fn put_name<F: Frame>(
+    alloc: Global,
+    frame: &F,
+    line: &[u8],
+    token: Token,
+    stack: &mut Vec<Vec<(Key, u32)>>,
+) -> Result<(), NoMemory>
+    ensures { OnOk result (Advances (F.over frame.now) line.now (steps.Name token) (reverse stack.old.items) (reverse stack.new.items)) }
+{
+    let Some(i) = place(&frame.ring().vars, text(line, token)) else {
+        return Err(NoMemory);
+    };
+    let terms = variable_part(alloc, frame, i)?;
+    put_top(stack, terms)
+}
+
+/// Raises the top to a power.
+fn raise_top<F: Frame>(
+    alloc: Global,
+    frame: &F,
+    line: &[u8],
+    token: Token,
+    stack: &mut Vec<Vec<(Key, u32)>>,
+) -> Result<(), NoMemory>
+    requires { IsStack (F.over frame.now) (reverse stack.old.items) }
+    ensures { OnOk result (Advances (F.over frame.now) line.now (steps.Power token) (reverse stack.old.items) (reverse stack.new.items)) }
+{
+    let Some(base) = take_top(stack) else {
+        return Err(NoMemory);
+    };
+    let Some(n) = number(text(line, token)) else {
+        return Err(NoMemory);
+    };
+    let terms = power_part(alloc, frame, base, n)?;
+    put_top(stack, terms)
+}
+
+/// Puts the product of the two on top in their place.
+fn multiply_top<F: Frame>(
+    alloc: Global,
+    frame: &F,
+    line: &[u8],
+    stack: &mut Vec<Vec<(Key, u32)>>,
+) -> Result<(), NoMemory>
+    requires { IsStack (F.over frame.now) (reverse stack.old.items) }
+    ensures { OnOk result (Advances (F.over frame.now) line.now steps.Multiply (reverse stack.old.items) (reverse stack.new.items)) }
+{
+    let Some(right) = take_top(stack) else {
+        return Err(NoMemory);
+    };
+    let Some(left) = take_top(stack) else {
+        return Err(NoMemory);
+    };
+    let terms = product_part(alloc, frame, left, right)?;
+    put_top(stack, terms)
+}
+
+/// Puts the sum of the two on top in their place.
+fn add_top<F: Frame>(
+    frame: &F,
+    line: &[u8],
+    stack: &mut Vec<Vec<(Key, u32)>>,
+) -> Result<(), NoMemory>
+    ensures { OnOk result (Advances (F.over frame.now) line.now steps.Add (reverse stack.old.items) (reverse stack.new.items)) }
+{
+    let _ring = frame.ring();
+    let _line = line;
+    let Some(right) = take_top(stack) else {
+        return Err(NoMemory);
+    };
+    let Some(left) = take_top(stack) else {
+        return Err(NoMemory);
+    };
+    let terms = joined(left, right)?;
+    put_top(stack, terms)
+}
+
+/// Puts the difference of the two on top in their place.
+fn subtract_top<F: Frame>(
+    frame: &F,
+    line: &[u8],
+    stack: &mut Vec<Vec<(Key, u32)>>,
+) -> Result<(), NoMemory>
+    requires { IsStack (F.over frame.now) (reverse stack.old.items) }
+    ensures { OnOk result (Advances (F.over frame.now) line.now steps.Subtract (reverse stack.old.items) (reverse stack.new.items)) }
+{
+    let _line = line;
+    let Some(mut right) = take_top(stack) else {
+        return Err(NoMemory);
+    };
+    let Some(left) = take_top(stack) else {
+        return Err(NoMemory);
+    };
+    oppose(frame, &mut right);
+    let terms = joined(left, right)?;
+    put_top(stack, terms)
+}
+
+/// Turns the sign of the top.
+fn negate_top<F: Frame>(
+    frame: &F,
+    line: &[u8],
+    stack: &mut Vec<Vec<(Key, u32)>>,
+) -> Result<(), NoMemory>
+    requires { IsStack (F.over frame.now) (reverse stack.old.items) }
+    ensures { OnOk result (Advances (F.over frame.now) line.now steps.Negate (reverse stack.old.items) (reverse stack.new.items)) }
+{
+    let _line = line;
+    let Some(mut terms) = take_top(stack) else {
+        return Err(NoMemory);
+    };
+    oppose(frame, &mut terms);
+    put_top(stack, terms)
+}
+
+/// Does one step on the stack.
+pub fn do_step<F: Frame>(
+    alloc: Global,
+    frame: &F,
+    line: &[u8],
+    step: Step,
+    stack: &mut Vec<Vec<(Key, u32)>>,
+) -> Result<(), NoMemory>
+    requires { IsStack (F.over frame.now) (reverse stack.old.items) }
+    ensures { OnOk result (Advances (F.over frame.now) line.now step (reverse stack.old.items) (reverse stack.new.items)) }
+{
+    match step {
+        Step::Number(token) => put_number(alloc, frame, line, token, stack),
+        Step::Name(token) => put_name(alloc, frame, line, token, stack),
+        Step::Power(token) => raise_top(alloc, frame, line, token, stack),
+        Step::Multiply => multiply_top(alloc, frame, line, stack),
+        Step::Add => add_top(frame, line, stack),
+        Step::Subtract => subtract_top(frame, line, stack),
+        Step::Negate => negate_top(frame, line, stack),
+    }
+}

@@ -1,0 +1,169 @@
+-- The texts of a line's names, and its numbers
+use Rattle.std.proofs.Common.{◌≡◌, ℕ, zero, suc, ◌+◌, ◌<◌, ◌≤◌, ◌^◌, ◌⊎◌, inl, inr, cond, nat_eq, Bool, true, false, List, [], ◌∷◌, ◌++◌, map, length, Option, Some, None, Ok, refl, sym, ap, ap₂, subst, ◌∙◌, arith}
+use Rattle.std.proofs.lemmas.Bool.{cases_lt}
+use Rattle.std.specs.List.{AllByRecursion, slice_index, slice_index_or}
+use Rattle.std.specs.Prelude.{Contains}
+use Rattle.std.specs.Str.{IsAscii}
+use Rattle.std.specs.Str.Lossy.{utf8_lossy}
+use Rattle.std.specs.Char.{is_ascii_alphabetic}
+use Rattle.std.proofs.lemmas.Str.{IsUtf8-from_ascii, utf8_lossy-IsUtf8}
+use Rattle.std.specs.Cmp.Lexicographic.{pointwise, same_text, other_text}
+use Rattle.script_tokens.specs.declared.token.Token.{Token}
+use Rattle.script_tokens.specs.declared.token.TokenKind.{TokenKind}
+use Rattle.script_tokens.specs.declared.token.TokenKind.TheVariants as kinds
+use Rattle.script_tokens.specs.Tokens.{is_name_byte, tokens_of}
+use Rattle.script_tokens.specs.Cuts.{HaveTexts, IsToken, Passes}
+use Rattle.script_tokens.proofs.Texts.{have_texts}
+use Rattle.poly_grammar.specs.Lexemes.{Lexeme, comma, lexeme, lexeme_as, name, names_in, number, numbers_in}
+use Rattle.poly_grammar.specs.Numerals.{FitsAs, NumeralFits, number_of, text_of, value_of}
+use Rattle.poly_grammar.specs.Steps.{numbers_of_steps, steps}
+use Rattle.poly_grammar.specs.declared.step.Step.{Step}
+use Rattle.poly_grammar.proofs.NumbersOfSteps.{steps_have_numbers}
+use Rattle.script_parse.specs.Forms.{IsFormOf, IsSound, repeats, stands_among}
+use Rattle.script_parse.specs.Refusals.{HasGreatNumeral, HasRepeat}
+use Rattle.script_parse.specs.Written.{IsWritten, Written, comma_names, nothing, ring_line, show_line}
+use Rattle.script_parse.specs.declared.form.Form.{Form}
+use Rattle.script_parse.specs.declared.form.Form.TheVariants as forms
+
+letter_ascii : (b : ℕ) → is_ascii_alphabetic b ≡ true → b < 128
+letter_ascii b e = grind arith
+
+name_byte_ascii : (b : ℕ) → is_name_byte b ≡ true → b < 128
+name_byte_ascii b e = grind arith
+
+passes_ascii : (bs : List ℕ) → Passes is_name_byte bs → IsAscii bs
+passes_ascii [] h i = omega arith
+passes_ascii (b ∷ bs) h zero = name_byte_ascii b h.0
+passes_ascii (b ∷ bs) h (suc i) = passes_ascii bs h.1 i
+
+name_ascii : (text : List ℕ) → IsToken kinds.Name text → IsAscii text
+name_ascii [] h i = absurd h
+name_ascii (b ∷ bs) h zero = letter_ascii b h.0
+name_ascii (b ∷ bs) h (suc i) = passes_ascii bs h.1 i
+
+-- the names among tokens are ASCII
+name_joins : (line : List ℕ) (k : TokenKind) (t : Token) (xs : List Lexeme) → IsToken k (text_of line t) → AllByRecursion (λ u. IsAscii (text_of line u)) (names_in xs) → AllByRecursion (λ u. IsAscii (text_of line u)) (names_in (lexeme_as k t ∷ xs))
+name_joins line kinds.Name t xs h rest = (name_ascii (text_of line t) h, rest)
+name_joins line _ t xs h rest = rest
+
+names_ascii : (line : List ℕ) (ts : List Token) → HaveTexts line ts → AllByRecursion (λ u. IsAscii (text_of line u)) (names_in (map lexeme ts))
+names_ascii line [] h = tt
+names_ascii line (t ∷ ts) h = name_joins line t.kind t (map lexeme ts) h.0 (names_ascii line ts h.1)
+
+-- the numbers among tokens fit
+number_joins : (line : List ℕ) (k : TokenKind) (t : Token) (xs : List Lexeme) → FitsAs k (text_of line t) → AllByRecursion (λ u. value_of line u < 2 ^ 128) (numbers_in xs) → AllByRecursion (λ u. value_of line u < 2 ^ 128) (numbers_in (lexeme_as k t ∷ xs))
+number_joins line kinds.Number t xs h rest = (h, rest)
+number_joins line _ t xs h rest = rest
+
+numbers_fit : (line : List ℕ) (ts : List Token) → AllByRecursion (NumeralFits line) ts → AllByRecursion (λ u. value_of line u < 2 ^ 128) (numbers_in (map lexeme ts))
+numbers_fit line [] h = tt
+numbers_fit line (t ∷ ts) h = number_joins line t.kind t (map lexeme ts) h.0 (numbers_fit line ts h.1)
+
+names_behind_commas : (ts : List Token) (xs : List Lexeme) → names_in (comma_names ts ++ xs) ≡ ts ++ names_in xs
+names_behind_commas [] xs = refl
+names_behind_commas (t ∷ ts) xs = ap (λ l. t ∷ l) (names_behind_commas ts xs)
+
+all_front : (P : Token → Type 0) (xs ys : List Token) → AllByRecursion P (xs ++ ys) → AllByRecursion P xs
+all_front P [] ys h = tt
+all_front P (x ∷ xs) ys h = (h.0, all_front P xs ys h.1)
+
+pub sound : (line : List ℕ) (found : List Token) (w : Written) (form : Form) → tokens_of line ≡ Ok found → IsWritten line (map lexeme found) w → IsFormOf form w → AllByRecursion (NumeralFits line) found → IsSound line form
+sound line found nothing forms.Nothing cut h is fits = tt
+sound line found (ring_line m first more o) (forms.Ring modulus names order) cut h is fits =
+    let all = subst (λ l. AllByRecursion (λ u. IsAscii (text_of line u)) (names_in l)) (h.1.2 ∙ ap (λ l. name h.1.0 ∷ l) h.2.2) (names_ascii line found (have_texts line found cut)) in
+    let behind = subst (λ l. AllByRecursion (λ u. IsAscii (text_of line u)) l) (names_behind_commas more (name h.2.0 ∷ [])) all.1.1 in
+    subst (λ l. AllByRecursion (λ u. IsAscii (text_of line u)) l) (sym is.1) (all.1.0, all_front (λ u. IsAscii (text_of line u)) more (h.2.0 ∷ []) behind)
+sound line found (show_line p) (forms.Show steps) cut h is fits =
+    let all = subst (λ l. AllByRecursion (λ u. value_of line u < 2 ^ 128) (numbers_in l)) (h.1.2 ∙ ap (λ l. name h.1.0 ∷ l) h.2.spelled) (numbers_fit line found fits) in
+    subst (λ l. AllByRecursion (λ u. value_of line u < 2 ^ 128) l) (sym (ap numbers_of_steps is ∙ steps_have_numbers p)) all
+sound line found nothing (forms.Ring modulus names order) cut h is fits = absurd is
+sound line found nothing (forms.Show steps) cut h is fits = absurd is
+sound line found (ring_line m first more o) forms.Nothing cut h is fits = absurd is
+sound line found (ring_line m first more o) (forms.Show steps) cut h is fits = absurd is
+sound line found (show_line p) forms.Nothing cut h is fits = absurd is
+sound line found (show_line p) (forms.Ring modulus names order) cut h is fits = absurd is
+
+-- a number that does not fit
+great_as : (k : TokenKind) (text : List ℕ) → FitsAs k text ⊎ ((k ≡ kinds.Number) × (2 ^ 128 ≤ number_of text))
+great_as kinds.Number text = by_cases (cases_lt (number_of text) (2 ^ 128))
+  where
+    by_cases : (number_of text < 2 ^ 128) ⊎ (2 ^ 128 ≤ number_of text) → (number_of text < 2 ^ 128) ⊎ ((kinds.Number ≡ kinds.Number) × (2 ^ 128 ≤ number_of text))
+    by_cases (inl h) = inl h
+    by_cases (inr h) = inr (refl, h)
+great_as _ text = inl tt
+
+abbrev Great : List ℕ → List Token → Type 0
+Great line ts = (t : Token) × Contains ts t × (t.kind ≡ kinds.Number) × (2 ^ 128 ≤ value_of line t)
+
+some_great : (line : List ℕ) (ts : List Token) → (AllByRecursion (NumeralFits line) ts → ⊥) → Great line ts
+some_great line [] none = absurd (none tt)
+some_great line (t ∷ ts) none = by_cases (great_as t.kind (text_of line t)) (λ f. some_great line ts (λ h. none (f, h)))
+  where
+    by_cases : FitsAs t.kind (text_of line t) ⊎ ((t.kind ≡ kinds.Number) × (2 ^ 128 ≤ number_of (text_of line t))) → (FitsAs t.kind (text_of line t) → Great line ts) → Great line (t ∷ ts)
+    by_cases (inl f) later = let g = later f in (g.0, (suc g.1.0, (let lt = g.1.1 in omega arith), g.1.2), g.2, g.3)
+    by_cases (inr h) later = (t, (0, omega arith, refl), h.0, h.1)
+
+pub great_numeral : (line : List ℕ) (found : List Token) → tokens_of line ≡ Ok found → (AllByRecursion (NumeralFits line) found → ⊥) → HasGreatNumeral line
+great_numeral line found cut none =
+    let g = some_great line found none in record { found = found; cut = cut; numeral = g.0; stands = g.1; is_number = g.2; great = g.3 }
+
+all_at : (P : Token → Type 0) (ts : List Token) (t : Token) (i : ℕ) → i < length ts → slice_index_or ts i t ≡ t → AllByRecursion P ts → P t
+all_at P [] t i lt e h = absurd (omega arith)
+all_at P (x ∷ ts) t zero lt e h = subst P e h.0
+all_at P (x ∷ ts) t (suc i) lt e h = all_at P ts t i (omega arith) e h.1
+
+fits_number : (k : TokenKind) (text : List ℕ) → k ≡ kinds.Number → FitsAs k text → number_of text < 2 ^ 128
+fits_number k text e h = subst (λ x. FitsAs x text) e h
+
+not_both : (a b : ℕ) → a < b → b ≤ a → ⊥
+not_both a b h k = omega arith
+
+pub no_great : (line : List ℕ) (found : List Token) → tokens_of line ≡ Ok found → AllByRecursion (NumeralFits line) found → HasGreatNumeral line → ⊥
+no_great line found cut fits g =
+    let same : found ≡ g.found = cc (cut, g.cut) in
+    let all = subst (λ l. AllByRecursion (NumeralFits line) l) same fits in
+    let one = all_at (NumeralFits line) g.found g.numeral g.stands.0 g.stands.1 g.stands.2 all in
+    not_both (value_of line g.numeral) (2 ^ 128) (fits_number g.numeral.kind (text_of line g.numeral) g.is_number one) g.great
+
+-- names that are ASCII are their own texts
+pub own_texts : (line : List ℕ) (ts : List Token) → AllByRecursion (λ t. IsAscii (text_of line t)) ts → map (λ t. utf8_lossy (text_of line t)) ts ≡ map (text_of line) ts
+own_texts line [] h = refl
+own_texts line (t ∷ ts) h = ap₂ (λ x l. x ∷ l) (utf8_lossy-IsUtf8 (text_of line t) (IsUtf8-from_ascii (text_of line t) h.0)) (own_texts line ts h.1)
+
+-- the tests of names say what they mean
+contains_later : (xs : List (List ℕ)) (x word : List ℕ) → Contains xs word → Contains (x ∷ xs) word
+contains_later xs x word c = (suc c.0, (let lt = c.1 in omega arith), c.2)
+
+stands_says : (line word : List ℕ) (ts : List Token) → stands_among line word ts ≡ true → Contains (map (text_of line) ts) word
+stands_says line word [] e = absurd cc
+stands_says line word (t ∷ ts) e = by_test (pointwise nat_eq (text_of line t) word) refl e (λ h. stands_says line word ts h)
+  where
+    by_test : (b : Bool) → pointwise nat_eq (text_of line t) word ≡ b → cond b true (stands_among line word ts) ≡ true → (stands_among line word ts ≡ true → Contains (map (text_of line) ts) word) → Contains (map (text_of line) (t ∷ ts)) word
+    by_test true q h later = (0, omega arith, same_text (text_of line t) word (sym q))
+    by_test false q h later = contains_later (map (text_of line) ts) (text_of line t) word (later h)
+
+stands_not : (line word : List ℕ) (ts : List Token) → stands_among line word ts ≡ false → Contains (map (text_of line) ts) word → ⊥
+stands_not line word [] e c = omega (arith, c.1)
+stands_not line word (t ∷ ts) e c = by_test (pointwise nat_eq (text_of line t) word) refl e c (λ h d. stands_not line word ts h d)
+  where
+    by_test : (b : Bool) → pointwise nat_eq (text_of line t) word ≡ b → cond b true (stands_among line word ts) ≡ false → Contains (map (text_of line) (t ∷ ts)) word → (stands_among line word ts ≡ false → Contains (map (text_of line) ts) word → ⊥) → ⊥
+    by_test true q h d later = absurd cc
+    by_test false q h (zero, lt, is) later = other_text (text_of line t) word (sym q) is
+    by_test false q h (suc i, lt, is) later = later h (i, omega arith, is)
+
+pub repeats_says : (line : List ℕ) (ts : List Token) → repeats line ts ≡ true → HasRepeat (map (text_of line) ts)
+repeats_says line [] e = absurd cc
+repeats_says line (t ∷ ts) e = by_test (stands_among line (text_of line t) ts) refl e (λ h. repeats_says line ts h)
+  where
+    by_test : (b : Bool) → stands_among line (text_of line t) ts ≡ b → cond b true (repeats line ts) ≡ true → (repeats line ts ≡ true → HasRepeat (map (text_of line) ts)) → HasRepeat (map (text_of line) (t ∷ ts))
+    by_test true q h later = inl (stands_says line (text_of line t) ts q)
+    by_test false q h later = inr (later h)
+
+pub repeats_not : (line : List ℕ) (ts : List Token) → repeats line ts ≡ false → HasRepeat (map (text_of line) ts) → ⊥
+repeats_not line [] e h = h
+repeats_not line (t ∷ ts) e h = by_test (stands_among line (text_of line t) ts) refl e h (λ q d. repeats_not line ts q d)
+  where
+    by_test : (b : Bool) → stands_among line (text_of line t) ts ≡ b → cond b true (repeats line ts) ≡ false → HasRepeat (map (text_of line) (t ∷ ts)) → (repeats line ts ≡ false → HasRepeat (map (text_of line) ts) → ⊥) → ⊥
+    by_test true q k d later = absurd cc
+    by_test false q k (inl d) later = stands_not line (text_of line t) ts q d
+    by_test false q k (inr d) later = later k d

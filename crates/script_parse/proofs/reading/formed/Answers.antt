@@ -1,0 +1,25 @@
+use Rattle.std.proofs.Common.{◌≡◌, true, false, sym, ap, ◌∙◌, subst, map}
+use Rattle.std.specs.List.{AllByRecursion}
+use Rattle.poly_grammar.specs.Lexemes.{lexeme}
+use Rattle.poly_grammar.specs.Numerals.{NumeralFits}
+use Rattle.script_parse.specs.Written.{IsWritten}
+use Rattle.script_parse.proofs.Texts.{great_numeral, no_great, sound}
+use Rattle.script_parse.proofs.reading.formed.Goals as goal
+
+pub returns-then-not-numerals_fit : goal.returns-then-not-numerals_fit
+returns-then-not-numerals_fit c =
+    let line = c.args.line.now in
+    let found = c.in-Ok.found.items in
+    let r = c.in-Ok-read_form.ensures in (
+      great_numeral line found c.in-Ok.ensures.exact (λ all. let t : c.numerals_fit.result ≡ true = c.numerals_fit.ensures.1 (subst (λ l. AllByRecursion (NumeralFits line) l) (sym c.deref-2.ensures.value) all) in let f = c.if-not-numerals_fit.true in absurd cc),
+      (r.0, record { found = found; cut = c.in-Ok.ensures.exact; written = subst (λ l. IsWritten line (map lexeme l) r.0) c.deref.ensures.value r.1 }),
+    )
+
+pub returns : goal.returns
+returns c =
+    let line = c.args.line.now in
+    let found = c.in-Ok.found.items in
+    let r = c.in-Ok-read_form.ensures in
+    let written = subst (λ l. IsWritten line (map lexeme l) r.0) c.deref.ensures.value r.1 in
+    let all = subst (λ l. AllByRecursion (NumeralFits line) l) c.deref-2.ensures.value (c.numerals_fit.ensures.0 c.if-not-numerals_fit.false) in
+    (r.0, record { found = found; cut = c.in-Ok.ensures.exact; written = written }, r.2, sound line found r.0 c.in-Ok-read_form.form c.in-Ok.ensures.exact written r.2 all, no_great line found c.in-Ok.ensures.exact all)

@@ -1,0 +1,14 @@
+-- What is answered to a line
+use Rattle.std.specs.Prelude.{Err, List, Ok, Option, Result, ℕ}
+use Rattle.module_vectors.specs.declared.ring.Ring.{Ring}
+use Rattle.script_parse.specs.Refusals.{Refuses}
+use Rattle.script_parse.specs.Statements.{States}
+use Rattle.script_parse.specs.declared.kind.ParseStop.{ParseStop}
+use Rattle.script_parse.specs.declared.kind.ParseStop.TheVariants.{Memory, Refused}
+use Rattle.script_parse.specs.declared.stated.Statement.{Statement}
+
+-- a statement is what the line states, a refusal is for the first kind that holds, and memory may be wanting
+abbrev pub Answers : Option Ring → List ℕ → Result Statement ParseStop → Type 0
+Answers ring line (Ok statement) = States ring line statement
+Answers ring line (Err Memory) = Unit {0}
+Answers ring line (Err (Refused kind)) = Refuses ring line kind

@@ -1,0 +1,5 @@
+pub mod Answers
+pub mod Forms
+pub mod Refusals
+pub mod Statements
+pub mod Written

@@ -1,0 +1,19 @@
+//! The lines of a script: what a line states, or for which kind it is refused, exactly.
+//!
+//! A line is read without a tree in memory and without recursion; a polynomial is brought to its normal form.
+#![tactic(auto)]
+
+mod form;
+mod kind;
+mod line_laws;
+mod reading;
+mod ring_line;
+mod show_line;
+mod stated;
+#[cfg(test)]
+mod tests;
+
+pub use kind::{Kind, ParseStop};
+pub use line_laws::one_answer;
+pub use reading::statement;
+pub use stated::Statement;

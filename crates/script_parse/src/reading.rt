@@ -1,0 +1,60 @@
+//! Reading a line.
+
+ghost use Rattle.std.specs.Option.{option_copied};
+ghost use Rattle.script_parse.specs.Answers.{Answers};
+ghost use Rattle.script_parse.specs.Forms.{IsFormed};
+
+use crate::form::{Form, read_form};
+use crate::kind::{Kind, ParseStop};
+use crate::ring_line::ring_statement;
+use crate::show_line::show_statement;
+use crate::stated::Statement;
+use module_vectors::Ring;
+use poly_grammar::{ReadStop, numerals_fit};
+use script_tokens::{TokenStop, tokens};
+use std::alloc::Global;
+
+/// The form of a line whose numbers are below 2^128.
+fn formed(alloc: Global, line: &[u8]) -> Result<Form, ParseStop>
+    ensures { IsFormed line.now result }
+{
+    let found = match tokens(alloc, line) {
+        Ok(found) => found,
+        Err(TokenStop::Memory) => return Err(ParseStop::Memory),
+        Err(TokenStop::At(_)) => return Err(ParseStop::Refused(Kind::Syntax)),
+    };
+    let form = match read_form(alloc, line, &found) {
+        Ok(form) => form,
+        Err(ReadStop::Memory) => return Err(ParseStop::Memory),
+        Err(ReadStop::Syntax) => return Err(ParseStop::Refused(Kind::Syntax)),
+    };
+    if !numerals_fit(line, &found) {
+        return Err(ParseStop::Refused(Kind::Numeral));
+    }
+    Ok(form)
+}
+
+/// What a line states, where this ring is stated before it.
+///
+/// The lines are `ring NUM NAME {, NAME} order` with the orders `lex` and `grevlex`, `show POLY`, and blank ones. A
+/// number stands for its residue, `-x^2` for minus the square, and each power with exponent 0 for 1.
+///
+/// Answers `Refused` exactly for the first `Kind` that holds, and `Memory` where a growth was refused. The ring is as it
+/// was.
+pub fn statement(alloc: Global, line: &[u8], ring: Option<&Ring>) -> Result<Statement, ParseStop>
+    ensures { Answers (option_copied ring.entry) line.now result }
+{
+    let form = match formed(alloc, line) {
+        Ok(form) => form,
+        Err(stop) => return Err(stop),
+    };
+    match form {
+        Form::Nothing => Ok(Statement::Nothing),
+        Form::Ring {
+            modulus,
+            names,
+            order,
+        } => ring_statement(alloc, line, modulus, &names, order),
+        Form::Show(steps) => show_statement(alloc, line, ring, &steps),
+    }
+}

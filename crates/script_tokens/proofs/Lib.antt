@@ -1,0 +1,5 @@
+pub mod Cutting
+pub mod Order
+pub mod Longest
+pub mod Cuts
+pub mod Texts
