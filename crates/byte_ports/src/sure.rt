@@ -1,0 +1,55 @@
+// A source and a sink that never fail.
+ghost use Rattle.std.specs.Prelude.{◌≡◌, ◌<◌, ◌≤◌, vec_len, drop, Some, None};
+
+use crate::ports::move_front;
+use crate::{Failed, Sink, Source};
+
+/// Bytes in memory whose reads never fail: its count of faults is always 0.
+#[derive(Drop)]
+pub struct SureSource {
+    bytes: Vec<u8>,
+    at: usize,
+    piece: usize,
+    ghost within: { at ≤ vec_len bytes },
+    ghost moves: { 0 < piece },
+}
+
+impl SureSource {
+    /// Gives these bytes, at most `piece` of them a call.
+    pub fn new(bytes: Vec<u8>, piece: usize) -> SureSource
+        requires { 0 < piece }
+        ensures { ⟦<SureSource as Source>⟧.left result ≡ Some bytes.items }
+    {
+        SureSource {
+            bytes,
+            at: 0,
+            piece,
+        }
+    }
+}
+
+impl Source for SureSource {
+    ghost left = { λ s. Some (drop s.at s.bytes.items) };
+
+    ghost faults = { λ s. 0 };
+
+    fn read(&mut self, into: &mut [u8]) -> Result<usize, Failed> {
+        let count = move_front(&self.bytes[self.at..], into, self.piece);
+        self.at += count;
+        Ok(count)
+    }
+}
+
+/// Takes all bytes, keeps none and tells none: its count of faults is always 0.
+#[derive(Clone, Copy, Debug, PartialEq, Eq)]
+pub struct SureSink;
+
+impl Sink for SureSink {
+    ghost taken = { λ s. None };
+
+    ghost faults = { λ s. 0 };
+
+    fn write(&mut self, piece: &[u8]) -> Result<usize, Failed> {
+        Ok(piece.len())
+    }
+}

@@ -1,0 +1,57 @@
+//! The program: its words, standard input and standard output, handed to the call that does all the
+//! work. It ends with the status of the run: 0 all done, 1 a refusal, 2 wrong words, 3 a failed read,
+//! 4 a failed write, 5 want of memory.
+#![tactic(auto)]
+
+use byte_ports::{StdSink, StdSource};
+use session_top::run;
+use std::alloc::{AllocError, Global};
+use std::env::{Env, FillError};
+use std::io;
+use std::process::ExitCode;
+use worker_gate::OpenGate;
+
+/// The word with this number, counted from 0, or `None` behind the last one. A word that is not UTF-8
+/// becomes the empty word.
+fn word_at<E: Env>(env: &E, alloc: Global, i: usize) -> Result<Option<String>, AllocError> {
+    let mut room = 256usize;
+    for _ in 0..usize::BITS {
+        let mut bytes = Vec::new(alloc);
+        bytes.resize(room, 0u8)?;
+        match env.arg(i, &mut bytes) {
+            Ok(len) => {
+                bytes.truncate(len);
+                return Ok(Some(match String::from_utf8(bytes) {
+                    Ok(word) => word,
+                    Err(_) => String::new(alloc),
+                }));
+            }
+            Err(FillError::NotPresent) => return Ok(None),
+            Err(FillError::TooLong) => room = room.saturating_mul(2),
+        }
+    }
+    Err(AllocError)
+}
+
+/// The words of the command, the program's name first.
+fn words_of<E: Env>(env: &E, alloc: Global) -> Result<Vec<String>, AllocError> {
+    let mut words = Vec::new(alloc);
+    for i in 0..usize::MAX {
+        match word_at(env, alloc, i)? {
+            Some(word) => words.push(word)?,
+            None => break,
+        }
+    }
+    Ok(words)
+}
+
+fn main(rt: HostRuntime) -> ExitCode {
+    let alloc = rt.alloc();
+    let Ok(words) = words_of(&rt, alloc) else {
+        return ExitCode::from(5);
+    };
+    let mut source = StdSource::new(rt.reader());
+    let mut sink = StdSink::new(io::writer(&rt));
+    let ended = run(alloc, &words, &mut source, &mut sink, &OpenGate);
+    ExitCode::from(ended.status)
+}

@@ -1,0 +1,10 @@
+mod Endings
+mod Complete
+mod Going
+mod Goings
+mod Numbers
+mod Shown
+mod Steps
+mod Texts
+mod Unique
+mod Whole

@@ -1,0 +1,75 @@
+-- The number that an option's text states.
+use Rattle.std.proofs.Common.{◌≡◌, ◌∙◌, ℕ, ◌^◌, ◌<◌, ◌≤◌, Bool, true, false, List, Option, Some, None, refl, sym, ap, subst, codes}
+use Rattle.std.specs.Prelude.{option_map, option_and_then, unwrap_or}
+use Rattle.std.specs.Str.Parse.{IsNumeral, digits_value, without_leading_plus}
+use Rattle.clap.specs.Walk.{Row, Text, one_of, rows_of}
+use Rattle.clap.specs.Matches.{one_text}
+use Rattle.clap.specs.ValueTests.{is_unsigned_in}
+use Rattle.clap.specs.declared.parser.matches.Found.{Found}
+use Rattle.clap.specs.declared.builder.value_parser.ValueParser.TheVariants as parser
+use Rattle.clap.proofs.WalkLemmas.{one_text-rows}
+use Rattle.clap.proofs.ValueTestLemmas.{accepts-Accepts, Accepts-accepts}
+use Rattle.session_top.specs.declared.words.Request.{Request}
+use Rattle.session_top.specs.declared.words.Command.TheVariants.{Run}
+use Rattle.session_top.specs.Command.{number_or, option_text, request_of}
+
+-- a text that is read as a number within the bounds states it
+pub number_within : (least most default n : ℕ) (text : Text) → IsNumeral 10 (without_leading_plus text) → digits_value 10 (without_leading_plus text) < 2 ^ 64
+    → n ≡ digits_value 10 (without_leading_plus text) → least ≤ n → n ≤ most → n ≡ number_or least most default (Some text)
+number_within least most default n text numeral fits same low high =
+    let test : is_unsigned_in least most text ≡ true =
+    Accepts-accepts false (parser.Unsigned least most) text (numeral, fits, subst (λ k. least ≤ k) same low, subst (λ k. k ≤ most) same high) in
+    rw test same
+
+-- a text that is no number within the bounds leaves the default
+pub number_outside : (least most default : ℕ) (text : Text)
+    → (IsNumeral 10 (without_leading_plus text) → digits_value 10 (without_leading_plus text) < 2 ^ 64
+    → least ≤ digits_value 10 (without_leading_plus text) → digits_value 10 (without_leading_plus text) ≤ most → ⊥)
+    → default ≡ number_or least most default (Some text)
+number_outside least most default text none = go (is_unsigned_in least most text) refl
+  where
+    go : (t : Bool) → is_unsigned_in least most text ≡ t → default ≡ number_or least most default (Some text)
+    go true e = let all = accepts-Accepts false (parser.Unsigned least most) text e in absurd (none all.0 all.1 all.2 all.3)
+    go false e = rw e refl
+
+some_rows : (a b : List Row) → Some a ≡ Some b → a ≡ b
+some_rows a b e = ap (λ (o : Option (List Row)). unwrap_or o a) e
+
+chosen_text : (name : Text) (f : Found) (s : Option (Text × List Row)) → Some (rows_of f) ≡ option_map (λ p. p.1) s → one_text f name ≡ option_and_then (λ p. one_of name p.1) s
+chosen_text name f None e = cc
+chosen_text name f (Some p) e = one_text-rows f name ∙ ap (one_of name) (some_rows (rows_of f) p.1 e)
+
+-- what is read of the subcommand that was chosen
+pub chosen_number : (least most default : ℕ) (name : Text) (f : Found) (s r : Option (Text × List Row)) (n : ℕ) → Some (rows_of f) ≡ option_map (λ p. p.1) s → s ≡ r
+    → n ≡ number_or least most default (one_text f name) → n ≡ number_or least most default (option_and_then (λ p. one_of name p.1) r)
+chosen_number least most default name f s r n rows same number =
+    number ∙ ap (number_or least most default) (chosen_text name f s rows ∙ ap (option_and_then (λ p. one_of name p.1)) same)
+
+-- a number was read of the text of an option
+pub read_number : (least most default n : ℕ) (t : Option Text) → (t ≡ None → Some n ≡ None)
+    → ((x : Text) → t ≡ Some x → (IsNumeral 10 (without_leading_plus x) × (digits_value 10 (without_leading_plus x) < 2 ^ 64)) × (n ≡ digits_value 10 (without_leading_plus x)))
+    → least ≤ n → n ≤ most → n ≡ number_or least most default t
+read_number least most default n None none value low high = let e = none refl in cc
+read_number least most default n (Some x) none value low high =
+    let all = value x refl in number_within least most default n x all.0.0 all.0.1 all.1 low high
+
+-- and it is not within the bounds
+pub read_outside : (least most default n : ℕ) (t : Option Text) → (t ≡ None → Some n ≡ None)
+    → ((x : Text) → t ≡ Some x → (IsNumeral 10 (without_leading_plus x) × (digits_value 10 (without_leading_plus x) < 2 ^ 64)) × (n ≡ digits_value 10 (without_leading_plus x)))
+    → (least ≤ n → n ≤ most → ⊥) → default ≡ number_or least most default t
+read_outside least most default n None none value out = refl
+read_outside least most default n (Some x) none value out =
+    let all = value x refl in
+    number_outside least most default x (λ numeral fits low high. out (subst (λ k. least ≤ k) (sym all.1) low) (subst (λ k. k ≤ most) (sym all.1) high))
+
+-- no number was read
+pub read_nothing : (least most default : ℕ) (t : Option Text)
+    → ((x : Text) → t ≡ Some x → IsNumeral 10 (without_leading_plus x) × (digits_value 10 (without_leading_plus x) < 2 ^ 64) → ⊥) → default ≡ number_or least most default t
+read_nothing least most default None none = refl
+read_nothing least most default (Some x) none = number_outside least most default x (λ numeral fits low high. none x refl (numeral, fits))
+
+-- the three numbers make the request
+pub request_is : (workers helpers pairs : ℕ) (words : List Text) → workers ≡ number_or 1 16 2 (option_text (codes "workers") words)
+    → helpers ≡ number_or 1 16 2 (option_text (codes "helpers") words) → pairs ≡ number_or 0 1000000000 1000000 (option_text (codes "pairs") words)
+    → ◌≡◌ {A = Request} (record { command = Run; workers = workers; helpers = helpers; pairs = pairs }) (request_of words)
+request_is workers helpers pairs words one two three = rw (one, two, three) refl

@@ -1,0 +1,6 @@
+pub mod Command
+pub mod Lines
+pub mod Meaning
+pub mod Parts
+pub mod Run
+pub mod Session

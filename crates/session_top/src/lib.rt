@@ -1,0 +1,18 @@
+//! Runs a script: from the words of a command and the bytes of a source to the bytes of a sink and
+//! a status. What it promises is the meaning of the script: which text stands for which bytes, and
+//! for each status when it comes.
+#![tactic(auto)]
+
+mod lines;
+mod reading;
+mod session;
+#[cfg(test)]
+mod tests;
+mod top;
+mod words;
+
+pub use top::{Ended, run};
+pub use words::{Command, Request, WordStop, read_words};
+
+/// The most bytes that a script has.
+pub const SCRIPT_LIMIT: usize = 1_048_576;
