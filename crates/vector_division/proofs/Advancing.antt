@@ -81,14 +81,14 @@ less_room compare order t r (u ∷ x) bound h =
     omega arith
 
 -- ---- one quotient more
-met_push :
+pub met_push :
     (n : ℕ) (v : FormalSum n) (list : List Terms) (earlier : List Step) (qs : List Quotient) (q : Quotient)
     → AreMetFrom n v list earlier qs → IsMet n v list (earlier ++ map step_of qs) (product_lead n list (step_of q))
     → AreMetFrom n v list earlier (qs ++ q ∷ [])
 met_push n v list earlier [] q h m = (subst (λ e. IsMet n v list e (product_lead n list (step_of q))) (append-nil earlier) m, tt)
 met_push n v list earlier (x ∷ qs) q h m = (h.0, met_push n v list (earlier ++ step_of x ∷ []) qs q h.1 (subst (λ e. IsMet n v list e (product_lead n list (step_of q))) (sym (append_assoc earlier (step_of x ∷ []) (map step_of qs))) m))
 
-met_later :
+pub met_later :
     (n : ℕ) (v : FormalSum n) (list : List Terms) (earlier : List Step) (s : Step) (k : Key n)
     → IsMet n v list earlier k → IsMet n v list (earlier ++ s ∷ []) k
 met_later n v list earlier s k (inl h) = inl h
@@ -230,6 +230,7 @@ failing_step n p compare v list qs old at s g stop a last lt d pr eg es h =
     let e : SubtractionStops s.1 (get_or list s.0 []) (Degree a last) = subst₂ (SubtractionStops s.1) eg es h in
     record {
       index = d.index;
+      variables = d.variables;
       met = subst (IsMet n (sum_of n v) list (map step_of qs)) (sym d.lead)
           (head_from (IsMet n (sum_of n v) list (map step_of qs)) at (sum_of n old) (subst (λ z. at < z) (sym (length-map old (λ x. (key_of n x.0, x.1)))) lt) pr.keys);
       monomial = e.1;

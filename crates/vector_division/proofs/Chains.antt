@@ -10,7 +10,7 @@ use Rattle.module_vectors.specs.declared.ring.Ring.{Ring}
 use Rattle.module_vectors.specs.declared.trail.KeptTrail.{KeptTrail}
 use Rattle.module_vectors.specs.declared.trail.TrailStart.TheVariants as starts
 use Rattle.vector_division.specs.Divisions.{IsDivisionTrail}
-use Rattle.vector_division.specs.Progress.{AreKnown, IsFailingStep}
+use Rattle.vector_division.specs.Progress.{AreKnown, HaveLengths, IsFailingStep}
 use Rattle.vector_division.specs.Reductions.{AreMetFrom, step_of}
 use Rattle.vector_division.specs.declared.reduction.Quotient.{Quotient}
 
@@ -44,6 +44,10 @@ known_steps : (count : ℕ) (qs : List Quotient) → AreKnown count qs → Each 
 known_steps count [] h = tt
 known_steps count (q ∷ qs) h = (h.0, known_steps count qs h.1)
 
+lengths_of : (n : ℕ) (qs : List Quotient) → HaveLengths n qs → Each (λ x. length x.1 ≡ n) (map step_of qs)
+lengths_of n [] h = tt
+lengths_of n (q ∷ qs) h = (h.0, lengths_of n qs h.1)
+
 plain_chain :
     (n : ℕ) (v : List (CodeKey × ℕ)) (list : List (List (CodeKey × ℕ))) (qs : List Quotient) (s : Step) (last : List ℕ)
     → AreKnown (length list) qs → AreMetFrom n (sum_of n v) list [] qs → IsFailingStep n v list qs s last
@@ -75,12 +79,12 @@ plain_chain n v list (q ∷ qs) s last known met failing = (
 pub division_trail :
     (ring : Ring) (v : List (CodeKey × ℕ)) (list : List (List (CodeKey × ℕ))) (qs : List Quotient) (s : Step)
     (last : List ℕ) (t : KeptTrail)
-    → AreKnown (length list) qs → AreMetFrom (variables ring) (sum_of (variables ring) v) list [] qs
-    → IsFailingStep (variables ring) v list qs s last
+    → AreKnown (length list) qs → HaveLengths (variables ring) qs
+    → AreMetFrom (variables ring) (sum_of (variables ring) v) list [] qs → IsFailingStep (variables ring) v list qs s last
     → t.ring ≡ ring → t.rank ≡ 0 → t.generators ≡ [] → t.below.items ≡ [] → t.start ≡ starts.Term → t.vector ≡ v
     → t.members ≡ list → t.cofs ≡ None → t.steps.items ≡ map step_of qs ++ s ∷ [] → t.last ≡ last
     → IsDivisionTrail ring v list t
-division_trail ring v list qs s last t known met failing e_ring e_rank e_generators e_below e_start e_vector e_members e_cofs e_steps e_last = record {
+division_trail ring v list qs s last t known lengths met failing e_ring e_rank e_generators e_below e_start e_vector e_members e_cofs e_steps e_last = record {
   trail = trail (plain_chain (variables ring) v list qs s last known met failing);
   over = e_ring;
   rank = e_rank;
@@ -90,6 +94,7 @@ division_trail ring v list qs s last t known met failing e_ring e_rank e_generat
   vector = e_vector;
   members = e_members;
   cofs = e_cofs;
+  lengths = subst (Each (λ x. length x.1 ≡ variables ring)) (sym e_steps) (Each_append (λ x. length x.1 ≡ variables ring) (map step_of qs) (s ∷ []) (lengths_of (variables ring) qs lengths) (failing.variables, tt));
 }
   where
     trail : (first : Step) × (later : List Step) × PlainChain (variables ring) v list qs s first later → IsTrail t

@@ -8,3 +8,6 @@ pub mod Advancing
 pub mod Looping
 pub mod Quotients
 pub mod Masking
+pub mod Topping
+pub mod Carrying
+pub mod Keeping

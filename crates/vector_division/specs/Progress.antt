@@ -83,9 +83,14 @@ pub record IsBelow (n : ℕ) (compare : Key n → Key n → Ordering) (old new :
 abbrev pub AreKnown : ℕ → List Quotient → Type 0
 AreKnown count qs = Each (λ q. q.index < count) qs
 
--- a step that is met by v or by the quotients' products, and too great for a monomial of its vector
+-- the quotients' monomials have n variables
+abbrev pub HaveLengths : ℕ → List Quotient → Type 0
+HaveLengths n qs = Each (λ q. length q.monomial ≡ n) qs
+
+-- a step of n variables that is met by v or by the quotients' products, and too great for a monomial of its vector
 pub record IsFailingStep (n : ℕ) (v : List (CodeKey × ℕ)) (list : List (List (CodeKey × ℕ))) (qs : List Quotient) (s : Step) (last : List ℕ) : Type 0 where
   pub index : s.0 < length list
+  pub variables : length s.1 ≡ n
   pub met : IsMet n (sum_of n v) list (map step_of qs) (product_lead n list s)
   pub monomial : HasMonomial (get_or list s.0 []) last
   pub too_great : IsTooGreat s.1 last

@@ -1,5 +1,5 @@
 // The loop of a division.
-ghost use Rattle.std.specs.Prelude.{◌≡◌, ◌++◌, [], IfOk, IfErr};
+ghost use Rattle.std.specs.Prelude.{◌++◌, [], IfOk, IfErr};
 ghost use Rattle.formal_sums.specs.FormalSums.{Each};
 ghost use Rattle.formal_sums.specs.Combinations.{combination};
 ghost use Rattle.bases.specs.Leads.{head_key};
@@ -8,9 +8,12 @@ ghost use Rattle.module_vectors.specs.Vectors.{sum_of, sums_of, IsVectorOver, Ar
 ghost use Rattle.vector_division.specs.Divisions.{IsReducedBy, HasReducedLead, DivisionStops};
 ghost use Rattle.vector_division.specs.Reductions.{cofactors_of, IsQuotient, AreMetFrom, HaveLeadsUpTo};
 
+use crate::buckets::Buckets;
 use crate::divisors::find_divisor;
 use crate::marks::marks_of;
-use crate::steps::{bound_key, take_away};
+use crate::runs::Run;
+use crate::steps::take_away;
+use crate::underway::advance;
 use module_vectors::{Frame, Vect, Vectors, WorkStop};
 use monomial_orders::Mono;
 use std::alloc::Global;
@@ -51,34 +54,33 @@ pub fn reduce<F: Frame, L: Vectors>(
     ensures reduced { let n = variables (F.over frame.now) in IfOk result (λ r. IsReducedBy (sums_of n (L.listed list.now)) (sum_of n r.rest)) }
     ensures stop { IfErr result (DivisionStops (F.over frame.now) v.now (L.listed list.now)) }
 {
+    frame.ring().modulus.domain();
     let marks = marks_of(alloc, list)?;
-    let mut work = v.try_copy(alloc)?;
+    let mut buckets = Buckets::from_run(alloc, Run::from_vect(v.try_copy(alloc)?))?;
     let mut quotients = Vec::new(alloc);
-    // The terms before this index stay.
-    let mut at = 0;
+    let mut rest = Vec::new(alloc);
+    let mut next = buckets.take_top(alloc, frame)?;
     loop {
-        if at == work.terms().len() {
-            return Ok(Reduction {
-                quotients,
-                rest: work,
-            });
-        }
-        match find_divisor(alloc, &work.terms()[at].0, list, &marks)? {
+        match next {
             None => {
-                at += 1;
-                bound_key(&work, at);
+                return Ok(Reduction {
+                    quotients,
+                    rest: Vect::from_terms(alloc, frame, rest)?,
+                });
             }
-            Some(divisor) => {
-                take_away(
+            Some(term) => {
+                advance(
                     alloc,
                     frame,
                     v,
                     list,
-                    divisor,
-                    at,
-                    &mut work,
+                    &marks,
+                    term,
+                    &mut buckets,
                     &mut quotients,
+                    &mut rest,
                 )?;
+                next = buckets.take_top(alloc, frame)?;
             }
         }
     }

@@ -1,15 +1,16 @@
 // The trail of a division that meets a product of too great a degree.
-ghost use Rattle.std.specs.Prelude.{◌≡◌, ◌<◌, ◌++◌, ◌∷◌, [], IfOk, length, map};
+ghost use Rattle.std.specs.Prelude.{◌≡◌, ◌<◌, ◌++◌, ◌∷◌, [], List, ℕ, IfOk, length, map};
 ghost use Rattle.module_vectors.specs.Rings.{variables};
-ghost use Rattle.module_vectors.specs.Stops.{HasMonomial, IsTooGreat};
-ghost use Rattle.module_vectors.specs.Trails.{IsMet, product_lead};
 ghost use Rattle.module_vectors.specs.Vectors.{sum_of};
-ghost use Rattle.vector_division.specs.Divisions.{IsDivisionTrail};
+ghost use Rattle.module_vectors.specs.declared.stop.VectStop.TheVariants.{Degree};
+ghost use Rattle.vector_division.specs.Divisions.{DivisionStops, IsDivisionTrail};
 ghost use Rattle.vector_division.specs.Reductions.{AreMetFrom, step_of};
-ghost use Rattle.vector_division.specs.Progress.{AreKnown, IsFailingStep};
+ghost use Rattle.vector_division.specs.Progress.{AreKnown, HaveLengths, IsFailingStep};
 
 use crate::Quotient;
-use module_vectors::{KeptTrail, NoMemory, Ring, TrailStart, Vect, VectList, Vectors};
+use module_vectors::{
+    KeptTrail, NoMemory, Ring, TrailStart, Vect, VectList, VectStop, Vectors, WorkStop,
+};
 use monomial_orders::Mono;
 use std::alloc::Global;
 
@@ -41,9 +42,9 @@ fn copy_steps(
     Ok(steps)
 }
 
-/// The trail of the quotients that were taken away, and of the product of a monomial and the vector with this index,
-/// which has too great a degree.
-pub(crate) fn keep_trail<L: Vectors>(
+// The trail of the quotients that were taken away, and of the product of a monomial and the vector with this index,
+// which has too great a degree.
+fn keep_trail<L: Vectors>(
     alloc: Global,
     ring: &Ring,
     v: &Vect,
@@ -53,6 +54,7 @@ pub(crate) fn keep_trail<L: Vectors>(
     last: Mono,
 ) -> Result<KeptTrail, NoMemory>
     requires known { AreKnown (length (L.listed list.now)) quotients.now }
+    requires lengths { HaveLengths (variables ring.now) quotients.now }
     requires met { let n = variables ring.now in AreMetFrom n (sum_of n v.now) (L.listed list.now) [] quotients.now }
     requires failing { IsFailingStep (variables ring.now) v.now (L.listed list.now) quotients.now failing last }
     ensures { IfOk result (IsDivisionTrail ring.now v.now (L.listed list.now)) }
@@ -70,4 +72,31 @@ pub(crate) fn keep_trail<L: Vectors>(
         steps: copy_steps(alloc, quotients, index, monomial)?,
         last,
     })
+}
+
+/// Why a division ends where a product could not be made: there was no memory, or the step failed, with its trail.
+pub(crate) fn stopped<L: Vectors>(
+    alloc: Global,
+    ring: &Ring,
+    v: &Vect,
+    list: &L,
+    quotients: &[Quotient],
+    failing: (u64, Mono),
+    stop: VectStop,
+) -> WorkStop
+    requires known { AreKnown (length (L.listed list.now)) quotients.now }
+    requires lengths { HaveLengths (variables ring.now) quotients.now }
+    requires met { let n = variables ring.now in AreMetFrom n (sum_of n v.now) (L.listed list.now) [] quotients.now }
+    requires failing { (a last : List ℕ) → stop ≡ Degree a last → IsFailingStep (variables ring.now) v.now (L.listed list.now) quotients.now failing last }
+    ensures { DivisionStops ring.now v.now (L.listed list.now) result }
+{
+    match stop {
+        VectStop::Memory => WorkStop::Memory,
+        VectStop::Degree(_, last) => {
+            match keep_trail(alloc, ring, v, list, quotients, failing, last) {
+                Ok(trail) => WorkStop::Degree(trail),
+                Err(_) => WorkStop::Memory,
+            }
+        }
+    }
 }

@@ -7,17 +7,17 @@ use Rattle.vector_division.specs.Reductions.{AreMetFrom}
 use Rattle.vector_division.proofs.Advancing.{advanced, failing_step}
 use Rattle.vector_division.proofs.steps.take_away.Goals as goal
 
-pub keep_trail-requires-clause-met : goal.keep_trail-requires-clause-met
-keep_trail-requires-clause-met g c =
-    subst₂ (λ r qs. AreMetFrom (variables r) (sum_of (variables r) c.args.v.now) (g.L.Vectors.listed c.args.list.now) [] qs) (sym c.ring-in-Err-Degree.ensures) (sym c.deref.ensures.value) c.requires.progress.met
+pub stopped-requires-clause-met : goal.stopped-requires-clause-met
+stopped-requires-clause-met g c =
+    subst₂ (λ r qs. AreMetFrom (variables r) (sum_of (variables r) c.args.v.now) (g.L.Vectors.listed c.args.list.now) [] qs) (sym c.ring-in-Err.ensures) (sym c.deref.ensures.value) c.requires.progress.met
 
-pub keep_trail-requires-clause-failing : goal.keep_trail-requires-clause-failing
-keep_trail-requires-clause-failing g c =
+pub stopped-requires-clause-failing : goal.stopped-requires-clause-failing
+stopped-requires-clause-failing g c = λ a last is.
     let ring = g.F.Frame.over c.args.frame.now in
     let n = variables ring in
-    subst₂ (λ r qs. IsFailingStep (variables r) c.args.v.now (g.L.Vectors.listed c.args.list.now) qs (c.args.divisor.0, c.args.divisor.1) c.in-Err-Degree.last) (sym c.ring-in-Err-Degree.ensures) (sym c.deref.ensures.value)
-    (failing_step n ring.modulus.value (g.F.Frame.compare c.args.frame.now n) c.args.v.now (g.L.Vectors.listed c.args.list.now) c.args.quotients.now.items c.args.work.now c.args.at c.args.divisor c.at.result.now c.in-Err-Degree.field-0 c.in-Err-Degree.field-0-0 c.in-Err-Degree.last
-    c.requires.at c.requires.divisor c.requires.progress c.at.ensures c.in-Err-Degree.field-0-is c.in-Err-Degree.ensures.stop)
+    subst₂ (λ r qs. IsFailingStep (variables r) c.args.v.now (g.L.Vectors.listed c.args.list.now) qs (c.args.divisor.0, c.args.divisor.1) last) (sym c.ring-in-Err.ensures) (sym c.deref.ensures.value)
+    (failing_step n ring.modulus.value (g.F.Frame.compare c.args.frame.now n) c.args.v.now (g.L.Vectors.listed c.args.list.now) c.args.quotients.now.items c.args.work.now c.args.at c.args.divisor c.at.result.now c.in-Err.stop a last
+    c.requires.at c.requires.divisor c.requires.progress c.at.ensures is c.in-Err.ensures.stop)
 
 pub returns-in_ok-push-in-Ok-clause-progress : goal.returns-in_ok-push-in-Ok-clause-progress
 returns-in_ok-push-in-Ok-clause-progress g c =

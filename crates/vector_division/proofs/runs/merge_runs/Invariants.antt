@@ -1,0 +1,18 @@
+use Rattle.std.proofs.Common.{◌++◌, ◌+◌, ◌≤◌}
+use Rattle.std.specs.Vec.{vec_capacity, vec_len}
+use Rattle.std.specs.VecDeque.{deque_len}
+use Rattle.module_vectors.specs.Merging.{Merging}
+use Rattle.module_vectors.specs.Rings.{variables}
+use Rattle.module_vectors.specs.Vectors.{sum_of}
+use Rattle.vector_division.proofs.runs.merge_runs.Given as goal
+
+abbrev pub invariant-loop-rights : goal.invariant-loop-rights
+invariant-loop-rights g l =
+    let n = variables (g.F.Frame.over l.frame) in
+    record {
+      merging : Merging n (g.F.Frame.over l.frame).modulus.value (g.F.Frame.compare l.frame n) l.out.items l.lefts.items l.rights.items (sum_of n l.fn.left ++ sum_of n l.fn.right);
+      room : vec_len l.out + deque_len l.lefts + deque_len l.rights ≤ vec_capacity l.out;
+    }
+
+abbrev pub decreases-loop-rights : goal.decreases-loop-rights
+decreases-loop-rights g l = deque_len l.lefts + deque_len l.rights
