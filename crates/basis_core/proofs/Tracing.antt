@@ -1,0 +1,327 @@
+-- The trail of a Put: from a pair of the job by the products of the outcome to a step of a row's division
+use Rattle.std.proofs.Common.{◌*◌, Bool, List, false, true, [], ap, append_assoc, arith, cond, get_or, inl, inr, length, length-append, refl, subst, suc, sym, take, zero, ℕ, ◌++◌, ◌+◌, ◌-◌, ◌<◌, ◌∙◌, ◌∷◌, ◌≡◌, ◌≤◌, ◌⊎◌}
+use Rattle.std.proofs.lemmas.Bool.{cases_lt}
+use Rattle.std.specs.Prelude.{Contains}
+use Rattle.residues.proofs.Congruences.{IsCongruent_of, IsCongruent_trans}
+use Rattle.monomials.specs.Exponents.{Exponents, exponents_of}
+use Rattle.formal_sums.proofs.WeightedSums.{same_key-shift, weighted_sum-scale, weighted_sum_ext}
+use Rattle.formal_sums.specs.FormalSums.{Each, FormalSum, Key, coefficient, indicator, scale, shift}
+use Rattle.bases.specs.Leads.{head_key}
+use Rattle.module_vectors.specs.Rings.{ring_comparison, variables}
+use Rattle.module_vectors.specs.Trails.{AreMet, HasKey, IsInProduct, IsMet, Step, product_lead}
+use Rattle.module_vectors.specs.Vectors.{IsTerm, IsVector, sum_of}
+use Rattle.module_vectors.specs.declared.key.Key.{Key as CodeKey}
+use Rattle.pair_criteria.specs.declared.pair.Pair.{Pair as CodePair}
+use Rattle.vector_division.proofs.Occurring.{at_key, nonzeros, occurs, scaled_key}
+use Rattle.basis_steps.proofs.Counting.{is_same_pair-refl, is_same_pair-true}
+use Rattle.basis_steps.specs.Criteria.{lcm_of}
+use Rattle.basis_steps.specs.Outcomes as plain
+use Rattle.basis_steps.specs.Outcomes.{AreJobProducts, IsMadeOf, IsOutcome, Occurs, OccursBefore, product_at, product_vector}
+use Rattle.basis_steps.specs.Pairs.{Pair, count, is_same_pair}
+use Rattle.basis_steps.specs.States.{Member, Product, vectors}
+use Rattle.basis_core.specs.Chains.{AreTraced, IsLcmOf, IsStep, step_at}
+use Rattle.basis_core.specs.Jobs.{HasLcm, pair_of, pairs_of}
+use Rattle.basis_core.specs.Members.{Shared, Tracked, member_of, members_of, setting_of}
+use Rattle.basis_core.specs.Outcomes.{product_of, products_of, work_of}
+use Rattle.basis_core.specs.RowDivision.{IsTracked}
+use Rattle.basis_core.specs.Rows.{IsRowTrail, vectors_in}
+use Rattle.basis_core.proofs.AfterPut.{members_length}
+use Rattle.basis_core.proofs.Tracking.{ring_lawful}
+
+-- ---- lists
+pub step_front : (xs ys : List Step) (i : ℕ) → i < length xs → step_at (xs ++ ys) i ≡ step_at xs i
+step_front [] ys i l = absurd (omega arith)
+step_front (x ∷ xs) ys zero l = refl
+step_front (x ∷ xs) ys (suc i) l = step_front xs ys i (omega arith)
+
+pub step_behind : (xs ys : List Step) (i : ℕ) → step_at (xs ++ ys) (length xs + i) ≡ step_at ys i
+step_behind [] ys i = ap (step_at ys) zeros
+  where
+    zeros : 0 + i ≡ i
+    zeros = omega arith
+step_behind (x ∷ xs) ys i = ap (step_at (x ∷ (xs ++ ys))) sucs ∙ step_behind xs ys i
+  where
+    sucs : suc (length xs) + i ≡ suc (length xs + i)
+    sucs = omega arith
+
+contained_index : (xs : List Step) (s : Step) → Contains xs s → (j : ℕ) × (j < length xs) × (step_at xs j ≡ s)
+contained_index xs s (j, l, e) = (j, l, go xs j l e)
+  where
+    go : (xs : List Step) (j : ℕ) → j < length xs → get_or xs j s ≡ s → step_at xs j ≡ s
+    go [] j l e = absurd (omega arith)
+    go (x ∷ xs) zero l e = e
+    go (x ∷ xs) (suc j) l e = go xs j (omega arith) e
+
+-- a pair that stands in the list
+pub counted_pair : (x : Pair) (xs : List CodePair) → 0 < count x (pairs_of xs) → (y : CodePair) × Contains xs y × (pair_of y ≡ x)
+counted_pair x [] l = absurd (omega arith)
+counted_pair x (y ∷ xs) l = go (is_same_pair x (pair_of y)) refl (counted_pair x xs)
+  where
+    go : (b : Bool) → is_same_pair x (pair_of y) ≡ b → (0 < count x (pairs_of xs) → (z : CodePair) × Contains xs z × (pair_of z ≡ x)) → (z : CodePair) × Contains (y ∷ xs) z × (pair_of z ≡ x)
+    go true e rest = (y, (0, omega arith, refl), sym (is_same_pair-true x (pair_of y) e))
+    go false e rest =
+        let none : ◌≡◌ {A = ℕ} (cond (is_same_pair x (pair_of y)) 1 0) 0 = ap (λ b. cond b 1 0) e in
+        let r = rest (omega (arith, l, none)) in
+        (r.0, later r.0 r.1, r.2)
+      where
+        later : (z : CodePair) → Contains xs z → Contains (y ∷ xs) z
+        later z (k, lt, e) = (suc k, omega arith, e)
+
+pub pair_counted : (y : CodePair) (xs : List CodePair) → Contains xs y → 0 < count (pair_of y) (pairs_of xs)
+pair_counted y xs (k, l, e) = go xs k l e
+  where
+    go : (xs : List CodePair) (k : ℕ) → k < length xs → get_or xs k y ≡ y → 0 < count (pair_of y) (pairs_of xs)
+    go [] k l e = absurd (omega arith)
+    go (x ∷ xs) zero l e =
+        let same : is_same_pair (pair_of y) (pair_of x) ≡ true = ap (λ z. is_same_pair (pair_of y) (pair_of z)) e ∙ is_same_pair-refl (pair_of y) in
+        let one : ◌≡◌ {A = ℕ} (cond (is_same_pair (pair_of y) (pair_of x)) 1 0) 1 = ap (λ b. cond b 1 0) same in
+        omega (arith, one)
+    go (x ∷ xs) (suc k) l e = omega (arith, go xs k (omega arith) e)
+
+pub contained_each : {X : Type 0} (P : X → Type 0) (xs : List X) (x : X) → Each P xs → Contains xs x → P x
+contained_each P [] x h (k, l, e) = absurd (omega arith)
+contained_each P (y ∷ xs) x h (zero, l, e) = subst P e h.0
+contained_each P (y ∷ xs) x h (suc k, l, e) = contained_each P xs x h.1 (k, omega arith, e)
+
+-- ---- the members' vectors
+pub vector_at : (n : ℕ) (ms : List Tracked) (k : ℕ) → get_or (vectors (members_of n ms)) k [] ≡ sum_of n (get_or (vectors_in ms) k [])
+vector_at n [] k = refl
+vector_at n (m ∷ ms) zero = refl
+vector_at n (m ∷ ms) (suc k) = vector_at n ms k
+
+pub base_at : (ms : List Tracked) (b k : ℕ) → k < length (take b ms) → get_or (vectors_in (take b ms)) k [] ≡ get_or (vectors_in ms) k []
+base_at [] zero k l = refl
+base_at [] (suc b) k l = refl
+base_at (m ∷ ms) zero k l = absurd (omega arith)
+base_at (m ∷ ms) (suc b) zero l = refl
+base_at (m ∷ ms) (suc b) (suc k) l = base_at ms b k (omega arith)
+
+pub listed_length : (ms : List Tracked) → length (vectors_in ms) ≡ length ms
+listed_length [] = refl
+listed_length (m ∷ ms) = ap suc (listed_length ms)
+
+-- ---- keys of products
+-- what occurs in a product is a key of it
+pub occurs_in :
+    (n p : ℕ) (vs : List (List (CodeKey × ℕ))) (G : List (FormalSum n)) (s : Step) (k : Key n)
+    → get_or G s.0 [] ≡ sum_of n (get_or vs s.0 []) → Occurs p (product_vector G (product_of n s)) k → IsInProduct n vs k s
+occurs_in n p vs G s k e o = go (occurs (scale 1 (exponents_of n s.1) (get_or G s.0 [])) k)
+  where
+    go : HasKey (scale 1 (exponents_of n s.1) (get_or G s.0 [])) k ⊎ (coefficient (scale 1 (exponents_of n s.1) (get_or G s.0 [])) k ≡ 0) → IsInProduct n vs k s
+    go (inl h) =
+        let r = scaled_key 1 (exponents_of n s.1) (get_or G s.0 []) k h in
+        (r.0, subst (λ v. HasKey v r.0) e r.1, r.2)
+    go (inr z) = absurd (o (IsCongruent_of p _ _ z))
+
+reduced_terms : (n p : ℕ) (v : List (CodeKey × ℕ)) → Each (IsTerm n p) v → Each (λ t. (0 < t.1) × (t.1 < p)) (sum_of n v)
+reduced_terms n p [] h = tt
+reduced_terms n p (t ∷ v) h = (((h.0).nonzero, (h.0).reduced), reduced_terms n p v h.1)
+
+-- a key of a vector occurs in it
+pub key_occurs :
+    (shared : Shared) (v : List (CodeKey × ℕ)) (k : Key (variables shared.ring))
+    → IsVector (variables shared.ring) shared.ring.modulus.value (ring_comparison shared.ring (variables shared.ring)) v
+    → HasKey (sum_of (variables shared.ring) v) k → Occurs shared.ring.modulus.value (sum_of (variables shared.ring) v) k
+key_occurs shared v k h there =
+    let n : ℕ = variables shared.ring in
+    at_key (λ l. Occurs shared.ring.modulus.value (sum_of n v) l) (sum_of n v) k
+    (nonzeros (setting_of n shared) (ring_lawful shared) (sum_of n v) h.descends (reduced_terms n shared.ring.modulus.value v h.each)) there
+
+coefficient_shifted : {n : ℕ} (m : Exponents n) (v : FormalSum n) (k : Key n) → coefficient (scale 1 m v) (shift m k) ≡ coefficient v k
+coefficient_shifted m v k =
+    weighted_sum-scale (indicator (shift m k)) 1 m v
+    ∙ ap (λ x. 1 * x) (weighted_sum_ext _ (indicator k) (λ l. ap (λ b. cond b 1 0) (same_key-shift m k l)) v)
+    ∙ omega arith
+
+-- a key of a product of a vector occurs in it
+pub in_occurs :
+    (shared : Shared) (vs : List (List (CodeKey × ℕ))) (G : List (FormalSum (variables shared.ring))) (s : Step) (k : Key (variables shared.ring))
+    → get_or G s.0 [] ≡ sum_of (variables shared.ring) (get_or vs s.0 [])
+    → IsVector (variables shared.ring) shared.ring.modulus.value (ring_comparison shared.ring (variables shared.ring)) (get_or vs s.0 [])
+    → IsInProduct (variables shared.ring) vs k s → Occurs shared.ring.modulus.value (product_vector G (product_of (variables shared.ring) s)) k
+in_occurs shared vs G s k e v (l, there, is) z =
+    let n : ℕ = variables shared.ring in
+    let p : ℕ = shared.ring.modulus.value in
+    let t : Exponents n = exponents_of n s.1 in
+    let same : coefficient (sum_of n (get_or vs s.0 [])) l ≡ coefficient (scale 1 t (get_or G s.0 [])) k =
+    sym (coefficient_shifted t (sum_of n (get_or vs s.0 [])) l) ∙ (λ i. coefficient (scale 1 t (sym e i)) (sym is i)) in
+    key_occurs shared (get_or vs s.0 []) l v there (IsCongruent_trans (IsCongruent_of p _ _ same) z)
+
+-- ---- what is met
+-- each lead that is met is a key of the row, or of a step before it
+pub met_index :
+    (n : ℕ) (v : FormalSum n) (vs : List (List (CodeKey × ℕ))) (earlier later : List Step)
+    → AreMet n v vs earlier later → (i : ℕ) → i < length later
+    → HasKey v (product_lead n vs (step_at later i))
+    ⊎ ((j : ℕ) × (j < length earlier + i) × IsInProduct n vs (product_lead n vs (step_at later i)) (step_at (earlier ++ later) j))
+met_index n v vs earlier [] met i l = absurd (omega arith)
+met_index n v vs earlier (s ∷ later) met zero l = go met.0
+  where
+    go : IsMet n v vs earlier (product_lead n vs s)
+        → HasKey v (product_lead n vs s) ⊎ ((j : ℕ) × (j < length earlier + 0) × IsInProduct n vs (product_lead n vs s) (step_at (earlier ++ s ∷ later) j))
+    go (inl h) = inl h
+    go (inr (t, there, h)) =
+        let at = contained_index earlier t there in
+        inr (at.0, omega (arith, at.1), subst (IsInProduct n vs (product_lead n vs s)) (sym (step_front earlier (s ∷ later) at.0 at.1 ∙ at.2)) h)
+met_index n v vs earlier (s ∷ later) met (suc i) l = go (met_index n v vs (earlier ++ s ∷ []) later met.1 i (omega arith))
+  where
+    go : HasKey v (product_lead n vs (step_at later i))
+        ⊎ ((j : ℕ) × (j < length (earlier ++ s ∷ []) + i) × IsInProduct n vs (product_lead n vs (step_at later i)) (step_at ((earlier ++ s ∷ []) ++ later) j))
+        → HasKey v (product_lead n vs (step_at later i))
+        ⊎ ((j : ℕ) × (j < length earlier + suc i) × IsInProduct n vs (product_lead n vs (step_at later i)) (step_at (earlier ++ s ∷ later) j))
+    go (inl h) = inl h
+    go (inr (j, lt, h)) = inr (j, omega (arith, lt, length-append earlier (s ∷ [])), subst (λ l. IsInProduct n vs (product_lead n vs (step_at later i)) (step_at l j)) (append_assoc earlier (s ∷ []) later) h)
+
+-- ---- a row that stops, of an outcome
+pub product_is : (n : ℕ) (products : List Step) (i : ℕ) → i < length products → product_at (products_of n products) i ≡ product_of n (step_at products i)
+product_is n [] i l = absurd (omega arith)
+product_is n (s ∷ products) zero l = refl
+product_is n (s ∷ products) (suc i) l = product_is n products i (omega arith)
+
+products_length : (n : ℕ) (products : List Step) → length (products_of n products) ≡ length products
+products_length n [] = refl
+products_length n (s ∷ products) = ap suc (products_length n products)
+
+each_member : {n : ℕ} (P : Member n → Type 0) (rows : List Tracked) (row : Tracked) → Each P (members_of n rows) → Contains rows row → P (member_of n row)
+each_member P [] row h (k, l, e) = absurd (omega arith)
+each_member {n} P (r ∷ rows) row h (zero, l, e) = subst (λ m. P (member_of n m)) e h.0
+each_member P (r ∷ rows) row h (suc k, l, e) = each_member P rows row h.1 (k, omega arith, e)
+
+-- an outcome over the first members, and one of its rows that stops
+pub record HasStoppedRow (shared : Shared) (ms base rows : List Tracked) (pairs : List CodePair) (products : List Step) (row : Tracked) (steps : List Step) (last : List ℕ) : Type 0 where
+  pub tracked : Each (IsTracked shared) ms
+  pub rows_tracked : Each (IsTracked shared) rows
+  pub front : base ≡ take (length base) ms
+  pub fewer : length base ≤ length ms
+  pub lcms : Each (HasLcm (variables shared.ring) base) pairs
+  pub known : Each (λ t. length t.1 ≡ variables shared.ring) products
+  pub outcome : IsOutcome (work_of (variables shared.ring) shared) (members_of (variables shared.ring) base) (pairs_of pairs) (members_of (variables shared.ring) rows) (products_of (variables shared.ring) products)
+  pub there : Contains rows row
+  pub trail : IsRowTrail (variables shared.ring) ms row steps last
+
+module _ (shared : Shared) (ms base rows : List Tracked) (pairs : List CodePair) (products : List Step) (row : Tracked) (steps : List Step) (last : List ℕ) (h : HasStoppedRow shared ms base rows pairs products row steps last) where
+  abbrev n : ℕ
+  n = variables shared.ring
+
+  abbrev vs : List (List (CodeKey × ℕ))
+  vs = vectors_in ms
+
+  abbrev G : List (FormalSum (variables shared.ring))
+  G = vectors (members_of (variables shared.ring) base)
+
+  abbrev p : ℕ
+  p = shared.ring.modulus.value
+
+  -- the first members' vectors
+  pub at_base : (k : ℕ) → k < length base → get_or G k [] ≡ sum_of n (get_or vs k [])
+  at_base k l =
+      vector_at n base k
+      ∙ ap (sum_of n) (ap (λ b. get_or (vectors_in b) k []) h.front ∙ base_at ms (length base) k (subst (λ b. k < length b) h.front l))
+
+  product_known : (i : ℕ) → i < length products → (step_at products i).0 < length base
+  product_known i l =
+      let r = ((h.outcome).job_products i (omega (arith, l, products_length n products))).0 in
+      let e : (product_at (products_of n products) i).0 ≡ (step_at products i).0 = ap (λ (t : Product n). t.0) (product_is n products i l) in
+      omega (arith, r, e, members_length n base)
+
+  product_met :
+      (m : ℕ) (k : Key n) → OccursBefore p G (products_of n products) m k
+      → (j : ℕ) × (j < m) × (j < length products) × IsInProduct n vs k (step_at products j)
+  product_met m k (j, lm, ll, o) =
+      let l : j < length products = omega (arith, ll, products_length n products) in
+      (j, lm, l, occurs_in n p vs G (step_at products j) k (at_base (step_at products j).0 (product_known j l)) (subst (λ t. Occurs p (product_vector G t) k) (product_is n products j l) o))
+
+  lead_same : (i : ℕ) → i < length products → plain.product_lead G (product_at (products_of n products) i) ≡ product_lead n vs (step_at products i)
+  lead_same i l =
+      ap (plain.product_lead G) (product_is n products i l)
+      ∙ ap (λ v. shift (exponents_of n (step_at products i).1) (head_key v)) (at_base (step_at products i).0 (product_known i l))
+
+  -- a product's lead
+  product_traced :
+      (i : ℕ) → i < length products
+      → ((x : CodePair) × IsLcmOf n pairs (product_lead n vs (step_at products i)) x)
+      ⊎ ((j : ℕ) × (j < i) × IsInProduct n vs (product_lead n vs (step_at products i)) (step_at products j))
+  product_traced i l = go ((h.outcome).job_products i (omega (arith, l, products_length n products))).1
+    where
+      go : ((x : Pair) × (0 < count x (pairs_of pairs)) × (plain.product_lead G (product_at (products_of n products) i) ≡ lcm_of G x))
+          ⊎ OccursBefore p G (products_of n products) i (plain.product_lead G (product_at (products_of n products) i))
+          → ((x : CodePair) × IsLcmOf n pairs (product_lead n vs (step_at products i)) x)
+          ⊎ ((j : ℕ) × (j < i) × IsInProduct n vs (product_lead n vs (step_at products i)) (step_at products j))
+      go (inl (x, some, e)) =
+          let y = counted_pair x pairs some in
+          let lcm = (contained_each (HasLcm n base) pairs y.0 h.lcms y.1).lcm in
+          inl (y.0, (y.1, sym (lead_same i l) ∙ e ∙ ap (lcm_of G) (sym y.2) ∙ sym lcm))
+      go (inr o) =
+          let r = product_met i (plain.product_lead G (product_at (products_of n products) i)) o in
+          inr (r.0, r.1, subst (λ k. IsInProduct n vs k (step_at products r.0)) (lead_same i l) r.3)
+
+  -- a key of the row
+  row_key : (k : Key n) → HasKey (sum_of n row.vector) k → (j : ℕ) × (j < length products) × IsInProduct n vs k (step_at products j)
+  row_key k there =
+      let v = (contained_each (IsTracked shared) rows row h.rows_tracked h.there).vector.vector in
+      let made = each_member (λ m. IsMadeOf p G (products_of n products) m.vector) rows row (h.outcome).vectors_made h.there in
+      let r = product_met (length (products_of n products)) k (made k (key_occurs shared row.vector k v there)) in
+      (r.0, r.2, r.3)
+
+  -- a step's lead
+  step_traced :
+      (i : ℕ) → i < length steps
+      → (j : ℕ) × (j < length products + i) × IsInProduct n vs (product_lead n vs (step_at steps i)) (step_at (products ++ steps) j)
+  step_traced i l = subst (λ (s : List Step). i < length s → (j : ℕ) × (j < length products + i) × IsInProduct n vs (product_lead n vs (step_at s i)) (step_at (products ++ s) j)) (sym (h.trail).steps) (go i) l
+    where
+      first : Step
+      first = (h.trail).first
+
+      later : List Step
+      later = (h.trail).later
+
+      by_row : (i : ℕ) → HasKey (sum_of n row.vector) (product_lead n vs (step_at ((h.trail).first ∷ (h.trail).later) i)) → (j : ℕ) × (j < length products + i) × IsInProduct n vs (product_lead n vs (step_at ((h.trail).first ∷ (h.trail).later) i)) (step_at (products ++ (h.trail).first ∷ (h.trail).later) j)
+      by_row i there =
+          let r = row_key (product_lead n vs (step_at ((h.trail).first ∷ (h.trail).later) i)) there in
+          (r.0, omega (arith, r.1), subst (IsInProduct n vs (product_lead n vs (step_at ((h.trail).first ∷ (h.trail).later) i))) (sym (step_front products ((h.trail).first ∷ (h.trail).later) r.0 r.1)) r.2)
+
+      go : (i : ℕ) → i < length ((h.trail).first ∷ (h.trail).later) → (j : ℕ) × (j < length products + i) × IsInProduct n vs (product_lead n vs (step_at ((h.trail).first ∷ (h.trail).later) i)) (step_at (products ++ (h.trail).first ∷ (h.trail).later) j)
+      go zero l = by_row zero (h.trail).begins
+      go (suc i) l = by (met_index n (sum_of n row.vector) vs ((h.trail).first ∷ []) (h.trail).later (h.trail).met i (omega arith))
+        where
+          by : HasKey (sum_of n row.vector) (product_lead n vs (step_at (h.trail).later i))
+              ⊎ ((j : ℕ) × (j < 1 + i) × IsInProduct n vs (product_lead n vs (step_at (h.trail).later i)) (step_at ((h.trail).first ∷ (h.trail).later) j))
+              → (j : ℕ) × (j < length products + suc i) × IsInProduct n vs (product_lead n vs (step_at (h.trail).later i)) (step_at (products ++ (h.trail).first ∷ (h.trail).later) j)
+          by (inl there) = by_row (suc i) there
+          by (inr (j, lt, r)) = (length products + j, omega (arith, lt), subst (IsInProduct n vs (product_lead n vs (step_at (h.trail).later i))) (sym (step_behind products ((h.trail).first ∷ (h.trail).later) j)) r)
+
+  -- all together
+  pub all_traced : AreTraced n vs pairs (products ++ steps)
+  all_traced i l = go (cases_lt i (length products))
+    where
+      go : (i < length products) ⊎ (length products ≤ i)
+          → ((x : CodePair) × IsLcmOf n pairs (product_lead n vs (step_at (products ++ steps) i)) x)
+          ⊎ ((j : ℕ) × (j < i) × IsInProduct n vs (product_lead n vs (step_at (products ++ steps) i)) (step_at (products ++ steps) j))
+      go (inl q) = by (product_traced i q)
+        where
+          by : ((x : CodePair) × IsLcmOf n pairs (product_lead n vs (step_at products i)) x)
+              ⊎ ((j : ℕ) × (j < i) × IsInProduct n vs (product_lead n vs (step_at products i)) (step_at products j))
+              → ((x : CodePair) × IsLcmOf n pairs (product_lead n vs (step_at (products ++ steps) i)) x)
+              ⊎ ((j : ℕ) × (j < i) × IsInProduct n vs (product_lead n vs (step_at (products ++ steps) i)) (step_at (products ++ steps) j))
+          by (inl (x, r)) = inl (x, subst (λ s. IsLcmOf n pairs (product_lead n vs s) x) (sym (step_front products steps i q)) r)
+          by (inr (j, lt, r)) = inr (j, lt, subst (λ (z : Step × Step). IsInProduct n vs (product_lead n vs z.0) z.1) (λ t. (sym (step_front products steps i q) t, sym (step_front products steps j (omega (arith, lt, q))) t)) r)
+      go (inr q) =
+          let k : i ≡ length products + (i - length products) = omega (arith, q) in
+          let r = step_traced (i - length products) (omega (arith, l, q, length-append products steps)) in
+          let there : step_at steps (i - length products) ≡ step_at (products ++ steps) i = sym (step_behind products steps (i - length products)) ∙ ap (step_at (products ++ steps)) (sym k) in
+          inr (r.0, omega (arith, r.1, q), subst (λ s. IsInProduct n vs (product_lead n vs s) (step_at (products ++ steps) r.0)) there r.2)
+
+  pub all_known : Each (IsStep n vs) (products ++ steps)
+  all_known = both products (products_in products h.known (λ i l. product_known i l)) (subst (Each (IsStep n vs)) (sym (h.trail).steps) (steps_in ((h.trail).first ∷ (h.trail).later) (h.trail).known (h.trail).variables))
+    where
+      both : (xs : List Step) → Each (IsStep n vs) xs → Each (IsStep n vs) steps → Each (IsStep n vs) (xs ++ steps)
+      both [] a b = b
+      both (x ∷ xs) a b = (a.0, both xs a.1 b)
+
+      products_in : (xs : List Step) → Each (λ t. length t.1 ≡ n) xs → ((i : ℕ) → i < length xs → (step_at xs i).0 < length base) → Each (IsStep n vs) xs
+      products_in [] v k = tt
+      products_in (x ∷ xs) v k = ((omega (arith, k 0 (omega arith), h.fewer, listed_length ms), v.0), products_in xs v.1 (λ i l. k (suc i) (omega arith)))
+
+      steps_in : (xs : List Step) → Each (λ s. s.0 < length ms) xs → Each (λ s. length s.1 ≡ n) xs → Each (IsStep n vs) xs
+      steps_in [] k v = tt
+      steps_in (x ∷ xs) k v = ((omega (arith, k.0, listed_length ms), v.0), steps_in xs k.1 v.1)

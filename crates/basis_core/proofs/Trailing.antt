@@ -1,0 +1,340 @@
+-- The trail that a chain of products stands for
+use Rattle.std.proofs.Common.{List, cond, Some, [], ap, arith, get_or, inl, inr, length, length-append, map, refl, subst, suc, sym, take, zero, ℕ, ◌++◌, ◌+◌, ◌-◌, ◌<◌, ◌∙◌, ◌∷◌, ◌≡◌, ◌⊎◌}
+use Rattle.std.proofs.lemmas.List.{length-map, length-take}
+use Rattle.std.specs.Prelude.{Contains, sum}
+use Rattle.monomial_orders.proofs.Comparing.{degree-exponents_of}
+use Rattle.monomials.specs.Exponents.{degree, exponents_of}
+use Rattle.formal_sums.specs.FormalSums.{Each, FormalSum, Key, shift}
+use Rattle.bases.specs.Leads.{head_key}
+use Rattle.bases.specs.Representations.{key_lcm}
+use Rattle.module_vectors.specs.Rings.{ring_comparison, variables}
+use Rattle.module_vectors.specs.Stops.{HasMonomial}
+use Rattle.module_vectors.specs.Trails.{AreMet, HasKey, IsChain, IsInProduct, IsOfStep, Step, last_step, product_lead}
+use Rattle.module_vectors.specs.Vectors.{IsTerm, IsVector, key_of, sum_of}
+use Rattle.module_vectors.specs.declared.key.Key.{Key as CodeKey}
+use Rattle.module_vectors.specs.declared.trail.KeptTrail.{KeptTrail}
+use Rattle.module_vectors.specs.declared.trail.TrailStart.TheVariants as starts
+use Rattle.pair_criteria.specs.declared.pair.Pair.{Pair as CodePair}
+use Rattle.basis_steps.proofs.Counting.{count_each, is_same_pair-refl}
+use Rattle.basis_steps.proofs.Growing.{each_at}
+use Rattle.basis_core.proofs.AfterPut.{members_length}
+use Rattle.basis_steps.specs.Criteria.{IsPair, lcm_of}
+use Rattle.basis_steps.specs.Outcomes as plain
+use Rattle.basis_steps.specs.Outcomes.{AreJobProducts, IsOutcome, Occurs, OccursBefore, product_at, product_vector}
+use Rattle.basis_steps.specs.Pairs.{count, is_same_pair}
+use Rattle.basis_steps.specs.States.{Product, Trail, cofactor_lists, vectors}
+use Rattle.basis_core.specs.Chains.{IsLinked, IsStep, IsTracedTo, step_at}
+use Rattle.basis_core.specs.Jobs.{HasLcm, IsJobOver, pairs_of}
+use Rattle.basis_core.specs.Makings.{IsTrailAt}
+use Rattle.basis_core.specs.Members.{IsOver, Shared, Tracked, members_of, setting_of, tracked_of}
+use Rattle.basis_core.specs.Outcomes.{IsOutcomeOver, OutcomeShown, product_of, products_of, work_of}
+use Rattle.basis_core.specs.RowDivision.{IsTracked}
+use Rattle.basis_core.specs.Rows.{IsRowTrail, cofactors_in, vectors_in}
+use Rattle.basis_core.specs.Stops.{earlier_steps, trail_by, trail_of, trail_over}
+use Rattle.basis_core.proofs.Starting.{joined_members}
+use Rattle.basis_core.proofs.Tracing.{HasStoppedRow, at_base, contained_each, in_occurs, key_occurs, listed_length, pair_counted, product_is, step_behind, vector_at}
+use Rattle.bases.proofs.Leading.{one_not_zero}
+use Rattle.residues.proofs.Congruences.{IsCongruent_sym}
+use Rattle.basis_steps.specs.Divisions.{IsMonicMember}
+use Rattle.cofactor_track.specs.declared.member.Member.{Member as CodeMember}
+use Rattle.basis_core.proofs.Tracking.{members_tracked, ring_lawful}
+
+-- ---- lists of steps
+last_at : (s : Step) (ss : List Step) → step_at (s ∷ ss) (length ss) ≡ last_step s ss
+last_at s [] = refl
+last_at s (t ∷ ss) = last_at t ss
+
+-- the last of all is the last step of the row
+pub last_of_all : (products : List Step) (s : Step) (ss : List Step) → step_at (products ++ s ∷ ss) (length (products ++ s ∷ ss) - 1) ≡ last_step s ss
+last_of_all products s ss =
+    let e : length (products ++ s ∷ ss) - 1 ≡ length products + length ss = omega (arith, length-append products (s ∷ ss)) in
+    ap (step_at (products ++ s ∷ ss)) e ∙ step_behind products (s ∷ ss) (length ss) ∙ last_at s ss
+
+products_whole : (n : ℕ) (s : Step) (ss : List Step) → products_of n (earlier_steps s ss) ++ (product_of n (last_step s ss) ∷ []) ≡ products_of n (s ∷ ss)
+products_whole n s [] = refl
+products_whole n s (t ∷ ss) = ap (λ l. product_of n s ∷ l) (products_whole n t ss)
+
+-- a chain is met step by step
+linked_met :
+    (n : ℕ) (v : FormalSum n) (vs : List (List (CodeKey × ℕ))) (earlier : List Step) (s : Step) (ss : List Step)
+    → Contains earlier s → IsLinked n vs s ss → AreMet n v vs earlier ss
+linked_met n v vs earlier s [] there h = tt
+linked_met n v vs earlier s (t ∷ ss) there h = (inr (s, there, h.0), linked_met n v vs (earlier ++ t ∷ []) t ss (behind earlier) h.1)
+  where
+    behind : (l : List Step) → Contains (l ++ t ∷ []) t
+    behind l = (length l, omega (arith, length-append l (t ∷ [])), at l)
+      where
+        at : (l : List Step) → get_or (l ++ t ∷ []) (length l) t ≡ t
+        at [] = refl
+        at (x ∷ l) = at l
+
+linked_at :
+    (n : ℕ) (vs : List (List (CodeKey × ℕ))) (s : Step) (ss : List Step)
+    → IsLinked n vs s ss → (k : ℕ) → k < length ss → IsInProduct n vs (product_lead n vs (step_at ss k)) (step_at (s ∷ ss) k)
+linked_at n vs s [] h k l = absurd (omega arith)
+linked_at n vs s (t ∷ ss) h zero l = h.0
+linked_at n vs s (t ∷ ss) h (suc k) l = linked_at n vs t ss h.1 k (omega arith)
+
+-- ---- monomials of vectors
+monomial_term : (v : List (CodeKey × ℕ)) (m : List ℕ) (n p : ℕ) → Each (IsTerm n p) v → HasMonomial v m → length m ≡ n
+monomial_term v m n p h (t, there, e) = sym (ap length e) ∙ (contained_each (IsTerm n p) v t h there).variables
+
+term_key : (n : ℕ) (v : List (CodeKey × ℕ)) (t : CodeKey × ℕ) → Contains v t → HasKey (sum_of n v) (key_of n t.0)
+term_key n [] t (k, l, e) = absurd (omega arith)
+term_key n (u ∷ v) t (zero, l, e) = (0, omega arith, ap (λ (z : CodeKey × ℕ). key_of n z.0) e)
+term_key n (u ∷ v) t (suc k, l, e) =
+    let r = term_key n v t (k, omega arith, e) in
+    (suc r.0, omega (arith, r.1), r.2)
+
+monomial_occurs :
+    (shared : Shared) (v : List (CodeKey × ℕ)) (m : List ℕ)
+    → IsVector (variables shared.ring) shared.ring.modulus.value (ring_comparison shared.ring (variables shared.ring)) v → HasMonomial v m
+    → (i : ℕ) × Occurs shared.ring.modulus.value (sum_of (variables shared.ring) v) (i, exponents_of (variables shared.ring) m)
+monomial_occurs shared v m h (t, there, e) =
+    let n : ℕ = variables shared.ring in
+    (t.0.position, subst (λ x. Occurs shared.ring.modulus.value (sum_of n v) (t.0.position, exponents_of n x)) e (key_occurs shared v (key_of n t.0) h (term_key n v t there)))
+
+degree_of_list : (n : ℕ) (xs : List ℕ) → length xs ≡ n → degree (exponents_of n xs) ≡ sum xs
+degree_of_list n xs e = subst (λ k. degree (exponents_of k xs) ≡ sum xs) e (degree-exponents_of xs)
+
+member_vector : (shared : Shared) (ms : List Tracked) (k : ℕ) → Each (IsTracked shared) ms → IsVector (variables shared.ring) shared.ring.modulus.value (ring_comparison shared.ring (variables shared.ring)) (get_or (vectors_in ms) k [])
+member_vector shared [] k h = record { each = tt; descends = tt }
+member_vector shared (m ∷ ms) zero h = h.0.vector.vector
+member_vector shared (m ∷ ms) (suc k) h = member_vector shared ms k h.1
+
+member_cof : (shared : Shared) (ms : List Tracked) (k : ℕ) → Each (IsTracked shared) ms → IsVector (variables shared.ring) shared.ring.modulus.value (ring_comparison shared.ring (variables shared.ring)) (get_or (cofactors_in ms) k [])
+member_cof shared [] k h = record { each = tt; descends = tt }
+member_cof shared (m ∷ ms) zero h = h.0.cof.vector
+member_cof shared (m ∷ ms) (suc k) h = member_cof shared ms k h.1
+
+cofactor_at : (n : ℕ) (ms : List Tracked) (k : ℕ) → get_or (cofactor_lists (members_of n ms)) k [] ≡ sum_of n (get_or (cofactors_in ms) k [])
+cofactor_at n [] k = refl
+cofactor_at n (m ∷ ms) zero = refl
+cofactor_at n (m ∷ ms) (suc k) = cofactor_at n ms k
+
+each_last : (P : Step → Type 0) (s : Step) (ss : List Step) → Each P (s ∷ ss) → P (last_step s ss)
+each_last P s [] h = h.0
+each_last P s (t ∷ ss) h = each_last P t ss h.1
+
+-- what a trail has to hold
+record HoldsTrail (shared : Shared) (ms : List Tracked) (o : OutcomeShown) (w : Trail (variables shared.ring)) : Type 0 where
+  members : w.members ≡ members_of (variables shared.ring) ms
+  start : 0 < count w.start (pairs_of o.job.pairs)
+  real : IsPair (vectors (members_of (variables shared.ring) ms)) w.start
+  products : AreJobProducts shared.ring.modulus.value (vectors (members_of (variables shared.ring) ms)) (w.start ∷ []) (w.earlier ++ (w.last ∷ []))
+  monomial :
+      (i : ℕ)
+      × (Occurs shared.ring.modulus.value (get_or (vectors (members_of (variables shared.ring) ms)) w.last.0 []) (i, w.monomial)
+      ⊎ Occurs shared.ring.modulus.value (get_or (cofactor_lists (members_of (variables shared.ring) ms)) w.last.0 []) (i, w.monomial))
+  above : 65535 < degree w.last.1 + degree w.monomial
+
+module _ (shared : Shared) (ms : List Tracked) (o : OutcomeShown) (row : Tracked) (steps : List Step) (last : List ℕ) (h : HasStoppedRow shared ms o.job.members o.rows o.job.pairs o.products row steps last) (chain : List Step) (i j : ℕ) (c : IsTracedTo (variables shared.ring) (vectors_in ms) o.job.pairs (o.products ++ steps) chain i j) where
+  abbrev n : ℕ
+  n = variables shared.ring
+
+  abbrev p : ℕ
+  p = shared.ring.modulus.value
+
+  abbrev vs : List (List (CodeKey × ℕ))
+  vs = vectors_in ms
+
+  abbrev G : List (FormalSum (variables shared.ring))
+  G = vectors (members_of (variables shared.ring) ms)
+
+  abbrev base : List (FormalSum (variables shared.ring))
+  base = vectors (members_of (variables shared.ring) o.job.members)
+
+  abbrev first : Step
+  first = c.first
+
+  abbrev later : List Step
+  later = (c.chain_is).later
+
+  same_last : last_step first later ≡ last_step (h.trail).first (h.trail).later
+  same_last = (c.chain_is).last ∙ ap (λ l. step_at (o.products ++ l) (length (o.products ++ l) - 1)) (h.trail).steps ∙ last_of_all o.products (h.trail).first (h.trail).later
+
+  counted : 0 < count (i, j) (pairs_of o.job.pairs)
+  counted = subst (λ x. 0 < count x (pairs_of o.job.pairs)) c.indices (pair_counted c.pair o.job.pairs (c.lcm).0)
+
+  base_pair : IsPair base (i, j)
+  base_pair = count_each (IsPair base) (i, j) (pairs_of o.job.pairs) (h.outcome).pairs counted
+
+  left : i < length o.job.members
+  left = omega (arith, base_pair.ordered, base_pair.within, members_length n o.job.members)
+
+  right : j < length o.job.members
+  right = omega (arith, base_pair.within, members_length n o.job.members)
+
+  from_base : (k : ℕ) → k < length o.job.members → get_or base k [] ≡ sum_of n (get_or vs k [])
+  from_base k l = at_base shared ms o.job.members o.rows o.job.pairs o.products row steps last h k l
+
+  same_vector : (k : ℕ) → k < length o.job.members → get_or G k [] ≡ get_or base k []
+  same_vector k l = vector_at n ms k ∙ sym (from_base k l)
+
+  real : IsPair G (i, j)
+  real = record {
+    ordered = base_pair.ordered;
+    within = omega (arith, right, h.fewer, members_length n ms);
+    position = ap (λ v. (head_key v).0) (same_vector i left) ∙ base_pair.position ∙ ap (λ v. (head_key v).0) (sym (same_vector j right));
+  }
+
+  lcm_key : product_lead n vs first ≡ lcm_of base (i, j)
+  lcm_key = (c.lcm).1 ∙ (contained_each (HasLcm n o.job.members) o.job.pairs c.pair h.lcms (c.lcm).0).lcm ∙ ap (lcm_of base) c.indices
+
+  known : Each (IsStep n vs) (first ∷ later)
+  known = (c.chain_is).known
+
+  lead_here : (s : Step) → plain.product_lead G (product_of n s) ≡ product_lead n vs s
+  lead_here s = ap (λ v. shift (exponents_of n s.1) (head_key v)) (vector_at n ms s.0)
+
+  products : AreJobProducts p G ((i, j) ∷ []) (products_of n (first ∷ later))
+  products zero l = (omega (arith, (known.0).0, listed_length ms, members_length n ms), inl ((i, j), pair_first, lead_here first ∙ lcm_key ∙ (λ t. key_lcm (head_key (sym (same_vector i left) t)) (head_key (sym (same_vector j right) t)))))
+    where
+      pair_first : 0 < count (i, j) ((i, j) ∷ [])
+      pair_first =
+          let one : ◌≡◌ {A = ℕ} (cond (is_same_pair (i, j) (i, j)) 1 0) 1 = ap (λ b. cond b 1 0) (is_same_pair-refl (i, j)) in
+          omega (arith, one)
+  products (suc k) l = (here, inr (k, omega arith, omega (arith, l), occurs))
+    where
+      short : k < length later
+      short = omega (arith, l, length-map later (λ t. product_of n t))
+
+      is : product_at (products_of n (first ∷ later)) (suc k) ≡ product_of n (step_at later k)
+      is = product_is n (first ∷ later) (suc k) (omega (arith, short))
+
+      before : product_at (products_of n (first ∷ later)) k ≡ product_of n (step_at (first ∷ later) k)
+      before = product_is n (first ∷ later) k (omega (arith, short))
+
+      here : (product_at (products_of n (first ∷ later)) (suc k)).0 < length G
+      here = omega (arith, ap (λ (t : Product n). t.0) is, (each_at (IsStep n vs) later k (0, []) known.1 short).0, listed_length ms, members_length n ms)
+
+      occurs : Occurs p (product_vector G (product_at (products_of n (first ∷ later)) k)) (plain.product_lead G (product_at (products_of n (first ∷ later)) (suc k)))
+      occurs = subst (λ (z : Product n × Key n). Occurs p (product_vector G z.0) z.1) (λ t. (sym before t, sym (ap (plain.product_lead G) is ∙ lead_here (step_at later k)) t))
+          (in_occurs shared vs G (step_at (first ∷ later) k) (product_lead n vs (step_at later k)) (vector_at n ms (step_at (first ∷ later) k).0) (member_vector shared ms (step_at (first ∷ later) k).0 h.tracked) (linked_at n vs first later (c.chain_is).linked k short))
+
+  of_last : IsOfStep vs (Some (cofactors_in ms)) (last_step first later) last
+  of_last = subst (λ s. IsOfStep vs (Some (cofactors_in ms)) s last) (sym same_last) (h.trail).monomial
+
+  monomial :
+      (k : ℕ)
+      × (Occurs p (get_or G (last_step first later).0 []) (k, exponents_of n last)
+      ⊎ Occurs p (get_or (cofactor_lists (members_of n ms)) (last_step first later).0 []) (k, exponents_of n last))
+  monomial = go of_last
+    where
+      go : HasMonomial (get_or vs (last_step first later).0 []) last ⊎ HasMonomial (get_or (cofactors_in ms) (last_step first later).0 []) last
+          → (k : ℕ)
+          × (Occurs p (get_or G (last_step first later).0 []) (k, exponents_of n last)
+          ⊎ Occurs p (get_or (cofactor_lists (members_of n ms)) (last_step first later).0 []) (k, exponents_of n last))
+      go (inl m) =
+          let r = monomial_occurs shared (get_or vs (last_step first later).0 []) last (member_vector shared ms (last_step first later).0 h.tracked) m in
+          (r.0, inl (subst (λ v. Occurs p v (r.0, exponents_of n last)) (sym (vector_at n ms (last_step first later).0)) r.1))
+      go (inr m) =
+          let r = monomial_occurs shared (get_or (cofactors_in ms) (last_step first later).0 []) last (member_cof shared ms (last_step first later).0 h.tracked) m in
+          (r.0, inr (subst (λ v. Occurs p v (r.0, exponents_of n last)) (sym (cofactor_at n ms (last_step first later).0)) r.1))
+
+  last_length : length last ≡ n
+  last_length = go of_last
+    where
+      go : HasMonomial (get_or vs (last_step first later).0 []) last ⊎ HasMonomial (get_or (cofactors_in ms) (last_step first later).0 []) last → length last ≡ n
+      go (inl m) = monomial_term (get_or vs (last_step first later).0 []) last n p (member_vector shared ms (last_step first later).0 h.tracked).each m
+      go (inr m) = monomial_term (get_or (cofactors_in ms) (last_step first later).0 []) last n p (member_cof shared ms (last_step first later).0 h.tracked).each m
+
+  too_great : 65535 < sum (last_step first later).1 + sum last
+  too_great = subst (λ (s : Step). 65535 < sum s.1 + sum last) (sym same_last) (h.trail).too_great
+
+  above : 65535 < degree (exponents_of n (last_step first later).1) + degree (exponents_of n last)
+  above = omega (arith, too_great, degree_of_list n (last_step first later).1 (each_last (IsStep n vs) first later known).1, degree_of_list n last last_length)
+
+  -- the trail with these fields
+  abbrev whole : KeptTrail → KeptTrail
+  whole t = record t { ring = shared.ring; rank = shared.rank; generators = shared.generators; start = starts.Pair i j; vector = []; members = vectors_in ms; cofs = Some (cofactors_in ms); last = last }
+
+  holds : (t : KeptTrail) → HoldsTrail shared ms o (trail_by n (whole t) first later)
+  holds t = record {
+    members = joined_members n ms;
+    start = counted;
+    real = real;
+    products = subst (AreJobProducts p G ((i, j) ∷ [])) (sym (products_whole n first later)) products;
+    monomial = monomial;
+    above = above;
+  }
+
+  steps_known : (ss : List Step) → Each (IsStep n vs) ss → Each (λ s. s.0 < length vs) ss
+  steps_known [] k = tt
+  steps_known (s ∷ ss) k = ((k.0).0, steps_known ss k.1)
+
+  kept_chain : (t : KeptTrail) → t.steps.items ≡ chain → IsChain n (whole t) first later
+  kept_chain t e = record {
+    steps = e ∙ (c.chain_is).steps;
+    known = steps_known (first ∷ later) known;
+    begins = (
+      record {
+        left = omega (arith, left, h.fewer, listed_length ms);
+        right = omega (arith, right, h.fewer, listed_length ms);
+        apart = λ s. omega (arith, s, base_pair.ordered);
+        position = ap (λ v. (head_key v).0) (sym (from_base i left)) ∙ base_pair.position ∙ ap (λ v. (head_key v).0) (from_base j right);
+        lcm = lcm_key ∙ (λ k. key_lcm (head_key (from_base i left k)) (head_key (from_base j right k)));
+      },
+      refl,
+    );
+    met = linked_met n (sum_of n []) vs (first ∷ []) first later (0, omega arith, refl) (c.chain_is).linked;
+    last = of_last;
+    too_great = too_great;
+  }
+
+  pub trail_at : (t : KeptTrail) → t.steps.items ≡ chain → t.below.items ≡ [] → t ≡ whole t → IsTrailAt n shared ms o t
+  trail_at t e b w =
+      let at : trail_of n (whole t) ≡ trail_by n (whole t) first later = ap (trail_over n (whole t)) (e ∙ (c.chain_is).steps) in
+      let all : HoldsTrail shared ms o (trail_of n (whole t)) = subst (HoldsTrail shared ms o) (sym at) (holds t) in
+      subst (IsTrailAt n shared ms o) (sym w)
+      (record {
+        pair = record {
+          over = record {
+            trail = (first, later, kept_chain t e);
+            ring = refl;
+            rank = refl;
+            generators = refl;
+            below = b;
+            cofactors = (cofactors_in ms, refl, length-map ms (λ m. m.cof) ∙ sym (length-map ms (λ m. m.vector)));
+          };
+          vector = refl;
+          start = (i, j, refl);
+        };
+        members = all.members;
+        start = all.start;
+        real = all.real;
+        products = all.products;
+        monomial = all.monomial;
+        above = all.above;
+      })
+
+-- ---- what the calls of a Put that stops have
+pub has_stopped_row :
+    (shared : Shared) (ms : List Tracked) (o : OutcomeShown) (hs : List CodeMember) (steps : List Step) (last : List ℕ)
+    → Each (IsTracked shared) ms → o.job.shared ≡ shared → IsOutcomeOver o → IsJobOver o.job
+    → Each (λ m. IsOver o.job.shared m) hs → map (λ m. tracked_of m) hs ≡ o.rows → o.job.members ≡ take (length o.job.members) ms
+    → (r : (row : Tracked) × Contains o.rows row × IsRowTrail (variables shared.ring) ms row steps last)
+    → HasStoppedRow shared ms o.job.members o.rows o.job.pairs o.products r.0 steps last
+has_stopped_row shared ms o hs steps last tracked same outcome job over terms front r = record {
+  tracked = tracked;
+  rows_tracked = subst (Each (IsTracked shared)) terms (members_tracked shared (λ m. m) hs (subst (λ (sh : Shared). Each (λ m. IsOver sh m) hs) same over));
+  front = front;
+  fewer = omega (arith, ap length front, length-take (length o.job.members) ms);
+  lcms = subst (λ (sh : Shared). Each (HasLcm (variables sh.ring) o.job.members) o.job.pairs) same job.lcms;
+  known = subst (λ (sh : Shared). Each (λ t. length t.1 ≡ variables sh.ring) o.products) same outcome.variables;
+  outcome = subst (λ (sh : Shared). IsOutcome (work_of (variables sh.ring) sh) (members_of (variables sh.ring) o.job.members) (pairs_of o.job.pairs) (members_of (variables sh.ring) o.rows) (products_of (variables sh.ring) o.products)) same outcome.outcome;
+  there = r.1;
+  trail = r.2;
+}
+
+pub members_nonzero : (shared : Shared) (ms : List Tracked) → Each (IsMonicMember (setting_of (variables shared.ring) shared)) (vectors (members_of (variables shared.ring) ms)) → Each (λ m. 0 < length m.vector) ms
+members_nonzero shared [] h = tt
+members_nonzero shared (m ∷ ms) h = (go m.vector h.0, members_nonzero shared ms h.1)
+  where
+    go : (v : List (CodeKey × ℕ)) → IsMonicMember (setting_of (variables shared.ring) shared) (sum_of (variables shared.ring) v) → 0 < length v
+    go [] h = absurd (one_not_zero (setting_of (variables shared.ring) shared) (ring_lawful shared) (IsCongruent_sym h.monic.one))
+    go (t ∷ v) h = omega arith
+
+pub lcm_variables : (n : ℕ) (ms : List Tracked) (xs : List CodePair) → Each (HasLcm n ms) xs → Each (λ x. length x.lcm.monomial ≡ n) xs
+lcm_variables n ms [] h = tt
+lcm_variables n ms (x ∷ xs) h = ((h.0).variables, lcm_variables n ms xs h.1)

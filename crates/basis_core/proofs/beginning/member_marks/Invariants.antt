@@ -1,0 +1,13 @@
+use Rattle.std.proofs.Common.{[], get_or, ◌<◌, ◌≡◌, ◌≤◌, length, ℕ}
+use Rattle.std.specs.Vec.{vec_capacity, vec_len}
+use Rattle.vector_division.specs.Marks.{IsMarkOf}
+use Rattle.vector_division.specs.declared.marks.Mark.{Mark}
+use Rattle.basis_core.specs.Rows.{vectors_in}
+use Rattle.basis_core.proofs.beginning.member_marks.Given as goal
+
+abbrev pub invariant-loop-i : goal.invariant-loop-i
+invariant-loop-i l = record {
+  count : vec_len l.marks ≡ l.i;
+  room : length (vectors_in l.members.list) ≤ vec_capacity l.marks;
+  each : (j : ℕ) (x : Mark) → j < l.i → x ≡ get_or l.marks.items j x → IsMarkOf (get_or (vectors_in l.members.list) j []) x;
+}

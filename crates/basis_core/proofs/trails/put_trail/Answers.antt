@@ -1,0 +1,87 @@
+use Rattle.std.proofs.Common.{List, Some, ap, length, subst, sym, ℕ, ◌++◌, ◌∙◌, ◌≡◌}
+use Rattle.formal_sums.specs.FormalSums.{Each}
+use Rattle.module_vectors.specs.Rings.{variables}
+use Rattle.module_vectors.specs.Trails.{Step}
+use Rattle.module_vectors.specs.declared.key.Key.{Key as CodeKey}
+use Rattle.module_vectors.specs.declared.trail.KeptTrail.{KeptTrail}
+use Rattle.module_vectors.specs.declared.trail.TrailStart.TheVariants as starts
+use Rattle.pair_criteria.specs.declared.pair.Pair.{Pair as CodePair}
+use Rattle.cofactor_track.specs.declared.shared.Shared.{Shared as CodeShared}
+use Rattle.basis_core.specs.Chains.{AreTraced, IsStep, IsTracedTo}
+use Rattle.basis_core.specs.Jobs.{IsJobOver, JobShown}
+use Rattle.basis_core.specs.Members.{Shared, Tracked}
+use Rattle.basis_core.specs.Outcomes.{OutcomeShown}
+use Rattle.basis_core.specs.Rows.{vectors_in}
+use Rattle.basis_core.proofs.Tracing.{HasStoppedRow, all_known, all_traced}
+use Rattle.basis_core.proofs.Trailing.{has_stopped_row, lcm_variables, members_nonzero, trail_at}
+use Rattle.basis_core.proofs.trails.put_trail.Goals as goal
+
+-- the row that stops, at the call that traces back
+stopped : (c : goal.After-deref-2) → HasStoppedRow c.args.members.now.shared c.args.members.now.list c.args.outcome.now.job.members c.args.outcome.now.rows c.args.outcome.now.job.pairs c.args.outcome.now.products (c.requires.row).0 c.args.trail.steps.items c.args.trail.last
+stopped c =
+    has_stopped_row c.args.members.now.shared c.args.members.now.list c.args.outcome.now c.rows.result.now c.args.trail.steps.items c.args.trail.last
+    c.kept.ensures c.requires.shared c.kept-2.ensures (subst IsJobOver c.job-job.ensures c.kept-3.ensures) c.rows.ensures.over c.rows.ensures.terms c.requires.base c.requires.row
+
+pub trace_back-requires-clause-nonzero : goal.trace_back-requires-clause-nonzero
+trace_back-requires-clause-nonzero c = members_nonzero c.args.members.now.shared c.args.members.now.list c.requires.monic
+
+pub trace_back-requires-clause-pairs : goal.trace_back-requires-clause-pairs
+trace_back-requires-clause-pairs c =
+    let o : OutcomeShown = c.args.outcome.now in
+    let n : ℕ = variables c.args.members.now.shared.ring in
+    let pairs : c.pairs.result.now ≡ o.job.pairs = c.pairs.ensures ∙ ap (λ (j : JobShown). j.pairs) c.job-job.ensures in
+    subst (Each (λ (x : CodePair). length x.lcm.monomial ≡ n)) (sym pairs) (lcm_variables n o.job.members o.job.pairs (stopped c).lcms)
+
+pub trace_back-requires-clause-all : goal.trace_back-requires-clause-all
+trace_back-requires-clause-all c =
+    let o : OutcomeShown = c.args.outcome.now in
+    let n : ℕ = variables c.args.members.now.shared.ring in
+    let vs : List (List (CodeKey × ℕ)) = vectors_in c.args.members.now.list in
+    let all : c.deref-2.result.now ≡ o.products ++ c.args.trail.steps.items = c.deref-2.ensures.value ∙ c.in_ok-all.ensures ∙ (λ i. c.products.ensures i ++ c.deref.ensures.value i) in
+    subst (Each (IsStep n vs)) (sym all)
+    (all_known c.args.members.now.shared c.args.members.now.list o.job.members o.rows o.job.pairs o.products (c.requires.row).0 c.args.trail.steps.items c.args.trail.last (stopped c))
+
+pub trace_back-requires-clause-traced : goal.trace_back-requires-clause-traced
+trace_back-requires-clause-traced c =
+    let o : OutcomeShown = c.args.outcome.now in
+    let n : ℕ = variables c.args.members.now.shared.ring in
+    let vs : List (List (CodeKey × ℕ)) = vectors_in c.args.members.now.list in
+    let pairs : c.pairs.result.now ≡ o.job.pairs = c.pairs.ensures ∙ ap (λ (j : JobShown). j.pairs) c.job-job.ensures in
+    let all : c.deref-2.result.now ≡ o.products ++ c.args.trail.steps.items = c.deref-2.ensures.value ∙ c.in_ok-all.ensures ∙ (λ i. c.products.ensures i ++ c.deref.ensures.value i) in
+    subst (λ (z : List CodePair × List Step). AreTraced n vs z.0 z.1) (λ i. (sym pairs i, sym all i))
+    (all_traced c.args.members.now.shared c.args.members.now.list o.job.members o.rows o.job.pairs o.products (c.requires.row).0 c.args.trail.steps.items c.args.trail.last (stopped c))
+
+pub returns : goal.returns
+returns c =
+    let ms : List Tracked = c.args.members.now.list in
+    let shared : Shared = c.args.members.now.shared in
+    let o : OutcomeShown = c.args.outcome.now in
+    let n : ℕ = variables shared.ring in
+    let vs : List (List (CodeKey × ℕ)) = vectors_in ms in
+    let pairs : c.pairs.result.now ≡ o.job.pairs = c.pairs.ensures ∙ ap (λ (j : JobShown). j.pairs) c.job-job.ensures in
+    let all : c.deref-2.result.now ≡ o.products ++ c.args.trail.steps.items = c.deref-2.ensures.value ∙ c.in_ok-all.ensures ∙ (λ i. c.products.ensures i ++ c.deref.ensures.value i) in
+    let traced : IsTracedTo n vs o.job.pairs (o.products ++ c.args.trail.steps.items) c.in_ok-steps.steps.items c.in_ok-steps.i c.in_ok-steps.j =
+    subst (λ (z : List CodePair × List Step). IsTracedTo n vs z.0 z.1 c.in_ok-steps.steps.items c.in_ok-steps.i c.in_ok-steps.j) (λ i. (pairs i, all i)) c.in_ok-steps.ensures in
+    let row = has_stopped_row shared ms o c.rows.result.now c.args.trail.steps.items c.args.trail.last c.kept.ensures c.requires.shared c.kept-2.ensures (subst IsJobOver c.job-job.ensures c.kept-3.ensures) c.rows.ensures.over c.rows.ensures.terms c.requires.base c.requires.row in
+    let t : KeptTrail = record {
+      ring = c.in_ok-try_copy.field-0;
+      rank = c.deref-4.result.now.rank;
+      generators = c.in_ok-copy_list.field-0;
+      below = c.new.result;
+      start = starts.Pair c.in_ok-steps.i c.in_ok-steps.j;
+      vector = c.zero.result;
+      members = c.in_ok-copy_list-2.field-0;
+      cofs = Some c.in_ok-copy_cofactors.field-0;
+      steps = c.in_ok-steps.steps;
+      last = c.args.trail.last;
+    } in
+    trail_at shared ms o (c.requires.row).0 c.args.trail.steps.items c.args.trail.last row c.in_ok-steps.steps.items c.in_ok-steps.i c.in_ok-steps.j traced t
+    (λ i. c.in_ok-steps.steps.items) c.new.ensures.items
+    (λ i. record t {
+      ring = (c.in_ok-try_copy.ensures ∙ ap (λ (z : CodeShared). z.ring) c.deref-3.ensures ∙ ap (λ (z : Shared). z.ring) c.shared-shared.ensures) i;
+      rank = (ap (λ (z : CodeShared). z.rank) c.deref-4.ensures ∙ ap (λ (z : Shared). z.rank) c.shared-shared.ensures) i;
+      generators = (c.in_ok-copy_list.ensures ∙ ap (λ (z : CodeShared). z.generators) c.deref-5.ensures ∙ ap (λ (z : Shared). z.generators) c.shared-shared.ensures) i;
+      vector = c.zero.ensures i;
+      members = c.in_ok-copy_list-2.ensures i;
+      cofs = Some (c.in_ok-copy_cofactors.ensures i);
+    })

@@ -1,0 +1,15 @@
+use Rattle.std.proofs.Common.{length, reverse, ◌<◌}
+use Rattle.module_vectors.specs.Rings.{variables}
+use Rattle.basis_core.specs.Chains.{IsChainTo, step_at}
+use Rattle.basis_core.specs.Rows.{vectors_in}
+use Rattle.basis_core.proofs.trails.trace_back.Given as goal
+
+-- backwards it is a chain from the product that is at hand
+abbrev pub invariant-loop-pair : goal.invariant-loop-pair
+invariant-loop-pair l = record {
+  within : l.at < length l.all;
+  chain : IsChainTo (variables l.members.shared.ring) (vectors_in l.members.list) l.all (step_at l.all l.at) (reverse l.chain.items);
+}
+
+abbrev pub decreases-loop-pair : goal.decreases-loop-pair
+decreases-loop-pair l = l.at

@@ -1,0 +1,12 @@
+-- The members that the first generators make
+use Rattle.std.specs.Prelude.{List, [], take, ℕ}
+use Rattle.module_vectors.specs.Rings.{variables}
+use Rattle.module_vectors.specs.Vectors.{sums_of}
+use Rattle.basis_steps.specs.Divisions.{Makes}
+use Rattle.basis_steps.specs.Steps.{generator_rows}
+use Rattle.basis_core.specs.Members.{Shared, Tracked, members_of, setting_of}
+
+-- these are the members that the first k generators make
+abbrev pub HaveMade : Shared → ℕ → List Tracked → Type 0
+HaveMade shared k ms =
+    Makes (setting_of (variables shared.ring) shared) [] (generator_rows 0 (take k (sums_of (variables shared.ring) shared.generators))) (members_of (variables shared.ring) ms)

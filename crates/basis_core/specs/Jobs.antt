@@ -1,0 +1,42 @@
+-- What a worker takes: pairs of members that it has
+use Rattle.std.specs.Prelude.{List, length, map, ℕ, ◌<◌, ◌≡◌}
+use Rattle.formal_sums.specs.FormalSums.{Each}
+use Rattle.module_vectors.specs.Rings.{variables}
+use Rattle.module_vectors.specs.Vectors.{key_of}
+use Rattle.pair_criteria.specs.declared.pair.Pair.{Pair as CodePair}
+use Rattle.basis_steps.specs.Criteria.{IsPair, lcm_of}
+use Rattle.basis_steps.specs.Divisions.{IsMonicMember}
+use Rattle.basis_steps.specs.Pairs.{Pair}
+use Rattle.basis_steps.specs.States.{vectors}
+use Rattle.basis_core.specs.Members.{Shared, Tracked, members_of, setting_of}
+
+-- what contracts see of a job
+pub record JobShown : Type 0 where
+  pub shared : Shared
+  pub worker : ℕ
+  pub members : List Tracked
+  pub pairs : List CodePair
+
+-- the indices of a pair
+abbrev pub pair_of : CodePair → Pair
+pair_of x = (x.i, x.j)
+
+-- the indices of each pair
+abbrev pub pairs_of : List CodePair → List Pair
+pairs_of xs = map (λ x. pair_of x) xs
+
+-- the pair keeps the least common multiple of its leads
+pub record HasLcm (n : ℕ) (ms : List Tracked) (x : CodePair) : Type 0 where
+  pub variables : length x.lcm.monomial ≡ n
+  pub lcm : key_of n x.lcm ≡ lcm_of (vectors (members_of n ms)) (pair_of x)
+
+-- at least one pair; the members are monic; the pairs are of two of them with leads at one position, and have their lcms
+pub record IsJob (n : ℕ) (j : JobShown) : Type 0 where
+  pub some : 0 < length j.pairs
+  pub monic : Each (IsMonicMember (setting_of n j.shared)) (vectors (members_of n j.members))
+  pub real : Each (IsPair (vectors (members_of n j.members))) (pairs_of j.pairs)
+  pub lcms : Each (HasLcm n j.members) j.pairs
+
+-- the same, in the number of variables of the job's ring
+abbrev pub IsJobOver : JobShown → Type 0
+IsJobOver j = IsJob (variables j.shared.ring) j

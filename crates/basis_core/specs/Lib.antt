@@ -1,0 +1,17 @@
+pub mod Members
+pub mod Jobs
+pub mod Outcomes
+pub mod Stops
+pub mod Shown
+pub mod Views
+pub mod Answers
+pub mod Waits
+pub mod Inside
+pub mod Rows
+pub mod Queueing
+pub mod Skipping
+pub mod RowDivision
+pub mod Beginning
+pub mod Makings
+pub mod Chains
+pub mod Pending

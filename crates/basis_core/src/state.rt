@@ -1,0 +1,335 @@
+//! The state of a run.
+ghost use Rattle.std.specs.Prelude.{◌≡◌, ◌<◌, List, None, Some, get_or, true, IfOk, IfErr, MatchOption, OnOk, OnErr, false};
+ghost use Rattle.std.specs.Arc.{arc_value};
+ghost use Rattle.module_vectors.specs.Rings.{variables};
+ghost use Rattle.basis_steps.specs.Invariant.{HoldsInvariant};
+ghost use Rattle.basis_steps.specs.States.{Member as PlainMember, IsLawfulRun};
+ghost use Rattle.basis_steps.specs.Steps.{Begins, Ends, HasStopped, MayEnd, MayTake, Puts, Replays, Stops};
+ghost use Rattle.cofactor_track.specs.Members.{AreGenerators};
+ghost use Rattle.basis_core.specs.Answers.{AnswersTake, BeginningStops, IsJobOut, IsReason, IsRunOf, IsTaken, PutStops};
+ghost use Rattle.basis_core.specs.Members.{shared_of};
+ghost use Rattle.basis_core.specs.Stops.{reason_of};
+ghost use Rattle.basis_core.specs.Inside.{IsStopOver};
+ghost use Rattle.basis_core.specs.Jobs.{pairs_of};
+ghost use Rattle.basis_core.specs.Pending.{HaveGrown};
+ghost use Rattle.basis_core.specs.Views.{ending_of, outs_of, run_of, state_of, variables_of, IsSameRun};
+
+use crate::beginning::{make_generators, member_marks, nobody_ended};
+use crate::ending::Ending;
+use crate::ends::{ending_at, keep_first, mark_ended};
+use crate::event::Event;
+use crate::members::Members;
+use crate::out::Out;
+use crate::outcome::Outcome;
+use crate::putting::{close_job, make_members, mark_members, queue_made};
+use crate::queueing::queue_new_pairs;
+use crate::sharing::share_of;
+use crate::skipping::{put_back, skip};
+use crate::stop::StopReason;
+use crate::taken::Taken;
+use crate::taking::{answer, give, keep_stop};
+use crate::trails::put_stop;
+use cofactor_track::Shared;
+use module_vectors::{NoMemory, Ring, VectList, WorkStop};
+use pair_criteria::Pair;
+use std::alloc::Global;
+use std::marker::Model;
+use std::sync::Arc;
+use vector_division::Mark;
+
+/// The state of a basis run: what never changes in it, its members, the pairs that are queued or out, who has ended, the
+/// stop that is kept, and its history. Workers have the numbers below its number of workers.
+#[derive(Drop)]
+pub struct BasisState {
+    budget: u64,
+    workers: u32,
+    members: Members,
+    // One for each member: what is tested first of its lead.
+    marks: Vec<Mark>,
+    queue: Vec<Pair>,
+    out: Vec<Out>,
+    taken: u64,
+    ended: Vec<bool>,
+    stop: Option<StopReason>,
+    // Behind its events it has room for the Ends and Stops that may come.
+    history: Vec<Event>,
+    // Which pairs wait, in the queue or out: row j has a flag for each i below j.
+    waits: Vec<Vec<bool>>,
+}
+
+impl Model for BasisState {
+    ghost use Rattle.basis_core.specs.Shown.{Shown};
+
+    ghost Value = { Shown };
+
+    ghost use Rattle.basis_core.specs.Inside.{shown, IsKept};
+
+    ghost view = { shown };
+
+    ghost invariant = { IsKept };
+}
+
+impl BasisState {
+    /// What holds of each state: it replays its history from its beginning, and so holds the invariant of a run.
+    pub fn kept(&self)
+        ensures lawful { let n = variables_of self.now in IsLawfulRun (run_of n self.now) }
+        ensures replays { let n = variables_of self.now in Replays (run_of n self.now) (state_of n self.now) }
+        ensures holds { let n = variables_of self.now in HoldsInvariant (run_of n self.now) (state_of n self.now) }
+        ensures stop { IsStopOver self.now self.now.stop }
+    {
+        self.members.domain();
+    }
+
+    /// The run on these generators at its beginning: they are divided by each other until no lead is divisible by an
+    /// earlier one, and all pairs are queued. IVA chapter 2, section 7.
+    ///
+    /// `generators` are vectors of the ring, with positions below `rank`; `budget` is the most pairs that are taken;
+    /// `workers` is at least 1. `Degree` comes with a trail to a product of total degree above 65,535, `Memory` where
+    /// there is none.
+    pub fn begin(
+        alloc: Global,
+        ring: Ring,
+        rank: u128,
+        generators: VectList,
+        budget: u64,
+        workers: u32,
+    ) -> Result<BasisState, WorkStop>
+        requires workers { 0 < workers }
+        requires generators { AreGenerators ring rank generators }
+        ensures run { IfOk result (IsRunOf (record { ring = ring; rank = rank; generators = generators }) budget workers) }
+        ensures begins { let n = variables ring in IfOk result (λ s. Begins (run_of n s) (state_of n s)) }
+        ensures stop { IfErr result (BeginningStops (variables ring) (record { ring = ring; rank = rank; generators = generators })) }
+    {
+        let shared = Arc::new(
+            alloc,
+            Shared {
+                ring,
+                rank,
+                generators,
+            },
+        )?;
+        let mut members = Members::new(alloc, shared);
+        make_generators(alloc, &mut members)?;
+        let marks = member_marks(alloc, &members)?;
+        let mut queue = Vec::new(alloc);
+        let mut waits = Vec::new(alloc);
+        queue_new_pairs(alloc, &members, 0, &mut queue, &mut waits)?;
+        let ended = nobody_ended(alloc, workers)?;
+        // Ends and Stops take no memory: there is room for three events of each worker.
+        let history = Vec::with_capacity(alloc, 3 * workers as usize)?;
+        Ok(BasisState {
+            budget,
+            workers,
+            members,
+            marks,
+            queue,
+            out: Vec::new(alloc),
+            taken: 0,
+            ended,
+            stop: None,
+            history,
+            waits,
+        })
+    }
+
+    /// Skips queued pairs to which a criterion applies, and gives a worker that has none out some of those left: at most
+    /// `most`, within the budget. IVA chapter 2, section 10.
+    ///
+    /// After `NoMemory` the state is as before.
+    pub fn take(&mut self, alloc: Global, worker: u32, most: u64) -> Result<Taken, NoMemory>
+        requires { let n = variables_of self.old in MayTake (run_of n self.old) (state_of n self.old) worker most }
+        ensures step { let n = variables_of self.old in IfOk result (λ t. IsTaken n self.old worker most t self.new) }
+        ensures answer { IfOk result (AnswersTake worker self.new) }
+        ensures run { IsSameRun self.old self.new }
+        ensures members { self.new.members ≡ self.old.members }
+        ensures err { OnErr result (self.new ≡ self.old) }
+    {
+        self.members.domain();
+        // The Take, and three more events of each worker that may come before it takes again.
+        self.history.reserve(3 * self.workers as usize + 1)?;
+        if self.stop.is_some() {
+            self.history
+                .push_reserved(Event::Take(worker, Vec::new(alloc), Vec::new(alloc)));
+            return Ok(Taken::Stopped);
+        }
+        let count = self.queue.len();
+        let members = self.members.share(alloc)?;
+        let mut skipped = Vec::with_capacity(alloc, count)?;
+        let mut given = Vec::with_capacity(alloc, count)?;
+        let mut kept = Vec::with_capacity(alloc, count)?;
+        self.out.reserve(count)?;
+        skip(
+            &self.members,
+            &self.marks,
+            &mut self.waits,
+            &mut self.queue,
+            &mut kept,
+            &mut skipped,
+        );
+        let share = share_of(self.budget, self.workers, self.taken, most, &kept);
+        keep_stop(self.budget, self.taken, &kept, &mut self.stop);
+        put_back(&mut kept, share as usize, &mut self.queue);
+        self.queue.reverse();
+        give(worker, &kept, &mut self.out, &mut given);
+        self.taken += share;
+        // Events stay: they hold no more memory than they need.
+        skipped.shrink_to_fit();
+        given.shrink_to_fit();
+        self.history
+            .push_reserved(Event::Take(worker, skipped, given));
+        Ok(answer(worker, members, &self.stop, kept))
+    }
+
+    /// Takes in the outcome of a job that is out: each row is divided by the members of that moment and becomes a member
+    /// where it is not zero, and the new members' pairs are queued. IVA chapter 2, section 10.
+    ///
+    /// `Degree` comes with a trail to a product of total degree above 65,535, `Memory` where there is none; both give the
+    /// outcome back and leave the state as it was.
+    pub fn put(&mut self, alloc: Global, outcome: Outcome) -> Result<(), (WorkStop, Outcome)>
+        requires known { outcome.job.worker < self.old.workers }
+        requires works { get_or self.old.ended outcome.job.worker true ≡ false }
+        requires out { IsJobOut self.old outcome }
+        ensures step { let n = variables_of self.old in OnOk result ((made : List (PlainMember n)) × Puts (run_of n self.old) (state_of n self.old) outcome.job.worker made (state_of n self.new)) }
+        ensures run { IsSameRun self.old self.new }
+        ensures members { OnOk result (HaveGrown self.old.members self.new.members) }
+        ensures err { OnErr result (self.new ≡ self.old) }
+        ensures outcome { IfErr result (λ e. e.1 ≡ outcome) }
+        ensures stop { let n = variables_of self.old in IfErr result (λ e. PutStops n self.old outcome e.0) }
+    {
+        self.kept();
+        outcome.kept();
+        let worker = outcome.job().worker();
+        let first = self.members.len();
+        if let Err(stop) = make_members(alloc, &mut self.members, outcome.rows()) {
+            let stop = put_stop(alloc, &self.members, &outcome, stop);
+            self.members.truncate(first);
+            return Err((stop, outcome));
+        }
+        if let Err(NoMemory) = queue_made(
+            alloc,
+            &self.members,
+            first,
+            self.workers,
+            &mut self.marks,
+            &mut self.history,
+            &mut self.queue,
+            &mut self.waits,
+        ) {
+            self.members.truncate(first);
+            return Err((WorkStop::Memory, outcome));
+        }
+        mark_members(&self.members, first, &mut self.marks);
+        close_job(worker, &mut self.out, &mut self.waits);
+        let count = self.members.len() - first;
+        self.history
+            .push_reserved(Event::Put(worker, first as u64, count as u64));
+        Ok(())
+    }
+
+    /// Ends a worker that has done its work where a stop is kept or no pair is queued, and else tells it that there is more
+    /// work. It takes no memory: the place of the event was reserved before.
+    pub fn end(&mut self, worker: u32) -> Ending
+        requires { let n = variables_of self.old in MayEnd (run_of n self.old) (state_of n self.old) worker }
+        ensures step { let n = variables_of self.old in Ends (run_of n self.old) (state_of n self.old) worker (ending_of result) (state_of n self.new) }
+        ensures run { IsSameRun self.old self.new }
+        ensures members { self.new.members ≡ self.old.members }
+    {
+        let ending = ending_at(&self.stop, &self.queue);
+        mark_ended(&mut self.ended, worker, ending);
+        self.history.push_reserved(Event::End(worker, ending));
+        ending
+    }
+
+    /// Stops the run for a worker, once. The first reason is kept. It takes no memory: the place of the event was reserved
+    /// before.
+    pub fn stop(&mut self, worker: u32, reason: StopReason)
+        requires known { worker < self.old.workers }
+        requires first { let n = variables_of self.old in HasStopped worker (state_of n self.old).history → ⊥ }
+        requires reason { let n = variables_of self.old in IsReason n self.old reason }
+        ensures step { let n = variables_of self.old in Stops (run_of n self.old) (state_of n self.old) worker (reason_of n reason) (state_of n self.new) }
+        ensures run { IsSameRun self.old self.new }
+        ensures members { self.new.members ≡ self.old.members }
+    {
+        let later = keep_first(&mut self.stop, reason);
+        self.history.push_reserved(Event::Stop(worker, later));
+    }
+
+    /// Ring, rank and generators of the run.
+    pub fn shared(&self) -> &Arc<Shared, Global>
+        ensures { shared_of (arc_value result.now) ≡ self.now.shared }
+    {
+        self.members.shared()
+    }
+
+    /// The generators of the run.
+    pub fn generators(&self) -> &VectList
+        ensures { result.now ≡ self.now.shared.generators }
+    {
+        &self.members.shared().generators
+    }
+
+    /// The members so far.
+    pub fn members(&self) -> &Members
+        ensures shared { result.now.shared ≡ self.now.shared }
+        ensures list { result.now.list ≡ self.now.members }
+    {
+        &self.members
+    }
+
+    /// The queued pairs, in their order: by the degree of the lcm, its monomial, the later member and the earlier one.
+    pub fn queued(&self) -> &[Pair]
+        ensures { pairs_of result.now ≡ self.now.queue }
+    {
+        &self.queue
+    }
+
+    /// The pairs that are out.
+    pub fn out(&self) -> &[Out]
+        ensures { outs_of result.now ≡ self.now.out }
+    {
+        &self.out
+    }
+
+    /// How many pairs were taken.
+    pub fn taken(&self) -> u64
+        ensures { result ≡ self.now.taken }
+    {
+        self.taken
+    }
+
+    /// The most pairs that are taken.
+    pub fn budget(&self) -> u64
+        ensures { result ≡ self.now.budget }
+    {
+        self.budget
+    }
+
+    /// The number of workers.
+    pub fn workers(&self) -> u32
+        ensures { result ≡ self.now.workers }
+    {
+        self.workers
+    }
+
+    /// Has the worker ended?
+    pub fn has_ended(&self, worker: u32) -> bool
+        requires { worker < self.now.workers }
+        ensures { result ≡ get_or self.now.ended worker true }
+    {
+        self.ended[worker as usize]
+    }
+
+    /// The events so far.
+    pub fn history(&self) -> &[Event]
+        ensures { result.now ≡ self.now.history }
+    {
+        &self.history
+    }
+
+    /// The stop that is kept.
+    pub fn stop_reason(&self) -> Option<&StopReason>
+        ensures { MatchOption result (self.now.stop ≡ None) (λ reason. self.now.stop ≡ Some reason.now) }
+    {
+        self.stop.as_ref()
+    }
+}

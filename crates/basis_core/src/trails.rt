@@ -1,0 +1,218 @@
+// How a Put came to a product of too great a degree.
+ghost use Rattle.std.specs.Prelude.{ℕ, ◌≡◌, ◌<◌, ◌++◌, IfOk, IfSome, IfNone, false, length, take, true};
+ghost use Rattle.monomials.specs.Exponents.{exponents_of, unit};
+ghost use Rattle.formal_sums.specs.FormalSums.{Each, shift};
+ghost use Rattle.module_vectors.specs.Rings.{variables};
+ghost use Rattle.module_vectors.specs.Trails.{IsInProduct, product_lead};
+ghost use Rattle.module_vectors.specs.Vectors.{key_of};
+ghost use Rattle.pair_criteria.specs.declared.pair.Pair.{Pair as PairValue};
+ghost use Rattle.basis_steps.specs.Divisions.{IsMonicMember};
+ghost use Rattle.basis_steps.specs.States.{vectors};
+ghost use Rattle.basis_core.specs.Chains.{AreTraced, IsLcmOf, IsStep, IsTracedTo, step_at};
+ghost use Rattle.basis_core.specs.Makings.{IsTrailAt, StopsAt, StopsOne};
+ghost use Rattle.basis_core.specs.Members.{members_of, setting_of};
+ghost use Rattle.basis_core.specs.Rows.{vectors_in};
+
+use crate::copies::{copy_cofactors, copy_list};
+use crate::members::Members;
+use crate::outcome::Outcome;
+use crate::row_division::{RowStop, RowTrail};
+use module_vectors::{KeptTrail, Key, NoMemory, TrailStart, Vect, Vectors, WorkStop};
+use monomial_orders::Mono;
+use pair_criteria::Pair;
+use std::alloc::Global;
+
+// Is t times the key the same as u times the other one?
+fn same_product(t: &Mono, key: &Key, u: &Mono, other: &Key) -> bool
+    requires left { length key.now.monomial ≡ length t.now }
+    requires right { length u.now ≡ length t.now }
+    requires other { length other.now.monomial ≡ length t.now }
+    ensures same { let n = length t.now in result ≡ true → shift (exponents_of n t.now) (key_of n key.now) ≡ shift (exponents_of n u.now) (key_of n other.now) }
+    ensures apart { let n = length t.now in result ≡ false → shift (exponents_of n t.now) (key_of n key.now) ≡ shift (exponents_of n u.now) (key_of n other.now) → ⊥ }
+{
+    if key.position != other.position {
+        return false;
+    }
+    let first = t.exponents();
+    let second = key.monomial.exponents();
+    let third = u.exponents();
+    let fourth = other.monomial.exponents();
+    for i in 0..first.len() {
+        if first[i] as u32 + second[i] as u32 != third[i] as u32 + fourth[i] as u32 {
+            return false;
+        }
+    }
+    true
+}
+
+// Is the lead of the product `of` a key of the product `step`?
+fn is_in_product(members: &Members, of: &(u64, Mono), step: &(u64, Mono)) -> bool
+    requires nonzero { Each (λ m. 0 < length m.vector) members.now.list }
+    requires of { IsStep (variables members.now.shared.ring) (vectors_in members.now.list) of.now }
+    requires step { IsStep (variables members.now.shared.ring) (vectors_in members.now.list) step.now }
+    ensures met { let n = variables members.now.shared.ring in result ≡ true → IsInProduct n (vectors_in members.now.list) (product_lead n (vectors_in members.now.list) of.now) step.now }
+    ensures apart { let n = variables members.now.shared.ring in result ≡ false → IsInProduct n (vectors_in members.now.list) (product_lead n (vectors_in members.now.list) of.now) step.now → ⊥ }
+{
+    members.kept();
+    let lead = &members.at(of.0 as usize).terms()[0].0;
+    for term in members.at(step.0 as usize).terms() {
+        if same_product(&of.1, lead, &step.1, &term.0) {
+            return true;
+        }
+    }
+    false
+}
+
+// The pair whose lcm is the lead of the product, if there is one.
+fn find_pair<'a>(
+    members: &Members,
+    pairs: &'a [Pair],
+    one: &Mono,
+    step: &(u64, Mono),
+) -> Option<&'a Pair>
+    requires nonzero { Each (λ m. 0 < length m.vector) members.now.list }
+    requires step { IsStep (variables members.now.shared.ring) (vectors_in members.now.list) step.now }
+    requires variables { length one.now ≡ variables members.now.shared.ring }
+    requires unit { let n = variables members.now.shared.ring in exponents_of n one.now ≡ unit n }
+    requires pairs { Each (λ x. length x.lcm.monomial ≡ variables members.now.shared.ring) pairs.now }
+    ensures some { let n = variables members.now.shared.ring in IfSome result (λ x. IsLcmOf n pairs.now (product_lead n (vectors_in members.now.list) step.now) x.now) }
+    ensures none { let n = variables members.now.shared.ring in IfNone result ((x : PairValue) → IsLcmOf n pairs.now (product_lead n (vectors_in members.now.list) step.now) x → ⊥) }
+{
+    members.kept();
+    let lead = &members.at(step.0 as usize).terms()[0].0;
+    for pair in pairs {
+        if same_product(&step.1, lead, one, &pair.lcm) {
+            return Some(pair);
+        }
+    }
+    None
+}
+
+// The first product that has the lead of the one with this index, which there must be.
+fn find_earlier(members: &Members, all: &[(u64, Mono)], at: usize) -> usize
+    requires nonzero { Each (λ m. 0 < length m.vector) members.now.list }
+    requires all { Each (IsStep (variables members.now.shared.ring) (vectors_in members.now.list)) all.now }
+    requires within { at < length all.now }
+    requires some { let n = variables members.now.shared.ring in (j : ℕ) × (j < at) × IsInProduct n (vectors_in members.now.list) (product_lead n (vectors_in members.now.list) (step_at all.now at)) (step_at all.now j) }
+    ensures earlier { result < at }
+    ensures met { let n = variables members.now.shared.ring in IsInProduct n (vectors_in members.now.list) (product_lead n (vectors_in members.now.list) (step_at all.now at)) (step_at all.now result) }
+{
+    let of = &all[at];
+    for j in 0..at {
+        if is_in_product(members, of, &all[j]) {
+            return j;
+        }
+    }
+    at
+}
+
+// A product again.
+fn copy_step(alloc: Global, step: &(u64, Mono)) -> Result<(u64, Mono), NoMemory>
+    ensures { IfOk result (λ s. s ≡ step.now) }
+{
+    Ok((step.0, step.1.try_copy(alloc)?))
+}
+
+// A chain of products that goes from a pair to the last one, backwards from there.
+fn trace_back(
+    alloc: Global,
+    members: &Members,
+    pairs: &[Pair],
+    all: &[(u64, Mono)],
+) -> Result<(Vec<(u64, Mono)>, u64, u64), NoMemory>
+    requires nonzero { Each (λ m. 0 < length m.vector) members.now.list }
+    requires pairs { Each (λ x. length x.lcm.monomial ≡ variables members.now.shared.ring) pairs.now }
+    requires all { Each (IsStep (variables members.now.shared.ring) (vectors_in members.now.list)) all.now }
+    requires some { 0 < length all.now }
+    requires traced { AreTraced (variables members.now.shared.ring) (vectors_in members.now.list) pairs.now all.now }
+    ensures { let n = variables members.now.shared.ring in IfOk result (λ r. IsTracedTo n (vectors_in members.now.list) pairs.now all.now r.0.items r.1 r.2) }
+{
+    let one = Mono::unit(alloc, all[0].1.variables())?;
+    let mut at = all.len() - 1;
+    let mut chain = Vec::new(alloc);
+    chain.push(copy_step(alloc, &all[at])?)?;
+    loop {
+        if let Some(pair) = find_pair(members, pairs, &one, &all[at]) {
+            chain.reverse();
+            return Ok((chain, pair.i, pair.j));
+        }
+        at = find_earlier(members, all, at);
+        chain.push(copy_step(alloc, &all[at])?)?;
+    }
+}
+
+// The products of the outcome and the steps behind them.
+fn gather_steps(
+    alloc: Global,
+    products: &[(u64, Mono)],
+    steps: &[(u64, Mono)],
+) -> Result<Vec<(u64, Mono)>, NoMemory>
+    ensures { IfOk result (λ all. all.items ≡ products.now ++ steps.now) }
+{
+    let mut all = Vec::new(alloc);
+    for product in products {
+        all.push(copy_step(alloc, product)?)?;
+    }
+    for step in steps {
+        all.push(copy_step(alloc, step)?)?;
+    }
+    Ok(all)
+}
+
+// The trail of a row's division, which the products of the outcome lead to.
+fn put_trail(
+    alloc: Global,
+    members: &Members,
+    outcome: &Outcome,
+    trail: RowTrail,
+) -> Result<KeptTrail, NoMemory>
+    requires shared { outcome.now.job.shared ≡ members.now.shared }
+    requires monic { let n = variables members.now.shared.ring in Each (IsMonicMember (setting_of n members.now.shared)) (vectors (members_of n members.now.list)) }
+    requires base { outcome.now.job.members ≡ take (length outcome.now.job.members) members.now.list }
+    requires row { StopsOne (variables members.now.shared.ring) members.now.list outcome.now.rows (RowStop.Degree trail) }
+    ensures { IfOk result (IsTrailAt (variables members.now.shared.ring) members.now.shared members.now.list outcome.now) }
+{
+    // What holds of members, outcome, job and rows: by it each product has its lead from a pair or an earlier product.
+    members.kept();
+    outcome.kept();
+    let _ = outcome.rows();
+    let job = outcome.job();
+    job.kept();
+    let all = gather_steps(alloc, outcome.products(), &trail.steps)?;
+    let (steps, i, j) = trace_back(alloc, members, job.pairs(), &all)?;
+    let shared = members.shared();
+    Ok(KeptTrail {
+        ring: shared.ring.try_copy(alloc)?,
+        rank: shared.rank,
+        generators: copy_list(alloc, &shared.generators)?,
+        below: Vec::new(alloc),
+        start: TrailStart::Pair(i, j),
+        vector: Vect::zero(alloc),
+        members: copy_list(alloc, members)?,
+        cofs: Some(copy_cofactors(alloc, members)?),
+        steps,
+        last: trail.last,
+    })
+}
+
+/// The stop of a Put whose row stopped. Where it has no memory for the trail it says so.
+pub(crate) fn put_stop(
+    alloc: Global,
+    members: &Members,
+    outcome: &Outcome,
+    stop: RowStop,
+) -> WorkStop
+    requires shared { outcome.now.job.shared ≡ members.now.shared }
+    requires monic { let n = variables members.now.shared.ring in Each (IsMonicMember (setting_of n members.now.shared)) (vectors (members_of n members.now.list)) }
+    requires base { outcome.now.job.members ≡ take (length outcome.now.job.members) members.now.list }
+    requires row { StopsOne (variables members.now.shared.ring) members.now.list outcome.now.rows stop }
+    ensures { StopsAt (variables members.now.shared.ring) members.now.shared members.now.list outcome.now result }
+{
+    match stop {
+        RowStop::Memory => WorkStop::Memory,
+        RowStop::Degree(trail) => match put_trail(alloc, members, outcome, trail) {
+            Ok(trail) => WorkStop::Degree(trail),
+            Err(NoMemory) => WorkStop::Memory,
+        },
+    }
+}
