@@ -1,0 +1,2 @@
+mod EmptyBasis
+mod OneBasis

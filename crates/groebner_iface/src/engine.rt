@@ -1,0 +1,48 @@
+// An engine for reduced Gröbner bases.
+ghost use Rattle.std.specs.Prelude.{◌≡◌, ◌≤◌, ℕ, List, Option, IfOk, IfErr, OnOk};
+ghost use Rattle.std.specs.Thread.{IsSync};
+ghost use Rattle.formal_sums.specs.FormalSums.{Each};
+ghost use Rattle.module_vectors.specs.Rings.{ring_comparison};
+ghost use Rattle.module_vectors.specs.Vectors.{AreVectorsOver, HasPositions};
+ghost use Rattle.groebner_iface.specs.Runs.{IsReducedBasisOf, StopsRun, StoppedRun};
+
+use crate::Stop;
+use module_vectors::{Ring, VectList};
+use std::alloc::Global;
+use std::thread::Threads;
+
+/// An engine for reduced Gröbner bases. Those that meet this contract answer the same list for the same run
+/// (`one_basis`), whatever their settings. IVA chapter 2, section 7.
+pub trait Groebner {
+    /// How many runs stopped early. It never falls, and may stand still at 2^64 - 1.
+    ghost stops: { Self → ℕ };
+
+    /// The last run that stopped early.
+    ghost stopped: { Self → Option StoppedRun };
+
+    /// What the engine was made with, as its budgets. No call changes it.
+    ghost settings: { Self → List ℕ };
+
+    /// The reduced Gröbner basis of the list in a free module of this rank, by descending leads in the ring's own order.
+    ///
+    /// `Pairs` and `Degree` say that the run stopped early: each is counted, and the run is kept with its answer.
+    /// `Memory` where there is none. The list that is answered and `Memory` leave the count and the kept run as they were.
+    /// The handle may be shared between threads: an engine's method knows its bound `Sync` by `sync`, and each caller by
+    /// that bound.
+    fn reduced<R: Threads + Sync>(
+        &mut self,
+        rt: &R,
+        alloc: Global,
+        ring: &Ring,
+        rank: u128,
+        list: &VectList,
+    ) -> Result<VectList, Stop>
+        requires sync { IsSync R.row }
+        requires vectors { AreVectorsOver ring.now (ring_comparison ring.now) list.now }
+        requires positions { Each (HasPositions rank) list.now }
+        ensures basis { IfOk result (λ answer. IsReducedBasisOf ring.now rank list.now answer) }
+        ensures same { OnOk result ((stops self.new ≡ stops self.old) × (stopped self.new ≡ stopped self.old)) }
+        ensures stop { IfErr result (λ stop. StopsRun (stops self.old) (stops self.new) (stopped self.old) (stopped self.new) ring.now rank list.now stop) }
+        ensures later { stops self.old ≤ stops self.new }
+        ensures settings { settings self.new ≡ settings self.old };
+}

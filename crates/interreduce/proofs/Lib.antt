@@ -1,0 +1,5 @@
+mod Leading
+mod Choosing
+mod Tails
+mod Trails
+mod Reducing

@@ -1,0 +1,66 @@
+-- A trail of the division of a tail is one of the division of the whole vector
+use Rattle.std.proofs.Common.{List, [], drop, inl, inr, subst, sym, ℕ, ◌++◌, ◌∷◌, ◌≡◌}
+use Rattle.formal_sums.specs.FormalSums.{FormalSum, Key}
+use Rattle.module_vectors.specs.Rings.{variables}
+use Rattle.module_vectors.specs.Trails.{AreMet, Begins, HasKey, IsMet, IsTrail, Step, product_lead}
+use Rattle.module_vectors.specs.Vectors.{sum_of}
+use Rattle.module_vectors.specs.declared.ring.Ring.{Ring}
+use Rattle.module_vectors.specs.declared.trail.KeptTrail.{KeptTrail}
+use Rattle.module_vectors.specs.declared.trail.TrailStart.{TrailStart}
+use Rattle.module_vectors.specs.declared.trail.TrailStart.TheVariants as starts
+use Rattle.vector_division.proofs.Occurring.{Contains_later}
+use Rattle.vector_division.specs.Divisions.{IsDivisionTrail}
+use Rattle.interreduce.proofs.Leading.{Terms}
+
+tail_key : (n : ℕ) (v : Terms) (k : Key n) → HasKey (sum_of n (drop 1 v)) k → HasKey (sum_of n v) k
+tail_key n [] k h = h
+tail_key n (t ∷ v) k h = Contains_later _ k _ h
+
+module _ (n : ℕ) (v w : FormalSum n) (list : List Terms) (more : (k : Key n) → HasKey v k → HasKey w k) where
+  met_more : (earlier : List Step) (k : Key n) → IsMet n v list earlier k → IsMet n w list earlier k
+  met_more earlier k (inl h) = inl (more k h)
+  met_more earlier k (inr s) = inr s
+
+  steps_met_more : (earlier steps : List Step) → AreMet n v list earlier steps → AreMet n w list earlier steps
+  steps_met_more earlier [] h = tt
+  steps_met_more earlier (s ∷ steps) h = (met_more earlier (product_lead n list s) h.0, steps_met_more (earlier ++ s ∷ []) steps h.1)
+
+begins_more :
+    (n : ℕ) (start : TrailStart) (u v x : Terms) (list : List Terms) (first : Step) (later : List Step)
+    → start ≡ starts.Term → u ≡ drop 1 v → x ≡ v → Begins n start u list first later → Begins n start x list first later
+begins_more n start u v x list first later s e f h =
+    let b : HasKey (sum_of n u) (product_lead n list first) = subst (λ z. Begins n z u list first later) s h in
+    let c : HasKey (sum_of n x) (product_lead n list first) = subst (λ z. HasKey (sum_of n z) (product_lead n list first)) (sym f) (tail_key n v _ (subst (λ z. HasKey (sum_of n z) (product_lead n list first)) e b)) in
+    subst (λ z. Begins n z x list first later) (sym s) c
+
+pub widened :
+    (ring : Ring) (list : List Terms) (v x : Terms) (t : KeptTrail)
+    → IsDivisionTrail ring (drop 1 v) list t → x ≡ v → IsDivisionTrail ring v list (record t { vector = x })
+widened ring list v x t h e = record {
+  trail = wider h.trail;
+  over = h.over;
+  rank = h.rank;
+  generators = h.generators;
+  below = h.below;
+  start = h.start;
+  vector = e;
+  members = h.members;
+  cofs = h.cofs;
+  lengths = h.lengths;
+}
+  where
+    wider : IsTrail t → IsTrail (record t { vector = x })
+    wider (first, later, c) = (
+      first,
+      later,
+      record {
+        steps = c.steps;
+        known = c.known;
+        begins = begins_more (variables t.ring) t.start t.vector v x t.members first later h.start h.vector e c.begins;
+        met =
+            steps_met_more (variables t.ring) (sum_of (variables t.ring) t.vector) (sum_of (variables t.ring) x) t.members
+            (λ k q. subst (λ z. HasKey (sum_of (variables t.ring) z) k) (sym e) (tail_key (variables t.ring) v k (subst (λ z. HasKey (sum_of (variables t.ring) z) k) h.vector q))) (first ∷ []) later c.met;
+        last = c.last;
+        too_great = c.too_great;
+      },
+    )

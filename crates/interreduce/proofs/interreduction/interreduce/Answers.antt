@@ -1,0 +1,36 @@
+use Rattle.std.proofs.Common.{reverse, subst, sym, ◌∙◌, ◌≡◌}
+use Rattle.formal_sums.specs.FormalSums.{Each}
+use Rattle.bases.specs.Bases.{IsReducedBasis}
+use Rattle.module_vectors.specs.Rings.{setting, variables}
+use Rattle.module_vectors.specs.Vectors.{AreVectorsOver, HasPositions, sums_of}
+use Rattle.interreduce.specs.Leads.{AreNeeded}
+use Rattle.interreduce.proofs.Reducing.{reduced_basis, reduced_positions, reduced_vectors}
+use Rattle.interreduce.proofs.interreduction.interreduce.Goals as goal
+
+pub returns-clause-vectors : goal.returns-clause-vectors
+returns-clause-vectors g c =
+    let ring = g.F.Frame.over c.args.frame.now in
+    let compare = g.F.Frame.compare c.args.frame.now in
+    let members = c.in_ok-members.members.items in
+    let e : c.from_vec.result ≡ reverse members = c.from_vec.ensures ∙ c.reverse.ensures.items in
+    subst (AreVectorsOver ring compare) (sym e) (reduced_vectors ring compare c.lawful_setting.ensures c.args.list.now c.deref.result.now members c.in_ok-members.ensures.reduced)
+
+pub returns-clause-reduced : goal.returns-clause-reduced
+returns-clause-reduced g c = λ rank G basis.
+    let ring = g.F.Frame.over c.args.frame.now in
+    let compare = g.F.Frame.compare c.args.frame.now in
+    let n = variables ring in
+    let list = c.args.list.now in
+    let members = c.in_ok-members.members.items in
+    let e : c.from_vec.result ≡ reverse members = c.from_vec.ensures ∙ c.reverse.ensures.items in
+    let needed : AreNeeded n (compare n) list c.deref.result.now = subst (AreNeeded n (compare n) list) (sym c.deref.ensures.value) c.in_ok-kept.ensures in
+    subst (λ z. IsReducedBasis (setting ring n (compare n) rank) G (sums_of n z)) (sym e)
+    (reduced_basis ring compare c.lawful_setting.ensures list c.deref.result.now members c.in_ok-members.ensures.reduced c.requires.vectors c.requires.nonzero needed rank G basis)
+
+pub returns-clause-positions : goal.returns-clause-positions
+returns-clause-positions g c = λ rank h.
+    let ring = g.F.Frame.over c.args.frame.now in
+    let compare = g.F.Frame.compare c.args.frame.now in
+    let members = c.in_ok-members.members.items in
+    let e : c.from_vec.result ≡ reverse members = c.from_vec.ensures ∙ c.reverse.ensures.items in
+    subst (Each (HasPositions rank)) (sym e) (reduced_positions ring compare c.lawful_setting.ensures c.args.list.now c.deref.result.now members c.in_ok-members.ensures.reduced rank h)

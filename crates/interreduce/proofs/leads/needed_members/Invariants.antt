@@ -1,0 +1,9 @@
+use Rattle.std.proofs.Common.{drop, take}
+use Rattle.module_vectors.specs.Rings.{variables}
+use Rattle.interreduce.specs.Leads.{AreNeededSoFar}
+use Rattle.interreduce.proofs.leads.needed_members.Given as goal
+
+abbrev pub invariant-loop-i : goal.invariant-loop-i
+invariant-loop-i g l =
+    let n = variables (g.F.Frame.over l.frame) in
+    AreNeededSoFar n (g.F.Frame.compare l.frame n) l.list (take l.i-index l.i-items) (drop l.i-index l.i-items) l.kept.items

@@ -1,0 +1,62 @@
+// The reduced list.
+ghost use Rattle.std.specs.Prelude.{◌<◌, ℕ, List, IfErr, IfOk, length};
+ghost use Rattle.formal_sums.specs.FormalSums.{Each, FormalSum};
+ghost use Rattle.bases.specs.Bases.{IsGroebnerBasis, IsReducedBasis};
+ghost use Rattle.module_vectors.specs.Rings.{setting, variables};
+ghost use Rattle.module_vectors.specs.Vectors.{AreVectorsOver, HasPositions, sums_of};
+ghost use Rattle.interreduce.specs.Leads.{HaveLeads};
+ghost use Rattle.interreduce.specs.Members.{AreReducedMembers};
+ghost use Rattle.interreduce.specs.Trails.{InterreductionStops};
+
+use crate::leads::needed_members;
+use crate::member::reduced_member;
+use module_vectors::{Frame, Vect, VectList, WorkStop, lawful_setting};
+use std::alloc::Global;
+use std::thread::Threads;
+
+// The members with these indices, each with its tail reduced, in the same order.
+fn reduced_members<F: Frame>(
+    alloc: Global,
+    frame: &F,
+    list: &VectList,
+    indices: &[usize],
+) -> Result<Vec<Vect>, WorkStop>
+    requires indices { Each (λ i. i < length list.now) indices.now }
+    requires vectors { AreVectorsOver (F.over frame.now) (F.compare frame.now) list.now }
+    requires leads { HaveLeads list.now }
+    ensures reduced { IfOk result (λ members. AreReducedMembers (F.over frame.now) (F.compare frame.now) list.now indices.now members.items) }
+    ensures stop { IfErr result (InterreductionStops (F.over frame.now) list.now) }
+{
+    let mut members = Vec::with_capacity(alloc, indices.len())?;
+    for index in indices {
+        members.push_reserved(reduced_member(alloc, frame, list, *index)?);
+    }
+    Ok(members)
+}
+
+/// The list without the members whose leads others divide, each other member monic and with its tail reduced by the list,
+/// by descending leads: of a Gröbner basis the reduced one (IVA chapter 2, section 7).
+///
+/// `Degree` comes with a trail of the division of a member by the list, to a product of total degree above 65,535;
+/// `Memory` where a growth was refused.
+pub fn interreduce<R: Threads + Sync, F: Frame>(
+    _rt: &R,
+    alloc: Global,
+    frame: &F,
+    list: &VectList,
+) -> Result<VectList, WorkStop>
+    requires vectors { AreVectorsOver (F.over frame.now) (F.compare frame.now) list.now }
+    requires nonzero { HaveLeads list.now }
+    ensures vectors { IfOk result (AreVectorsOver (F.over frame.now) (F.compare frame.now)) }
+    ensures reduced { let n = variables (F.over frame.now) in IfOk result (λ answer. (rank : ℕ) (G : List (FormalSum n))
+        → IsGroebnerBasis (setting (F.over frame.now) n (F.compare frame.now n) rank) G (sums_of n list.now)
+        → IsReducedBasis (setting (F.over frame.now) n (F.compare frame.now n) rank) G (sums_of n answer)) }
+    ensures positions { IfOk result (λ answer. (rank : ℕ) → Each (HasPositions rank) list.now → Each (HasPositions rank) answer) }
+    ensures stop { IfErr result (InterreductionStops (F.over frame.now) list.now) }
+{
+    lawful_setting(frame);
+    let kept = needed_members(alloc, frame, list)?;
+    let mut members = reduced_members(alloc, frame, list, &kept)?;
+    members.reverse();
+    Ok(VectList::from_vec(members))
+}

@@ -1,0 +1,119 @@
+// Which members of a list are needed for its leads, and their order.
+ghost use Rattle.std.specs.Prelude.{◌≡◌, ◌<◌, ◌↔◌, ◌∷◌, ℕ, List, [], Contains, IfOk, IsTrue, MatchOption, get_or, length};
+ghost use Rattle.formal_sums.specs.FormalSums.{Each};
+ghost use Rattle.orders.specs.KeyOrders.{KeyDivides};
+ghost use Rattle.module_vectors.specs.Rings.{variables};
+ghost use Rattle.module_vectors.specs.Trails.{lead_at};
+ghost use Rattle.module_vectors.specs.Vectors.{AreVectorsOver, key_of};
+ghost use Rattle.vector_division.specs.Progress.{HaveVariables};
+ghost use Rattle.interreduce.specs.Leads.{AreNeeded, HaveLeads, IsCoveredBy, Rises, by_lead};
+
+use module_vectors::{Frame, Key, LeadTerm, NoMemory, VectList};
+use std::alloc::Global;
+use std::cmp::Ordering;
+
+// The lead of a member, or `None` where it is zero or is not in the list.
+fn lead_of(list: &VectList, index: usize) -> Option<LeadTerm<'_>>
+    ensures { MatchOption result (get_or list.now index [] ≡ []) (λ lead. (rest : List (_ × ℕ)) × (get_or list.now index [] ≡ (lead.key.now, lead.residue) ∷ rest)) }
+{
+    match list.get(index) {
+        Some(v) => v.lead(),
+        None => None,
+    }
+}
+
+// Compares two members for a sort with the least lead first. Those without a lead, of which there are none, come last.
+fn ascending<F: Frame>(frame: &F, list: &VectList, i: usize, j: usize) -> Ordering
+    requires { AreVectorsOver (F.over frame.now) (F.compare frame.now) list.now }
+    ensures { let n = variables (F.over frame.now) in result ≡ by_lead n (F.compare frame.now n) list.now i j }
+{
+    match lead_of(list, i) {
+        Some(left) => match lead_of(list, j) {
+            Some(right) => frame.cmp(left.key, right.key),
+            None => Ordering::Less,
+        },
+        None => match lead_of(list, j) {
+            Some(_) => Ordering::Greater,
+            None => Ordering::Equal,
+        },
+    }
+}
+
+// The members by ascending leads.
+fn by_ascending_lead<F: Frame>(
+    alloc: Global,
+    frame: &F,
+    list: &VectList,
+) -> Result<Vec<usize>, NoMemory>
+    requires vectors { AreVectorsOver (F.over frame.now) (F.compare frame.now) list.now }
+    requires leads { HaveLeads list.now }
+    ensures within { IfOk result (λ order. Each (λ i. i < length list.now) order.items) }
+    ensures all { IfOk result (λ order. (i : ℕ) → i < length list.now → Contains order.items i) }
+    ensures rises { let n = variables (F.over frame.now) in IfOk result (λ order. Rises n (F.compare frame.now n) list.now order.items) }
+{
+    let mut order = Vec::with_capacity(alloc, list.len())?;
+    for i in 0..list.len() {
+        order.push_reserved(i);
+    }
+    order.sort_unstable_by(|i, j| ascending(frame, list, *i, *j));
+    Ok(order)
+}
+
+// Does the one key divide the other?
+fn key_divides(divisor: &Key, multiple: &Key) -> bool
+    requires { length divisor.now.monomial ≡ length multiple.now.monomial }
+    ensures { let n = length divisor.now.monomial in IsTrue result ↔ KeyDivides (key_of n divisor.now) (key_of n multiple.now) }
+{
+    if divisor.position != multiple.position {
+        return false;
+    }
+    divisor.monomial.divides(&multiple.monomial)
+}
+
+// The key of a member's lead.
+fn lead_key(list: &VectList, index: usize) -> &Key
+    requires index { index < length list.now }
+    requires leads { HaveLeads list.now }
+    ensures { (n : ℕ) → HaveVariables n list.now → (lead_at n list.now index ≡ key_of n result.now) × (length result.now.monomial ≡ n) }
+{
+    &list.as_slice()[index].terms()[0].0
+}
+
+// Does the lead of one of these members divide that of member j?
+fn is_covered(list: &VectList, kept: &[usize], j: usize) -> bool
+    requires divisors { Each (λ i. i < length list.now) kept.now }
+    requires multiple { j < length list.now }
+    requires leads { HaveLeads list.now }
+    requires variables { (n : ℕ) × HaveVariables n list.now }
+    ensures { (n : ℕ) → HaveVariables n list.now → IsTrue result ↔ IsCoveredBy n list.now kept.now j }
+{
+    let multiple = lead_key(list, j);
+    for i in kept {
+        let divisor = lead_key(list, *i);
+        if key_divides(divisor, multiple) {
+            return true;
+        }
+    }
+    false
+}
+
+/// The members that are needed, by ascending leads: each one whose lead is divisible by none that was taken before it,
+/// so that of members with one lead one stays.
+pub(crate) fn needed_members<F: Frame>(
+    alloc: Global,
+    frame: &F,
+    list: &VectList,
+) -> Result<Vec<usize>, NoMemory>
+    requires vectors { AreVectorsOver (F.over frame.now) (F.compare frame.now) list.now }
+    requires leads { HaveLeads list.now }
+    ensures { let n = variables (F.over frame.now) in IfOk result (λ kept. AreNeeded n (F.compare frame.now n) list.now kept.items) }
+{
+    let order = by_ascending_lead(alloc, frame, list)?;
+    let mut kept = Vec::new(alloc);
+    for i in &order {
+        if !is_covered(list, &kept, *i) {
+            kept.push(*i)?;
+        }
+    }
+    Ok(kept)
+}

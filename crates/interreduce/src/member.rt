@@ -1,0 +1,88 @@
+// One member with its tail reduced.
+ghost use Rattle.std.specs.Prelude.{◌≡◌, ◌<◌, ◌++◌, IfErr, IfOk, drop, length, take};
+ghost use Rattle.std.specs.declared.cmp.Ordering.TheVariants.{Greater};
+ghost use Rattle.formal_sums.specs.FormalSums.{Each};
+ghost use Rattle.bases.specs.Leads.{head_key};
+ghost use Rattle.module_vectors.specs.Rings.{variables};
+ghost use Rattle.module_vectors.specs.Vectors.{AreVectorsOver, IsVectorOver, sum_of};
+ghost use Rattle.vector_division.specs.Divisions.{IsDivisionTrail};
+ghost use Rattle.interreduce.specs.Leads.{HaveLeads};
+ghost use Rattle.interreduce.specs.Members.{IsReducedMember};
+ghost use Rattle.interreduce.specs.Trails.{InterreductionStops};
+
+use module_vectors::{Frame, KeptTrail, NoMemory, Vect, VectList, WorkStop, lawful_setting};
+use std::alloc::Global;
+use vector_division::reduce;
+
+// The vector without its greatest term.
+fn tail_of<F: Frame>(alloc: Global, frame: &F, v: &Vect) -> Result<Vect, NoMemory>
+    requires some { 0 < length v.now }
+    requires vector { IsVectorOver (F.over frame.now) (F.compare frame.now) v.now }
+    ensures { IfOk result (λ tail. tail ≡ drop 1 v.now) }
+{
+    lawful_setting(frame);
+    let mut terms = v.try_copy(alloc)?.into_terms();
+    drop(terms.remove(0));
+    Vect::from_terms(alloc, frame, terms)
+}
+
+// The greatest term of `v`, and behind it `rest`, which is below it.
+fn with_lead_of<F: Frame>(alloc: Global, frame: &F, v: &Vect, rest: Vect) -> Result<Vect, NoMemory>
+    requires some { 0 < length v.now }
+    requires vector { IsVectorOver (F.over frame.now) (F.compare frame.now) v.now }
+    requires rest { IsVectorOver (F.over frame.now) (F.compare frame.now) rest }
+    requires below { let n = variables (F.over frame.now) in Each (λ t. F.compare frame.now n (head_key (sum_of n v.now)) t.0 ≡ Greater) (sum_of n rest) }
+    ensures vector { IfOk result (IsVectorOver (F.over frame.now) (F.compare frame.now)) }
+    ensures terms { IfOk result (λ whole. whole ≡ take 1 v.now ++ rest) }
+{
+    lawful_setting(frame);
+    let lead = &v.terms()[0];
+    let mut terms = rest.into_terms();
+    terms.insert(0, (lead.0.try_copy(alloc)?, lead.1))?;
+    Vect::from_terms(alloc, frame, terms)
+}
+
+// A trail of the division of the member's tail, as one of the division of the member.
+fn trail_of_member(
+    alloc: Global,
+    member: &Vect,
+    mut trail: KeptTrail,
+) -> Result<KeptTrail, NoMemory>
+    requires { IsDivisionTrail trail.ring (drop 1 member.now) trail.members trail }
+    ensures { IfOk result (IsDivisionTrail trail.ring member.now trail.members) }
+{
+    trail.vector = member.try_copy(alloc)?;
+    Ok(trail)
+}
+
+/// Member `index`, monic and with its tail divided by the whole list. What the division leaves stands below the lead.
+///
+/// `Degree` comes with a trail of the division of a member by the list, `Memory` where a growth was refused.
+pub(crate) fn reduced_member<F: Frame>(
+    alloc: Global,
+    frame: &F,
+    list: &VectList,
+    index: usize,
+) -> Result<Vect, WorkStop>
+    requires index { index < length list.now }
+    requires vectors { AreVectorsOver (F.over frame.now) (F.compare frame.now) list.now }
+    requires leads { HaveLeads list.now }
+    ensures reduced { IfOk result (IsReducedMember (F.over frame.now) (F.compare frame.now) list.now index) }
+    ensures stop { IfErr result (InterreductionStops (F.over frame.now) list.now) }
+{
+    lawful_setting(frame);
+    let member = &list.as_slice()[index];
+    let tail = tail_of(alloc, frame, member)?;
+    match reduce(alloc, frame, &tail, list) {
+        Ok(reduction) => {
+            let mut reduced = with_lead_of(alloc, frame, member, reduction.rest)?;
+            reduced.monic(frame);
+            Ok(reduced)
+        }
+        Err(WorkStop::Memory) => Err(WorkStop::Memory),
+        Err(WorkStop::Degree(trail)) => {
+            let trail = trail_of_member(alloc, member, trail)?;
+            Err(WorkStop::Degree(trail))
+        }
+    }
+}

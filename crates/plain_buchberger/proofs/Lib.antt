@@ -1,0 +1,4 @@
+mod Jobs
+mod Taking
+mod Trails
+mod Closings

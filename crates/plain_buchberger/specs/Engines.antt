@@ -1,0 +1,32 @@
+-- What contracts see of the engine
+use Rattle.std.specs.Prelude.{Option, Some, min, ℕ, ◌+◌, ◌-◌, ◌^◌, ◌≡◌, ◌≤◌}
+use Rattle.module_vectors.specs.declared.trail.KeptTrail.{KeptTrail}
+use Rattle.basis_core.specs.Members.{Shared}
+use Rattle.basis_core.specs.Shown.{Shown}
+use Rattle.groebner_iface.specs.declared.stop.Stop.{Stop}
+use Rattle.groebner_iface.specs.declared.stop.Stop.TheVariants.{Memory, Pairs, Degree}
+use Rattle.plain_buchberger.specs.Stops.{IsCounted, IsStop, stopped_on, stopped_run}
+
+-- its budget of pairs; how many runs stopped; the state and the trail that are kept of the last one of them
+pub record EngineShown : Type 0 where
+  pub pairs : ℕ
+  pub stops : ℕ
+  pub state : Option Shown
+  pub trail : Option KeptTrail
+
+-- what is kept is of a run of this engine that stopped, and it is counted
+pub record IsKeptBy (e : EngineShown) : Type 0 where
+  pub stop : IsStop e.pairs e.state e.trail
+  pub counted : IsCounted e.stops (stopped_run e.state e.trail)
+
+-- one more run that stopped is counted, up to 2 ^ 64 - 1; the budget is the same
+pub record Counts (old new : EngineShown) : Type 0 where
+  pub pairs : new.pairs ≡ old.pairs
+  pub stops : new.stops ≡ min (old.stops + 1) (2 ^ 64 - 1)
+  pub later : old.stops ≤ new.stops
+
+-- Memory leaves the engine as it was; Pairs and Degree are counted, and the run on these is kept with the answer
+abbrev pub EngineStops : (old new : EngineShown) → Shared → Stop → Type 0
+EngineStops old new shared Memory = new ≡ old
+EngineStops old new shared Pairs = Counts old new × (stopped_run new.state new.trail ≡ Some (stopped_on shared Pairs))
+EngineStops old new shared Degree = Counts old new × (stopped_run new.state new.trail ≡ Some (stopped_on shared Degree))

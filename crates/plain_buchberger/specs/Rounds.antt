@@ -1,0 +1,85 @@
+-- The rounds of a run with one worker: it takes a pair, and hands in what its S-vector leaves
+use Rattle.std.specs.Prelude.{[], None, Some, false, get_or, length, true, ⊤, ◌<◌, ◌≡◌, ◌≤◌}
+use Rattle.module_vectors.specs.declared.trail.KeptTrail.{KeptTrail}
+use Rattle.module_vectors.specs.declared.trail.WorkStop.{WorkStop}
+use Rattle.module_vectors.specs.declared.trail.WorkStop.TheVariants as works
+use Rattle.basis_steps.specs.Criteria.{NoCriterionApplies, waiting}
+use Rattle.basis_steps.specs.Pairs.{Pair, count}
+use Rattle.basis_steps.specs.States.{job_of, pairs_taken, vectors}
+use Rattle.basis_steps.specs.Steps.{HasStopped}
+use Rattle.basis_core.specs.declared.stop.StopReason.{StopReason}
+use Rattle.basis_core.specs.declared.stop.StopReason.TheVariants as reasons
+use Rattle.basis_core.specs.Answers.{IsRunTrail}
+use Rattle.basis_core.specs.Jobs.{JobShown, pairs_of}
+use Rattle.basis_core.specs.Members.{members_of, setting_of}
+use Rattle.basis_core.specs.Shown.{Shown}
+use Rattle.basis_core.specs.Views.{state_of, variables_of}
+use Rattle.plain_buchberger.specs.Copies.{IsSameTrail}
+use Rattle.plain_buchberger.specs.declared.rounds.Round.{Round}
+use Rattle.plain_buchberger.specs.declared.rounds.Round.TheVariants as rounds
+
+-- the only worker has not ended, and no stop was kept
+pub record IsRunning (s : Shown) : Type 0 where
+  pub alone : s.workers ≡ 1
+  pub stop : s.stop ≡ None
+  pub works : get_or s.ended 0 true ≡ false
+  pub unstopped : HasStopped 0 (state_of (variables_of s) s).history → ⊥
+
+-- and it has no pair out
+pub record IsFree (s : Shown) : Type 0 where
+  pub runs : IsRunning s
+  pub free : job_of 0 s.out ≡ []
+
+-- and it has this job out, of all members
+pub record IsOut (s : Shown) (job : JobShown) : Type 0 where
+  pub runs : IsRunning s
+  pub worker : job.worker ≡ 0
+  pub shared : job.shared ≡ s.shared
+  pub members : job.members ≡ s.members
+  pub out : job_of 0 s.out ≡ pairs_of job.pairs
+  pub taken : (x : Pair) → count x (pairs_of job.pairs) ≤ count x (pairs_taken (state_of (variables_of s) s).history)
+
+-- the only worker has ended, and no stop is kept
+pub record IsClosed (s : Shown) : Type 0 where
+  pub alone : s.workers ≡ 1
+  pub stop : s.stop ≡ None
+  pub ended : get_or s.ended 0 true ≡ true
+
+-- a stop by the budget: as many pairs are taken as it has, and one is left to which no criterion applies
+pub record IsBudgetStop (s : Shown) : Type 0 where
+  pub stop : s.stop ≡ Some reasons.Pairs
+  pub taken : s.taken ≡ s.budget
+  pub queued : 0 < length s.queue
+  pub none_applies :
+      let n = variables_of s in
+      NoCriterionApplies (setting_of n s.shared) (vectors (members_of n s.members)) (waiting s.queue s.out) s.queue
+
+-- a stop by the degree of a pair's work: of the state's members and of a pair that was taken; the state keeps the same trail
+pub record IsDegreeStop (s : Shown) (t : KeptTrail) : Type 0 where
+  pub stop : (kept : KeptTrail) × (s.stop ≡ Some (reasons.Degree kept)) × IsSameTrail kept t
+  pub trail : IsRunTrail (variables_of s) s t
+
+-- why a round is not done: a stop by the budget or by the degree, which the state keeps
+abbrev pub RoundStops : Shown → StopReason → Type 0
+RoundStops s reasons.Pairs = IsBudgetStop s
+RoundStops s reasons.Memory = ⊤
+RoundStops s (reasons.Degree t) = IsDegreeStop s t
+
+-- Degree comes with a trail of the state's members and of a pair that was taken
+abbrev pub WorkStops : Shown → WorkStop → Type 0
+WorkStops s works.Memory = ⊤
+WorkStops s (works.Degree t) = IsRunTrail (variables_of s) s t
+
+-- the state keeps a stop by the degree
+abbrev pub KeepsDegree : Shown → Type 0
+KeepsDegree s = (t : KeptTrail) × (s.stop ≡ Some (reasons.Degree t))
+
+-- Degree comes where the state keeps that stop
+abbrev pub WorkFails : Shown → WorkStop → Type 0
+WorkFails s works.Memory = ⊤
+WorkFails s (works.Degree t) = IsDegreeStop s t
+
+-- after a pair more pairs are taken, within the budget; or the run is closed
+abbrev pub RoundEnds : (old new : Shown) → Round → Type 0
+RoundEnds old new rounds.Pair = IsFree new × (old.taken < new.taken) × (new.taken ≤ new.budget)
+RoundEnds old new rounds.Closed = IsClosed new

@@ -1,0 +1,167 @@
+// The engine.
+ghost use Rattle.std.specs.Prelude.{◌≡◌, IfErr, IfOk, MatchOption, None, OnOk, Some};
+ghost use Rattle.formal_sums.specs.FormalSums.{Each};
+ghost use Rattle.module_vectors.specs.Rings.{ring_comparison};
+ghost use Rattle.module_vectors.specs.Vectors.{AreVectorsOver, HasPositions};
+ghost use Rattle.basis_core.specs.Members.{Shared};
+ghost use Rattle.groebner_iface.specs.Runs.{IsReducedBasisOf, StoppedRun};
+ghost use Rattle.plain_buchberger.specs.Engines.{Counts, EngineStops, IsKeptBy};
+ghost use Rattle.plain_buchberger.specs.Runs.{RunStops};
+ghost use Rattle.plain_buchberger.specs.Stops.{IsStop, shared_on, stopped_run};
+
+use crate::runs::{RunStop, run};
+use basis_core::BasisState;
+use groebner_iface::{Groebner, Stop};
+use module_vectors::{KeptTrail, Ring, VectList};
+use std::alloc::Global;
+use std::marker::Model;
+use std::thread::Threads;
+
+/// Buchberger's algorithm on one thread. The last run that stopped early is kept: by its budget of pairs, its state; by a
+/// degree above 65,535, a trail and its state, or the trail alone where the beginning of the run met it.
+#[derive(Drop)]
+pub struct PlainEngine {
+    pairs: u64,
+    stops: u64,
+    state: Option<BasisState>,
+    trail: Option<KeptTrail>,
+}
+
+impl Model for PlainEngine {
+    ghost use Rattle.plain_buchberger.specs.Engines.{EngineShown, IsKeptBy};
+
+    ghost Value = { EngineShown };
+
+    ghost view = { λ e. record { pairs = e.pairs; stops = e.stops; state = e.state; trail = e.trail } };
+
+    ghost invariant = { λ e. IsKeptBy (record { pairs = e.pairs; stops = e.stops; state = e.state; trail = e.trail }) };
+}
+
+impl PlainEngine {
+    /// An engine whose runs take at most so many pairs each.
+    pub fn new(pairs: u64) -> PlainEngine
+        ensures pairs { result.pairs ≡ pairs }
+        ensures stops { result.stops ≡ 0 }
+        ensures state { result.state ≡ None }
+        ensures trail { result.trail ≡ None }
+    {
+        PlainEngine {
+            pairs,
+            stops: 0,
+            state: None,
+            trail: None,
+        }
+    }
+
+    /// The most pairs that a run takes.
+    pub fn pairs(&self) -> u64
+        ensures { result ≡ self.now.pairs }
+    {
+        self.pairs
+    }
+
+    /// How many runs stopped early, up to 2^64 - 1.
+    pub fn stops(&self) -> u64
+        ensures { result ≡ self.now.stops }
+    {
+        self.stops
+    }
+
+    /// What is kept of the last run that stopped early: its state unless its beginning stopped it, and a trail where a
+    /// degree stopped it; neither before a run has stopped.
+    pub fn last_stop(&self) -> (Option<&BasisState>, Option<&KeptTrail>)
+        ensures state { MatchOption result.0 (self.now.state ≡ None) (λ s. self.now.state ≡ Some s.now) }
+        ensures trail { MatchOption result.1 (self.now.trail ≡ None) (λ t. self.now.trail ≡ Some t.now) }
+        ensures kept { IsKeptBy self.now }
+    {
+        (self.state.as_ref(), self.trail.as_ref())
+    }
+
+    /// The same, without taking memory.
+    pub fn into_stop(self) -> (Option<BasisState>, Option<KeptTrail>)
+        ensures state { result.0 ≡ self.state }
+        ensures trail { result.1 ≡ self.trail }
+        ensures kept { IsKeptBy self }
+    {
+        (self.state, self.trail)
+    }
+
+    /// The reduced Gröbner basis of the list in a free module of this rank, by descending leads in the ring's own order. It
+    /// does what the trait's `reduced` does, and more is said of it: the basis and `Memory` leave the engine as it was.
+    pub fn run<R: Threads + Sync>(
+        &mut self,
+        rt: &R,
+        alloc: Global,
+        ring: &Ring,
+        rank: u128,
+        list: &VectList,
+    ) -> Result<VectList, Stop>
+        requires vectors { AreVectorsOver ring.now (ring_comparison ring.now) list.now }
+        requires positions { Each (HasPositions rank) list.now }
+        ensures basis { IfOk result (IsReducedBasisOf ring.now rank list.now) }
+        ensures same { OnOk result (self.new ≡ self.old) }
+        ensures stop { IfErr result (EngineStops self.old self.new (shared_on ring.now rank list.now)) }
+    {
+        match run(rt, alloc, self.pairs, ring, rank, list) {
+            Ok(basis) => Ok(basis),
+            Err(stop) => Err(self.keep_stop(stop)),
+        }
+    }
+
+    // Counts a run that stopped, and keeps this of it.
+    fn keep(&mut self, state: Option<BasisState>, trail: Option<KeptTrail>)
+        requires some { (run : StoppedRun) × (stopped_run state trail ≡ Some run) }
+        requires stop { IsStop self.old.pairs state trail }
+        ensures counts { Counts self.old self.new }
+        ensures state { self.new.state ≡ state }
+        ensures trail { self.new.trail ≡ trail }
+    {
+        self.stops = self.stops.saturating_add(1);
+        self.state = state;
+        self.trail = trail;
+    }
+
+    // Counts and keeps a run that stopped, unless memory was wanting.
+    fn keep_stop(&mut self, stop: RunStop) -> Stop
+        requires { (shared : Shared) × RunStops self.old.pairs shared stop }
+        ensures { (shared : Shared) → RunStops self.old.pairs shared stop → EngineStops self.old self.new shared result }
+    {
+        match stop {
+            RunStop::Memory => Stop::Memory,
+            RunStop::Pairs(state) => {
+                self.keep(Some(state), None);
+                Stop::Pairs
+            }
+            RunStop::Beginning(trail) => {
+                self.keep(None, Some(trail));
+                Stop::Degree
+            }
+            RunStop::Degree(state, trail) => {
+                self.keep(Some(state), Some(trail));
+                Stop::Degree
+            }
+        }
+    }
+}
+
+impl Groebner for PlainEngine {
+    ghost use Rattle.std.specs.Prelude.{[], ◌∷◌};
+    ghost use Rattle.plain_buchberger.specs.Stops.{stopped_run};
+
+    ghost stops = { λ e. e.stops };
+
+    ghost stopped = { λ e. stopped_run e.state e.trail };
+
+    ghost settings = { λ e. e.pairs ∷ 1 ∷ [] };
+
+    fn reduced<R: Threads + Sync>(
+        &mut self,
+        rt: &R,
+        alloc: Global,
+        ring: &Ring,
+        rank: u128,
+        list: &VectList,
+    ) -> Result<VectList, Stop> {
+        self.run(rt, alloc, ring, rank, list)
+    }
+}

@@ -1,0 +1,90 @@
+// A run of the engine.
+ghost use Rattle.std.specs.Prelude.{◌≡◌, IfOk, IfErr};
+ghost use Rattle.formal_sums.specs.FormalSums.{Each};
+ghost use Rattle.module_vectors.specs.Rings.{ring_comparison, variables};
+ghost use Rattle.module_vectors.specs.Vectors.{AreVectorsOver, HasPositions};
+ghost use Rattle.basis_core.specs.Answers.{BeginningStops, IsRunOf};
+ghost use Rattle.groebner_iface.specs.Runs.{IsReducedBasisOf};
+ghost use Rattle.plain_buchberger.specs.Rounds.{IsClosed, IsFree};
+ghost use Rattle.plain_buchberger.specs.Runs.{RunStops};
+ghost use Rattle.plain_buchberger.specs.Stops.{shared_on};
+
+use crate::closing::reduce_members;
+use crate::copies::copy_list;
+use crate::rounds::look_at_pairs;
+use basis_core::{BasisState, StopReason};
+use module_vectors::{KeptTrail, Ring, VectList, WorkStop};
+use std::alloc::Global;
+use std::thread::Threads;
+
+/// Why a run has no reduced basis, with what is to be kept of it.
+#[derive(Drop)]
+pub(crate) enum RunStop {
+    /// There was no memory.
+    Memory,
+    /// The budget is met.
+    Pairs(BasisState),
+    /// A generator's division needed a product of total degree above 65,535.
+    Beginning(KeptTrail),
+    /// A pair's work or the interreduction needed one.
+    Degree(BasisState, KeptTrail),
+}
+
+// The run at its beginning, with one worker.
+fn begin(
+    alloc: Global,
+    pairs: u64,
+    ring: &Ring,
+    rank: u128,
+    list: &VectList,
+) -> Result<BasisState, WorkStop>
+    requires vectors { AreVectorsOver ring.now (ring_comparison ring.now) list.now }
+    requires positions { Each (HasPositions rank) list.now }
+    ensures run { IfOk result (IsRunOf (shared_on ring.now rank list.now) pairs 1) }
+    ensures free { IfOk result IsFree }
+    ensures stop { IfErr result (BeginningStops (variables ring.now) (shared_on ring.now rank list.now)) }
+{
+    let ring = ring.try_copy(alloc)?;
+    let generators = copy_list(alloc, list)?;
+    BasisState::begin(alloc, ring, rank, generators, pairs, 1)
+}
+
+// The reduced basis of a closed run, or the run with its trail.
+fn close<R: Threads + Sync>(rt: &R, alloc: Global, state: BasisState) -> Result<VectList, RunStop>
+    requires { IsClosed state }
+    ensures basis { IfOk result (IsReducedBasisOf state.shared.ring state.shared.rank state.shared.generators) }
+    ensures stop { IfErr result (RunStops state.budget state.shared) }
+{
+    match reduce_members(rt, alloc, &state) {
+        Ok(basis) => Ok(basis),
+        Err(WorkStop::Memory) => Err(RunStop::Memory),
+        Err(WorkStop::Degree(trail)) => Err(RunStop::Degree(state, trail)),
+    }
+}
+
+/// The reduced basis of the list, by Buchberger's algorithm with at most so many pairs. IVA chapter 2, section 10.
+pub(crate) fn run<R: Threads + Sync>(
+    rt: &R,
+    alloc: Global,
+    pairs: u64,
+    ring: &Ring,
+    rank: u128,
+    list: &VectList,
+) -> Result<VectList, RunStop>
+    requires vectors { AreVectorsOver ring.now (ring_comparison ring.now) list.now }
+    requires positions { Each (HasPositions rank) list.now }
+    ensures basis { IfOk result (IsReducedBasisOf ring.now rank list.now) }
+    ensures stop { IfErr result (RunStops pairs (shared_on ring.now rank list.now)) }
+{
+    let mut state = match begin(alloc, pairs, ring, rank, list) {
+        Ok(state) => state,
+        Err(WorkStop::Memory) => return Err(RunStop::Memory),
+        Err(WorkStop::Degree(trail)) => return Err(RunStop::Beginning(trail)),
+    };
+    match look_at_pairs(alloc, &mut state) {
+        Ok(()) => close(rt, alloc, state),
+        Err(StopReason::Pairs) => Err(RunStop::Pairs(state)),
+        Err(StopReason::Memory) => Err(RunStop::Memory),
+        Err(StopReason::Degree(trail)) => Err(RunStop::Degree(state, trail)),
+    }
+}

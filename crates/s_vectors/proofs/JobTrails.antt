@@ -1,0 +1,244 @@
+-- The chain of a pair is a trail of the job
+use Rattle.std.proofs.Common.{List, Some, [], ap, ap₂, append-nil, arith, get_or, inl, inr, length, length-append, refl, subst, subst₂, suc, sym, take, zero, ℕ, ◌++◌, ◌+◌, ◌<◌, ◌∙◌, ◌∷◌, ◌≡◌, ◌⊎◌}
+use Rattle.std.specs.Prelude.{sum}
+use Rattle.monomials.specs.Exponents.{degree, exponents_of}
+use Rattle.formal_sums.proofs.Combining.{Each_map}
+use Rattle.formal_sums.specs.FormalSums.{Each}
+use Rattle.bases.specs.Representations.{key_lcm}
+use Rattle.monomial_orders.proofs.Comparing.{degree-exponents_of}
+use Rattle.module_vectors.proofs.Scaling.{Each_at}
+use Rattle.module_vectors.proofs.SumsOfProducts.{Each_split}
+use Rattle.module_vectors.specs.Rings.{variables}
+use Rattle.module_vectors.specs.Stops.{HasMonomial}
+use Rattle.module_vectors.specs.Trails.{AreMet, Begins, HasKey, IsChain, IsOfStep, IsTrail as IsKeptTrail, Step, last_step, lead_at}
+use Rattle.module_vectors.specs.Vectors.{key_of, sum_of, sums_of}
+use Rattle.module_vectors.specs.declared.key.Key.{Key as CodeKey}
+use Rattle.module_vectors.specs.declared.trail.KeptTrail.{KeptTrail}
+use Rattle.module_vectors.specs.declared.trail.TrailStart.TheVariants as starts
+use Rattle.pair_criteria.specs.declared.pair.Pair.{Pair as CodePair}
+use Rattle.basis_steps.proofs.Counting.{is_same_pair-refl}
+use Rattle.basis_steps.specs.Criteria.{IsPair, lcm_of}
+use Rattle.basis_steps.specs.Outcomes.{AreJobProducts, Occurs}
+use Rattle.basis_steps.specs.Pairs.{Pair, count}
+use Rattle.basis_steps.specs.States.{cofactor_lists, vectors}
+use Rattle.basis_steps.specs.Trails.{IsTrail}
+use Rattle.basis_core.specs.Jobs.{HasLcm, IsJob, JobShown, pair_of, pairs_of}
+use Rattle.basis_core.specs.Members.{MembersShown, Tracked, members_of, setting_of}
+use Rattle.basis_core.specs.Outcomes.{product_of, products_of, work_of}
+use Rattle.basis_core.specs.Rows.{cofactors_in, vectors_in}
+use Rattle.basis_core.specs.Stops.{IsPairTrail, cofactors_kept, earlier_steps, joined, start_pair, trail_by, trail_members, trail_of, trail_over}
+use Rattle.s_vectors.proofs.Combined.{AreCombined, cofactors_over, vectors_over}
+use Rattle.s_vectors.proofs.Lists.{cofactors_are, length-cofactors_in, length-vectors_in, vectors_are}
+use Rattle.s_vectors.proofs.Making.{item_of, job_steps, vector_occurs}
+use Rattle.s_vectors.proofs.TopParts.{lead_is, left_within, right_within, same_position, shared_lawful}
+use Rattle.s_vectors.specs.Divided.{AreOfPair}
+use Rattle.s_vectors.specs.Steps.{ArePairSteps, IsPairChain}
+use Rattle.s_vectors.specs.Trails.{IsJobTrail}
+
+-- the members with their cofactors
+joined_members : (n : ℕ) (ms : List Tracked) → joined n (vectors_in ms) (cofactors_in ms) ≡ members_of n ms
+joined_members n [] = refl
+joined_members n (m ∷ ms) = ap (λ l. record { vector = sum_of n m.vector; cofactors = sum_of n m.cof } ∷ l) (joined_members n ms)
+
+-- all steps, the last one apart
+steps_apart : (n : ℕ) (first : Step) (later : List Step) → products_of n (earlier_steps first later) ++ product_of n (last_step first later) ∷ [] ≡ products_of n (first ∷ later)
+steps_apart n first [] = refl
+steps_apart n first (s ∷ later) = ap (λ l. product_of n first ∷ l) (steps_apart n s later)
+
+-- a pair at an index is one of the list
+count_at : (xs : List CodePair) (i : ℕ) (x : CodePair) → i < length xs → x ≡ get_or xs i x → 0 < count (pair_of x) (pairs_of xs)
+count_at [] i x lt e = absurd (omega arith)
+count_at (y ∷ xs) zero x lt e = rw (sym e) (rw (is_same_pair-refl (pair_of x)) (omega arith))
+count_at (y ∷ xs) (suc i) x lt e = let h = count_at xs i x (omega arith) e in omega arith
+
+-- the key of a term
+monomial_key : (n : ℕ) (v : List (CodeKey × ℕ)) (t : List ℕ) → HasMonomial v t → (i : ℕ) × HasKey (sum_of n v) (i, exponents_of n t)
+monomial_key n [] t (u, (i, lt, e), is) = absurd (let z : i < 0 = lt in omega arith)
+monomial_key n (w ∷ v) t (u, (zero, lt, e), is) = (w.0.position, (0, omega arith, ap (λ z. (w.0.position, exponents_of n z)) (ap (λ z. z.0.monomial) e ∙ is)))
+monomial_key n (w ∷ v) t (u, (suc i, lt, e), is) =
+    let r = monomial_key n v t (u, (i, omega arith, e), is) in
+    (r.0, (suc r.1.0, (let l = r.1.1 in omega arith), r.1.2))
+
+-- what a list of steps ends with
+ends_with : (front : List Step) (s : Step) (first : Step) (later : List Step) → first ∷ later ≡ front ++ s ∷ [] → last_step first later ≡ s
+ends_with [] s first [] e = cc
+ends_with [] s first (t ∷ later) e = absurd (cc)
+ends_with (f ∷ front) s first [] e = absurd (let l = ap length e in omega (arith, length-append front (s ∷ [])))
+ends_with (f ∷ front) s first (t ∷ later) e = let d : t ∷ later ≡ front ++ s ∷ [] = cc in ends_with front s t later d
+
+some_steps : (front : List Step) (s : Step) (steps : List Step) → steps ≡ front ++ s ∷ [] → (first : Step) × (later : List Step) × (steps ≡ first ∷ later)
+some_steps [] s steps e = (s, [], e)
+some_steps (f ∷ front) s steps e = (f, front ++ s ∷ [], e)
+
+monomial_length : (n : ℕ) (v : List (CodeKey × ℕ)) (t : List ℕ) → Each (λ u. length u.0.monomial ≡ n) v → HasMonomial v t → length t ≡ n
+monomial_length n [] t h (u, (i, lt, e), is) = absurd (let z : i < 0 = lt in omega arith)
+monomial_length n (w ∷ v) t h (u, (zero, lt, e), is) = ap length (sym (ap (λ z. z.0.monomial) e ∙ is)) ∙ h.0
+monomial_length n (w ∷ v) t h (u, (suc i, lt, e), is) = monomial_length n v t h.1 (u, (i, omega arith, e), is)
+
+degree_of : (n : ℕ) (xs : List ℕ) → length xs ≡ n → degree (exponents_of n xs) ≡ sum xs
+degree_of n xs e = subst (λ k. degree (exponents_of k xs) ≡ sum xs) e (degree-exponents_of xs)
+
+module _ (m : MembersShown) (x : CodePair) (of : AreOfPair m x) (combined : AreCombined m.shared m.list) (t : KeptTrail) (pairs : List Pair)
+    (chain : IsPairChain (variables m.shared.ring) m.list (key_of (variables m.shared.ring) x.lcm) t.steps.items t.last)
+    (ring_is : t.ring ≡ m.shared.ring) (rank_is : t.rank ≡ m.shared.rank) (generators_are : t.generators ≡ m.shared.generators)
+    (below_none : t.below.items ≡ []) (start_is : t.start ≡ starts.Pair x.i x.j) (vector_is : t.vector ≡ [])
+    (members_are : t.members ≡ vectors_in m.list) (cofactors_there : t.cofs ≡ Some (cofactors_in m.list)) (taken : 0 < count (pair_of x) pairs)
+  where
+    -- the steps as the trail has them
+    kept_trail : (first : Step) (later : List Step) → t.steps.items ≡ first ∷ later → IsKeptTrail t
+    kept_trail first later e =
+        let n = variables m.shared.ring in
+        let list = vectors_in m.list in
+        let pair : ArePairSteps n list (key_of n x.lcm) (first ∷ later) = subst (ArePairSteps n list (key_of n x.lcm)) e chain.pair in
+        let last : last_step first later ≡ chain.step = ends_with chain.front chain.step first later (sym e ∙ chain.split) in
+        let lw = left_within n m.shared m.list x of.monic of.real of.lcm in
+        let rw' = right_within n m.shared m.list x of.monic of.real of.lcm in
+        let lcm_key : key_of n x.lcm ≡ key_lcm (lead_at n list x.i) (lead_at n list x.j) = lcm_leads in (
+          first,
+          later,
+          subst (λ r. IsChain (variables r) t first later) (sym ring_is) (record {
+            steps = e;
+            known = subst (λ l. Each (λ z. z.0 < length l) (first ∷ later)) (sym members_are) pair.known;
+            begins = subst₂ (λ s l. Begins n s t.vector l first later) (sym start_is) (sym members_are) (
+              record { left = lw; right = rw'; apart = λ q. (let o = of.real.ordered in absurd (omega arith)); position = same_position n m.shared m.list x of.monic of.real of.lcm; lcm = pair.linked.0 ∙ lcm_key },
+              vector_is,
+            );
+            met = subst₂ (λ v l. AreMet n (sum_of n v) l (first ∷ []) later) (sym vector_is) (sym members_are) pair.linked.1;
+            last = subst (λ s. IsOfStep t.members t.cofs s t.last) (sym last) (subst₂ (λ l cs. IsOfStep l cs chain.step t.last) (sym members_are) (sym cofactors_there) chain.monomial);
+            too_great = subst (λ (s : Step). 65535 < sum s.1 + sum t.last) (sym last) chain.too_great;
+          }),
+        )
+      where
+        lcm_leads : key_of (variables m.shared.ring) x.lcm ≡ key_lcm (lead_at (variables m.shared.ring) (vectors_in m.list) x.i) (lead_at (variables m.shared.ring) (vectors_in m.list) x.j)
+        lcm_leads = of.lcm.lcm ∙ ap₂ key_lcm (lead_is (variables m.shared.ring) m.list x.i) (lead_is (variables m.shared.ring) m.list x.j)
+
+    pub pair_trail : IsPairTrail m.shared t
+    pair_trail =
+        let s = some_steps chain.front chain.step t.steps.items chain.split in
+        record {
+          over = record {
+            trail = kept_trail s.0 s.1 s.2;
+            ring = ring_is;
+            rank = rank_is;
+            generators = generators_are;
+            below = below_none;
+            cofactors = (cofactors_in m.list, cofactors_there, length-cofactors_in m.list ∙ sym (length-vectors_in m.list) ∙ ap length (sym members_are));
+          };
+          vector = vector_is;
+          start = (x.i, x.j, start_is);
+        }
+
+    -- the same over plain data
+    members_same : trail_members (variables m.shared.ring) t ≡ members_of (variables m.shared.ring) m.list
+    members_same =
+        ap₂ (λ vs cs. joined (variables m.shared.ring) vs (cofactors_kept cs)) members_are cofactors_there ∙ joined_members (variables m.shared.ring) m.list
+
+    -- a monomial of the last step's member or of its cofactors
+    last_occurs :
+        IsOfStep (vectors_in m.list) (Some (cofactors_in m.list)) chain.step t.last
+        → (i : ℕ)
+        × (Occurs m.shared.ring.modulus.value (get_or (vectors (members_of (variables m.shared.ring) m.list)) chain.step.0 []) (i, exponents_of (variables m.shared.ring) t.last)
+        ⊎ Occurs m.shared.ring.modulus.value (get_or (cofactor_lists (members_of (variables m.shared.ring) m.list)) chain.step.0 []) (i, exponents_of (variables m.shared.ring) t.last))
+    last_occurs (inl h) =
+        let n = variables m.shared.ring in
+        let k = monomial_key n (get_or (vectors_in m.list) chain.step.0 []) t.last h in (
+          k.0,
+          inl (subst (λ G. Occurs m.shared.ring.modulus.value (get_or G chain.step.0 []) (k.0, exponents_of n t.last)) (sym (vectors_are n m.list))
+              (vector_occurs (setting_of n m.shared) (shared_lawful n m.shared) (vectors_in m.list) (vectors_over m.shared m.list combined) chain.step.0 (k.0, exponents_of n t.last) k.1)),
+        )
+    last_occurs (inr h) =
+        let n = variables m.shared.ring in
+        let k = monomial_key n (get_or (cofactors_in m.list) chain.step.0 []) t.last h in (
+          k.0,
+          inr (subst (λ G. Occurs m.shared.ring.modulus.value (get_or G chain.step.0 []) (k.0, exponents_of n t.last)) (sym (cofactors_are n m.list))
+              (vector_occurs (setting_of n m.shared) (shared_lawful n m.shared) (cofactors_in m.list) (cofactors_over m.shared m.list combined) chain.step.0 (k.0, exponents_of n t.last) k.1)),
+        )
+
+    -- it has the ring's variables
+    last_length : IsOfStep (vectors_in m.list) (Some (cofactors_in m.list)) chain.step t.last → length t.last ≡ variables m.shared.ring
+    last_length (inl h) = monomial_length (variables m.shared.ring) _ t.last (item_of (Each (λ u. length u.0.monomial ≡ variables m.shared.ring)) (vectors_in m.list) chain.step.0 tt (Each_map _ _ (vectors_in m.list) (λ v iv. Each_map _ _ v (λ u i. i.variables) iv.each) (vectors_over m.shared m.list combined))) h
+    last_length (inr h) = monomial_length (variables m.shared.ring) _ t.last (item_of (Each (λ u. length u.0.monomial ≡ variables m.shared.ring)) (cofactors_in m.list) chain.step.0 tt (Each_map _ _ (cofactors_in m.list) (λ v iv. Each_map _ _ v (λ u i. i.variables) iv.each) (cofactors_over m.shared m.list combined))) h
+
+    step_length : length chain.step.1 ≡ variables m.shared.ring
+    step_length = (Each_split (λ s. length s.1 ≡ variables m.shared.ring) chain.front (chain.step ∷ []) (subst (Each (λ s. length s.1 ≡ variables m.shared.ring)) chain.split chain.pair.variables)).1.0
+
+    plain_trail :
+        (first : Step) (later : List Step)
+        → t.steps.items ≡ first ∷ later
+        → IsTrail (work_of (variables m.shared.ring) m.shared) (members_of (variables m.shared.ring) m.list) pairs (trail_by (variables m.shared.ring) t first later)
+    plain_trail first later e =
+        let n = variables m.shared.ring in
+        let p = m.shared.ring.modulus.value in
+        let pair : ArePairSteps n (vectors_in m.list) (key_of n x.lcm) (first ∷ later) = subst (ArePairSteps n (vectors_in m.list) (key_of n x.lcm)) e chain.pair in
+        let last : last_step first later ≡ chain.step = ends_with chain.front chain.step first later (sym e ∙ chain.split) in
+        let lcm_is : key_of n x.lcm ≡ lcm_of (sums_of n (vectors_in m.list)) (pair_of x) = subst (λ G. key_of n x.lcm ≡ lcm_of G (pair_of x)) (vectors_are n m.list) of.lcm.lcm in
+        let high = chain.too_great in
+        let start : start_pair t.start ≡ pair_of x = ap start_pair start_is in
+        record {
+          members = record {
+            first = length (members_of n m.list);
+            there = omega arith;
+            rows = [];
+            combined = tt;
+            made = [];
+            makes = refl;
+            same = members_same ∙ sym (append-nil (take (length (members_of n m.list)) (members_of n m.list)) ∙ take_all (members_of n m.list));
+          };
+          start = subst (λ y. 0 < count y pairs) (sym start) taken;
+          pair = subst₂ (λ G y. IsPair (vectors G) y) (sym members_same) (sym start) of.real;
+          products =
+              subst (AreJobProducts p (vectors (trail_members n t)) (start_pair t.start ∷ [])) (sym (steps_apart n first later))
+              (subst₂ (λ G y. AreJobProducts p G (y ∷ []) (products_of n (first ∷ later))) (sym (ap vectors members_same ∙ vectors_are n m.list)) (sym start)
+              (job_steps (setting_of n m.shared) (shared_lawful n m.shared) (vectors_in m.list) (vectors_over m.shared m.list combined) (pair_of x) (key_of n x.lcm) (first ∷ later) lcm_is pair));
+          monomial =
+              subst₂ (λ G (s : Step). (i : ℕ) × (Occurs p (get_or (vectors G) s.0 []) (i, exponents_of n t.last) ⊎ Occurs p (get_or (cofactor_lists G) s.0 []) (i, exponents_of n t.last)))
+              (sym members_same) (sym last) (last_occurs chain.monomial);
+          above =
+              subst (λ (s : Step). 65535 < degree (exponents_of n s.1) + degree (exponents_of n t.last)) (sym last)
+              (omega (arith, degree_of n chain.step.1 step_length, degree_of n t.last (last_length chain.monomial)));
+        }
+      where
+        take_all : {X : Type 0} (xs : List X) → take (length xs) xs ≡ xs
+        take_all [] = refl
+        take_all (y ∷ xs) = ap (λ l. y ∷ l) (take_all xs)
+
+    pub way : IsTrail (work_of (variables m.shared.ring) m.shared) (members_of (variables m.shared.ring) m.list) pairs (trail_of (variables m.shared.ring) t)
+    way =
+        let s = some_steps chain.front chain.step t.steps.items chain.split in
+        subst (λ l. IsTrail (work_of (variables m.shared.ring) m.shared) (members_of (variables m.shared.ring) m.list) pairs (trail_over (variables m.shared.ring) t l)) (sym s.2) (plain_trail s.0 s.1 s.2)
+
+-- a pair of the job
+pub job_pair :
+    (j : JobShown) (i : ℕ) (x : CodePair)
+    → IsJob (variables j.shared.ring) j → i < length j.pairs → x ≡ get_or j.pairs i x
+    → AreOfPair (record { shared = j.shared; list = j.members }) x
+job_pair j i x h lt e = record {
+  monic = h.monic;
+  real = pair_real j.pairs i x h.real lt e;
+  lcm = Each_at (HasLcm (variables j.shared.ring) j.members) j.pairs i x h.lcms lt e;
+}
+  where
+    pair_real :
+        (xs : List CodePair) (k : ℕ) (y : CodePair)
+        → Each (IsPair (vectors (members_of (variables j.shared.ring) j.members))) (pairs_of xs) → k < length xs → y ≡ get_or xs k y
+        → IsPair (vectors (members_of (variables j.shared.ring) j.members)) (pair_of y)
+    pair_real [] k y r l q = absurd (omega arith)
+    pair_real (z ∷ xs) zero y r l q = subst (λ w. IsPair (vectors (members_of (variables j.shared.ring) j.members)) (pair_of w)) (sym q) r.0
+    pair_real (z ∷ xs) (suc k) y r l q = pair_real xs k y r.1 (omega arith) q
+
+-- the chain of a pair of the job
+pub job_trail :
+    (j : JobShown) (i : ℕ) (x : CodePair) (t : KeptTrail)
+    → IsJob (variables j.shared.ring) j → AreCombined j.shared j.members → i < length j.pairs → x ≡ get_or j.pairs i x
+    → IsPairChain (variables j.shared.ring) j.members (key_of (variables j.shared.ring) x.lcm) t.steps.items t.last
+    → t.ring ≡ j.shared.ring → t.rank ≡ j.shared.rank → t.generators ≡ j.shared.generators → t.below.items ≡ []
+    → t.start ≡ starts.Pair x.i x.j → t.vector ≡ [] → t.members ≡ vectors_in j.members → t.cofs ≡ Some (cofactors_in j.members)
+    → IsJobTrail j t
+job_trail j i x t h combined lt e chain e_ring e_rank e_generators e_below e_start e_vector e_members e_cofs =
+    let m : MembersShown = record { shared = j.shared; list = j.members } in
+    let of = job_pair j i x h lt e in
+    let taken = count_at j.pairs i x lt e in
+    record {
+      pair = pair_trail m x of combined t (pairs_of j.pairs) chain e_ring e_rank e_generators e_below e_start e_vector e_members e_cofs taken;
+      way = way m x of combined t (pairs_of j.pairs) chain e_ring e_rank e_generators e_below e_start e_vector e_members e_cofs taken;
+    }

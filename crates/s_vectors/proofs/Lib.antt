@@ -1,0 +1,14 @@
+pub mod Lists
+pub mod Parts
+pub mod Linking
+pub mod Stopping
+pub mod TopParts
+pub mod TopSteps
+pub mod Remainders
+pub mod Leaving
+pub mod Combined
+pub mod Making
+pub mod Solved
+pub mod Joining
+pub mod JobTrails
+pub mod Collecting

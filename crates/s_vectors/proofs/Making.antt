@@ -1,0 +1,149 @@
+-- Keys that occur in the products of steps
+use Rattle.std.proofs.Common.{List, [], ap, append_assoc, arith, cond, get_or, inl, inr, length, length-append, map, refl, subst, subst₂, suc, sym, zero, ℕ, ◌*◌, ◌++◌, ◌+◌, ◌<◌, ◌∙◌, ◌∷◌, ◌≡◌, ◌⊎◌}
+use Rattle.std.proofs.lemmas.List.{get_or-map, get_or_append_left, length-map}
+use Rattle.residues.proofs.Congruences.{IsCongruent_of, IsCongruent_trans}
+use Rattle.residues.specs.Residues.{IsCongruent}
+use Rattle.monomials.specs.Exponents.{Exponents, exponents_of, unit}
+use Rattle.formal_sums.proofs.WeightedSums.{same_key-shift, weighted_sum-scale, weighted_sum_ext}
+use Rattle.formal_sums.specs.Combinations.{combination}
+use Rattle.formal_sums.specs.FormalSums.{Each, FormalSum, IsSame, Key, coefficient, indicator, scale, shift}
+use Rattle.bases.specs.Leads.{head_key}
+use Rattle.bases.specs.Settings.{IsLawful, Setting}
+use Rattle.module_vectors.proofs.NormalVectors.{residues_of}
+use Rattle.module_vectors.specs.Trails.{AreMet, HasKey, IsInProduct, IsMet, Step, product_lead}
+use Rattle.module_vectors.specs.Vectors.{IsVector, sum_of, sums_of}
+use Rattle.module_vectors.specs.declared.key.Key.{Key as CodeKey}
+use Rattle.vector_division.proofs.Members.{sums_at}
+use Rattle.vector_division.proofs.Occurring.{at_key, nonzeros, occurs}
+use Rattle.vector_division.specs.Reductions.{cofactors_of, step_of}
+use Rattle.vector_division.specs.declared.reduction.Quotient.{Quotient}
+use Rattle.basis_steps.proofs.Counting.{is_same_pair-refl}
+use Rattle.basis_steps.specs.Criteria.{lcm_of}
+use Rattle.basis_steps.specs.Outcomes as plain
+use Rattle.basis_steps.specs.Outcomes.{AreJobProducts, IsMadeOf, Occurs, OccursBefore, product_at, product_vector}
+use Rattle.basis_steps.specs.Pairs.{Pair, count}
+use Rattle.basis_core.specs.Outcomes.{product_of, products_of}
+use Rattle.s_vectors.proofs.Linking.{key_of_parts}
+use Rattle.s_vectors.specs.Steps.{ArePairSteps}
+
+coefficient-shifted : {n : ℕ} (c : ℕ) (m : Exponents n) (v : FormalSum n) (k : Key n) → coefficient (scale c m v) (shift m k) ≡ c * coefficient v k
+coefficient-shifted c m v k =
+    weighted_sum-scale (indicator (shift m k)) c m v
+    ∙ ap (λ x. c * x) (weighted_sum_ext _ (indicator k) (λ l. ap (λ b. cond b 1 0) (same_key-shift m k l)) v)
+
+pub count_here : (x : Pair) → 0 < count x (x ∷ [])
+count_here x = rw (is_same_pair-refl x) (omega arith)
+
+pub item_of : {X : Type 0} (P : List X → Type 0) (list : List (List X)) (i : ℕ) → P [] → Each P list → P (get_or list i [])
+item_of P [] i z h = z
+item_of P (v ∷ list) zero z h = h.0
+item_of P (v ∷ list) (suc i) z h = item_of P list i z h.1
+
+pub product_is : (n : ℕ) (steps : List Step) (i : ℕ) (s : Step) → i < length steps → get_or steps i s ≡ s → product_at (products_of n steps) i ≡ product_of n s
+product_is n steps i s lt e = get_or-map (λ t. product_of n t) steps i s (0, unit n) lt ∙ ap (λ t. product_of n t) e
+
+module _ {n : ℕ} (S : Setting n) (lawful : IsLawful S) (list : List (List (CodeKey × ℕ))) (over : Each (IsVector n S.modulus S.compare) list) where
+  -- a key of a vector of the list has a coefficient
+  pub vector_occurs : (i : ℕ) (l : Key n) → HasKey (sum_of n (get_or list i [])) l → Occurs S.modulus (get_or (sums_of n list) i []) l
+  vector_occurs i l h =
+      let v = get_or list i [] in
+      let iv : IsVector n S.modulus S.compare v = item_of (IsVector n S.modulus S.compare) list i (record { each = tt; descends = tt }) over in
+      subst (λ w. Occurs S.modulus w l) (sym (sums_at n list i))
+      (at_key (λ z. IsCongruent S.modulus (coefficient (sum_of n v) z) 0 → ⊥) (sum_of n v) l (nonzeros S lawful (sum_of n v) iv.descends (residues_of n S.modulus v iv.each)) h)
+
+  -- and so has a key of a product
+  product_occurs : (s : Step) (k : Key n) → IsInProduct n list k s → Occurs S.modulus (product_vector (sums_of n list) (product_of n s)) k
+  product_occurs s k (l, h, e) =
+      let m = exponents_of n s.1 in
+      let v : FormalSum n = get_or (sums_of n list) s.0 [] in
+      λ z. vector_occurs s.0 l h (IsCongruent_trans (IsCongruent_of S.modulus (coefficient v l) (1 * coefficient v l) (omega arith))
+      (IsCongruent_trans (IsCongruent_of S.modulus _ _ (sym (coefficient-shifted 1 m v l))) (subst (λ y. IsCongruent S.modulus (coefficient (scale 1 m v) y) 0) e z)))
+
+  occurs_before :
+      (steps : List Step) (count : ℕ) (s : Step) (i : ℕ) (k : Key n)
+      → i < count → i < length steps → get_or steps i s ≡ s → IsInProduct n list k s
+      → OccursBefore S.modulus (sums_of n list) (products_of n steps) count k
+  occurs_before steps count s i k low lt e h = (
+    i,
+    low,
+    subst (λ z. i < z) (sym (length-map steps (λ t. product_of n t))) lt,
+    subst (λ t. Occurs S.modulus (product_vector (sums_of n list) t) k) (sym (product_is n steps i s lt e)) (product_occurs s k h),
+  )
+
+  -- what stands for the sum of the parts is made of their products
+  pub made_of_parts :
+      (parts : List Quotient) (w : FormalSum n)
+      → IsSame S.modulus w (combination (sums_of n list) (cofactors_of n parts))
+      → IsMadeOf S.modulus (sums_of n list) (products_of n (map step_of parts)) w
+  made_of_parts parts w same = λ k occ. go k occ (occurs (combination (sums_of n list) (cofactors_of n parts)) k)
+    where
+      go :
+          (k : Key n) → Occurs S.modulus w k
+          → HasKey (combination (sums_of n list) (cofactors_of n parts)) k ⊎ (coefficient (combination (sums_of n list) (cofactors_of n parts)) k ≡ 0)
+          → OccursBefore S.modulus (sums_of n list) (products_of n (map step_of parts)) (length (products_of n (map step_of parts))) k
+      go k occ (inr z) = absurd (occ (IsCongruent_trans (same.by_key k) (IsCongruent_of S.modulus _ _ z)))
+      go k occ (inl h) =
+          let r = key_of_parts n list parts k h in
+          let lt : r.1.0 < length (map step_of parts) = r.1.1 in
+          occurs_before (map step_of parts) (length (products_of n (map step_of parts))) r.0 r.1.0 k (subst (λ z. r.1.0 < z) (sym (length-map (map step_of parts) (λ t. product_of n t))) lt) lt r.1.2 r.2
+
+  -- what is met occurs in an earlier product
+  met_before :
+      (e later : List Step) (i : ℕ) (s : Step)
+      → AreMet n [] list e later → i < length later → s ≡ get_or later i s
+      → OccursBefore S.modulus (sums_of n list) (products_of n (e ++ later)) (length e + i) (product_lead n list s)
+  met_before e [] i s h lt is = absurd (omega arith)
+  met_before e (t ∷ later) zero s h lt is = go h.0
+    where
+      go : IsMet n [] list e (product_lead n list t) → OccursBefore S.modulus (sums_of n list) (products_of n (e ++ t ∷ later)) (length e + 0) (product_lead n list s)
+      go (inl (j, l, q)) = absurd (let z : j < 0 = l in omega arith)
+      go (inr (u, (j, l, q), p)) =
+          occurs_before (e ++ t ∷ later) (length e + 0) u j (product_lead n list s) (omega arith) (omega (arith, length-append e (t ∷ later)))
+          (get_or_append_left e (t ∷ later) u j l ∙ q) (subst (λ z. IsInProduct n list (product_lead n list z) u) (sym is) p)
+  met_before e (t ∷ later) (suc i) s h lt is =
+      subst₂ (λ z c. OccursBefore S.modulus (sums_of n list) (products_of n z) c (product_lead n list s)) (append_assoc e (t ∷ []) later) (omega (arith, length-append e (t ∷ [])))
+      (met_before (e ++ t ∷ []) later i s h.1 (omega arith) is)
+
+  lead_same : (s : Step) → plain.product_lead (sums_of n list) (product_of n s) ≡ product_lead n list s
+  lead_same s = ap (λ v. shift (exponents_of n s.1) (head_key v)) (sums_at n list s.0)
+
+  -- the products of a pair's steps are products of a job of that pair
+  pub job_steps :
+      (x : Pair) (k : Key n) (steps : List Step)
+      → k ≡ lcm_of (sums_of n list) x → ArePairSteps n list k steps
+      → AreJobProducts S.modulus (sums_of n list) (x ∷ []) (products_of n steps)
+  job_steps x k [] e h = λ i lt. absurd (omega arith)
+  job_steps x k (first ∷ later) e h = λ i lt. at i lt
+    where
+      steps : List Step
+      steps = first ∷ later
+
+      known_at : (xs : List Step) (i : ℕ) (d : Step) → Each (λ s. s.0 < length list) xs → i < length xs → (get_or xs i d).0 < length list
+      known_at [] i d g lt = absurd (omega arith)
+      known_at (s ∷ xs) zero d g lt = g.0
+      known_at (s ∷ xs) (suc i) d g lt = known_at xs i d g.1 (omega arith)
+
+      at :
+          (i : ℕ) → i < length (products_of n (first ∷ later))
+          → ((product_at (products_of n (first ∷ later)) i).0 < length (sums_of n list))
+          × (((y : Pair) × (0 < count y (x ∷ [])) × (plain.product_lead (sums_of n list) (product_at (products_of n (first ∷ later)) i) ≡ lcm_of (sums_of n list) y))
+          ⊎ OccursBefore S.modulus (sums_of n list) (products_of n (first ∷ later)) i (plain.product_lead (sums_of n list) (product_at (products_of n (first ∷ later)) i)))
+      at zero lt = (
+        subst (λ z. first.0 < z) (sym (length-map list (λ v. sum_of n v))) h.known.0,
+        inl (x, count_here x, lead_same first ∙ h.linked.0 ∙ e),
+      )
+      at (suc i) lt =
+          let s = get_or later i (0, []) in
+          let short : i < length later = (let q = length-map (first ∷ later) (λ t. product_of n t) in omega arith) in
+          let is : s ≡ get_or later i s = default_free later i short in
+          let pr : product_at (products_of n (first ∷ later)) (suc i) ≡ product_of n s = product_is n later i s short (sym is) in (
+            subst (λ t. t.0 < length (sums_of n list)) (sym pr) (subst (λ z. s.0 < z) (sym (length-map list (λ v. sum_of n v))) (known_at later i (0, []) h.known.1 short)),
+            inr (subst (λ t. OccursBefore S.modulus (sums_of n list) (products_of n (first ∷ later)) (suc i) (plain.product_lead (sums_of n list) t)) (sym pr)
+                (subst₂ (λ z c. OccursBefore S.modulus (sums_of n list) (products_of n (first ∷ later)) c z) (sym (lead_same s)) (omega arith)
+                (met_before (first ∷ []) later i s h.linked.1 short is))),
+          )
+        where
+          default_free : (xs : List Step) (i : ℕ) → i < length xs → get_or xs i (0, []) ≡ get_or xs i (get_or xs i (0, []))
+          default_free [] i l = absurd (omega arith)
+          default_free (y ∷ xs) zero l = refl
+          default_free (y ∷ xs) (suc i) l = default_free xs i (omega arith)

@@ -1,0 +1,5 @@
+pub mod Parts
+pub mod Steps
+pub mod Divided
+pub mod Solutions
+pub mod Trails

@@ -1,0 +1,220 @@
+// The division of an S-vector by the members.
+ghost use Rattle.std.specs.Prelude.{◌≡◌, ◌<◌, ◌+◌, ◌++◌, ◌⊎◌, ℕ, List, IfOk, IfErr, OnOk, length, map, take};
+ghost use Rattle.formal_sums.specs.FormalSums.{Each, Key as KeyOf};
+ghost use Rattle.module_vectors.specs.Rings.{variables};
+ghost use Rattle.module_vectors.specs.Vectors.{key_of};
+ghost use Rattle.module_vectors.specs.declared.key.Key.{Key as KeyValue};
+ghost use Rattle.module_vectors.specs.declared.ring.Ring.{Ring as RingValue};
+ghost use Rattle.vector_division.specs.Divisions.{DivisionStops};
+ghost use Rattle.vector_division.specs.Reductions.{step_of};
+ghost use Rattle.basis_core.specs.Members.{Tracked};
+ghost use Rattle.basis_core.specs.Rows.{cofactors_in, vectors_in};
+ghost use Rattle.s_vectors.specs.Divided.{AreOfPair, HasKeysMet, IsDivided, IsTopVector, negated};
+ghost use Rattle.s_vectors.specs.Parts.{SumStops};
+ghost use Rattle.s_vectors.specs.Solutions.{IsSolvedPair};
+ghost use Rattle.s_vectors.specs.Steps.{ArePairSteps, PairStops};
+
+use crate::cofactors::Cofactors;
+use crate::pairs::pair_parts;
+use crate::stops::{Chain, PairStop, steps_of};
+use crate::sums::{SumStop, sum_of_parts};
+use basis_core::Members;
+use cofactor_track::Member;
+use module_vectors::{KeptTrail, NoMemory, Ring, Vect, WorkStop};
+use monomial_orders::Mono;
+use pair_criteria::Pair;
+use std::alloc::Global;
+use std::collections::VecDeque;
+use std::sync::Arc;
+use vector_division::{Quotient, reduce};
+use zp_field::Modulus;
+
+/// What the division of an S-vector brings: the products that were made, and what is left as a row, unless it is zero.
+#[derive(Drop)]
+pub(crate) struct Division {
+    pub(crate) steps: Vec<(u64, Mono)>,
+    pub(crate) row: Option<Member>,
+}
+
+// The steps of the first parts, up to the one with this number.
+fn steps_to(
+    alloc: Global,
+    parts: Vec<Quotient>,
+    number: usize,
+) -> Result<Vec<(u64, Mono)>, NoMemory>
+    ensures { IfOk result (λ steps. number < length parts.items → steps.items ≡ map step_of (take (number + 1) parts.items)) }
+{
+    let mut parts = parts;
+    if number < parts.len() {
+        parts.truncate(number + 1);
+    }
+    steps_of(alloc, parts)
+}
+
+// The stop where the sum of the parts' vectors or cofactors stopped.
+fn stop_of_sum(alloc: Global, parts: Vec<Quotient>, stop: SumStop) -> PairStop
+    ensures { (n : ℕ) (ms : List Tracked) (k : KeyOf n) → ArePairSteps n (vectors_in ms) k (map step_of parts.items) → SumStops (vectors_in ms) parts.items stop ⊎ SumStops (cofactors_in ms) parts.items stop → PairStops n ms k result }
+{
+    match stop {
+        SumStop::Memory => PairStop::Memory,
+        SumStop::Degree(number, last) => match steps_to(alloc, parts, number) {
+            Ok(steps) => PairStop::Degree(Chain { steps, last }),
+            Err(NoMemory) => PairStop::Memory,
+        },
+    }
+}
+
+// The steps of the parts and later ones.
+fn steps_before(
+    alloc: Global,
+    parts: Vec<Quotient>,
+    later: Vec<(u64, Mono)>,
+) -> Result<Vec<(u64, Mono)>, NoMemory>
+    ensures { IfOk result (λ steps. steps.items ≡ map step_of parts.items ++ later.items) }
+{
+    let mut later = later;
+    let mut steps = steps_of(alloc, parts)?;
+    steps.append(&mut later)?;
+    Ok(steps)
+}
+
+// The stop where the division of a vector with these parts stopped.
+fn stop_of_division(alloc: Global, parts: Vec<Quotient>, stop: WorkStop) -> PairStop
+    ensures { (ring : RingValue) (ms : List Tracked) (k : KeyOf (variables ring)) (v : List (KeyValue × ℕ)) → 0 < length parts.items → ArePairSteps (variables ring) (vectors_in ms) k (map step_of parts.items) → HasKeysMet (variables ring) v (vectors_in ms) (map step_of parts.items) → DivisionStops ring v (vectors_in ms) stop → PairStops (variables ring) ms k result }
+{
+    match stop {
+        WorkStop::Memory => PairStop::Memory,
+        WorkStop::Degree(trail) => {
+            let KeptTrail { steps, last, .. } = trail;
+            match steps_before(alloc, parts, steps) {
+                Ok(steps) => PairStop::Degree(Chain { steps, last }),
+                Err(NoMemory) => PairStop::Memory,
+            }
+        }
+    }
+}
+
+// Puts the quotients' products behind the parts, to be taken away.
+fn take_quotients(
+    modulus: &Modulus,
+    parts: &mut Vec<Quotient>,
+    quotients: Vec<Quotient>,
+) -> Result<(), NoMemory>
+    requires { Each (λ q. q.residue < modulus.now.value) quotients.items }
+    ensures { OnOk result (parts.new.items ≡ parts.old.items ++ map (negated modulus.now.value) quotients.items) }
+{
+    let mut rest = VecDeque::from_vec(quotients);
+    while let Some(quotient) = rest.pop_front() {
+        parts.push(Quotient {
+            index: quotient.index,
+            residue: modulus.neg(quotient.residue),
+            monomial: quotient.monomial,
+        })?;
+    }
+    Ok(())
+}
+
+// What is left becomes a row: its cofactors are the sum of the parts' products with the members' cofactors.
+fn make_row(
+    alloc: Global,
+    ring: &Ring,
+    members: &Members,
+    pair: &Pair,
+    parts: Vec<Quotient>,
+    vector: Vect,
+) -> Result<Division, PairStop>
+    requires over { ring.now ≡ members.now.shared.ring }
+    requires pair { AreOfPair members.now pair.now }
+    requires divided { IsDivided members.now pair.now parts.items vector }
+    requires some { 0 < length vector }
+    ensures solved { IfOk result (IsSolvedPair members.now pair.now) }
+    ensures stop { let n = variables ring.now in IfErr result (PairStops n members.now.list (key_of n pair.now.lcm)) }
+{
+    members.kept();
+    let cof = match sum_of_parts(alloc, ring, &parts, &Cofactors { members }) {
+        Ok(cof) => cof,
+        Err(stop) => return Err(stop_of_sum(alloc, parts, stop)),
+    };
+    let row = Member {
+        shared: Arc::try_clone(members.shared())?,
+        vector,
+        cof,
+    };
+    Ok(Division {
+        steps: steps_of(alloc, parts)?,
+        row: Some(row),
+    })
+}
+
+// Divides the S-vector, the sum of these two parts, which is not zero.
+fn divide_vector(
+    alloc: Global,
+    ring: &Ring,
+    members: &Members,
+    pair: &Pair,
+    parts: Vec<Quotient>,
+    vector: &Vect,
+) -> Result<Division, PairStop>
+    requires over { ring.now ≡ members.now.shared.ring }
+    requires pair { AreOfPair members.now pair.now }
+    requires some { 0 < length vector.now }
+    requires top { IsTopVector members.now pair.now parts.items vector.now }
+    ensures solved { IfOk result (IsSolvedPair members.now pair.now) }
+    ensures stop { let n = variables ring.now in IfErr result (PairStops n members.now.list (key_of n pair.now.lcm)) }
+{
+    members.kept();
+    let mut parts = parts;
+    let reduction = match reduce(alloc, ring, vector, members) {
+        Ok(reduction) => reduction,
+        Err(stop) => return Err(stop_of_division(alloc, parts, stop)),
+    };
+    take_quotients(&ring.modulus, &mut parts, reduction.quotients)?;
+    if reduction.rest.terms().is_empty() {
+        return Ok(Division {
+            steps: steps_of(alloc, parts)?,
+            row: None,
+        });
+    }
+    make_row(alloc, ring, members, pair, parts, reduction.rest)
+}
+
+// The S-vector of the pair, divided: `ring` is that of the members.
+fn divide_over(
+    alloc: Global,
+    ring: &Ring,
+    members: &Members,
+    pair: &Pair,
+) -> Result<Division, PairStop>
+    requires over { ring.now ≡ members.now.shared.ring }
+    requires pair { AreOfPair members.now pair.now }
+    ensures solved { IfOk result (IsSolvedPair members.now pair.now) }
+    ensures stop { let n = variables ring.now in IfErr result (PairStops n members.now.list (key_of n pair.now.lcm)) }
+{
+    members.kept();
+    let parts = pair_parts(alloc, ring, members, pair)?;
+    let vector = match sum_of_parts(alloc, ring, &parts, members) {
+        Ok(vector) => vector,
+        Err(stop) => return Err(stop_of_sum(alloc, parts, stop)),
+    };
+    if vector.terms().is_empty() {
+        return Ok(Division {
+            steps: steps_of(alloc, parts)?,
+            row: None,
+        });
+    }
+    divide_vector(alloc, ring, members, pair, parts, &vector)
+}
+
+/// Divides the pair's S-vector by the members, greatest term first. What is left becomes a row with its cofactors over
+/// the generators, unless it is zero. IVA chapter 2, section 7.
+pub(crate) fn divide_pair(
+    alloc: Global,
+    members: &Members,
+    pair: &Pair,
+) -> Result<Division, PairStop>
+    requires pair { AreOfPair members.now pair.now }
+    ensures solved { IfOk result (IsSolvedPair members.now pair.now) }
+    ensures stop { let n = variables members.now.shared.ring in IfErr result (PairStops n members.now.list (key_of n pair.now.lcm)) }
+{
+    divide_over(alloc, &members.shared().ring, members, pair)
+}

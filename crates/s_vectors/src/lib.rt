@@ -1,0 +1,16 @@
+//! A job of the basis core is solved by plain division of its S-vectors by its members: what is left of each becomes a
+//! row, with its cofactors over the generators. IVA chapter 2, section 7.
+#![tactic(auto)]
+
+mod cofactors;
+mod division;
+mod pairs;
+mod solving;
+mod stops;
+mod sums;
+mod trails;
+
+pub use solving::solve;
+
+#[cfg(test)]
+mod tests;

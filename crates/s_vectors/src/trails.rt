@@ -1,0 +1,54 @@
+// The trail of a job that meets a product of too great a degree.
+ghost use Rattle.std.specs.Prelude.{◌≡◌, ◌<◌, IfOk, length, get_or};
+ghost use Rattle.module_vectors.specs.Rings.{variables};
+ghost use Rattle.module_vectors.specs.Vectors.{key_of};
+ghost use Rattle.pair_criteria.specs.declared.pair.Pair.{Pair as CodePair};
+ghost use Rattle.s_vectors.specs.Steps.{IsPairChain};
+ghost use Rattle.s_vectors.specs.Trails.{IsJobTrail};
+
+use crate::cofactors::Cofactors;
+use crate::stops::Chain;
+use basis_core::Job;
+use module_vectors::{KeptTrail, NoMemory, TrailStart, Vect, VectList, Vectors};
+use std::alloc::Global;
+
+// The vectors of the list again.
+fn copy_list<L: Vectors>(alloc: Global, list: &L) -> Result<VectList, NoMemory>
+    ensures { IfOk result (λ copy. copy ≡ L.listed list.now) }
+{
+    let mut copy = VectList::new(alloc);
+    for i in 0..list.count() {
+        copy.push(list.at(i).try_copy(alloc)?)?;
+    }
+    Ok(copy)
+}
+
+/// The trail of the job's pair with this number, by these products.
+pub(crate) fn keep_trail(
+    alloc: Global,
+    job: &Job,
+    number: usize,
+    chain: Chain,
+) -> Result<KeptTrail, NoMemory>
+    requires known { number < length job.now.pairs }
+    requires chain { let n = variables job.now.shared.ring in (x : CodePair) → x ≡ get_or job.now.pairs number x → IsPairChain n job.now.members (key_of n x.lcm) chain.steps.items chain.last }
+    ensures { IfOk result (IsJobTrail job.now) }
+{
+    job.kept();
+    let pair = &job.pairs()[number];
+    let shared = job.shared();
+    let members = job.members();
+    members.kept();
+    Ok(KeptTrail {
+        ring: shared.ring.try_copy(alloc)?,
+        rank: shared.rank,
+        generators: copy_list(alloc, &shared.generators)?,
+        below: Vec::new(alloc),
+        start: TrailStart::Pair(pair.i, pair.j),
+        vector: Vect::zero(alloc),
+        members: copy_list(alloc, members)?,
+        cofs: Some(copy_list(alloc, &Cofactors { members })?),
+        steps: chain.steps,
+        last: chain.last,
+    })
+}
