@@ -14,8 +14,8 @@ use Rattle.base_examples.specs.Crossings.{budget_met, crossing, crossing_1, cros
 use Rattle.base_examples.specs.Examples.{at, generators, membership_cofactors, setting, square_plus, xy, y_squared}
 use Rattle.base_examples.specs.Histories.{member_0, member_1, state_4, two_members}
 use Rattle.basis_steps.specs.Criteria.{CriterionApplies}
-use Rattle.basis_steps.specs.Divisions.{IsMonicMember, LeavesMember, LeavesNothing, Makes}
-use Rattle.basis_steps.specs.Outcomes.{AreJobProducts, HasLeadBelowJob, IsMadeOf, IsOutcome, Occurs, OccursBefore}
+use Rattle.basis_steps.specs.Divisions.{IsMonicMember, LeavesMember, LeavesNothing, Makes, Occurs}
+use Rattle.basis_steps.specs.Outcomes.{AreJobProducts, HasLeadBelowJob, IsMadeOf, IsOutcome, OccursBefore}
 use Rattle.basis_steps.specs.Pairs.{Pair, count}
 use Rattle.basis_steps.specs.Queues.{is_new_pair}
 use Rattle.basis_steps.specs.States.{Product, Put, Take, cofactor_lists, vectors}
@@ -46,14 +46,14 @@ free_y (suc (suc zero), h, d) = y_apart 0 3 0 1 (omega arith) d
 free_y (suc (suc (suc i)), h, d) = absurd (omega arith)
 
 leaves_cubic : LeavesMember setting two_members cubic_member [] 1 1 cubic_member
-leaves_cubic = record { quotients = tt; at_most = inr refl; inverse = record { same = refl }; vector = IsSame_of 101 _ _ refl; cofactors = IsSame_of 101 _ _ refl; member = monic_cubic; free = free_cubic }
+leaves_cubic = record { quotients = tt; reached = tt; at_most = inr refl; inverse = record { same = refl }; vector = IsSame_of 101 _ _ refl; cofactors = IsSame_of 101 _ _ refl; member = monic_cubic; free = free_cubic }
 
 leaves_y : LeavesMember setting old_members y_member [] 1 1 y_member
-leaves_y = record { quotients = tt; at_most = inr refl; inverse = record { same = refl }; vector = IsSame_of 101 _ _ refl; cofactors = IsSame_of 101 _ _ refl; member = monic_y; free = free_y }
+leaves_y = record { quotients = tt; reached = tt; at_most = inr refl; inverse = record { same = refl }; vector = IsSame_of 101 _ _ refl; cofactors = IsSame_of 101 _ _ refl; member = monic_y; free = free_y }
 
 -- y^2 is y times the newest member
 leaves_nothing : LeavesNothing setting new_members square_row ((at 3 0 1, 1) ∷ [])
-leaves_nothing = record { quotients = ((omega arith, inr refl), tt); vector = IsSame_of 101 _ _ refl }
+leaves_nothing = record { quotients = ((omega arith, inr refl), tt); reached = (inl (occurs_at square_row.vector (at 0 0 2) refl), tt); vector = IsSame_of 101 _ _ refl }
 
 makes_old : Makes setting [] (generator_rows 0 crossing.generators) old_members
 makes_old = inr ([], 1, 1, member_0, member_1 ∷ (cubic_member ∷ []), leaves_0, refl, inr ([], 1, 1, member_1, cubic_member ∷ [], leaves_1, refl, inr ([], 1, 1, cubic_member, [], leaves_cubic, refl, refl)))

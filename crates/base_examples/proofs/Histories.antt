@@ -17,9 +17,9 @@ use Rattle.base_examples.specs.Histories.{after_put, first_state, last_state, me
 use Rattle.basis_steps.proofs.Counting.{is_same_pair-true}
 use Rattle.basis_steps.proofs.Keeping.{pair_of_new}
 use Rattle.basis_steps.specs.Criteria.{CriterionApplies}
-use Rattle.basis_steps.specs.Divisions.{IsMonicMember, LeavesMember, Makes}
+use Rattle.basis_steps.specs.Divisions.{IsMonicMember, LeavesMember, Makes, Occurs}
 use Rattle.basis_steps.specs.Invariant.{HaveAllEnded}
-use Rattle.basis_steps.specs.Outcomes.{AreJobProducts, HasLeadBelowJob, IsMadeOf, IsOutcome, Occurs, OccursBefore}
+use Rattle.basis_steps.specs.Outcomes.{AreJobProducts, HasLeadBelowJob, IsMadeOf, IsOutcome, OccursBefore}
 use Rattle.basis_steps.specs.Pairs.{Pair, count, is_same_pair}
 use Rattle.basis_steps.specs.Queues.{is_new_pair}
 use Rattle.basis_steps.specs.States.{End, Ended, IsLawfulRun, MoreWork, Product, Put, Take, cofactor_lists}
@@ -51,13 +51,13 @@ free_2 (suc zero, h, d) = x_apart 1 1 0 2 (omega arith) d
 free_2 (suc (suc i), h, d) = absurd (omega arith)
 
 pub leaves_0 : LeavesMember setting [] member_0 [] 1 1 member_0
-leaves_0 = record { quotients = tt; at_most = inr refl; inverse = record { same = refl }; vector = IsSame_of 101 _ _ refl; cofactors = IsSame_of 101 _ _ refl; member = monic_0; free = free_0 }
+leaves_0 = record { quotients = tt; reached = tt; at_most = inr refl; inverse = record { same = refl }; vector = IsSame_of 101 _ _ refl; cofactors = IsSame_of 101 _ _ refl; member = monic_0; free = free_0 }
 
 pub leaves_1 : LeavesMember setting (member_0 ∷ []) member_1 [] 1 1 member_1
-leaves_1 = record { quotients = tt; at_most = inr refl; inverse = record { same = refl }; vector = IsSame_of 101 _ _ refl; cofactors = IsSame_of 101 _ _ refl; member = monic_1; free = free_1 }
+leaves_1 = record { quotients = tt; reached = tt; at_most = inr refl; inverse = record { same = refl }; vector = IsSame_of 101 _ _ refl; cofactors = IsSame_of 101 _ _ refl; member = monic_1; free = free_1 }
 
 leaves_2 : LeavesMember setting two_members member_2 [] 1 1 member_2
-leaves_2 = record { quotients = tt; at_most = inr refl; inverse = record { same = refl }; vector = IsSame_of 101 _ _ refl; cofactors = IsSame_of 101 _ _ refl; member = monic_2; free = free_2 }
+leaves_2 = record { quotients = tt; reached = tt; at_most = inr refl; inverse = record { same = refl }; vector = IsSame_of 101 _ _ refl; cofactors = IsSame_of 101 _ _ refl; member = monic_2; free = free_2 }
 
 makes_two : Makes setting [] (generator_rows 0 generators) two_members
 makes_two = inr ([], 1, 1, member_0, member_1 ∷ [], leaves_0, refl, inr ([], 1, 1, member_1, [], leaves_1, refl, refl))

@@ -38,13 +38,13 @@ free_y (suc zero, h, d) = x_apart 1 1 0 2 (omega arith) d
 free_y (suc (suc i), h, d) = absurd (omega arith)
 
 leaves_x : LeavesMember setting [] x_member [] 1 1 x_member
-leaves_x = record { quotients = tt; at_most = inr refl; inverse = record { same = refl }; vector = IsSame_of 101 _ _ refl; cofactors = IsSame_of 101 _ _ refl; member = monic_x; free = free_x }
+leaves_x = record { quotients = tt; reached = tt; at_most = inr refl; inverse = record { same = refl }; vector = IsSame_of 101 _ _ refl; cofactors = IsSame_of 101 _ _ refl; member = monic_x; free = free_x }
 
 leaves_xy : LeavesMember setting (x_member ∷ []) member_1 [] 1 1 member_1
-leaves_xy = record { quotients = tt; at_most = inr refl; inverse = record { same = refl }; vector = IsSame_of 101 _ _ refl; cofactors = IsSame_of 101 _ _ refl; member = monic_1; free = free_xy }
+leaves_xy = record { quotients = tt; reached = tt; at_most = inr refl; inverse = record { same = refl }; vector = IsSame_of 101 _ _ refl; cofactors = IsSame_of 101 _ _ refl; member = monic_1; free = free_xy }
 
 leaves_y : LeavesMember setting (x_member ∷ (member_1 ∷ [])) y_member [] 1 1 y_member
-leaves_y = record { quotients = tt; at_most = inr refl; inverse = record { same = refl }; vector = IsSame_of 101 _ _ refl; cofactors = IsSame_of 101 _ _ refl; member = monic_2; free = free_y }
+leaves_y = record { quotients = tt; reached = tt; at_most = inr refl; inverse = record { same = refl }; vector = IsSame_of 101 _ _ refl; cofactors = IsSame_of 101 _ _ refl; member = monic_2; free = free_y }
 
 makes_all : Makes setting [] (generator_rows 0 sharing.generators) monomial_members
 makes_all = inr ([], 1, 1, x_member, member_1 ∷ (y_member ∷ []), leaves_x, refl, inr ([], 1, 1, member_1, y_member ∷ [], leaves_xy, refl, inr ([], 1, 1, y_member, [], leaves_y, refl, refl)))

@@ -16,11 +16,12 @@ use Rattle.basis_steps.proofs.Making.{makes_combined, makes_members, makes_new_l
 use Rattle.basis_steps.specs.Criteria.{AreCovered, IsPair, Skips, waiting}
 use Rattle.basis_steps.specs.Divisions.{Makes}
 use Rattle.basis_steps.specs.Invariant.{HoldsInvariant}
+use Rattle.basis_steps.specs.Outcomes.{IsOutcome}
 use Rattle.basis_steps.specs.Pairs.{Pair, count}
 use Rattle.basis_steps.specs.Queues.{IsSorted, compare_pairs, is_new_pair, share}
 use Rattle.basis_steps.specs.States.{Degree, End, Ended, Ending, Event, IsLawfulRun, Member, MoreWork, Pairs, Put, Run, State, Stop, StopReason, Take, Trail, job_given, job_of, pairs_out, pairs_taken, vectors, with_others}
 use Rattle.basis_steps.specs.Steps.{Ends, FindsStop, MayTake, Puts, Step, Stops, Takes, ended_after, ending_of, first_stop, is_empty, is_stopped, out_with, stop_of_take}
-use Rattle.basis_steps.specs.Trails.{IsTrail}
+use Rattle.basis_steps.specs.Trails.{AreFirstRows, IsTrail}
 
 taken-append : {n : ℕ} (es : List (Event n)) (e : Event n) → pairs_taken (es ++ (e ∷ [])) ≡ pairs_taken es ++ job_given e
 taken-append [] e = append-nil (job_given e)
@@ -93,6 +94,24 @@ take_front zero xs ys h = refl
 take_front (suc k) [] ys h = absurd (omega arith)
 take_front (suc k) (x ∷ xs) ys h = ap (λ l. x ∷ l) (take_front k xs ys (omega arith))
 
+-- the first rows of an outcome stay such as members are added and pairs taken
+first_rows_more :
+    {n : ℕ} (r : Run n) (G H : List (Member n)) (taken more : List Pair) (rows : List (Member n))
+    → length G ≤ length H → ((k : ℕ) → k ≤ length G → take k H ≡ take k G) → ((x : Pair) → count x taken ≤ count x more)
+    → (rows ≡ []) ⊎ AreFirstRows r G taken rows → (rows ≡ []) ⊎ AreFirstRows r H more rows
+first_rows_more r G H taken more rows longer same le (inl none) = inl none
+first_rows_more r G H taken more rows longer same le (inr h) = inr (record {
+  base = h.base;
+  known = omega (arith, h.known, longer);
+  job = h.job;
+  given = λ x. omega (arith, h.given x, le x);
+  all = h.all;
+  products = h.products;
+  outcome = subst (λ l. IsOutcome r l h.job h.all h.products) (sym (same h.base h.known)) h.outcome;
+  number = h.number;
+  first = h.first;
+})
+
 -- a trail stays one as members are added and pairs taken
 trail_more :
     {n : ℕ} (r : Run n) (G N : List (Member n)) (taken more : List Pair) (way : Trail n)
@@ -105,7 +124,7 @@ trail_more r G N taken more way le h =
         first = m.first;
         there = omega (arith, m.there, length-append G N);
         rows = m.rows;
-        combined = m.combined;
+        put = first_rows_more r G (G ++ N) taken more m.rows (omega (arith, length-append G N)) (λ k h. take_front k G N h) le m.put;
         made = m.made;
         makes = subst (λ l. Makes r.setting l m.rows m.made) (sym same) m.makes;
         same = m.same ∙ ap (λ l. l ++ m.made) (sym same);
@@ -121,7 +140,15 @@ trail_taken :
     {n : ℕ} (r : Run n) (G : List (Member n)) (taken more : List Pair) (way : Trail n)
     → ((x : Pair) → count x taken ≤ count x more) → IsTrail r G taken way → IsTrail r G more way
 trail_taken r G taken more way le h = record {
-  members = h.members;
+  members = record {
+    first = h.members.first;
+    there = h.members.there;
+    rows = h.members.rows;
+    put = first_rows_more r G G taken more h.members.rows (omega arith) (λ k h. refl) le h.members.put;
+    made = h.members.made;
+    makes = h.members.makes;
+    same = h.members.same;
+  };
   start = omega (arith, h.start, le way.start);
   pair = h.pair;
   products = h.products;

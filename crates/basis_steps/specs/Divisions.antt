@@ -1,10 +1,10 @@
 -- Rows divided by members until none divides the lead, and the members that this makes (IVA chapter 2, sections 3 and 7)
-use Rattle.std.specs.Prelude.{List, [], length, ℕ, ◌*◌, ◌++◌, ◌-◌, ◌<◌, ◌∷◌, ◌≡◌, ◌⊎◌}
+use Rattle.std.specs.Prelude.{Contains, List, [], get_or, length, ⊤, ℕ, ◌*◌, ◌++◌, ◌-◌, ◌<◌, ◌∷◌, ◌≡◌, ◌⊎◌}
 use Rattle.std.specs.declared.cmp.Ordering.TheVariants.{Less}
 use Rattle.residues.specs.Residues.{IsCongruent}
 use Rattle.monomials.specs.Exponents.{unit}
 use Rattle.formal_sums.specs.Combinations.{combination}
-use Rattle.formal_sums.specs.FormalSums.{Each, FormalSum, HasRank, IsSame, Key, scale}
+use Rattle.formal_sums.specs.FormalSums.{Each, FormalSum, HasRank, IsSame, Key, coefficient, scale}
 use Rattle.bases.specs.Bases.{IsCovered}
 use Rattle.bases.specs.Leads.{IsMonicLead, head_key}
 use Rattle.bases.specs.Representations.{place}
@@ -28,6 +28,21 @@ IsKeyAtMost S k l = (S.compare k l ≡ Less) ⊎ (k ≡ l)
 abbrev pub AreQuotients : {n : ℕ} → Setting n → List (FormalSum n) → Key n → FormalSum n → Type 0
 AreQuotients S G k a = Each (λ t. (t.0.0 < length G) × IsKeyAtMost S (place G t) k) a
 
+-- k is a monomial of v: its coefficient is not 0 modulo p
+abbrev pub Occurs : {n : ℕ} → ℕ → FormalSum n → Key n → Type 0
+Occurs p v k = IsCongruent p (coefficient v k) 0 → ⊥
+
+-- k is a monomial of v, or of the product of a member of G by one of these quotients
+abbrev pub IsReached : {n : ℕ} → ℕ → List (FormalSum n) → FormalSum n → FormalSum n → Key n → Type 0
+IsReached {n} p G v quotients k =
+    Occurs p v k
+    ⊎ ((t : Key n × ℕ) × Contains quotients t × Occurs p (scale 1 t.0.1 (get_or G t.0.0 [])) k)
+
+-- the products by the quotients a can be taken away one after another: the lead of each is a monomial of v or of a product before it
+abbrev pub AreReached : {n : ℕ} → ℕ → List (FormalSum n) → FormalSum n → FormalSum n → FormalSum n → Type 0
+AreReached p G v before [] = ⊤
+AreReached p G v before (t ∷ a) = IsReached p G v before (place G t) × AreReached p G v (before ++ (t ∷ [])) a
+
 -- v - w modulo p
 abbrev pub difference : {n : ℕ} → ℕ → FormalSum n → FormalSum n → FormalSum n
 difference {n} p v w = v ++ scale (p - 1) (unit n) w
@@ -35,6 +50,7 @@ difference {n} p v w = v ++ scale (p - 1) (unit n) w
 -- division of the row by the members G with the quotients a leaves c times g, and d times what is left is the monic g: no lead of G divides its lead (IVA chapter 2, section 3)
 pub record LeavesMember {n : ℕ} (S : Setting n) (G : List (Member n)) (row : Member n) (a : FormalSum n) (c d : ℕ) (g : Member n) : Type 0 where
   pub quotients : AreQuotients S (vectors G) (head_key row.vector) a
+  pub reached : AreReached S.modulus (vectors G) row.vector [] a
   pub at_most : IsKeyAtMost S (head_key g.vector) (head_key row.vector)
   pub inverse : IsCongruent S.modulus (c * d) 1
   pub vector : IsSame S.modulus g.vector (scale d (unit n) (difference S.modulus row.vector (combination (vectors G) a)))
@@ -45,6 +61,7 @@ pub record LeavesMember {n : ℕ} (S : Setting n) (G : List (Member n)) (row : M
 -- division of the row by the members G with the quotients a leaves 0 (IVA chapter 2, section 3)
 pub record LeavesNothing {n : ℕ} (S : Setting n) (G : List (Member n)) (row : Member n) (a : FormalSum n) : Type 0 where
   pub quotients : AreQuotients S (vectors G) (head_key row.vector) a
+  pub reached : AreReached S.modulus (vectors G) row.vector [] a
   pub vector : IsSame S.modulus row.vector (combination (vectors G) a)
 
 -- each row in turn is divided by the members of that moment, older and newer ones and those that the rows before it made, and becomes a member where it is not 0

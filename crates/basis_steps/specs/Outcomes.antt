@@ -1,19 +1,14 @@
 -- What a job comes back with: rows that represent its pairs (Faugère 1999, section 2)
 use Rattle.std.specs.Prelude.{List, [], get_or, length, ℕ, ◌*◌, ◌++◌, ◌<◌, ◌≡◌, ◌⊎◌}
 use Rattle.std.specs.declared.cmp.Ordering.TheVariants.{Less}
-use Rattle.residues.specs.Residues.{IsCongruent}
 use Rattle.monomials.specs.Exponents.{unit}
-use Rattle.formal_sums.specs.FormalSums.{Each, FormalSum, Key, coefficient, scale, shift}
+use Rattle.formal_sums.specs.FormalSums.{Each, FormalSum, Key, scale, shift}
 use Rattle.bases.specs.Leads.{IsLead, leads}
 use Rattle.bases.specs.Settings.{Setting}
 use Rattle.basis_steps.specs.Criteria.{IsPair, IsRepresented, lcm_of}
-use Rattle.basis_steps.specs.Divisions.{IsCombined}
+use Rattle.basis_steps.specs.Divisions.{IsCombined, Occurs}
 use Rattle.basis_steps.specs.Pairs.{Pair, count}
 use Rattle.basis_steps.specs.States.{Member, Product, Run, cofactor_lists, vectors}
-
--- k is a monomial of v: its coefficient is not 0 modulo p
-abbrev pub Occurs : {n : ℕ} → ℕ → FormalSum n → Key n → Type 0
-Occurs p v k = IsCongruent p (coefficient v k) 0 → ⊥
 
 -- the product, with the lists G as members
 abbrev pub product_vector : {n : ℕ} → List (FormalSum n) → Product n → FormalSum n

@@ -46,7 +46,6 @@ widened ring list v x t h e = record {
   vector = e;
   members = h.members;
   cofs = h.cofs;
-  lengths = h.lengths;
 }
   where
     wider : IsTrail t → IsTrail (record t { vector = x })
@@ -56,11 +55,13 @@ widened ring list v x t h e = record {
       record {
         steps = c.steps;
         known = c.known;
+        variables = c.variables;
         begins = begins_more (variables t.ring) t.start t.vector v x t.members first later h.start h.vector e c.begins;
         met =
             steps_met_more (variables t.ring) (sum_of (variables t.ring) t.vector) (sum_of (variables t.ring) x) t.members
             (λ k q. subst (λ z. HasKey (sum_of (variables t.ring) z) k) (sym e) (tail_key (variables t.ring) v k (subst (λ z. HasKey (sum_of (variables t.ring) z) k) h.vector q))) (first ∷ []) later c.met;
         last = c.last;
+        last_variables = c.last_variables;
         too_great = c.too_great;
       },
     )

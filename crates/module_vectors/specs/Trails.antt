@@ -69,13 +69,15 @@ abbrev pub IsOfStep : List (List (CodeKey × ℕ)) → Option (List (List (CodeK
 IsOfStep members None s m = HasMonomial (get_or members s.0 []) m
 IsOfStep members (Some cofs) s m = HasMonomial (get_or members s.0 []) m ⊎ HasMonomial (get_or cofs s.0 []) m
 
--- the steps of a trail that begins with `first`
+-- the steps of a trail that begins with `first`, each of n variables
 pub record IsChain (n : ℕ) (t : KeptTrail) (first : Step) (later : List Step) : Type 0 where
   pub steps : t.steps.items ≡ first ∷ later
   pub known : Each (λ s. s.0 < length t.members) (first ∷ later)
+  pub variables : Each (λ s. length s.1 ≡ n) (first ∷ later)
   pub begins : Begins n t.start t.vector t.members first later
   pub met : AreMet n (sum_of n t.vector) t.members (first ∷ []) later
   pub last : IsOfStep t.members t.cofs (last_step first later) t.last
+  pub last_variables : length t.last ≡ n
   pub too_great : 65535 < sum (last_step first later).1 + sum t.last
 
 -- t is a trail: it has a step, each product is met before it is made, and the last one has too great a degree

@@ -16,6 +16,7 @@ use Rattle.bases.specs.Leads.{HasReducedResidues, head_coefficient, head_key}
 use Rattle.bases.specs.Settings.{IsLawful, Setting}
 use Rattle.module_vectors.proofs.NormalVectors.{residues_of}
 use Rattle.module_vectors.proofs.SumsOfProducts.{Each_member}
+use Rattle.module_vectors.proofs.Monomials.{monomial_at}
 use Rattle.module_vectors.specs.Stops.{Fits, IsTooGreat}
 use Rattle.module_vectors.specs.Trails.{HasKey, IsMet, Step, product_lead}
 use Rattle.module_vectors.specs.Vectors.{IsVector, key_of, sum_of, sums_of}
@@ -224,9 +225,10 @@ head_from P (suc at) (t ∷ v) lt h = head_from P at v (omega arith) h.1
 pub failing_step :
     (n p : ℕ) (compare : Key n → Key n → Ordering) (v : Terms) (list : List Terms) (qs : List Quotient) (old : Terms)
     (at : ℕ) (s : Step) (g : Terms) (stop : VectStop) (a last : List ℕ)
-    → at < length old → IsDivisor n list (head_key (drop at (sum_of n old))) s → IsProgress n p compare v list qs old
+    → at < length old → Each (IsVector n p compare) list
+    → IsDivisor n list (head_key (drop at (sum_of n old))) s → IsProgress n p compare v list qs old
     → g ≡ get_or list s.0 [] → stop ≡ Degree a last → SubtractionStops s.1 g stop → IsFailingStep n v list qs s last
-failing_step n p compare v list qs old at s g stop a last lt d pr eg es h =
+failing_step n p compare v list qs old at s g stop a last lt lists d pr eg es h =
     let e : SubtractionStops s.1 (get_or list s.0 []) (Degree a last) = subst₂ (SubtractionStops s.1) eg es h in
     record {
       index = d.index;
@@ -234,5 +236,6 @@ failing_step n p compare v list qs old at s g stop a last lt d pr eg es h =
       met = subst (IsMet n (sum_of n v) list (map step_of qs)) (sym d.lead)
           (head_from (IsMet n (sum_of n v) list (map step_of qs)) at (sum_of n old) (subst (λ z. at < z) (sym (length-map old (λ x. (key_of n x.0, x.1)))) lt) pr.keys);
       monomial = e.1;
+      last_variables = monomial_at n p compare list s.0 last lists e.1;
       too_great = subst (λ z. IsTooGreat z last) e.0 e.2;
     }

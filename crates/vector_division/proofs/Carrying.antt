@@ -18,6 +18,7 @@ use Rattle.bases.specs.Settings.{IsLawful, Setting}
 use Rattle.module_vectors.proofs.Descending.{over_join}
 use Rattle.module_vectors.proofs.NormalVectors.{residues_of}
 use Rattle.module_vectors.proofs.SumsOfProducts.{Each_member}
+use Rattle.module_vectors.proofs.Monomials.{monomial_at}
 use Rattle.module_vectors.specs.Stops.{IsTooGreat}
 use Rattle.module_vectors.specs.Trails.{HasKey, IsMet, Step, product_lead}
 use Rattle.module_vectors.specs.Vectors.{IsVector, key_of, sum_of, sums_of}
@@ -91,15 +92,16 @@ module _
     -- ---- the step that cannot be made
     pub failing_product :
         (s : Step) (g : Terms) (stop : VectStop) (a last : List ℕ)
-        → IsDivisor n list K s → g ≡ get_or list s.0 [] → stop ≡ Degree a last → SubtractionStops s.1 g stop
-        → IsFailingStep n v list qs s last
-    failing_product s g stop a last d eg es h =
+        → Each (IsVector n p compare) list → IsDivisor n list K s → g ≡ get_or list s.0 [] → stop ≡ Degree a last
+        → SubtractionStops s.1 g stop → IsFailingStep n v list qs s last
+    failing_product s g stop a last lists d eg es h =
         let e : SubtractionStops s.1 (get_or list s.0 []) (Degree a last) = subst₂ (SubtractionStops s.1) eg es h in
         record {
           index = d.index;
           variables = d.variables;
           met = subst (IsMet n V list (map step_of qs)) (sym d.lead) met_here;
           monomial = e.1;
+          last_variables = monomial_at n p compare list s.0 last lists e.1;
           too_great = subst (λ z. IsTooGreat z last) e.0 e.2;
         }
 

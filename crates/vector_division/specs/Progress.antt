@@ -93,6 +93,7 @@ pub record IsFailingStep (n : ℕ) (v : List (CodeKey × ℕ)) (list : List (Lis
   pub variables : length s.1 ≡ n
   pub met : IsMet n (sum_of n v) list (map step_of qs) (product_lead n list s)
   pub monomial : HasMonomial (get_or list s.0 []) last
+  pub last_variables : length last ≡ n
   pub too_great : IsTooGreat s.1 last
 
 -- c t g is taken away: the term of `old` at this index has the residue c times that of the lead of g

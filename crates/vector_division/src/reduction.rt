@@ -33,8 +33,8 @@ pub struct Reduction {
     pub rest: Vect,
 }
 
-/// Takes products of the list's vectors away from `v` until no key of it is divisible by a lead of the list, the
-/// greatest key first and by the first vector of which the lead divides it. IVA chapter 2, section 3.
+/// Takes products of the list's vectors away from `v` until no key of it is divisible by a lead of the list. No clause
+/// says which of the divisors is taken. IVA chapter 2, section 3.
 ///
 /// `Degree` comes with a trail to a product of total degree above 65,535, `Memory` where a growth was refused; both leave
 /// every argument as it was.

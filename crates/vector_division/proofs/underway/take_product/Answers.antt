@@ -20,7 +20,7 @@ stopped-requires-clause-failing g c = λ a last is.
     subst₂ (λ r qs. IsFailingStep (variables r) c.args.v.now (g.L.Vectors.listed c.args.list.now) qs (c.args.divisor.0, c.args.divisor.1) last) (sym c.ring-in-Err.ensures) (sym c.deref.ensures.value)
     (failing_product n ring.modulus.value (g.F.Frame.compare c.args.frame.now n) (g.met.F.Frame.laws c.args.frame.now n 0) (subst (λ r. IsDomain r.modulus.value) c.ring.ensures c.domain.ensures.domain) c.args.v.now (g.L.Vectors.listed c.args.list.now) c.args.quotients.now.items c.args.term.0 c.args.term.1 c.args.buckets.now
     c.requires.variables c.requires.nonzero c.requires.reduced c.requires.below c.requires.underway c.args.divisor c.at.result.now c.in-Err.stop a last
-    c.requires.divisor c.at.ensures is c.in-Err.ensures.stop)
+    c.requires.list c.requires.divisor c.at.ensures is c.in-Err.ensures.stop)
 
 pub returns-in_ok-push-in-Ok-clause-below : goal.returns-in_ok-push-in-Ok-clause-below
 returns-in_ok-push-in-Ok-clause-below g c =
