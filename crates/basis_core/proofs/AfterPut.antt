@@ -1,5 +1,5 @@
 -- A state after a Put
-use Rattle.std.proofs.Common.{Bool, Global, List, Vec, [], ap, append-nil, arith, cond, false, get_or, length, length-append, map, refl, subst, suc, sym, take, true, vec_capacity, zero, ℕ, ◌*◌, ◌++◌, ◌+◌, ◌-◌, ◌<◌, ◌∙◌, ◌∷◌, ◌≡◌, ◌≤◌}
+use Rattle.std.proofs.Common.{Bool, Global, List, Vec, [], ap, append-nil, arith, cond, false, get_or, inr, length, length-append, map, refl, subst, suc, sym, take, true, vec_capacity, zero, ℕ, ◌*◌, ◌++◌, ◌+◌, ◌-◌, ◌<◌, ◌∙◌, ◌∷◌, ◌≡◌, ◌≤◌}
 use Rattle.std.proofs.Common.{Less}
 use Rattle.std.proofs.lemmas.List.{length-map, take-map}
 use Rattle.std.specs.Ordering.{nat_cmp, ordering_then}
@@ -14,9 +14,9 @@ use Rattle.bases.specs.Settings.{Setting}
 use Rattle.basis_steps.proofs.Counting.{count_workers, is_same_pair-refl}
 use Rattle.basis_steps.proofs.Growing.{leads_front, vectors-append}
 use Rattle.basis_steps.specs.Criteria.{IsPair, lcm_of}
-use Rattle.basis_steps.specs.Divisions.{IsCombined, Makes}
+use Rattle.basis_steps.specs.Divisions.{Makes, Occurs}
 use Rattle.basis_steps.specs.Invariant.{HoldsInvariant}
-use Rattle.basis_steps.specs.Outcomes.{AreJobProducts, IsOutcome, Occurs}
+use Rattle.basis_steps.specs.Outcomes.{AreJobProducts, IsOutcome}
 use Rattle.basis_steps.specs.Pairs.{Pair, count, is_same_pair}
 use Rattle.basis_steps.specs.Queues.{IsSorted, QueuesNewPairs, compare_pairs}
 use Rattle.basis_steps.specs.States as plain
@@ -28,7 +28,6 @@ use Rattle.basis_core.specs.declared.out.Out.{Out}
 use Rattle.basis_core.specs.declared.row_division.RowStop.{RowStop}
 use Rattle.basis_core.specs.declared.row_division.RowStop.TheVariants as row_stops
 use Rattle.basis_core.specs.Stops.{trail_of}
-use Rattle.module_vectors.specs.Vectors.{sums_of}
 use Rattle.std.specs.Prelude.{Contains, ◌⊎◌}
 use Rattle.basis_core.specs.declared.state.BasisState.TheInside.{Inside}
 use Rattle.module_vectors.specs.declared.trail.WorkStop.{WorkStop}
@@ -37,10 +36,12 @@ use Rattle.basis_core.specs.Answers.{IsJobOut, PutStops}
 use Rattle.basis_core.specs.Inside.{IsKept, IsRead, all_left, shown}
 use Rattle.basis_core.specs.Jobs.{HasLcm, pair_of, pairs_of}
 use Rattle.basis_core.specs.Makings.{AreMade, StopsAt, StopsOne, StopsRow}
+use Rattle.basis_core.specs.Queues.{QueueShown}
 use Rattle.basis_core.specs.Members.{MembersShown, Shared, Tracked, member_of, members_of, setting_of}
 use Rattle.basis_core.specs.Outcomes.{OutcomeShown, IsOutcomeOver, products_of, work_of}
 use Rattle.basis_core.specs.Shown.{Shown}
 use Rattle.basis_core.specs.Views.{history_of, outs_of, run_of, state_of, variables_of}
+use Rattle.basis_core.specs.Tested.{AreIndices, AreTested, IsTested, waited}
 use Rattle.basis_core.specs.Waits.{IsTable, IsWide}
 use Rattle.basis_core.proofs.Growing.{history_more, put_made, read_more, stays}
 use Rattle.basis_core.proofs.MadeMembers.{members-append}
@@ -109,7 +110,7 @@ sorted_front S G N (x ∷ xs) w h = (first xs w.1 h.0, sorted_front S G N xs w.1
     first [] v h = tt
     first (y ∷ ys) v h = (compare_front S G N x y w.0 v.0 ∙ h.0, first ys v.1 h.1)
 
-vectors_more : (n : ℕ) (ms made : List Tracked) → vectors (members_of n (ms ++ made)) ≡ vectors (members_of n ms) ++ vectors (members_of n made)
+pub vectors_more : (n : ℕ) (ms made : List Tracked) → vectors (members_of n (ms ++ made)) ≡ vectors (members_of n ms) ++ vectors (members_of n made)
 vectors_more n ms made = ap vectors (members-append n ms made) ∙ vectors-append (members_of n ms) (members_of n made)
 
 -- the queue stays sorted, and its pairs keep their lcms
@@ -151,12 +152,12 @@ front_vectors ms made k e = take-map (λ m. m.vector) k (ms ++ made) ∙ ap (map
 
 -- what is kept of fields that contracts see is kept where these are the same
 pub kept_same :
-    (i : Inside) (members : MembersShown) (marks : Vec Mark Global) (queue : Vec CodePair Global) (history : Vec Event Global) (waits : Vec (Vec Bool Global) Global)
+    (i : Inside) (members : MembersShown) (marks : Vec Mark Global) (queue : QueueShown) (history : Vec Event Global) (waits : Vec (Vec Bool Global) Global) (loose : Vec Pair Global)
     → members ≡ i.members → marks.items ≡ i.marks.items → queue.items ≡ i.queue.items → history.items ≡ i.history.items → vec_capacity i.history ≤ vec_capacity history
-    → map (λ row. row.items) waits.items ≡ map (λ row. row.items) i.waits.items
-    → IsKept i → IsKept (record i { members = members; marks = marks; queue = queue; history = history; waits = waits })
-kept_same i members marks queue history waits m k q h c w kept =
-    subst (λ l. IsKept (record i { members = l; marks = marks; queue = queue; history = history; waits = waits })) (sym m)
+    → map (λ row. row.items) waits.items ≡ map (λ row. row.items) i.waits.items → loose.items ≡ i.loose.items
+    → IsKept i → IsKept (record i { members = members; marks = marks; queue = queue; history = history; waits = waits; loose = loose })
+kept_same i members marks queue history waits loose m k q h c w o kept =
+    subst (λ l. IsKept (record i { members = l; marks = marks; queue = queue; history = history; waits = waits; loose = loose })) (sym m)
     (record {
       some = kept.some;
       replays = subst (λ (s : Shown). steps_replay s) (λ j. record (shown i) { queue = pairs_of (sym q j); history = sym h j }) kept.replays;
@@ -164,6 +165,8 @@ kept_same i members marks queue history waits m k q h c w kept =
       marks = subst (AreMarks (map (λ m. m.vector) i.members.list)) (sym k) kept.marks;
       wide = subst (IsWide (length i.members.list)) (sym w) kept.wide;
       table = subst (λ (l : List (List Bool) × List CodePair). IsTable l.0 (pairs_of l.1) (outs_of i.out.items)) (λ j. (sym w j, sym q j)) kept.table;
+      tested = subst (λ (z : List (List Bool) × List Pair × List CodePair). AreTested i.members z.0 z.1 i.tested (pairs_of z.2)) (λ j. (sym w j, sym o j, sym q j)) kept.tested;
+      loose = subst (Each (AreIndices (length i.members.list))) (sym o) kept.loose;
       stop = kept.stop;
       read = subst (Each (IsRead (length i.members.list) i.stop)) (sym h) kept.read;
       room =
@@ -266,21 +269,23 @@ module _ (n : ℕ) (s : Shown) (o : OutcomeShown) (after : List Tracked) (queue 
 
 -- what is kept is kept
 pub put_kept :
-    (i : Inside) (o : OutcomeShown) (members : MembersShown) (marks : Vec Mark Global) (queue : Vec CodePair Global) (out : Vec Out Global) (history : Vec Event Global) (waits : Vec (Vec Bool Global) Global)
+    (i : Inside) (o : OutcomeShown) (members : MembersShown) (marks : Vec Mark Global) (queue : QueueShown) (out : Vec Out Global) (history : Vec Event Global) (waits : Vec (Vec Bool Global) Global) (loose : Vec Pair Global)
     → IsKept i → members.shared ≡ i.members.shared
     → HasPut (variables_of (shown i)) (shown i) o members.list (pairs_of queue.items) (outs_of out.items) history.items
     → Each (HasLcm (variables_of (shown i)) members.list) queue.items
     → AreMarks (map (λ m. m.vector) members.list) marks.items
     → IsWide (length members.list) (map (λ row. row.items) waits.items)
     → IsTable (map (λ row. row.items) waits.items) (pairs_of queue.items) (outs_of out.items)
+    → IsTested (setting_of (variables_of (shown i)) (shown i).shared) (vectors (members_of (variables_of (shown i)) members.list)) (waited (map (λ row. row.items) waits.items) loose.items) i.tested (pairs_of queue.items)
+    → Each (AreIndices (length members.list)) loose.items
     → length i.history.items + (3 * i.workers + 1) ≤ vec_capacity history
-    → IsKept (record i { members = members; marks = marks; queue = queue; out = out; history = history; waits = waits })
-put_kept i o members marks queue out history waits kept same h lcms marked wide table room =
+    → IsKept (record i { members = members; marks = marks; queue = queue; out = out; history = history; waits = waits; loose = loose })
+put_kept i o members marks queue out history waits loose kept same h lcms marked wide table tested within room =
     let n : ℕ = variables_of (shown i) in
     let t : Shown = after_put (shown i) members.list (pairs_of queue.items) (outs_of out.items) history.items in
     let step : Puts (run_of n (shown i)) (state_of n (shown i)) o.job.worker (members_of n (h.made).made) (state_of n t) =
     put_step n (shown i) o members.list (pairs_of queue.items) (outs_of out.items) history.items h in
-    subst (λ (m : MembersShown). IsKept (record i { members = m; marks = marks; queue = queue; out = out; history = history; waits = waits })) (λ j. record { shared = sym same j; list = members.list })
+    subst (λ (m : MembersShown). IsKept (record i { members = m; marks = marks; queue = queue; out = out; history = history; waits = waits; loose = loose })) (λ j. record { shared = sym same j; list = members.list })
     (record {
       some = kept.some;
       replays = replays_after (shown i) t (plain.Put o.job.worker (members_of n (h.made).made)) (record { shared = refl; budget = refl; workers = refl }) kept.replays step;
@@ -288,6 +293,8 @@ put_kept i o members marks queue out history waits kept same h lcms marked wide 
       marks = marked;
       wide = wide;
       table = table;
+      tested = tested;
+      loose = within;
       stop = kept.stop;
       read = put_read n (shown i) o members.list (pairs_of queue.items) (outs_of out.items) history.items h;
       room =
@@ -324,10 +331,6 @@ pub one_stops :
 one_stops n shared ms rows after row_stops.Memory h = tt
 one_stops n shared ms rows after (row_stops.Degree t) h = (h.row, subst (λ l. Contains l h.row) (sym h.split) (stands h.before h.later h.row), h.stops)
 
-each_front : {X : Type 0} (P : X → Type 0) (xs ys : List X) → Each P (xs ++ ys) → Each P xs
-each_front P [] ys h = tt
-each_front P (x ∷ xs) ys h = (h.0, each_front P xs ys h.1)
-
 pub put_stops :
     (n : ℕ) (s : Shown) (o : OutcomeShown) (after : List Tracked) (row : RowStop) (stop : WorkStop)
     → HoldsInvariant (run_of n s) (state_of n s) → IsJobOut s o
@@ -339,6 +342,8 @@ put_stops n s o after row (Degree t) inv job outcome r h =
     let rows : members_of n o.rows ≡ members_of n r.before ++ members_of n (r.row ∷ r.later) = ap (members_of n) r.split ∙ members-append n r.before (r.row ∷ r.later) in
     let members : (trail_of n t).members ≡ members_of n s.members ++ members_of n (r.made).made =
     h.members ∙ ap (members_of n) (r.made).same ∙ members-append n s.members (r.made).made in
+    let base_members : members_of n o.job.members ≡ take (length o.job.members) (members_of n s.members) =
+    ap (members_of n) job.members ∙ sym (take-map (λ m. member_of n m) (length o.job.members) s.members) in
     let front : take (length (members_of n s.members)) (members_of n s.members) ≡ members_of n s.members =
     ap (take (length (members_of n s.members))) (sym (append-nil (members_of n s.members))) ∙ take_front (members_of n s.members) [] in
     let before : take (length (members_of n r.before)) (members_of n o.rows) ≡ members_of n r.before =
@@ -351,8 +356,18 @@ put_stops n s o after row (Degree t) inv job outcome r h =
             first = length (members_of n s.members);
             there = omega arith;
             rows = members_of n r.before;
-            combined = each_front (IsCombined s.shared.ring.modulus.value (sums_of n s.shared.generators)) (members_of n r.before) (members_of n (r.row ∷ r.later))
-                (subst (Each (IsCombined s.shared.ring.modulus.value (sums_of n s.shared.generators))) rows outcome.combined);
+            put = inr (record {
+              base = length o.job.members;
+              known = omega (arith, job.had, length-map s.members (λ m. member_of n m));
+              job = pairs_of o.job.pairs;
+              given = λ x. omega (arith, ap (count x) job.out, count_workers x o.job.worker s.out, inv.out_taken x);
+              all = members_of n o.rows;
+              products = products_of n o.products;
+              outcome = subst (λ l. IsOutcome (run_of n s) l (pairs_of o.job.pairs) (members_of n o.rows) (products_of n o.products)) base_members
+                  (run_outcome n s (members_of n o.job.members) (pairs_of o.job.pairs) (members_of n o.rows) (products_of n o.products) outcome);
+              number = length (members_of n r.before);
+              first = sym before;
+            });
             made = members_of n (r.made).made;
             makes = subst (λ l. Makes (setting_of n s.shared) l (members_of n r.before) (members_of n (r.made).made)) (sym front) (r.made).makes;
             same = members ∙ ap (λ l. l ++ members_of n (r.made).made) (sym front);

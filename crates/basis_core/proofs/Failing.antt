@@ -32,7 +32,7 @@ module _ (ring : Ring) (ms : List Tracked) (row : Tracked) (t : KeptTrail) where
     later = later;
     steps = c.steps;
     known = subst (λ (k : ℕ). Each (λ s. s.0 < k) (first ∷ later)) (ap length d.members ∙ length-map ms (λ m. m.vector)) c.known;
-    variables = subst (λ (l : List Step). Each (λ s. length s.1 ≡ variables ring) l) c.steps d.lengths;
+    variables = c.variables;
     begins = subst₂ (λ (v : List (CodeKey × ℕ)) (m : List (List (CodeKey × ℕ))). HasKey (sum_of (variables ring) v) (product_lead (variables ring) m first)) d.vector d.members
         (subst (λ (s : TrailStart). Begins (variables ring) s t.vector t.members first later) d.start c.begins);
     met = subst₂ (λ (v : List (CodeKey × ℕ)) (m : List (List (CodeKey × ℕ))). AreMet (variables ring) (sum_of (variables ring) v) m (first ∷ []) later) d.vector d.members c.met;

@@ -170,6 +170,7 @@ module _ (shared : Shared) (ms : List Tracked) (row : Tracked) (qs : List Quotie
       → LeavesNothing S G (member_of n row) a
   nothing_left rest e hq hr = record {
     quotients = are_quotients hq;
+    reached = hq.reached;
     vector = IsSame_trans (whole rest hr) (IsSame_of p _ _ (ap (λ x. combination (vectors G) a ++ sum_of n x) e ∙ append-nil (combination (vectors G) a)));
   }
 
@@ -220,6 +221,7 @@ module _ (shared : Shared) (ms : List Tracked) (row : Tracked) (qs : List Quotie
               let nv = vector_normal shared.ring (ring_comparison shared.ring) shared.rank v iv in
               record {
                 quotients = are_quotients hq;
+                reached = hq.reached;
                 at_most = subst (λ (k : Key n). IsKeyAtMost S k (head_key (sum_of n row.vector))) (sym key)
                     (rest_at_most S lawful (vectors G) (sum_of n row.vector) (key_of n t.0, t.1) (sum_of n u) a (monic_list S lawful (vectors G) monic)
                     (vector_normal shared.ring (ring_comparison shared.ring) shared.rank row.vector tracked.vector.vector)

@@ -1,5 +1,7 @@
 pub mod Making
 pub mod Tracking
+pub mod MemberKeys
+pub mod Reaching
 pub mod Leaving
 pub mod Cofactors
 pub mod Failing
@@ -12,6 +14,7 @@ pub mod Leading
 pub mod Sparing
 pub mod Passing
 pub mod Degrees
+pub mod LeastDegree
 pub mod Giving
 pub mod Endings
 pub mod Stopping
@@ -21,9 +24,12 @@ mod PairOrder
 mod QueueMerging
 mod NewPairs
 pub mod TakenPairs
+pub mod SameLcm
 pub mod MadeMembers
 pub mod Clearing
 pub mod AfterPut
+pub mod Testing
+pub mod Swapping
 pub mod Chaining
 pub mod Tracing
 pub mod Trailing

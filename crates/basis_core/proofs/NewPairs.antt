@@ -308,3 +308,8 @@ module _ (n : ℕ) (ms : List Tracked) (first : ℕ) (old rows all : List (Vec B
   table_joined wide new before after within same out within_out t =
       subst (λ z. IsTable z (pairs_of after) out) joined
       (table_more Members first (bits old) (bits rows) wide (all_rows new) (pairs_of before) (pairs_of after) out within_out (within_first first before within) same t)
+
+-- no pair stands in an empty list
+pub count_none : (xs : List CodePair) (x : Pair) → length xs ≡ 0 → count x (pairs_of xs) ≡ 0
+count_none [] x e = refl
+count_none (y ∷ xs) x e = absurd (omega arith)

@@ -1,6 +1,6 @@
 -- Pairs that are kept and skipped, one after another
-use Rattle.std.proofs.Common.{Bool, List, [], ap, append_assoc, arith, drop, get_or, length, length-append, refl, reverse, subst, suc, sym, take, zero, ℕ, ◌++◌, ◌+◌, ◌<◌, ◌∙◌, ◌∷◌, ◌≡◌, ◌≤◌, ◌*◌, ◌-◌}
-use Rattle.std.proofs.lemmas.List.{append_cancel_left, drop-map, length-reverse, map-append, reverse-append, take-append-drop, take-map, take_all}
+use Rattle.std.proofs.Common.{Bool, List, [], ap, append_assoc, arith, drop, get_or, length, refl, subst, suc, sym, take, zero, ℕ, ◌++◌, ◌+◌, ◌<◌, ◌∙◌, ◌∷◌, ◌≡◌}
+use Rattle.std.proofs.lemmas.List.{drop-map, map-append, take-append-drop, take-map}
 use Rattle.formal_sums.specs.FormalSums.{Each, FormalSum}
 use Rattle.bases.specs.Settings.{Setting}
 use Rattle.module_vectors.specs.Rings.{variables}
@@ -66,19 +66,6 @@ pass_over m size out queue skipped front back x rows lt l wide none spared h =
       table = table_less size rows front back x out lt l wide h.table;
     }
 
--- what is put back stands before the rest of the queue
-pub put_before :
-    (count : ℕ) (pairs kept before after : List CodePair)
-    → length pairs ≤ count → pairs ++ after ≡ kept ++ before → take count pairs ≡ take count kept → after ≡ drop count kept ++ before
-put_before count pairs kept before after l e t =
-    let whole : pairs ≡ take count kept = sym (take_all count pairs l) ∙ t in
-    append_cancel_left pairs after (drop count kept ++ before)
-    (e ∙ ap (λ z. z ++ before) (sym (take-append-drop count kept)) ∙ append_assoc (take count kept) (drop count kept) before ∙ ap (λ z. z ++ (drop count kept ++ before)) (sym whole))
-
--- the first pair of a queue whose first pair stands last
-pub first_of_reversed : (queue rest : List CodePair) (x : CodePair) → queue ≡ rest ++ x ∷ [] → reverse queue ≡ x ∷ reverse rest
-first_of_reversed queue rest x e = ap reverse e ∙ reverse-append rest (x ∷ [])
-
 -- the pair is kept: what is left is the same
 pub left_kept : (kept rest : List CodePair) (x : CodePair) → pairs_of kept ++ pairs_of (x ∷ rest) ≡ pairs_of (kept ++ x ∷ []) ++ pairs_of rest
 left_kept kept rest x = sym (append_assoc (pairs_of kept) (pair_of x ∷ []) (pairs_of rest)) ∙ ap (λ z. z ++ pairs_of rest) (sym (pairs_append kept (x ∷ [])))
@@ -93,28 +80,3 @@ left_back count kept rest fewer more e f =
     ∙ ap pairs_of (append_assoc (take count kept) (drop count kept) rest)
     ∙ pairs_append (take count kept) (drop count kept ++ rest)
     ∙ (λ i. pairs_of (sym e i) ++ pairs_of (sym f i))
-
-pub length_back :
-    (count : ℕ) (kept rest fewer more : List CodePair)
-    → fewer ≡ take count kept → reverse more ≡ drop count kept ++ reverse rest → length fewer + length more ≡ length kept + length rest
-length_back count kept rest fewer more e f =
-    omega (
-      arith,
-      ap length e,
-      ap length f,
-      length-reverse more,
-      length-reverse rest,
-      length-append (drop count kept) (reverse rest),
-      length-append (take count kept) (drop count kept),
-      ap length (take-append-drop count kept),
-    )
-
--- the measure falls with the number of pairs that are left
-pub falls : (all new few : ℕ) (old : ℕ) → new < all → few ≤ new → new * (new + 1) + few < all * (all + 1) + old
-falls all new few old l m =
-    let k : ℕ = all - suc new in
-    let e : all ≡ suc (new + k) = omega arith in
-    subst (λ (z : ℕ). new * (new + 1) + few < z * (z + 1) + old) (sym e) (go new k m)
-  where
-    go : (new k : ℕ) → few ≤ new → new * (new + 1) + few < suc (new + k) * (suc (new + k) + 1) + old
-    go new k h = omega arith

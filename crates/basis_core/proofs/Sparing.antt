@@ -62,7 +62,7 @@ members_of_pair i k x e = go (cases_lt i k)
 
 module _ {n : ℕ} (S : Setting n) (G : List (FormalSum n)) (count : ℕ) (before : List (List Bool)) (x y : Pair) (lt : x.0 < x.1) (within : x.1 < count) (wide : IsWide count before) where
   -- a chain that did not apply before the pair x waited no more goes by a member of x, which shares the other with y
-  chain_by :
+  pub chain_by :
       (k : ℕ) → (ChainApplies G (flagged before) y k → ⊥) → ChainApplies G (flagged (cleared before x)) y k
       → ((k ≡ x.0) ⊎ (k ≡ x.1)) × ((y.0 ≡ x.0) ⊎ ((y.0 ≡ x.1) ⊎ ((y.1 ≡ x.0) ⊎ (y.1 ≡ x.1))))
   chain_by k not h = go (is_same_pair (pair_of y.0 k) x) refl (is_same_pair (pair_of k y.1) x) refl

@@ -6,9 +6,9 @@ use Rattle.monomials.specs.Exponents.{unit}
 use Rattle.formal_sums.specs.FormalSums.{Each, FormalSum}
 use Rattle.bases.proofs.NormalForms.{normal_unique}
 use Rattle.module_vectors.proofs.NormalVectors.{residues_of}
-use Rattle.module_vectors.specs.Rings.{variables}
-use Rattle.module_vectors.specs.Trails.{IsChain, Step}
-use Rattle.module_vectors.specs.Vectors.{sum_of, sums_of}
+use Rattle.module_vectors.specs.Rings.{ring_comparison, variables}
+use Rattle.module_vectors.specs.Trails.{IsChain, Step, last_step}
+use Rattle.module_vectors.specs.Vectors.{AreVectorsOver, sum_of, sums_of}
 use Rattle.module_vectors.specs.declared.key.Key.{Key as CodeKey}
 use Rattle.module_vectors.specs.declared.ring.Ring.{Ring}
 use Rattle.module_vectors.specs.declared.trail.KeptTrail.{KeptTrail}
@@ -22,12 +22,13 @@ use Rattle.basis_steps.specs.States as plain
 use Rattle.basis_steps.specs.States.{Member, vectors}
 use Rattle.basis_steps.specs.Steps.{Begins, Reaches, Replays, generator_rows, none_ended}
 use Rattle.basis_core.proofs.Making.{makes_append}
-use Rattle.basis_core.proofs.Tracking.{cofactors_at, ring_lawful}
+use Rattle.basis_core.proofs.Tracking.{cofactors_at, cofactors_over, last_variables, ring_lawful, vectors_over}
 use Rattle.basis_core.specs.Answers.{IsBeginningTrail}
 use Rattle.basis_core.specs.Beginning.{HaveMade}
 use Rattle.basis_core.specs.Inside.{shown}
 use Rattle.basis_core.specs.Jobs.{pairs_of}
 use Rattle.basis_core.specs.Members.{Shared, Tracked, member_of, members_of, setting_of}
+use Rattle.basis_core.specs.RowDivision.{IsTracked}
 use Rattle.basis_core.specs.Rows.{IsRowTrail, cofactors_in, vectors_in}
 use Rattle.basis_core.specs.Shown.{Shown}
 use Rattle.basis_core.specs.Stops.{cofactors_kept, joined, stop_of}
@@ -115,11 +116,11 @@ joined_members n (m ∷ ms) = ap (λ (l : List (Member n)). member_of n m ∷ l)
 pub beginning_kept :
     (shared : Shared) (ms : List Tracked) (row : Tracked) (number : ℕ) (steps : List Step) (last : List ℕ) (t : KeptTrail)
     → number < length shared.generators → row.vector ≡ get_or shared.generators number [] → HaveMade shared number ms
-    → IsRowTrail (variables shared.ring) ms row steps last → t.ring ≡ shared.ring → t.rank ≡ shared.rank
+    → Each (IsTracked shared) ms → IsRowTrail (variables shared.ring) ms row steps last → t.ring ≡ shared.ring → t.rank ≡ shared.rank
     → t.generators ≡ shared.generators → t.below.items ≡ [] → t.start ≡ starts.Term → t.vector ≡ row.vector
     → t.members ≡ vectors_in ms → t.cofs ≡ Some (cofactors_in ms) → t.steps.items ≡ steps → t.last ≡ last
     → IsBeginningTrail (variables shared.ring) shared t
-beginning_kept shared ms row number steps last t lt e made h e_ring e_rank e_generators e_below e_start e_vector e_members e_cofs e_steps e_last = record {
+beginning_kept shared ms row number steps last t lt e made tracked h e_ring e_rank e_generators e_below e_start e_vector e_members e_cofs e_steps e_last = record {
   over = record {
     trail = (
       h.first,
@@ -127,9 +128,11 @@ beginning_kept shared ms row number steps last t lt e made h e_ring e_rank e_gen
       subst (λ (r : Ring). IsChain (variables r) t h.first h.later) (sym e_ring) (record {
         steps = e_steps ∙ h.steps;
         known = subst (λ (k : ℕ). Each (λ s. s.0 < k) (h.first ∷ h.later)) (sym (ap length e_members ∙ length-map ms (λ m. m.vector))) h.known;
+        variables = h.variables;
         begins = rw (e_start, e_vector, e_members) h.begins;
         met = rw (e_vector, e_members) h.met;
         last = rw (e_members, e_cofs, e_last) h.monomial;
+        last_variables = ap length e_last ∙ last_variables shared ms (last_step h.first h.later) last tracked h.monomial;
         too_great = rw e_last h.too_great;
       }),
     );
@@ -137,7 +140,13 @@ beginning_kept shared ms row number steps last t lt e made h e_ring e_rank e_gen
     rank = e_rank;
     generators = e_generators;
     below = e_below;
-    cofactors = (cofactors_in ms, e_cofs, length-map ms (λ m. m.cof) ∙ sym (length-map ms (λ m. m.vector)) ∙ ap length (sym e_members));
+    vectors = subst (AreVectorsOver shared.ring (ring_comparison shared.ring)) (sym e_members) (vectors_over shared ms tracked);
+    cofactors = (
+      cofactors_in ms,
+      e_cofs,
+      length-map ms (λ m. m.cof) ∙ sym (length-map ms (λ m. m.vector)) ∙ ap length (sym e_members),
+      cofactors_over shared ms tracked,
+    );
   };
   start = e_start;
   number = number;

@@ -13,7 +13,7 @@ use Rattle.basis_steps.proofs.Counting.{count-append, count-split, count_out_wit
 use Rattle.basis_steps.proofs.Taking.{job_given_out}
 use Rattle.basis_steps.specs.Criteria.{IsPair, NoCriterionApplies, Skips, waiting}
 use Rattle.basis_steps.specs.Pairs.{Pair, count, is_same_pair}
-use Rattle.basis_steps.specs.Queues.{share}
+use Rattle.basis_steps.specs.Queues.{IsSorted, share}
 use Rattle.basis_steps.specs.States as plain
 use Rattle.basis_steps.specs.States.{pairs_out, pairs_taken, vectors}
 use Rattle.basis_steps.specs.Steps as steps
@@ -26,9 +26,14 @@ use Rattle.basis_core.specs.declared.stop.StopReason.{StopReason}
 use Rattle.basis_core.specs.declared.stop.StopReason.TheVariants as reasons
 use Rattle.basis_core.specs.Inside.{IsKept, IsRead, IsStopOver, shown}
 use Rattle.basis_core.specs.Jobs.{HasLcm, IsJobOver, pair_of, pairs_of}
+use Rattle.basis_core.specs.Queues.{QueueShown}
 use Rattle.basis_core.specs.Members.{MembersShown, Tracked, members_of, setting_of}
 use Rattle.basis_core.specs.Shown.{Shown}
-use Rattle.basis_core.specs.Skipping.{AreSkipped, IsRealPair, NoneIsSpared, vectors_shown}
+use Rattle.basis_core.specs.Skipping.{AreSkipped, IsRealPair, IsSpared, NoneIsSpared, vectors_shown}
+use Rattle.basis_core.specs.Tested.{AreIndices, AreTested}
+use Rattle.basis_core.proofs.LeastDegree.{sorted_left}
+use Rattle.basis_core.proofs.Leading.{vectors_length}
+use Rattle.basis_core.proofs.Testing.{all_tested}
 use Rattle.basis_core.specs.Stops.{reason_of, stop_of}
 use Rattle.basis_core.specs.Views.{history_of, outs_of, run_of, state_of, variables_of}
 use Rattle.basis_core.specs.Waits.{IsTable, IsWide}
@@ -60,7 +65,7 @@ lcms_of : (m : MembersShown) (xs : List CodePair) → Each (IsRealPair m) xs →
 lcms_of m [] h = tt
 lcms_of m (x ∷ xs) h = (h.0.lcm, lcms_of m xs h.1)
 
-pairs_real : (m : MembersShown) (xs : List CodePair) → Each (IsRealPair m) xs → Each (IsPair (vectors_shown m)) (pairs_of xs)
+pub pairs_real : (m : MembersShown) (xs : List CodePair) → Each (IsRealPair m) xs → Each (IsPair (vectors_shown m)) (pairs_of xs)
 pairs_real m [] h = tt
 pairs_real m (x ∷ xs) h = (h.0.pair, pairs_real m xs h.1)
 
@@ -167,12 +172,12 @@ module _ (i : Inside) (w most k : ℕ) (skipped : List Pair) (left : List CodePa
 
   -- what is kept of a state is kept
   pub take_kept :
-      (queue : Vec CodePair Global) (out : Vec Out Global) (history : Vec Event Global) (waits : Vec (Vec Bool Global) Global)
-      → IsKept i → IsAfter i w k skipped left queue.items out.items history.items
+      (queue : QueueShown) (out : Vec Out Global) (history : Vec Event Global) (waits : Vec (Vec Bool Global) Global) (tested : ℕ) (loose : Vec Pair Global)
+      → tested ≡ length i.members.list → loose.items ≡ [] → IsKept i → IsAfter i w k skipped left queue.items out.items history.items
       → map (λ (row : Vec Bool Global). row.items) waits.items ≡ rows
       → length i.history.items + (3 * i.workers + 1) ≤ vec_capacity history
-      → IsKept (record i { queue = queue; out = out; taken = i.taken + k; stop = stop; history = history; waits = waits })
-  take_kept queue out history waits kept after rows_are room =
+      → IsKept (record i { queue = queue; out = out; taken = i.taken + k; stop = stop; history = history; waits = waits; tested = tested; loose = loose })
+  take_kept queue out history waits tested loose all none kept after rows_are room =
       let many : ℕ = length i.members.list in
       let after_state : Shown = t queue.items out.items history.items after kept.read in
       let long : length history.items ≡ length i.history.items + 1 = ap length after.history_is ∙ length-append i.history.items (Take w after.skipped_kept after.given_kept ∷ []) in
@@ -186,6 +191,10 @@ module _ (i : Inside) (w most k : ℕ) (skipped : List Pair) (left : List CodePa
             (subst (λ (z : List Pair × List (Pair × ℕ)). IsTable rows z.0 z.1)
             (λ j. (sym (ap pairs_of after.queue_is ∙ pairs_drop k left) j, (ap (λ (p : List Pair). outs_of i.out.items ++ out_with w p) (sym (pairs_take k left)) ∙ sym after.out_is) j))
             (table_given rows (pairs_of left) (outs_of i.out.items) w k found.skips.table));
+        tested = subst (λ (z : List (List Bool) × List Pair). AreTested i.members z.0 loose.items tested z.1) (λ j. (sym rows_are j, sym (ap pairs_of after.queue_is ∙ pairs_drop k left) j))
+            (all_tested (setting_of (variables i.members.shared.ring) i.members.shared) (vectors_shown i.members) rows loose.items (drop k (pairs_of left)) tested (all ∙ sym (vectors_length (variables i.members.shared.ring) i.members.list)) none
+            (Each_drop (λ x. IsSpared i.members rows x → ⊥) k (pairs_of left) found.spared));
+        loose = subst (Each (AreIndices many)) (sym none) tt;
         stop = stop_over stop found.kind after_state;
         read = subst (Each (IsRead many stop)) (sym after.history_is) (read_more many many i.stop stop i.history.items (Take w after.skipped_kept after.given_kept) (omega arith) stays_kept kept.read tt);
         room = omega (arith, long, room, room_bound (state_of n after_state) i.workers);
@@ -242,6 +251,8 @@ stopped_kept i w most reason skipped given history kept may stop none no_job mor
       marks = kept.marks;
       wide = kept.wide;
       table = kept.table;
+      tested = kept.tested;
+      loose = kept.loose;
       stop = kept.stop;
       read = subst (Each (IsRead many i.stop)) (sym more) (read_more many many i.stop i.stop i.history.items (Take w skipped given) (omega arith) (stays i.stop i.stop refl) kept.read tt);
       room = omega (arith, long, room, room_bound (state_of n t) i.workers);
@@ -277,20 +288,25 @@ fewer_left m out queue left skipped rows h =
     let shorter = skips_shorter (setting_of (variables m.shared.ring) m.shared) (vectors_shown m) out (pairs_of queue) skipped (pairs_of left) h.skips in
     omega (arith, shorter, pairs_length queue, pairs_length left)
 
+-- as many blanks are left as are exchanged
+pub cut_to : (k m : ℕ) (blanks cut : List CodePair) → cut ≡ take k blanks → length blanks ≡ m → k ≤ m → length cut ≡ k
+cut_to k m blanks cut e l few = ap length e ∙ length-take-le k blanks (omega (arith, l, few))
+
 -- what the code's steps found
 pub found_by :
     (i : Inside) (w most k : ℕ) (skipped : List Pair) (left shared_out tested : List CodePair) (rows : List (List Bool)) (stop : Option StopReason)
     → MayTake w most (shown i) → i.stop ≡ None → IsKept i
+    → IsSorted (setting_of (variables_of (shown i)) i.members.shared) (vectors_shown i.members) (pairs_of i.queue.items)
     → ((out : List (Pair × ℕ)) → IsTable (map (λ (row : Vec Bool Global). row.items) i.waits.items) (pairs_of i.queue.items) out → AreSkipped i.members out (pairs_of i.queue.items) skipped (pairs_of left) rows)
     → NoneIsSpared i.members rows (pairs_of left) → Each (IsRealPair i.members) left → IsWide (length i.members.list) rows
     → shared_out ≡ left
-    → ((n : ℕ) (r : plain.Run n) (ms : List Tracked) → r.budget ≡ i.budget → r.workers ≡ i.workers → Each (HasLcm n ms) shared_out → k ≡ share r (vectors (members_of n ms)) i.taken most (pairs_of shared_out))
+    → ((n : ℕ) (r : plain.Run n) (ms : List Tracked) → r.budget ≡ i.budget → r.workers ≡ i.workers → Each (HasLcm n ms) shared_out → IsSorted r.setting (vectors (members_of n ms)) (pairs_of shared_out) → k ≡ share r (vectors (members_of n ms)) i.taken most (pairs_of shared_out))
     → k ≤ length shared_out
     → tested ≡ left
     → ((n : ℕ) (r : plain.Run n) → r.budget ≡ i.budget → stop_of n stop ≡ steps.stop_of_take r i.taken (pairs_of tested))
     → MatchOption stop ⊤ (λ reason. (reason ≡ reasons.Pairs) × (i.taken ≡ i.budget))
     → IsFound i w most k skipped left rows stop
-found_by i w most k skipped left shared_out tested rows stop may none kept skips spared reals wide q shares few t stops kind =
+found_by i w most k skipped left shared_out tested rows stop may none kept sorted skips spared reals wide q shares few t stops kind =
     let s : Shown = shown i in
     let n : ℕ = variables_of s in
     record {
@@ -300,7 +316,9 @@ found_by i w most k skipped left shared_out tested rows stop may none kept skips
       spared = spared;
       reals = reals;
       wide = wide;
-      share = shares n (run_of n s) i.members.list refl refl (subst (Each (HasLcm n i.members.list)) (sym q) (lcms_of i.members left reals)) ∙ ap (λ (z : List CodePair). share (run_of n s) (vectors_shown i.members) i.taken most (pairs_of z)) q;
+      share = shares n (run_of n s) i.members.list refl refl (subst (Each (HasLcm n i.members.list)) (sym q) (lcms_of i.members left reals))
+          (subst (λ (z : List CodePair). IsSorted (setting_of n i.members.shared) (vectors_shown i.members) (pairs_of z)) (sym q)
+          (sorted_left (setting_of n i.members.shared) (vectors_shown i.members) (outs_of i.out.items) (pairs_of i.queue.items) skipped (pairs_of left) (skips (outs_of i.out.items) kept.table).skips sorted)) ∙ ap (λ (z : List CodePair). share (run_of n s) (vectors_shown i.members) i.taken most (pairs_of z)) q;
       few = subst (λ (z : List CodePair). k ≤ length z) q few;
       stop_is = stops n (run_of n s) refl ∙ ap (λ (z : List CodePair). steps.stop_of_take (run_of n s) i.taken (pairs_of z)) t;
       kind = kind;

@@ -1,32 +1,30 @@
 -- The trail of a Put: from a pair of the job by the products of the outcome to a step of a row's division
-use Rattle.std.proofs.Common.{◌*◌, Bool, List, false, true, [], ap, append_assoc, arith, cond, get_or, inl, inr, length, length-append, refl, subst, suc, sym, take, zero, ℕ, ◌++◌, ◌+◌, ◌-◌, ◌<◌, ◌∙◌, ◌∷◌, ◌≡◌, ◌≤◌, ◌⊎◌}
+use Rattle.std.proofs.Common.{Bool, List, false, true, [], ap, append_assoc, arith, cond, get_or, inl, inr, length, length-append, refl, subst, suc, sym, take, zero, ℕ, ◌++◌, ◌+◌, ◌-◌, ◌<◌, ◌∙◌, ◌∷◌, ◌≡◌, ◌≤◌, ◌⊎◌}
 use Rattle.std.proofs.lemmas.Bool.{cases_lt}
 use Rattle.std.specs.Prelude.{Contains}
-use Rattle.residues.proofs.Congruences.{IsCongruent_of, IsCongruent_trans}
-use Rattle.monomials.specs.Exponents.{Exponents, exponents_of}
-use Rattle.formal_sums.proofs.WeightedSums.{same_key-shift, weighted_sum-scale, weighted_sum_ext}
-use Rattle.formal_sums.specs.FormalSums.{Each, FormalSum, Key, coefficient, indicator, scale, shift}
+use Rattle.monomials.specs.Exponents.{exponents_of}
+use Rattle.formal_sums.specs.FormalSums.{Each, FormalSum, Key, shift}
 use Rattle.bases.specs.Leads.{head_key}
-use Rattle.module_vectors.specs.Rings.{ring_comparison, variables}
+use Rattle.module_vectors.specs.Rings.{variables}
 use Rattle.module_vectors.specs.Trails.{AreMet, HasKey, IsInProduct, IsMet, Step, product_lead}
-use Rattle.module_vectors.specs.Vectors.{IsTerm, IsVector, sum_of}
+use Rattle.module_vectors.specs.Vectors.{sum_of}
 use Rattle.module_vectors.specs.declared.key.Key.{Key as CodeKey}
 use Rattle.pair_criteria.specs.declared.pair.Pair.{Pair as CodePair}
-use Rattle.vector_division.proofs.Occurring.{at_key, nonzeros, occurs, scaled_key}
 use Rattle.basis_steps.proofs.Counting.{is_same_pair-refl, is_same_pair-true}
 use Rattle.basis_steps.specs.Criteria.{lcm_of}
 use Rattle.basis_steps.specs.Outcomes as plain
-use Rattle.basis_steps.specs.Outcomes.{AreJobProducts, IsMadeOf, IsOutcome, Occurs, OccursBefore, product_at, product_vector}
+use Rattle.basis_steps.specs.Divisions.{Occurs}
+use Rattle.basis_steps.specs.Outcomes.{AreJobProducts, IsMadeOf, IsOutcome, OccursBefore, product_at, product_vector}
 use Rattle.basis_steps.specs.Pairs.{Pair, count, is_same_pair}
 use Rattle.basis_steps.specs.States.{Member, Product, vectors}
 use Rattle.basis_core.specs.Chains.{AreTraced, IsLcmOf, IsStep, step_at}
 use Rattle.basis_core.specs.Jobs.{HasLcm, pair_of, pairs_of}
-use Rattle.basis_core.specs.Members.{Shared, Tracked, member_of, members_of, setting_of}
+use Rattle.basis_core.specs.Members.{Shared, Tracked, member_of, members_of}
 use Rattle.basis_core.specs.Outcomes.{product_of, products_of, work_of}
 use Rattle.basis_core.specs.RowDivision.{IsTracked}
 use Rattle.basis_core.specs.Rows.{IsRowTrail, vectors_in}
 use Rattle.basis_core.proofs.AfterPut.{members_length}
-use Rattle.basis_core.proofs.Tracking.{ring_lawful}
+use Rattle.basis_core.proofs.MemberKeys.{key_occurs, occurs_in, vector_at}
 
 -- ---- lists
 pub step_front : (xs ys : List Step) (i : ℕ) → i < length xs → step_at (xs ++ ys) i ≡ step_at xs i
@@ -84,11 +82,6 @@ contained_each P (y ∷ xs) x h (zero, l, e) = subst P e h.0
 contained_each P (y ∷ xs) x h (suc k, l, e) = contained_each P xs x h.1 (k, omega arith, e)
 
 -- ---- the members' vectors
-pub vector_at : (n : ℕ) (ms : List Tracked) (k : ℕ) → get_or (vectors (members_of n ms)) k [] ≡ sum_of n (get_or (vectors_in ms) k [])
-vector_at n [] k = refl
-vector_at n (m ∷ ms) zero = refl
-vector_at n (m ∷ ms) (suc k) = vector_at n ms k
-
 pub base_at : (ms : List Tracked) (b k : ℕ) → k < length (take b ms) → get_or (vectors_in (take b ms)) k [] ≡ get_or (vectors_in ms) k []
 base_at [] zero k l = refl
 base_at [] (suc b) k l = refl
@@ -99,53 +92,6 @@ base_at (m ∷ ms) (suc b) (suc k) l = base_at ms b k (omega arith)
 pub listed_length : (ms : List Tracked) → length (vectors_in ms) ≡ length ms
 listed_length [] = refl
 listed_length (m ∷ ms) = ap suc (listed_length ms)
-
--- ---- keys of products
--- what occurs in a product is a key of it
-pub occurs_in :
-    (n p : ℕ) (vs : List (List (CodeKey × ℕ))) (G : List (FormalSum n)) (s : Step) (k : Key n)
-    → get_or G s.0 [] ≡ sum_of n (get_or vs s.0 []) → Occurs p (product_vector G (product_of n s)) k → IsInProduct n vs k s
-occurs_in n p vs G s k e o = go (occurs (scale 1 (exponents_of n s.1) (get_or G s.0 [])) k)
-  where
-    go : HasKey (scale 1 (exponents_of n s.1) (get_or G s.0 [])) k ⊎ (coefficient (scale 1 (exponents_of n s.1) (get_or G s.0 [])) k ≡ 0) → IsInProduct n vs k s
-    go (inl h) =
-        let r = scaled_key 1 (exponents_of n s.1) (get_or G s.0 []) k h in
-        (r.0, subst (λ v. HasKey v r.0) e r.1, r.2)
-    go (inr z) = absurd (o (IsCongruent_of p _ _ z))
-
-reduced_terms : (n p : ℕ) (v : List (CodeKey × ℕ)) → Each (IsTerm n p) v → Each (λ t. (0 < t.1) × (t.1 < p)) (sum_of n v)
-reduced_terms n p [] h = tt
-reduced_terms n p (t ∷ v) h = (((h.0).nonzero, (h.0).reduced), reduced_terms n p v h.1)
-
--- a key of a vector occurs in it
-pub key_occurs :
-    (shared : Shared) (v : List (CodeKey × ℕ)) (k : Key (variables shared.ring))
-    → IsVector (variables shared.ring) shared.ring.modulus.value (ring_comparison shared.ring (variables shared.ring)) v
-    → HasKey (sum_of (variables shared.ring) v) k → Occurs shared.ring.modulus.value (sum_of (variables shared.ring) v) k
-key_occurs shared v k h there =
-    let n : ℕ = variables shared.ring in
-    at_key (λ l. Occurs shared.ring.modulus.value (sum_of n v) l) (sum_of n v) k
-    (nonzeros (setting_of n shared) (ring_lawful shared) (sum_of n v) h.descends (reduced_terms n shared.ring.modulus.value v h.each)) there
-
-coefficient_shifted : {n : ℕ} (m : Exponents n) (v : FormalSum n) (k : Key n) → coefficient (scale 1 m v) (shift m k) ≡ coefficient v k
-coefficient_shifted m v k =
-    weighted_sum-scale (indicator (shift m k)) 1 m v
-    ∙ ap (λ x. 1 * x) (weighted_sum_ext _ (indicator k) (λ l. ap (λ b. cond b 1 0) (same_key-shift m k l)) v)
-    ∙ omega arith
-
--- a key of a product of a vector occurs in it
-pub in_occurs :
-    (shared : Shared) (vs : List (List (CodeKey × ℕ))) (G : List (FormalSum (variables shared.ring))) (s : Step) (k : Key (variables shared.ring))
-    → get_or G s.0 [] ≡ sum_of (variables shared.ring) (get_or vs s.0 [])
-    → IsVector (variables shared.ring) shared.ring.modulus.value (ring_comparison shared.ring (variables shared.ring)) (get_or vs s.0 [])
-    → IsInProduct (variables shared.ring) vs k s → Occurs shared.ring.modulus.value (product_vector G (product_of (variables shared.ring) s)) k
-in_occurs shared vs G s k e v (l, there, is) z =
-    let n : ℕ = variables shared.ring in
-    let p : ℕ = shared.ring.modulus.value in
-    let t : Exponents n = exponents_of n s.1 in
-    let same : coefficient (sum_of n (get_or vs s.0 [])) l ≡ coefficient (scale 1 t (get_or G s.0 [])) k =
-    sym (coefficient_shifted t (sum_of n (get_or vs s.0 [])) l) ∙ (λ i. coefficient (scale 1 t (sym e i)) (sym is i)) in
-    key_occurs shared (get_or vs s.0 []) l v there (IsCongruent_trans (IsCongruent_of p _ _ same) z)
 
 -- ---- what is met
 -- each lead that is met is a key of the row, or of a step before it

@@ -1,12 +1,14 @@
 -- Members over one list of generators: their vectors and cofactors, and their ranks
-use Rattle.std.proofs.Common.{List, [], ap, arith, get_or, length, map, refl, subst, suc, zero, ℕ, ◌<◌, ◌∷◌, ◌≡◌}
+use Rattle.std.proofs.Common.{List, Some, [], ap, arith, get_or, inl, inr, length, map, refl, subst, suc, zero, ℕ, ◌<◌, ◌∷◌, ◌≡◌}
 use Rattle.formal_sums.proofs.OfRank.{IsOfRank_append, IsOfRank_of, IsOfRank_scale, IsOfRank_zero}
 use Rattle.formal_sums.specs.Combinations.{combination}
 use Rattle.formal_sums.specs.FormalSums.{Each, FormalSum, HasRank, IsOfRank, scale}
 use Rattle.bases.specs.Settings.{IsLawful}
 use Rattle.monomial_orders.specs.Laws.{key_comparison_order}
 use Rattle.zp_field.proofs.TableFields.{is_modulus-domain}
+use Rattle.module_vectors.proofs.Monomials.{monomial_at}
 use Rattle.module_vectors.specs.Rings.{ring_comparison, variables}
+use Rattle.module_vectors.specs.Trails.{IsOfStep, Step}
 use Rattle.module_vectors.specs.Vectors.{AreVectorsOver, HasPositions, sum_of, sums_of}
 use Rattle.module_vectors.specs.declared.key.Key.{Key as CodeKey}
 use Rattle.cofactor_track.specs.Members.{IsCombined}
@@ -56,6 +58,15 @@ vectors_over shared (m ∷ ms) h = (h.0.vector.vector, vectors_over shared ms h.
 pub cofactors_over : (shared : Shared) (ms : List Tracked) → Each (IsTracked shared) ms → AreVectorsOver shared.ring (ring_comparison shared.ring) (cofactors_in ms)
 cofactors_over shared [] h = tt
 cofactors_over shared (m ∷ ms) h = (h.0.cof.vector, cofactors_over shared ms h.1)
+
+-- a monomial of a member or of its cofactors has the ring's variables
+pub last_variables :
+    (shared : Shared) (ms : List Tracked) (s : Step) (last : List ℕ)
+    → Each (IsTracked shared) ms → IsOfStep (vectors_in ms) (Some (cofactors_in ms)) s last → length last ≡ variables shared.ring
+last_variables shared ms s last h (inl m) =
+    monomial_at (variables shared.ring) shared.ring.modulus.value (ring_comparison shared.ring (variables shared.ring)) (vectors_in ms) s.0 last (vectors_over shared ms h) m
+last_variables shared ms s last h (inr m) =
+    monomial_at (variables shared.ring) shared.ring.modulus.value (ring_comparison shared.ring (variables shared.ring)) (cofactors_in ms) s.0 last (cofactors_over shared ms h) m
 
 -- ---- ranks
 pub rank_of_positions : (n m : ℕ) (v : List (CodeKey × ℕ)) → HasPositions m v → HasRank m (sum_of n v)

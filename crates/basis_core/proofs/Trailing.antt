@@ -20,7 +20,7 @@ use Rattle.basis_steps.proofs.Growing.{each_at}
 use Rattle.basis_core.proofs.AfterPut.{members_length}
 use Rattle.basis_steps.specs.Criteria.{IsPair, lcm_of}
 use Rattle.basis_steps.specs.Outcomes as plain
-use Rattle.basis_steps.specs.Outcomes.{AreJobProducts, IsOutcome, Occurs, OccursBefore, product_at, product_vector}
+use Rattle.basis_steps.specs.Outcomes.{AreJobProducts, IsOutcome, OccursBefore, product_at, product_vector}
 use Rattle.basis_steps.specs.Pairs.{count, is_same_pair}
 use Rattle.basis_steps.specs.States.{Product, Trail, cofactor_lists, vectors}
 use Rattle.basis_core.specs.Chains.{IsLinked, IsStep, IsTracedTo, step_at}
@@ -32,12 +32,13 @@ use Rattle.basis_core.specs.RowDivision.{IsTracked}
 use Rattle.basis_core.specs.Rows.{IsRowTrail, cofactors_in, vectors_in}
 use Rattle.basis_core.specs.Stops.{earlier_steps, trail_by, trail_of, trail_over}
 use Rattle.basis_core.proofs.Starting.{joined_members}
-use Rattle.basis_core.proofs.Tracing.{HasStoppedRow, at_base, contained_each, in_occurs, key_occurs, listed_length, pair_counted, product_is, step_behind, vector_at}
+use Rattle.basis_core.proofs.MemberKeys.{in_occurs, key_occurs, member_vector, vector_at}
+use Rattle.basis_core.proofs.Tracing.{HasStoppedRow, at_base, contained_each, listed_length, pair_counted, product_is, step_behind}
 use Rattle.bases.proofs.Leading.{one_not_zero}
 use Rattle.residues.proofs.Congruences.{IsCongruent_sym}
-use Rattle.basis_steps.specs.Divisions.{IsMonicMember}
+use Rattle.basis_steps.specs.Divisions.{IsMonicMember, Occurs}
 use Rattle.cofactor_track.specs.declared.member.Member.{Member as CodeMember}
-use Rattle.basis_core.proofs.Tracking.{members_tracked, ring_lawful}
+use Rattle.basis_core.proofs.Tracking.{cofactors_over, last_variables, members_tracked, ring_lawful, vectors_over}
 
 -- ---- lists of steps
 last_at : (s : Step) (ss : List Step) → step_at (s ∷ ss) (length ss) ≡ last_step s ss
@@ -76,9 +77,6 @@ linked_at n vs s (t ∷ ss) h zero l = h.0
 linked_at n vs s (t ∷ ss) h (suc k) l = linked_at n vs t ss h.1 k (omega arith)
 
 -- ---- monomials of vectors
-monomial_term : (v : List (CodeKey × ℕ)) (m : List ℕ) (n p : ℕ) → Each (IsTerm n p) v → HasMonomial v m → length m ≡ n
-monomial_term v m n p h (t, there, e) = sym (ap length e) ∙ (contained_each (IsTerm n p) v t h there).variables
-
 term_key : (n : ℕ) (v : List (CodeKey × ℕ)) (t : CodeKey × ℕ) → Contains v t → HasKey (sum_of n v) (key_of n t.0)
 term_key n [] t (k, l, e) = absurd (omega arith)
 term_key n (u ∷ v) t (zero, l, e) = (0, omega arith, ap (λ (z : CodeKey × ℕ). key_of n z.0) e)
@@ -96,11 +94,6 @@ monomial_occurs shared v m h (t, there, e) =
 
 degree_of_list : (n : ℕ) (xs : List ℕ) → length xs ≡ n → degree (exponents_of n xs) ≡ sum xs
 degree_of_list n xs e = subst (λ k. degree (exponents_of k xs) ≡ sum xs) e (degree-exponents_of xs)
-
-member_vector : (shared : Shared) (ms : List Tracked) (k : ℕ) → Each (IsTracked shared) ms → IsVector (variables shared.ring) shared.ring.modulus.value (ring_comparison shared.ring (variables shared.ring)) (get_or (vectors_in ms) k [])
-member_vector shared [] k h = record { each = tt; descends = tt }
-member_vector shared (m ∷ ms) zero h = h.0.vector.vector
-member_vector shared (m ∷ ms) (suc k) h = member_vector shared ms k h.1
 
 member_cof : (shared : Shared) (ms : List Tracked) (k : ℕ) → Each (IsTracked shared) ms → IsVector (variables shared.ring) shared.ring.modulus.value (ring_comparison shared.ring (variables shared.ring)) (get_or (cofactors_in ms) k [])
 member_cof shared [] k h = record { each = tt; descends = tt }
@@ -233,11 +226,7 @@ module _ (shared : Shared) (ms : List Tracked) (o : OutcomeShown) (row : Tracked
           (r.0, inr (subst (λ v. Occurs p v (r.0, exponents_of n last)) (sym (cofactor_at n ms (last_step first later).0)) r.1))
 
   last_length : length last ≡ n
-  last_length = go of_last
-    where
-      go : HasMonomial (get_or vs (last_step first later).0 []) last ⊎ HasMonomial (get_or (cofactors_in ms) (last_step first later).0 []) last → length last ≡ n
-      go (inl m) = monomial_term (get_or vs (last_step first later).0 []) last n p (member_vector shared ms (last_step first later).0 h.tracked).each m
-      go (inr m) = monomial_term (get_or (cofactors_in ms) (last_step first later).0 []) last n p (member_cof shared ms (last_step first later).0 h.tracked).each m
+  last_length = last_variables shared ms (last_step first later) last h.tracked of_last
 
   too_great : 65535 < sum (last_step first later).1 + sum last
   too_great = subst (λ (s : Step). 65535 < sum s.1 + sum last) (sym same_last) (h.trail).too_great
@@ -263,10 +252,15 @@ module _ (shared : Shared) (ms : List Tracked) (o : OutcomeShown) (row : Tracked
   steps_known [] k = tt
   steps_known (s ∷ ss) k = ((k.0).0, steps_known ss k.1)
 
+  steps_variables : (ss : List Step) → Each (IsStep n vs) ss → Each (λ s. length s.1 ≡ n) ss
+  steps_variables [] k = tt
+  steps_variables (s ∷ ss) k = ((k.0).1, steps_variables ss k.1)
+
   kept_chain : (t : KeptTrail) → t.steps.items ≡ chain → IsChain n (whole t) first later
   kept_chain t e = record {
     steps = e ∙ (c.chain_is).steps;
     known = steps_known (first ∷ later) known;
+    variables = steps_variables (first ∷ later) known;
     begins = (
       record {
         left = omega (arith, left, h.fewer, listed_length ms);
@@ -279,6 +273,7 @@ module _ (shared : Shared) (ms : List Tracked) (o : OutcomeShown) (row : Tracked
     );
     met = linked_met n (sum_of n []) vs (first ∷ []) first later (0, omega arith, refl) (c.chain_is).linked;
     last = of_last;
+    last_variables = last_length;
     too_great = too_great;
   }
 
@@ -295,7 +290,8 @@ module _ (shared : Shared) (ms : List Tracked) (o : OutcomeShown) (row : Tracked
             rank = refl;
             generators = refl;
             below = b;
-            cofactors = (cofactors_in ms, refl, length-map ms (λ m. m.cof) ∙ sym (length-map ms (λ m. m.vector)));
+            vectors = vectors_over shared ms h.tracked;
+            cofactors = (cofactors_in ms, refl, length-map ms (λ m. m.cof) ∙ sym (length-map ms (λ m. m.vector)), cofactors_over shared ms h.tracked);
           };
           vector = refl;
           start = (i, j, refl);

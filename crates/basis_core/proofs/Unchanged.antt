@@ -14,6 +14,8 @@ use Rattle.basis_core.specs.Jobs.{HasLcm, pairs_of}
 use Rattle.basis_core.specs.Members.{MembersShown}
 use Rattle.basis_core.specs.Shown.{Shown}
 use Rattle.basis_core.specs.Views.{outs_of, run_of, state_of, variables_of}
+use Rattle.basis_steps.specs.Pairs.{Pair}
+use Rattle.basis_core.specs.Tested.{AreIndices, AreTested}
 use Rattle.basis_core.specs.Waits.{IsTable, IsWide}
 
 -- the same items, and at least as many places for events
@@ -29,6 +31,8 @@ pub record IsUnchanged (i j : Inside) : Type 0 where
   pub stop : j.stop ≡ i.stop
   pub history : j.history.items ≡ i.history.items
   pub waits : map (λ row. row.items) j.waits.items ≡ map (λ row. row.items) i.waits.items
+  pub tested : j.tested ≡ i.tested
+  pub loose : j.loose.items ≡ i.loose.items
   pub room : vec_capacity i.history ≤ vec_capacity j.history
 
 -- the items of a state
@@ -44,6 +48,8 @@ record Items : Type 0 where
   stop : Option StopReason
   history : List Event
   rows : List (List Bool)
+  tested : ℕ
+  loose : List Pair
 
 abbrev items_of : Inside → Items
 items_of i = record {
@@ -58,6 +64,8 @@ items_of i = record {
   stop = i.stop;
   history = i.history.items;
   rows = map (λ row. row.items) i.waits.items;
+  tested = i.tested;
+  loose = i.loose.items;
 }
 
 abbrev shown_by : Items → Shown
@@ -82,6 +90,8 @@ record AreKept (places : ℕ) (p : Items) : Type 0 where
   marks_are : AreMarks (map (λ m. m.vector) p.members.list) p.marks
   wide : IsWide (length p.members.list) p.rows
   table : IsTable p.rows (pairs_of p.queue) (outs_of p.out)
+  tested_are : AreTested p.members p.rows p.loose p.tested (pairs_of p.queue)
+  loose_are : Each (AreIndices (length p.members.list)) p.loose
   stop_over : IsStopOver (shown_by p) p.stop
   read : Each (IsRead (length p.members.list) p.stop) p.history
   room : length p.history + all_left (state_of (variables_of (shown_by p)) (shown_by p)) p.workers ≤ places
@@ -111,6 +121,8 @@ unchanged_kept i j k h =
       marks_are = k.marks;
       wide = k.wide;
       table = k.table;
+      tested_are = k.tested;
+      loose_are = k.loose;
       stop_over = k.stop;
       read = k.read;
       room = k.room;
@@ -127,6 +139,8 @@ unchanged_kept i j k h =
       stop = h.stop t;
       history = h.history t;
       rows = h.waits t;
+      tested = h.tested t;
+      loose = h.loose t;
     } in
     let here : AreKept (vec_capacity i.history) (items_of j) = subst (AreKept (vec_capacity i.history)) (sym same) there in
     record {
@@ -136,6 +150,8 @@ unchanged_kept i j k h =
       marks = here.marks_are;
       wide = here.wide;
       table = here.table;
+      tested = here.tested_are;
+      loose = here.loose_are;
       stop = here.stop_over;
       read = here.read;
       room = omega (arith, here.room, h.room);

@@ -13,6 +13,7 @@ use Rattle.vector_division.specs.Marks.{AreMarks}
 use Rattle.basis_core.specs.Shown.{Shown}
 use Rattle.basis_core.specs.Stops.{IsReasonOver}
 use Rattle.basis_core.specs.Views.{outs_of, run_of, state_of, variables_of}
+use Rattle.basis_core.specs.Tested.{AreIndices, AreTested}
 use Rattle.basis_core.specs.Waits.{IsTable, IsWide}
 
 abbrev pub shown : Inside → Shown
@@ -67,7 +68,7 @@ abbrev pub IsStopOver : (o : Shown) → Option StopReason → Type 0
 IsStopOver o None = ⊤
 IsStopOver o (Some reason) = IsReasonOver o.shared reason
 
--- the state replays its history, of which all that its events stand for is there; its pairs have their lcms and its members their marks; the table has the pairs that wait; and there is room for the Ends and Stops that may come
+-- the state replays its history, of which all that its events stand for is there; its pairs have their lcms and its members their marks; the table has the pairs that wait; what the last Take tested has passed, but for the pairs that ceased to wait since; and there is room for the Ends and Stops that may come
 pub record IsKept (s : Inside) : Type 0 where
   pub some : 0 < s.workers
   pub replays : Replays (run_of (variables_of (shown s)) (shown s)) (state_of (variables_of (shown s)) (shown s))
@@ -75,6 +76,8 @@ pub record IsKept (s : Inside) : Type 0 where
   pub marks : AreMarks (map (λ m. m.vector) s.members.list) s.marks.items
   pub wide : IsWide (length s.members.list) (map (λ row. row.items) s.waits.items)
   pub table : IsTable (map (λ row. row.items) s.waits.items) (pairs_of s.queue.items) (outs_of s.out.items)
+  pub tested : AreTested s.members (map (λ row. row.items) s.waits.items) s.loose.items s.tested (pairs_of s.queue.items)
+  pub loose : Each (AreIndices (length s.members.list)) s.loose.items
   pub stop : IsStopOver (shown s) s.stop
   pub read : Each (IsRead (length s.members.list) s.stop) s.history.items
   pub room : length s.history.items + all_left (state_of (variables_of (shown s)) (shown s)) s.workers ≤ vec_capacity s.history

@@ -1,5 +1,6 @@
 pub mod Members
 pub mod Jobs
+pub mod Queues
 pub mod Outcomes
 pub mod Stops
 pub mod Shown
@@ -10,6 +11,7 @@ pub mod Inside
 pub mod Rows
 pub mod Queueing
 pub mod Skipping
+pub mod Tested
 pub mod RowDivision
 pub mod Beginning
 pub mod Makings

@@ -5,12 +5,12 @@ use Rattle.module_vectors.specs.declared.trail.WorkStop.{WorkStop}
 use Rattle.module_vectors.specs.declared.trail.WorkStop.TheVariants.{Memory, Degree}
 use Rattle.monomials.specs.Exponents.{degree}
 use Rattle.basis_steps.specs.Criteria.{IsPair}
-use Rattle.basis_steps.specs.Outcomes.{AreJobProducts, Occurs}
+use Rattle.basis_steps.specs.Outcomes.{AreJobProducts}
 use Rattle.basis_steps.specs.States.{cofactor_lists, vectors}
 use Rattle.basis_core.specs.Jobs.{pairs_of}
 use Rattle.basis_core.specs.Outcomes.{OutcomeShown}
 use Rattle.basis_core.specs.Stops.{IsPairTrail, trail_of}
-use Rattle.basis_steps.specs.Divisions.{Makes}
+use Rattle.basis_steps.specs.Divisions.{Makes, Occurs}
 use Rattle.basis_steps.specs.Pairs.{Pair, count}
 use Rattle.basis_core.specs.declared.row_division.RowStop.{RowStop}
 use Rattle.basis_core.specs.declared.row_division.RowStop.TheVariants as reasons

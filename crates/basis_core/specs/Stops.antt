@@ -1,8 +1,9 @@
 -- Why a run stops early, and the trail that a stop by the degree carries
 use Rattle.std.specs.Prelude.{List, None, Option, Some, [], length, ⊤, ℕ, ◌∷◌, ◌≡◌}
 use Rattle.monomials.specs.Exponents.{exponents_of}
+use Rattle.module_vectors.specs.Rings.{ring_comparison}
 use Rattle.module_vectors.specs.Trails.{IsTrail as IsKeptTrail, Step, last_step}
-use Rattle.module_vectors.specs.Vectors.{sum_of}
+use Rattle.module_vectors.specs.Vectors.{AreVectorsOver, sum_of}
 use Rattle.module_vectors.specs.declared.key.Key.{Key as CodeKey}
 use Rattle.module_vectors.specs.declared.trail.KeptTrail.{KeptTrail}
 use Rattle.module_vectors.specs.declared.trail.TrailStart.{TrailStart}
@@ -71,14 +72,19 @@ abbrev pub stop_of : (n : ℕ) → Option StopReason → Option (plain.StopReaso
 stop_of n None = None
 stop_of n (Some reason) = Some (reason_of n reason)
 
--- the trail is of the run's ring, rank and generators, and has its members' cofactors; above it nothing is resolved
+-- the trail is of the run's ring, rank and generators, and has vectors as members and their cofactors; above it nothing is resolved
 pub record IsTrailOver (shared : Shared) (t : KeptTrail) : Type 0 where
   pub trail : IsKeptTrail t
   pub ring : t.ring ≡ shared.ring
   pub rank : t.rank ≡ shared.rank
   pub generators : t.generators ≡ shared.generators
   pub below : t.below.items ≡ []
-  pub cofactors : (cs : List (List (CodeKey × ℕ))) × (t.cofs ≡ Some cs) × (length cs ≡ length t.members)
+  pub vectors : AreVectorsOver shared.ring (ring_comparison shared.ring) t.members
+  pub cofactors :
+      (cs : List (List (CodeKey × ℕ)))
+      × (t.cofs ≡ Some cs)
+      × (length cs ≡ length t.members)
+      × AreVectorsOver shared.ring (ring_comparison shared.ring) cs
 
 -- such a trail that starts with a pair, as those of jobs and of rows that are handed in do
 pub record IsPairTrail (shared : Shared) (t : KeptTrail) : Type 0 where

@@ -53,6 +53,7 @@ fn beginning_trail(
     ensures { IfOk result (IsBeginningTrail (variables members.now.shared.ring) members.now.shared) }
 {
     let _number = number;
+    members.kept();
     let shared = members.shared();
     Ok(KeptTrail {
         ring: shared.ring.try_copy(alloc)?,

@@ -1,10 +1,13 @@
 // Whether a criterion applies to a queued pair.
-ghost use Rattle.std.specs.Prelude.{◌≡◌, ◌<◌, ◌↔◌, IsTrue, length, map, List, Bool, false};
+ghost use Rattle.std.specs.Prelude.{ℕ, ◌≡◌, ◌<◌, ◌≤◌, ◌↔◌, ◌⊎◌, IsTrue, length, map, List, Bool, false};
 ghost use Rattle.bases.specs.Leads.{leads};
+ghost use Rattle.formal_sums.specs.FormalSums.{Each};
 ghost use Rattle.module_vectors.specs.Rings.{variables};
 ghost use Rattle.module_vectors.specs.Vectors.{key_of};
 ghost use Rattle.basis_core.specs.Jobs.{pair_of};
+ghost use Rattle.basis_steps.specs.Pairs.{Pair as PlainPair, pair_of as pair_with};
 ghost use Rattle.basis_core.specs.Skipping.{AreMonic, ChainSpares, DividesLcm, IsRealPair, IsSpared, ProductSpares, cleared, vectors_shown};
+ghost use Rattle.basis_core.specs.Tested.{AreAmong, AreIndices, PairPassed};
 ghost use Rattle.basis_core.specs.Waits.{IsWide};
 ghost use Rattle.vector_division.specs.Marks.{AreMarks, HasBits};
 
@@ -86,8 +89,36 @@ fn chain_spares(
         && !pair_waits(waits, k, j)
 }
 
+// Does the chain criterion apply to the pair by one of the members from number `first` on?
+fn chain_spares_from(
+    members: &Members,
+    marks: &[Mark],
+    waits: &[Vec<bool>],
+    x: &Pair,
+    first: usize,
+) -> bool
+    requires monic { AreMonic members.now }
+    requires marks { AreMarks (map (λ m. m.vector) members.now.list) marks.now }
+    requires tall { length waits.now ≡ length members.now.list }
+    requires wide { IsWide (length waits.now) (map (λ row. row.items) waits.now) }
+    requires real { IsRealPair members.now x.now }
+    ensures spares { IsTrue result → (k : ℕ) × ChainSpares members.now (map (λ row. row.items) waits.now) (pair_of x.now) k }
+    ensures none { (result ≡ false) → (k : ℕ) → first ≤ k → ChainSpares members.now (map (λ row. row.items) waits.now) (pair_of x.now) k → ⊥ }
+{
+    if first >= members.len() {
+        return false;
+    }
+    let variables = occurring_variables(&x.lcm.monomial);
+    for k in first..members.len() {
+        if chain_spares(members, marks, waits, x, variables, k) {
+            return true;
+        }
+    }
+    false
+}
+
 /// Does a criterion apply to the pair? IVA chapter 2, sections 9 and 10.
-pub(crate) fn is_spared(members: &Members, marks: &[Mark], waits: &[Vec<bool>], x: &Pair) -> bool
+fn is_spared(members: &Members, marks: &[Mark], waits: &[Vec<bool>], x: &Pair) -> bool
     requires monic { AreMonic members.now }
     requires marks { AreMarks (map (λ m. m.vector) members.now.list) marks.now }
     requires tall { length waits.now ≡ length members.now.list }
@@ -98,13 +129,7 @@ pub(crate) fn is_spared(members: &Members, marks: &[Mark], waits: &[Vec<bool>], 
     if product_spares(members, x) {
         return true;
     }
-    let variables = occurring_variables(&x.lcm.monomial);
-    for k in 0..members.len() {
-        if chain_spares(members, marks, waits, x, variables, k) {
-            return true;
-        }
-    }
-    false
+    chain_spares_from(members, marks, waits, x, 0)
 }
 
 /// Does a criterion apply to the pair since `gone` waits no more? Where none did before, that takes a chain by one of the
@@ -114,21 +139,107 @@ pub(crate) fn is_spared_without(
     marks: &[Mark],
     waits: &[Vec<bool>],
     x: &Pair,
-    gone: &Pair,
+    gone: (u64, u64),
 ) -> bool
     requires monic { AreMonic members.now }
     requires marks { AreMarks (map (λ m. m.vector) members.now.list) marks.now }
     requires tall { length waits.now ≡ length members.now.list }
     requires wide { IsWide (length waits.now) (map (λ row. row.items) waits.now) }
     requires real { IsRealPair members.now x.now }
-    requires gone { IsRealPair members.now gone.now }
-    ensures { (result ≡ false) → (before : List (List Bool)) → IsWide (length members.now.list) before → map (λ row. row.items) waits.now ≡ cleared before (pair_of gone.now)
+    requires gone { AreIndices (length members.now.list) gone }
+    ensures { (result ≡ false) → (before : List (List Bool)) → IsWide (length members.now.list) before → map (λ row. row.items) waits.now ≡ cleared before gone
         → (IsSpared members.now before (pair_of x.now) → ⊥) → IsSpared members.now (map (λ row. row.items) waits.now) (pair_of x.now) → ⊥ }
 {
-    if x.i != gone.i && x.i != gone.j && x.j != gone.i && x.j != gone.j {
+    if x.i != gone.0 && x.i != gone.1 && x.j != gone.0 && x.j != gone.1 {
         return false;
     }
     let variables = occurring_variables(&x.lcm.monomial);
-    chain_spares(members, marks, waits, x, variables, gone.i as usize)
-        || chain_spares(members, marks, waits, x, variables, gone.j as usize)
+    chain_spares(members, marks, waits, x, variables, gone.0 as usize)
+        || chain_spares(members, marks, waits, x, variables, gone.1 as usize)
+}
+
+// Does the chain criterion apply to the pair by a member of pair (i, j), of which the other is one of its own?
+fn chain_spares_by(
+    members: &Members,
+    marks: &[Mark],
+    waits: &[Vec<bool>],
+    x: &Pair,
+    i: u64,
+    j: u64,
+) -> bool
+    requires monic { AreMonic members.now }
+    requires marks { AreMarks (map (λ m. m.vector) members.now.list) marks.now }
+    requires tall { length waits.now ≡ length members.now.list }
+    requires wide { IsWide (length waits.now) (map (λ row. row.items) waits.now) }
+    requires real { IsRealPair members.now x.now }
+    requires within { AreIndices (length members.now.list) (i, j) }
+    ensures spares { IsTrue result → (k : ℕ) × ChainSpares members.now (map (λ row. row.items) waits.now) (pair_of x.now) k }
+    ensures none { (result ≡ false) → (k : ℕ) → (pair_with x.now.i k ≡ (i, j)) ⊎ (pair_with k x.now.j ≡ (i, j))
+        → ChainSpares members.now (map (λ row. row.items) waits.now) (pair_of x.now) k → ⊥ }
+{
+    if x.i != i && x.i != j && x.j != i && x.j != j {
+        return false;
+    }
+    let variables = occurring_variables(&x.lcm.monomial);
+    if chain_spares(members, marks, waits, x, variables, i as usize) {
+        return true;
+    }
+    chain_spares(members, marks, waits, x, variables, j as usize)
+}
+
+// Does a criterion apply to the pair of the first `tested` members, by which it has passed while the pairs of `gone` waited
+// too? It takes a chain with one of them, or by a later member.
+fn is_spared_since(
+    members: &Members,
+    marks: &[Mark],
+    waits: &[Vec<bool>],
+    x: &Pair,
+    tested: usize,
+    gone: &[(u64, u64)],
+) -> bool
+    requires monic { AreMonic members.now }
+    requires marks { AreMarks (map (λ m. m.vector) members.now.list) marks.now }
+    requires tall { length waits.now ≡ length members.now.list }
+    requires wide { IsWide (length waits.now) (map (λ row. row.items) waits.now) }
+    requires real { IsRealPair members.now x.now }
+    requires gone { Each (AreIndices (length members.now.list)) gone.now }
+    ensures spared { IsTrue result → IsSpared members.now (map (λ row. row.items) waits.now) (pair_of x.now) }
+    ensures none { (result ≡ false) → (all : List PlainPair) → AreAmong tested all gone.now → x.now.j < tested
+        → PairPassed members.now (map (λ row. row.items) waits.now) all tested (pair_of x.now) → IsSpared members.now (map (λ row. row.items) waits.now) (pair_of x.now) → ⊥ }
+{
+    if chain_spares_from(members, marks, waits, x, tested) {
+        return true;
+    }
+    for g in gone {
+        if chain_spares_by(members, marks, waits, x, g.0, g.1) {
+            return true;
+        }
+    }
+    false
+}
+
+/// Does a criterion apply to the pair? It has passed by the first `tested` members, unless it has a later one, while the
+/// pairs of `gone` waited too: where these are few, they and the later members alone are looked at.
+pub(crate) fn is_spared_now(
+    members: &Members,
+    marks: &[Mark],
+    waits: &[Vec<bool>],
+    x: &Pair,
+    tested: usize,
+    gone: &[(u64, u64)],
+) -> bool
+    requires monic { AreMonic members.now }
+    requires marks { AreMarks (map (λ m. m.vector) members.now.list) marks.now }
+    requires tall { length waits.now ≡ length members.now.list }
+    requires wide { IsWide (length waits.now) (map (λ row. row.items) waits.now) }
+    requires real { IsRealPair members.now x.now }
+    requires passed { (all : List PlainPair) × AreAmong tested all gone.now × (x.now.j < tested → PairPassed members.now (map (λ row. row.items) waits.now) all tested (pair_of x.now)) }
+    requires gone { Each (AreIndices (length members.now.list)) gone.now }
+    ensures { IsTrue result ↔ IsSpared members.now (map (λ row. row.items) waits.now) (pair_of x.now) }
+{
+    // A pair that shares no member with one of them costs less than a member that is tested.
+    if (x.j as usize) < tested && gone.len() / 4 < members.len() {
+        return is_spared_since(members, marks, waits, x, tested, gone);
+    }
+    is_spared(members, marks, waits, x)
 }

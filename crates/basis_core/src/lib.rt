@@ -19,6 +19,7 @@ mod merging;
 mod out;
 mod outcome;
 mod putting;
+mod queue;
 mod queueing;
 mod row_cofactors;
 mod row_division;

@@ -17,12 +17,12 @@ ghost use Rattle.basis_core.specs.Waits.{IsTable, IsWide};
 use crate::event::Event;
 use crate::members::Members;
 use crate::out::Out;
+use crate::queue::Queue;
 use crate::queueing::queue_new_pairs;
 use crate::row_division::{RowStop, make_member};
 use crate::waiting::clear;
 use cofactor_track::Member;
 use module_vectors::{NoMemory, Vectors};
-use pair_criteria::Pair;
 use std::alloc::Global;
 use vector_division::{Mark, mark_of};
 
@@ -57,7 +57,7 @@ pub(crate) fn queue_made(
     workers: u32,
     marks: &mut Vec<Mark>,
     history: &mut Vec<Event>,
-    queue: &mut Vec<Pair>,
+    queue: &mut Queue,
     waits: &mut Vec<Vec<bool>>,
 ) -> Result<(), NoMemory>
     requires first { first ≤ length members.now.list }
@@ -105,6 +105,18 @@ fn clear_flags(worker: u32, out: &[Out], waits: &mut Vec<Vec<bool>>)
     for o in out {
         if o.worker == worker {
             clear(waits, o.i as usize, o.j as usize);
+        }
+    }
+}
+
+/// The pairs of the worker become loose. It takes no memory.
+pub(crate) fn loosen(worker: u32, out: &[Out], loose: &mut Vec<(u64, u64)>)
+    requires room { length loose.old.items + length out.now ≤ vec_capacity loose.old }
+    ensures { loose.new.items ≡ loose.old.items ++ job_of worker (outs_of out.now) }
+{
+    for o in out {
+        if o.worker == worker {
+            loose.push_reserved((o.i, o.j));
         }
     }
 }

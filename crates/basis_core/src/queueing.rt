@@ -14,8 +14,8 @@ use crate::comparing::sort_pairs;
 use crate::flags::{flag_rows, flagged_pairs};
 use crate::members::Members;
 use crate::merging::merge;
+use crate::queue::Queue;
 use module_vectors::NoMemory;
-use pair_criteria::Pair;
 use std::alloc::Global;
 use std::mem::replace;
 
@@ -25,7 +25,7 @@ pub(crate) fn queue_new_pairs(
     alloc: Global,
     members: &Members,
     first: usize,
-    queue: &mut Vec<Pair>,
+    queue: &mut Queue,
     waits: &mut Vec<Vec<bool>>,
 ) -> Result<(), NoMemory>
     requires first { first ≤ length members.now.list }
@@ -43,11 +43,16 @@ pub(crate) fn queue_new_pairs(
 {
     let mut rows = flag_rows(alloc, members, first)?;
     let mut pairs = flagged_pairs(alloc, members, first, &rows)?;
+    if pairs.is_empty() {
+        // Most events of a run make no pairs, and the queue is long.
+        waits.append(&mut rows)?;
+        return Ok(());
+    }
     sort_pairs(members, &mut pairs);
-    let room = Vec::with_capacity(alloc, queue.len() + pairs.len())?;
+    let room = Vec::with_capacity(alloc, queue.as_slice().len() + pairs.len())?;
     // The last call that wants memory: where there is none, it leaves the flags as they were.
     waits.append(&mut rows)?;
-    let queued = replace(queue, Vec::new(alloc));
-    *queue = merge(members, queued, pairs, room);
+    let queued = replace(queue, Queue::new(alloc)).into_pairs();
+    *queue = Queue::from_vec(merge(members, queued, pairs, room));
     Ok(())
 }

@@ -1,6 +1,7 @@
 //! The state of a run.
 ghost use Rattle.std.specs.Prelude.{◌≡◌, ◌<◌, List, None, Some, get_or, true, IfOk, IfErr, MatchOption, OnOk, OnErr, false};
 ghost use Rattle.std.specs.Arc.{arc_value};
+ghost use Rattle.formal_sums.specs.FormalSums.{Each};
 ghost use Rattle.module_vectors.specs.Rings.{variables};
 ghost use Rattle.basis_steps.specs.Invariant.{HoldsInvariant};
 ghost use Rattle.basis_steps.specs.States.{Member as PlainMember, IsLawfulRun};
@@ -10,7 +11,7 @@ ghost use Rattle.basis_core.specs.Answers.{AnswersTake, BeginningStops, IsJobOut
 ghost use Rattle.basis_core.specs.Members.{shared_of};
 ghost use Rattle.basis_core.specs.Stops.{reason_of};
 ghost use Rattle.basis_core.specs.Inside.{IsStopOver};
-ghost use Rattle.basis_core.specs.Jobs.{pairs_of};
+ghost use Rattle.basis_core.specs.Jobs.{HasLcm, pairs_of};
 ghost use Rattle.basis_core.specs.Pending.{HaveGrown};
 ghost use Rattle.basis_core.specs.Views.{ending_of, outs_of, run_of, state_of, variables_of, IsSameRun};
 
@@ -21,10 +22,11 @@ use crate::event::Event;
 use crate::members::Members;
 use crate::out::Out;
 use crate::outcome::Outcome;
-use crate::putting::{close_job, make_members, mark_members, queue_made};
+use crate::putting::{close_job, loosen, make_members, mark_members, queue_made};
+use crate::queue::{Queue, blank_pairs};
 use crate::queueing::queue_new_pairs;
 use crate::sharing::share_of;
-use crate::skipping::{put_back, skip};
+use crate::skipping::skip;
 use crate::stop::StopReason;
 use crate::taken::Taken;
 use crate::taking::{answer, give, keep_stop};
@@ -46,7 +48,7 @@ pub struct BasisState {
     members: Members,
     // One for each member: what is tested first of its lead.
     marks: Vec<Mark>,
-    queue: Vec<Pair>,
+    queue: Queue,
     out: Vec<Out>,
     taken: u64,
     ended: Vec<bool>,
@@ -55,6 +57,10 @@ pub struct BasisState {
     history: Vec<Event>,
     // Which pairs wait, in the queue or out: row j has a flag for each i below j.
     waits: Vec<Vec<bool>>,
+    // How many members there were at the last Take: no criterion applied by them to the pairs that it left.
+    tested: usize,
+    // The pairs that wait no more since the last Take, with room for those that one skips.
+    loose: Vec<(u64, u64)>,
 }
 
 impl Model for BasisState {
@@ -111,7 +117,7 @@ impl BasisState {
         let mut members = Members::new(alloc, shared);
         make_generators(alloc, &mut members)?;
         let marks = member_marks(alloc, &members)?;
-        let mut queue = Vec::new(alloc);
+        let mut queue = Queue::new(alloc);
         let mut waits = Vec::new(alloc);
         queue_new_pairs(alloc, &members, 0, &mut queue, &mut waits)?;
         let ended = nobody_ended(alloc, workers)?;
@@ -129,6 +135,8 @@ impl BasisState {
             stop: None,
             history,
             waits,
+            tested: 0,
+            loose: Vec::new(alloc),
         })
     }
 
@@ -153,31 +161,37 @@ impl BasisState {
             return Ok(Taken::Stopped);
         }
         let count = self.queue.len();
+        let most_given = most.min(count as u64) as usize;
         let members = self.members.share(alloc)?;
         let mut skipped = Vec::with_capacity(alloc, count)?;
-        let mut given = Vec::with_capacity(alloc, count)?;
-        let mut kept = Vec::with_capacity(alloc, count)?;
-        self.out.reserve(count)?;
+        let mut given = Vec::with_capacity(alloc, most_given)?;
+        let mut pairs = blank_pairs(alloc, most_given)?;
+        self.out.reserve(most_given)?;
+        self.loose.reserve(count)?;
         skip(
             &self.members,
             &self.marks,
             &mut self.waits,
             &mut self.queue,
-            &mut kept,
             &mut skipped,
+            self.tested,
+            &mut self.loose,
         );
-        let share = share_of(self.budget, self.workers, self.taken, most, &kept);
-        keep_stop(self.budget, self.taken, &kept, &mut self.stop);
-        put_back(&mut kept, share as usize, &mut self.queue);
-        self.queue.reverse();
-        give(worker, &kept, &mut self.out, &mut given);
+        self.tested = self.members.len();
+        self.loose.clear();
+        let left = self.queue.as_slice();
+        let share = share_of(self.budget, self.workers, self.taken, most, left);
+        keep_stop(self.budget, self.taken, left, &mut self.stop);
+        pairs.truncate(share as usize);
+        self.queue.take_front(&mut pairs);
+        give(worker, &pairs, &mut self.out, &mut given);
         self.taken += share;
         // Events stay: they hold no more memory than they need.
         skipped.shrink_to_fit();
         given.shrink_to_fit();
         self.history
             .push_reserved(Event::Take(worker, skipped, given));
-        Ok(answer(worker, members, &self.stop, kept))
+        Ok(answer(worker, members, &self.stop, pairs))
     }
 
     /// Takes in the outcome of a job that is out: each row is divided by the members of that moment and becomes a member
@@ -205,6 +219,10 @@ impl BasisState {
             self.members.truncate(first);
             return Err((stop, outcome));
         }
+        if self.loose.reserve(self.out.len()).is_err() {
+            self.members.truncate(first);
+            return Err((WorkStop::Memory, outcome));
+        }
         if let Err(NoMemory) = queue_made(
             alloc,
             &self.members,
@@ -219,6 +237,7 @@ impl BasisState {
             return Err((WorkStop::Memory, outcome));
         }
         mark_members(&self.members, first, &mut self.marks);
+        loosen(worker, &self.out, &mut self.loose);
         close_job(worker, &mut self.out, &mut self.waits);
         let count = self.members.len() - first;
         self.history
@@ -234,7 +253,7 @@ impl BasisState {
         ensures run { IsSameRun self.old self.new }
         ensures members { self.new.members ≡ self.old.members }
     {
-        let ending = ending_at(&self.stop, &self.queue);
+        let ending = ending_at(&self.stop, self.queue.as_slice());
         mark_ended(&mut self.ended, worker, ending);
         self.history.push_reserved(Event::End(worker, ending));
         ending
@@ -276,11 +295,13 @@ impl BasisState {
         &self.members
     }
 
-    /// The queued pairs, in their order: by the degree of the lcm, its monomial, the later member and the earlier one.
+    /// The queued pairs, each with its lcm, in their order: by the degree of the lcm, its monomial, the later member and the
+    /// earlier one.
     pub fn queued(&self) -> &[Pair]
-        ensures { pairs_of result.now ≡ self.now.queue }
+        ensures pairs { pairs_of result.now ≡ self.now.queue }
+        ensures lcms { Each (HasLcm (variables_of self.now) self.now.members) result.now }
     {
-        &self.queue
+        self.queue.as_slice()
     }
 
     /// The pairs that are out.

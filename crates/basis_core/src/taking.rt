@@ -65,7 +65,7 @@ pub(crate) fn answer(
     if pairs.is_empty() {
         return Taken::Empty;
     }
-    // They came in a list with room for the whole queue.
+    // They came in a list with room for as many as were asked for.
     pairs.shrink_to_fit();
     Taken::Job(Job::new(worker, members, pairs))
 }

@@ -11,7 +11,7 @@ use std::alloc::Global;
 
 // The ring of a line `ring NUM NAME {, NAME} order`, if it is one.
 fn ring(alloc: Global, line: &str) -> Result<Option<Ring>, NoMemory> {
-    match statement(alloc, line.as_bytes(), None) {
+    match statement(alloc, line.as_bytes(), None, &[]) {
         Ok(Statement::Ring(ring)) => Ok(Some(ring)),
         Err(ParseStop::Memory) => Err(NoMemory),
         _ => Ok(None),
@@ -24,7 +24,7 @@ fn polynomial(alloc: Global, ring: &Ring, text: &str) -> Result<Option<Vect>, No
 {
     let mut line = String::from_str(alloc, "show ")?;
     line.push_str(text)?;
-    match statement(alloc, line.as_bytes(), Some(ring)) {
+    match statement(alloc, line.as_bytes(), Some(ring), &[]) {
         Ok(Statement::Show(v)) => Ok(Some(v)),
         Err(ParseStop::Memory) => Err(NoMemory),
         _ => Ok(None),

@@ -1,24 +1,26 @@
 -- The chain of a pair is a trail of the job
 use Rattle.std.proofs.Common.{List, Some, [], ap, ap₂, append-nil, arith, get_or, inl, inr, length, length-append, refl, subst, subst₂, suc, sym, take, zero, ℕ, ◌++◌, ◌+◌, ◌<◌, ◌∙◌, ◌∷◌, ◌≡◌, ◌⊎◌}
+use Rattle.std.proofs.lemmas.List.{take_all}
 use Rattle.std.specs.Prelude.{sum}
 use Rattle.monomials.specs.Exponents.{degree, exponents_of}
-use Rattle.formal_sums.proofs.Combining.{Each_map}
 use Rattle.formal_sums.specs.FormalSums.{Each}
 use Rattle.bases.specs.Representations.{key_lcm}
 use Rattle.monomial_orders.proofs.Comparing.{degree-exponents_of}
+use Rattle.module_vectors.proofs.Monomials.{monomial_at}
 use Rattle.module_vectors.proofs.Scaling.{Each_at}
 use Rattle.module_vectors.proofs.SumsOfProducts.{Each_split}
-use Rattle.module_vectors.specs.Rings.{variables}
+use Rattle.module_vectors.specs.Rings.{ring_comparison, variables}
 use Rattle.module_vectors.specs.Stops.{HasMonomial}
 use Rattle.module_vectors.specs.Trails.{AreMet, Begins, HasKey, IsChain, IsOfStep, IsTrail as IsKeptTrail, Step, last_step, lead_at}
-use Rattle.module_vectors.specs.Vectors.{key_of, sum_of, sums_of}
+use Rattle.module_vectors.specs.Vectors.{AreVectorsOver, key_of, sum_of, sums_of}
 use Rattle.module_vectors.specs.declared.key.Key.{Key as CodeKey}
 use Rattle.module_vectors.specs.declared.trail.KeptTrail.{KeptTrail}
 use Rattle.module_vectors.specs.declared.trail.TrailStart.TheVariants as starts
 use Rattle.pair_criteria.specs.declared.pair.Pair.{Pair as CodePair}
 use Rattle.basis_steps.proofs.Counting.{is_same_pair-refl}
 use Rattle.basis_steps.specs.Criteria.{IsPair, lcm_of}
-use Rattle.basis_steps.specs.Outcomes.{AreJobProducts, Occurs}
+use Rattle.basis_steps.specs.Divisions.{Occurs}
+use Rattle.basis_steps.specs.Outcomes.{AreJobProducts}
 use Rattle.basis_steps.specs.Pairs.{Pair, count}
 use Rattle.basis_steps.specs.States.{cofactor_lists, vectors}
 use Rattle.basis_steps.specs.Trails.{IsTrail}
@@ -29,7 +31,7 @@ use Rattle.basis_core.specs.Rows.{cofactors_in, vectors_in}
 use Rattle.basis_core.specs.Stops.{IsPairTrail, cofactors_kept, earlier_steps, joined, start_pair, trail_by, trail_members, trail_of, trail_over}
 use Rattle.s_vectors.proofs.Combined.{AreCombined, cofactors_over, vectors_over}
 use Rattle.s_vectors.proofs.Lists.{cofactors_are, length-cofactors_in, length-vectors_in, vectors_are}
-use Rattle.s_vectors.proofs.Making.{item_of, job_steps, vector_occurs}
+use Rattle.s_vectors.proofs.Making.{job_steps, vector_occurs}
 use Rattle.s_vectors.proofs.TopParts.{lead_is, left_within, right_within, same_position, shared_lawful}
 use Rattle.s_vectors.specs.Divided.{AreOfPair}
 use Rattle.s_vectors.specs.Steps.{ArePairSteps, IsPairChain}
@@ -70,11 +72,6 @@ some_steps : (front : List Step) (s : Step) (steps : List Step) → steps ≡ fr
 some_steps [] s steps e = (s, [], e)
 some_steps (f ∷ front) s steps e = (f, front ++ s ∷ [], e)
 
-monomial_length : (n : ℕ) (v : List (CodeKey × ℕ)) (t : List ℕ) → Each (λ u. length u.0.monomial ≡ n) v → HasMonomial v t → length t ≡ n
-monomial_length n [] t h (u, (i, lt, e), is) = absurd (let z : i < 0 = lt in omega arith)
-monomial_length n (w ∷ v) t h (u, (zero, lt, e), is) = ap length (sym (ap (λ z. z.0.monomial) e ∙ is)) ∙ h.0
-monomial_length n (w ∷ v) t h (u, (suc i, lt, e), is) = monomial_length n v t h.1 (u, (i, omega arith, e), is)
-
 degree_of : (n : ℕ) (xs : List ℕ) → length xs ≡ n → degree (exponents_of n xs) ≡ sum xs
 degree_of n xs e = subst (λ k. degree (exponents_of k xs) ≡ sum xs) e (degree-exponents_of xs)
 
@@ -84,6 +81,13 @@ module _ (m : MembersShown) (x : CodePair) (of : AreOfPair m x) (combined : AreC
     (below_none : t.below.items ≡ []) (start_is : t.start ≡ starts.Pair x.i x.j) (vector_is : t.vector ≡ [])
     (members_are : t.members ≡ vectors_in m.list) (cofactors_there : t.cofs ≡ Some (cofactors_in m.list)) (taken : 0 < count (pair_of x) pairs)
   where
+    -- the monomial that is too great has the ring's variables
+    last_length : IsOfStep (vectors_in m.list) (Some (cofactors_in m.list)) chain.step t.last → length t.last ≡ variables m.shared.ring
+    last_length (inl h) =
+        monomial_at (variables m.shared.ring) m.shared.ring.modulus.value (ring_comparison m.shared.ring (variables m.shared.ring)) (vectors_in m.list) chain.step.0 t.last (vectors_over m.shared m.list combined) h
+    last_length (inr h) =
+        monomial_at (variables m.shared.ring) m.shared.ring.modulus.value (ring_comparison m.shared.ring (variables m.shared.ring)) (cofactors_in m.list) chain.step.0 t.last (cofactors_over m.shared m.list combined) h
+
     -- the steps as the trail has them
     kept_trail : (first : Step) (later : List Step) → t.steps.items ≡ first ∷ later → IsKeptTrail t
     kept_trail first later e =
@@ -99,12 +103,14 @@ module _ (m : MembersShown) (x : CodePair) (of : AreOfPair m x) (combined : AreC
           subst (λ r. IsChain (variables r) t first later) (sym ring_is) (record {
             steps = e;
             known = subst (λ l. Each (λ z. z.0 < length l) (first ∷ later)) (sym members_are) pair.known;
+            variables = pair.variables;
             begins = subst₂ (λ s l. Begins n s t.vector l first later) (sym start_is) (sym members_are) (
               record { left = lw; right = rw'; apart = λ q. (let o = of.real.ordered in absurd (omega arith)); position = same_position n m.shared m.list x of.monic of.real of.lcm; lcm = pair.linked.0 ∙ lcm_key },
               vector_is,
             );
             met = subst₂ (λ v l. AreMet n (sum_of n v) l (first ∷ []) later) (sym vector_is) (sym members_are) pair.linked.1;
             last = subst (λ s. IsOfStep t.members t.cofs s t.last) (sym last) (subst₂ (λ l cs. IsOfStep l cs chain.step t.last) (sym members_are) (sym cofactors_there) chain.monomial);
+            last_variables = last_length chain.monomial;
             too_great = subst (λ (s : Step). 65535 < sum s.1 + sum t.last) (sym last) chain.too_great;
           }),
         )
@@ -122,7 +128,13 @@ module _ (m : MembersShown) (x : CodePair) (of : AreOfPair m x) (combined : AreC
             rank = rank_is;
             generators = generators_are;
             below = below_none;
-            cofactors = (cofactors_in m.list, cofactors_there, length-cofactors_in m.list ∙ sym (length-vectors_in m.list) ∙ ap length (sym members_are));
+            vectors = subst (AreVectorsOver m.shared.ring (ring_comparison m.shared.ring)) (sym members_are) (vectors_over m.shared m.list combined);
+            cofactors = (
+              cofactors_in m.list,
+              cofactors_there,
+              length-cofactors_in m.list ∙ sym (length-vectors_in m.list) ∙ ap length (sym members_are),
+              cofactors_over m.shared m.list combined,
+            );
           };
           vector = vector_is;
           start = (x.i, x.j, start_is);
@@ -154,11 +166,6 @@ module _ (m : MembersShown) (x : CodePair) (of : AreOfPair m x) (combined : AreC
               (vector_occurs (setting_of n m.shared) (shared_lawful n m.shared) (cofactors_in m.list) (cofactors_over m.shared m.list combined) chain.step.0 (k.0, exponents_of n t.last) k.1)),
         )
 
-    -- it has the ring's variables
-    last_length : IsOfStep (vectors_in m.list) (Some (cofactors_in m.list)) chain.step t.last → length t.last ≡ variables m.shared.ring
-    last_length (inl h) = monomial_length (variables m.shared.ring) _ t.last (item_of (Each (λ u. length u.0.monomial ≡ variables m.shared.ring)) (vectors_in m.list) chain.step.0 tt (Each_map _ _ (vectors_in m.list) (λ v iv. Each_map _ _ v (λ u i. i.variables) iv.each) (vectors_over m.shared m.list combined))) h
-    last_length (inr h) = monomial_length (variables m.shared.ring) _ t.last (item_of (Each (λ u. length u.0.monomial ≡ variables m.shared.ring)) (cofactors_in m.list) chain.step.0 tt (Each_map _ _ (cofactors_in m.list) (λ v iv. Each_map _ _ v (λ u i. i.variables) iv.each) (cofactors_over m.shared m.list combined))) h
-
     step_length : length chain.step.1 ≡ variables m.shared.ring
     step_length = (Each_split (λ s. length s.1 ≡ variables m.shared.ring) chain.front (chain.step ∷ []) (subst (Each (λ s. length s.1 ≡ variables m.shared.ring)) chain.split chain.pair.variables)).1.0
 
@@ -179,10 +186,10 @@ module _ (m : MembersShown) (x : CodePair) (of : AreOfPair m x) (combined : AreC
             first = length (members_of n m.list);
             there = omega arith;
             rows = [];
-            combined = tt;
+            put = inl refl;
             made = [];
             makes = refl;
-            same = members_same ∙ sym (append-nil (take (length (members_of n m.list)) (members_of n m.list)) ∙ take_all (members_of n m.list));
+            same = members_same ∙ sym (append-nil (take (length (members_of n m.list)) (members_of n m.list)) ∙ take_all (length (members_of n m.list)) (members_of n m.list) (omega arith));
           };
           start = subst (λ y. 0 < count y pairs) (sym start) taken;
           pair = subst₂ (λ G y. IsPair (vectors G) y) (sym members_same) (sym start) of.real;
@@ -197,10 +204,14 @@ module _ (m : MembersShown) (x : CodePair) (of : AreOfPair m x) (combined : AreC
               subst (λ (s : Step). 65535 < degree (exponents_of n s.1) + degree (exponents_of n t.last)) (sym last)
               (omega (arith, degree_of n chain.step.1 step_length, degree_of n t.last (last_length chain.monomial)));
         }
-      where
-        take_all : {X : Type 0} (xs : List X) → take (length xs) xs ≡ xs
-        take_all [] = refl
-        take_all (y ∷ xs) = ap (λ l. y ∷ l) (take_all xs)
+
+    -- the trail has the job's members
+    trail_has : (steps : List Step) → (trail_over (variables m.shared.ring) t steps).members ≡ members_of (variables m.shared.ring) m.list
+    trail_has [] = members_same
+    trail_has (first ∷ later) = members_same
+
+    pub same_members : (trail_of (variables m.shared.ring) t).members ≡ members_of (variables m.shared.ring) m.list
+    same_members = trail_has t.steps.items
 
     pub way : IsTrail (work_of (variables m.shared.ring) m.shared) (members_of (variables m.shared.ring) m.list) pairs (trail_of (variables m.shared.ring) t)
     way =
@@ -241,4 +252,5 @@ job_trail j i x t h combined lt e chain e_ring e_rank e_generators e_below e_sta
     record {
       pair = pair_trail m x of combined t (pairs_of j.pairs) chain e_ring e_rank e_generators e_below e_start e_vector e_members e_cofs taken;
       way = way m x of combined t (pairs_of j.pairs) chain e_ring e_rank e_generators e_below e_start e_vector e_members e_cofs taken;
+      members = same_members m x of combined t (pairs_of j.pairs) chain e_ring e_rank e_generators e_below e_start e_vector e_members e_cofs taken;
     }

@@ -12,7 +12,8 @@ use Rattle.row_laws.proofs.Jobs.{HasLcmRepresentation_added}
 use Rattle.basis_steps.proofs.Counting.{count-append}
 use Rattle.basis_steps.proofs.Growing.{vectors-append}
 use Rattle.basis_steps.specs.Criteria.{IsPair, IsRepresented, lcm_of}
-use Rattle.basis_steps.specs.Outcomes.{AreJobProducts, HasLeadBelowJob, IsMadeOf, IsOutcome, Occurs, OccursBefore, product_at, product_lead, product_vector}
+use Rattle.basis_steps.specs.Divisions.{Occurs}
+use Rattle.basis_steps.specs.Outcomes.{AreJobProducts, HasLeadBelowJob, IsMadeOf, IsOutcome, OccursBefore, product_at, product_lead, product_vector}
 use Rattle.basis_steps.specs.Pairs.{Pair, count}
 use Rattle.basis_steps.specs.States.{Member, Product, Run, cofactor_lists, vectors}
 use Rattle.s_vectors.specs.Solutions.{IsSolved}

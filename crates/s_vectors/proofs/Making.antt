@@ -20,7 +20,8 @@ use Rattle.vector_division.specs.declared.reduction.Quotient.{Quotient}
 use Rattle.basis_steps.proofs.Counting.{is_same_pair-refl}
 use Rattle.basis_steps.specs.Criteria.{lcm_of}
 use Rattle.basis_steps.specs.Outcomes as plain
-use Rattle.basis_steps.specs.Outcomes.{AreJobProducts, IsMadeOf, Occurs, OccursBefore, product_at, product_vector}
+use Rattle.basis_steps.specs.Divisions.{Occurs}
+use Rattle.basis_steps.specs.Outcomes.{AreJobProducts, IsMadeOf, OccursBefore, product_at, product_vector}
 use Rattle.basis_steps.specs.Pairs.{Pair, count}
 use Rattle.basis_core.specs.Outcomes.{product_of, products_of}
 use Rattle.s_vectors.proofs.Linking.{key_of_parts}
@@ -34,7 +35,7 @@ coefficient-shifted c m v k =
 pub count_here : (x : Pair) → 0 < count x (x ∷ [])
 count_here x = rw (is_same_pair-refl x) (omega arith)
 
-pub item_of : {X : Type 0} (P : List X → Type 0) (list : List (List X)) (i : ℕ) → P [] → Each P list → P (get_or list i [])
+item_of : {X : Type 0} (P : List X → Type 0) (list : List (List X)) (i : ℕ) → P [] → Each P list → P (get_or list i [])
 item_of P [] i z h = z
 item_of P (v ∷ list) zero z h = h.0
 item_of P (v ∷ list) (suc i) z h = item_of P list i z h.1

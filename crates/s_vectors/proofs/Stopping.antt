@@ -81,11 +81,10 @@ division_chain ring ms k v (first ∷ top) t steps some h keys d e = go d.trail
         λ l h. at_key (λ z. IsMet (variables ring) [] (vectors_in ms) (first ∷ top) z) (sum_of (variables ring) v) l keys h in
         let begins : HasKey (sum_of n v) (product_lead n list s) = rw (d.start, d.vector, d.members) at chain.begins in
         let follow : AreMet n (sum_of n v) list (s ∷ []) later = rw (d.vector, d.members) at chain.met in
-        let lengths : Each (λ z. length z.1 ≡ n) (s ∷ later) = subst (Each (λ z. length z.1 ≡ n)) chain.steps d.lengths in
         let known : Each (λ z. z.0 < length list) (s ∷ later) = subst (λ l. Each (λ z. z.0 < length l) (s ∷ later)) d.members chain.known in
         let last : HasMonomial (get_or list (last_step s later).0 []) t.last = rw (d.members, d.cofs) at chain.last in
         let all : ArePairSteps n list k ((first ∷ top) ++ s ∷ later) =
-        pair_more n list k first top (s ∷ later) h known lengths
+        pair_more n list k first top (s ∷ later) h known chain.variables
         (subst (λ l. AreMet n [] list l (s ∷ later)) (append-nil (first ∷ top)) (steps_through n list (sum_of n v) (first ∷ top) [] (s ∷ later) met (inl begins, follow))) in
         let is : steps ≡ (first ∷ top) ++ s ∷ later = e ∙ ap (λ l. (first ∷ top) ++ l) chain.steps in
         record {

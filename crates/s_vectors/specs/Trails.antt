@@ -1,5 +1,5 @@
 -- How a job comes to a product of too great a degree
-use Rattle.std.specs.Prelude.{⊤}
+use Rattle.std.specs.Prelude.{⊤, ◌≡◌}
 use Rattle.module_vectors.specs.Rings.{variables}
 use Rattle.module_vectors.specs.declared.trail.KeptTrail.{KeptTrail}
 use Rattle.module_vectors.specs.declared.trail.WorkStop.{WorkStop}
@@ -15,6 +15,7 @@ pub record IsJobTrail (job : JobShown) (t : KeptTrail) : Type 0 where
   pub pair : IsPairTrail job.shared t
   pub way :
       IsTrail (work_of (variables job.shared.ring) job.shared) (members_of (variables job.shared.ring) job.members) (pairs_of job.pairs) (trail_of (variables job.shared.ring) t)
+  pub members : (trail_of (variables job.shared.ring) t).members ≡ members_of (variables job.shared.ring) job.members
 
 -- Degree comes with such a trail alone
 abbrev pub JobStops : JobShown → WorkStop → Type 0

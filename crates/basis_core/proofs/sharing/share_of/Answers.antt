@@ -7,9 +7,9 @@ use Rattle.basis_core.specs.Members.{members_of}
 use Rattle.basis_core.proofs.sharing.share_of.Goals as goal
 
 pub returns-clause-share : goal.returns-clause-share
-returns-clause-share c = λ n r ms budget workers h.
+returns-clause-share c = λ n r ms budget workers h sorted.
     let least = number_of_least_degree (vectors (members_of n ms)) (pairs_of c.args.queue.now) in
-    let counted : c.count_least_degree-least.result ≡ least = c.count_least_degree-least.ensures.count n ms h in
+    let counted : c.count_least_degree-least.result ≡ least = c.count_least_degree-least.ensures.count n r.setting ms h sorted in
     let by : c.from.result ≡ r.workers = c.from.ensures ∙ sym workers in
     let up : c.div_ceil.result ≡ (least + r.workers - 1) / r.workers =
     c.div_ceil.ensures ∙ rounded_up c.count_least_degree-least.result c.from.result (omega (arith, c.from.ensures, c.requires.workers))

@@ -1,10 +1,10 @@
 use Rattle.std.proofs.Common.{Bool, List, length, map, take, ◌≡◌}
-use Rattle.basis_core.specs.Jobs.{pair_of, pairs_of}
+use Rattle.basis_core.specs.Jobs.{pairs_of}
 use Rattle.basis_core.specs.Skipping.{NoneIsSpared, cleared}
 use Rattle.basis_core.specs.Waits.{IsWide}
 use Rattle.basis_core.proofs.skipping.count_kept.Given as goal
 
 abbrev pub invariant-loop-k : goal.invariant-loop-k
 invariant-loop-k l =
-    (before : List (List Bool)) → IsWide (length l.members.list) before → map (λ row. row.items) l.waits ≡ cleared before (pair_of l.gone)
-    → NoneIsSpared l.members before (pairs_of l.kept) → NoneIsSpared l.members (map (λ row. row.items) l.waits) (take l.k (pairs_of l.kept))
+    (rows : List (List Bool)) → IsWide (length l.members.list) rows → map (λ row. row.items) l.waits ≡ cleared rows (l.gone)
+    → NoneIsSpared l.members rows (pairs_of l.kept) → NoneIsSpared l.members (map (λ row. row.items) l.waits) (take l.k (pairs_of l.kept))

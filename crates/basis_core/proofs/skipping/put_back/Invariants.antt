@@ -1,15 +1,20 @@
-use Rattle.std.proofs.Common.{length, reverse, take, vec_len, ◌++◌, ◌+◌, ◌≡◌, ◌≤◌}
-use Rattle.std.specs.Vec.{vec_capacity}
+use Rattle.std.proofs.Common.{drop, length, take, ◌++◌, ◌+◌, ◌≡◌, ◌≤◌}
+use Rattle.formal_sums.specs.FormalSums.{Each}
+use Rattle.basis_core.specs.Members.{MembersShown}
+use Rattle.basis_core.specs.Skipping.{IsRealPair}
 use Rattle.basis_core.proofs.skipping.put_back.Given as goal
 
-abbrev pub invariant-loop-pairs : goal.invariant-loop-pairs
-invariant-loop-pairs l = record {
-  all : l.pairs.items ++ reverse l.queue.items ≡ l.initial.pairs.items ++ reverse l.initial.queue.items;
-  first : take l.count l.pairs.items ≡ take l.count l.initial.pairs.items;
-  capacity : vec_capacity l.pairs ≡ vec_capacity l.initial.pairs;
-  room : vec_capacity l.queue ≡ vec_capacity l.initial.queue;
-  fits : length l.queue.items + length l.pairs.items ≤ vec_capacity l.queue;
+-- the kept pairs from `last` on are put back
+abbrev pub invariant-loop-last : goal.invariant-loop-last
+invariant-loop-last l = record {
+  len : length l.queue.items ≡ length l.fn.queue.items;
+  low : l.count ≤ l.last;
+  high : l.last ≤ l.kept;
+  place : l.first + l.kept ≡ l.next + l.last;
+  front : take l.last l.queue.items ≡ take l.last l.fn.queue.items;
+  rest : drop l.first l.queue.items ≡ drop l.last (take l.kept l.fn.queue.items) ++ drop l.next l.fn.queue.items;
+  real : (m : MembersShown) → Each (IsRealPair m) l.fn.queue.items → Each (IsRealPair m) l.queue.items;
 }
 
-abbrev pub decreases-loop-pairs : goal.decreases-loop-pairs
-decreases-loop-pairs l = vec_len l.pairs
+abbrev pub decreases-loop-last : goal.decreases-loop-last
+decreases-loop-last l = l.last

@@ -1,83 +1,157 @@
-use Rattle.std.proofs.Common.{Bool, Global, List, Vec, [], ap, arith, drop, length, map, reverse, subst, sym, vec_len, ◌++◌, ◌+◌, ◌<◌, ◌∙◌, ◌∷◌, ◌≡◌}
-use Rattle.formal_sums.specs.FormalSums.{Each}
+use Rattle.std.proofs.Common.{Bool, Global, List, Vec, [], ap, arith, drop, get_or, length, map, subst, sym, take, ◌++◌, ◌+◌, ◌<◌, ◌∙◌, ◌∷◌, ◌≡◌, ℕ}
+use Rattle.std.proofs.lemmas.List.{drop_more}
 use Rattle.formal_sums.proofs.WeightedSums.{Each_append}
-use Rattle.module_vectors.proofs.SumsOfProducts.{Each_drop, Each_take}
+use Rattle.module_vectors.proofs.Scaling.{Each_at}
+use Rattle.module_vectors.proofs.SumsOfProducts.{Each_drop}
 use Rattle.module_vectors.specs.Rings.{variables}
 use Rattle.pair_criteria.specs.declared.pair.Pair.{Pair as CodePair}
 use Rattle.basis_steps.specs.Pairs.{Pair}
+use Rattle.basis_steps.specs.Queues.{IsSorted}
 use Rattle.basis_core.proofs.FlagRows.{wide_cleared}
 use Rattle.basis_core.proofs.Leading.{vectors_length}
-use Rattle.basis_core.proofs.Passing.{falls, first_of_reversed, left_back, left_kept, length_back, pairs_append, pass_over}
+use Rattle.basis_core.proofs.LeastDegree.{sorted_without}
+use Rattle.basis_core.proofs.Passing.{left_back, left_kept, pairs_append, pairs_drop, pass_over}
 use Rattle.basis_core.proofs.Sparing.{not_true}
+use Rattle.basis_core.proofs.TakenPairs.{pairs_real}
+use Rattle.basis_core.proofs.Testing.{none_since, skipped_tested}
 use Rattle.basis_core.specs.Jobs.{pair_of, pairs_of}
-use Rattle.basis_core.specs.Skipping.{AreSkipped, IsRealPair, IsSpared, NoneIsSpared, cleared}
+use Rattle.basis_core.specs.Members.{setting_of}
+use Rattle.basis_core.specs.Skipping.{AreSkipped, IsRealPair, IsSpared, NoneIsSpared, cleared, vectors_shown}
+use Rattle.basis_core.specs.Tested.{AreAmong, AreTested, PairPassed}
 use Rattle.basis_core.specs.Waits.{IsWide}
 use Rattle.basis_core.proofs.skipping.skip.Goals as goal
 
-pub loop-x-smaller-then-is_spared : goal.loop-x-smaller-then-is_spared
-loop-x-smaller-then-is_spared c =
-    let h = c.skip_pair.ensures.pairs in
-    let total : length c.skip_pair.new.kept.items + length c.skip_pair.new.queue.items ≡ length c.loop-x.kept.items + length c.pop.new.self.items =
-    length_back h.0 c.loop-x.kept.items c.pop.new.self.items c.skip_pair.new.kept.items c.skip_pair.new.queue.items h.1 h.2 in
-    falls (vec_len c.loop-x.kept + vec_len c.loop-x.queue) (vec_len c.skip_pair.new.kept + vec_len c.skip_pair.new.queue) (vec_len c.skip_pair.new.queue) (vec_len c.loop-x.queue)
-    (omega (arith, total, c.in-Some.ensures.cases, c.skip_pair.new.kept.ok, c.skip_pair.new.queue.ok, c.loop-x.kept.ok, c.loop-x.queue.ok, c.pop.new.self.ok)) (omega arith)
-
-pub loop-x-preserved-then-is_spared : goal.loop-x-preserved-then-is_spared
-loop-x-preserved-then-is_spared c =
+pub returns-then-tested-len-clause-none : goal.returns-then-tested-len-clause-none
+returns-then-tested-len-clause-none c =
     let m = c.args.members.now in
-    let inv = c.loop-x.invariant in
+    let rows = map (λ (v : Vec Bool Global). v.items) c.args.waits.now.items in
+    let none : length c.args.gone.now.items ≡ 0 = grind (arith, c.is_empty.ensures, c.if-is_empty.true, c.args.gone.now.ok) in
+    none_since (setting_of (variables m.shared.ring) m.shared) (vectors_shown m) rows c.args.gone.now.items (pairs_of c.args.queue.now.items) c.args.tested none
+    (c.if-tested-len.true ∙ c.len.ensures ∙ sym (vectors_length (variables m.shared.ring) m.list)) (pairs_real m c.args.queue.now.items c.requires.real) c.requires.tested
+
+pub is_spared_now-requires-clause-passed : goal.is_spared_now-requires-clause-passed
+is_spared_now-requires-clause-passed c =
+    let m = c.args.members.now in
+    let inv = c.loop-next.invariant in
+    let q : List CodePair = c.loop-next.queue.items in
+    let next = c.loop-next.next in
+    let x : CodePair = c.index-as_slice-next.result in
+    let rows = map (λ (v : Vec Bool Global). v.items) c.loop-next.waits.items in
+    let all_gone : List Pair = inv.tested.0 in
+    let there : next < length q = omega (arith, c.loop-next-test.true, c.len-in-loop-next.ensures) in
+    let is : x ≡ get_or q next x = c.index-as_slice-next.is ∙ ap (λ (l : List CodePair). get_or l next x) c.as_slice.ensures in
+    let first : drop next q ≡ x ∷ drop (next + 1) q = drop_more q next x there ∙ ap (λ (z : CodePair). z ∷ drop (next + 1) q) (sym is) in
+    let was : AreTested m rows all_gone c.args.tested (pair_of x ∷ pairs_of (drop (next + 1) q)) =
+    subst (λ (l : List CodePair). AreTested m rows all_gone c.args.tested (pairs_of l)) first inv.tested.1 in (
+      all_gone,
+      subst (AreAmong c.args.tested all_gone) (sym c.deref-in-loop-next.ensures.value) inv.tested.2,
+      λ small. subst (λ (w : List (Vec Bool Global)). PairPassed m (map (λ (v : Vec Bool Global). v.items) w) all_gone c.args.tested (pair_of x)) (sym c.deref.ensures.value) (was.passed.0 small),
+    )
+
+pub skip_pair-requires-clause-place : goal.skip_pair-requires-clause-place
+skip_pair-requires-clause-place c =
+    let q : List CodePair = c.loop-next.queue.items in
+    let next = c.loop-next.next in
+    let x : CodePair = c.index-as_slice-next.result in
+    let there : next < length q = omega (arith, c.loop-next-test.true, c.len-in-loop-next.ensures) in
+    let is : x ≡ get_or q next x = c.index-as_slice-next.is ∙ ap (λ (l : List CodePair). get_or l next x) c.as_slice.ensures in
+    ap (λ (l : List CodePair). pairs_of l) (drop_more q next x there ∙ ap (λ (z : CodePair). z ∷ drop (next + 1) q) (sym is))
+
+pub loop-next-preserved-then-is_spared_now : goal.loop-next-preserved-then-is_spared_now
+loop-next-preserved-then-is_spared_now c =
+    let m = c.args.members.now in
+    let inv = c.loop-next.invariant in
     let size = length m.list in
-    let kept : List CodePair = c.loop-x.kept.items in
-    let rest : List CodePair = c.pop.new.self.items in
-    let x : CodePair = c.in-Some.x in
-    let rows = map (λ (v : Vec Bool Global). v.items) c.loop-x.waits.items in
-    let first : reverse c.loop-x.queue.items ≡ x ∷ reverse rest = first_of_reversed c.loop-x.queue.items rest x c.in-Some.ensures.items in
-    let reals : Each (IsRealPair m) (x ∷ reverse rest) = subst (Each (IsRealPair m)) first inv.queue in
-    let h = c.skip_pair.ensures.pairs in
-    let lt : x.i < x.j = reals.0.pair.ordered in
-    let within : x.j < size = omega (arith, reals.0.pair.within, vectors_length (variables m.shared.ring) m.list) in
-    let spared : IsSpared m rows (pair_of x) = subst (λ (w : List (Vec Bool Global)). IsSpared m (map (λ (v : Vec Bool Global). v.items) w) (pair_of x)) c.deref.ensures.value (c.is_spared.ensures.0 c.if-is_spared.true) in
-    let total : length c.skip_pair.new.kept.items + length c.skip_pair.new.queue.items ≡ length kept + length rest = length_back h.0 kept rest c.skip_pair.new.kept.items c.skip_pair.new.queue.items h.1 h.2 in
+    let q : List CodePair = c.loop-next.queue.items in
+    let next = c.loop-next.next in
+    let kept : List CodePair = take c.loop-next.kept q in
+    let rest : List CodePair = drop (next + 1) q in
+    let x : CodePair = c.index-as_slice-next.result in
+    let rows = map (λ (v : Vec Bool Global). v.items) c.loop-next.waits.items in
+    let all = pairs_of c.args.queue.now.items in
+    let there : next < length q = omega (arith, c.loop-next-test.true, c.len-in-loop-next.ensures) in
+    let is : x ≡ get_or q next x = c.index-as_slice-next.is ∙ ap (λ (l : List CodePair). get_or l next x) c.as_slice.ensures in
+    let first : drop next q ≡ x ∷ rest = drop_more q next x there ∙ ap (λ (z : CodePair). z ∷ rest) (sym is) in
+    let real : IsRealPair m x = Each_at (IsRealPair m) q next x inv.real there is in
+    let h = c.skip_pair.ensures in
+    let count : ℕ = c.skip_pair.result.0 in
+    let fewer : List CodePair = take count c.skip_pair.new.queue.items in
+    let more : List CodePair = drop c.skip_pair.result.1 c.skip_pair.new.queue.items in
+    let lt : x.i < x.j = real.pair.ordered in
+    let within : x.j < size = omega (arith, real.pair.within, vectors_length (variables m.shared.ring) m.list) in
+    let spared : IsSpared m rows (pair_of x) = subst (λ (w : List (Vec Bool Global)). IsSpared m (map (λ (v : Vec Bool Global). v.items) w) (pair_of x)) c.deref.ensures.value (c.is_spared_now.ensures.0 c.if-is_spared_now.true) in
+    let all_gone : List Pair = inv.tested.0 in
+    let was : AreTested m rows all_gone c.args.tested (pair_of x ∷ pairs_of rest) =
+    subst (λ (l : List CodePair). AreTested m rows all_gone c.args.tested (pairs_of l)) first inv.tested.1 in
+    let back : List CodePair = drop count kept in
+    let now : AreTested m (cleared rows (pair_of x)) (all_gone ++ pair_of x ∷ []) c.args.tested (pairs_of back ++ pairs_of rest) =
+    skipped_tested (setting_of (variables m.shared.ring) m.shared) (vectors_shown m) size rows all_gone (pairs_of back) (pairs_of rest) (pair_of x) c.args.tested lt within inv.wide
+    (subst (NoneIsSpared m rows) (sym (pairs_drop count kept)) (Each_drop (λ y. IsSpared m rows y → ⊥) count (pairs_of kept) inv.none)) was in
     record {
-      wide = subst (IsWide size) (sym c.skip_pair.ensures.waits) (wide_cleared size rows (pair_of x) lt within inv.wide);
-      kept = subst (Each (IsRealPair m)) (sym h.1) (Each_take (IsRealPair m) h.0 kept inv.kept);
-      queue = subst (Each (IsRealPair m)) (sym h.2) (Each_append (IsRealPair m) (drop h.0 kept) (reverse rest) (Each_drop (IsRealPair m) h.0 kept inv.kept) reals.1);
-      none = c.skip_pair.ensures.none;
+      wide = subst (IsWide size) (sym h.waits) (wide_cleared size rows (pair_of x) lt within inv.wide);
+      real = h.real;
+      order = omega (arith, h.place, h.fewer, inv.order);
+      within = omega (arith, h.place, h.fewer, h.len, there);
+      sorted = subst (IsSorted (setting_of (variables m.shared.ring) m.shared) (vectors_shown m)) (left_back count kept rest fewer more h.first h.rest)
+          (sorted_without (setting_of (variables m.shared.ring) m.shared) (vectors_shown m) (pairs_of kept) (pairs_of rest) (pair_of x)
+          (subst (λ (l : List CodePair). IsSorted (setting_of (variables m.shared.ring) m.shared) (vectors_shown m) (pairs_of kept ++ pairs_of l)) first inv.sorted));
+      none = h.none;
       skips = λ out table.
-          let old : AreSkipped m out (pairs_of c.args.queue.now.items) c.loop-x.skipped.items (pairs_of kept ++ pair_of x ∷ pairs_of (reverse rest)) rows =
-          subst (λ (q : List CodePair). AreSkipped m out (pairs_of c.args.queue.now.items) c.loop-x.skipped.items (pairs_of kept ++ pairs_of q) rows) first (inv.skips out table) in
-          let new : AreSkipped m out (pairs_of c.args.queue.now.items) (c.loop-x.skipped.items ++ pair_of x ∷ []) (pairs_of kept ++ pairs_of (reverse rest)) (cleared rows (pair_of x)) =
-          pass_over m size out (pairs_of c.args.queue.now.items) c.loop-x.skipped.items (pairs_of kept) (pairs_of (reverse rest)) (pair_of x) rows lt within inv.wide inv.none spared old in
-          subst (λ (z : List Pair × List Pair × List (List Bool)). AreSkipped m out (pairs_of c.args.queue.now.items) z.0 z.1 z.2)
-          (λ i. (sym c.push_reserved.ensures.items i, left_back h.0 kept (reverse rest) c.skip_pair.new.kept.items (reverse c.skip_pair.new.queue.items) h.1 h.2 i, sym c.skip_pair.ensures.waits i)) new;
-      capacity = c.skip_pair.ensures.room ∙ c.in-Some.ensures.capacity ∙ inv.capacity;
-      queue_room = omega (arith, total, inv.queue_room, c.skip_pair.ensures.room, c.in-Some.ensures.capacity, c.in-Some.ensures.cases, c.pop.new.self.ok, c.loop-x.queue.ok);
-      kept_room = omega (arith, total, inv.kept_room, c.skip_pair.ensures.capacity, c.in-Some.ensures.cases, c.pop.new.self.ok, c.loop-x.queue.ok);
-      skipped_room = omega (arith, total, inv.skipped_room, c.push_reserved.ensures.capacity, c.push_reserved.ensures.len, c.in-Some.ensures.cases, c.pop.new.self.ok, c.loop-x.queue.ok, c.push_reserved.new.self.ok, c.loop-x.skipped.ok);
+          let old : AreSkipped m out all c.loop-next.skipped.items (pairs_of kept ++ pair_of x ∷ pairs_of rest) rows =
+          subst (λ (l : List CodePair). AreSkipped m out all c.loop-next.skipped.items (pairs_of kept ++ pairs_of l) rows) first (inv.skips out table) in
+          let new : AreSkipped m out all (c.loop-next.skipped.items ++ pair_of x ∷ []) (pairs_of kept ++ pairs_of rest) (cleared rows (pair_of x)) =
+          pass_over m size out all c.loop-next.skipped.items (pairs_of kept) (pairs_of rest) (pair_of x) rows lt within inv.wide inv.none spared old in
+          subst (λ (z : List Pair × List Pair × List (List Bool)). AreSkipped m out all z.0 z.1 z.2)
+          (λ i. (sym c.push_reserved.ensures.items i, left_back count kept rest fewer more h.first h.rest i, sym h.waits i)) new;
+      tested = (
+        all_gone ++ pair_of x ∷ [],
+        subst (λ (z : List (List Bool) × List Pair). AreTested m z.0 (all_gone ++ pair_of x ∷ []) c.args.tested z.1)
+            (λ i. (sym h.waits i, (sym (pairs_append back rest) ∙ ap (λ (l : List CodePair). pairs_of l) (sym h.rest)) i)) now,
+        c.keep_gone.ensures.among all_gone inv.tested.2,
+      );
+      gone = c.keep_gone.ensures.indices size (lt, within) inv.gone;
+      gone_room = omega (arith, inv.gone_room, c.keep_gone.ensures.len, c.keep_gone.ensures.capacity, h.place, h.fewer, h.len, there, inv.order);
+      len = h.len ∙ inv.len;
+      left = omega (arith, inv.left, c.push_reserved.ensures.len, c.push_reserved.ensures.capacity, c.push_reserved.new.self.ok, c.loop-next.skipped.ok, h.place, h.fewer, h.len, there, inv.order);
+      skipped_room = omega (arith, inv.skipped_room, c.push_reserved.ensures.len, c.push_reserved.ensures.capacity, c.push_reserved.new.self.ok, c.loop-next.skipped.ok);
     }
 
-pub loop-x-preserved : goal.loop-x-preserved
-loop-x-preserved c =
+pub loop-next-preserved : goal.loop-next-preserved
+loop-next-preserved c =
     let m = c.args.members.now in
-    let inv = c.loop-x.invariant in
-    let kept : List CodePair = c.loop-x.kept.items in
-    let rest : List CodePair = c.pop.new.self.items in
-    let x : CodePair = c.in-Some.x in
-    let rows = map (λ (v : Vec Bool Global). v.items) c.loop-x.waits.items in
-    let first : reverse c.loop-x.queue.items ≡ x ∷ reverse rest = first_of_reversed c.loop-x.queue.items rest x c.in-Some.ensures.items in
-    let reals : Each (IsRealPair m) (x ∷ reverse rest) = subst (Each (IsRealPair m)) first inv.queue in
-    let not : IsSpared m rows (pair_of x) → ⊥ = λ p. not_true c.is_spared.result c.if-is_spared.false (c.is_spared.ensures.1 (subst (λ (w : List (Vec Bool Global)). IsSpared m (map (λ (v : Vec Bool Global). v.items) w) (pair_of x)) (sym c.deref.ensures.value) p)) in
-    let is = c.push_reserved-else-is_spared.ensures.items in
+    let inv = c.loop-next.invariant in
+    let q : List CodePair = c.loop-next.queue.items in
+    let next = c.loop-next.next in
+    let kept : List CodePair = take c.loop-next.kept q in
+    let rest : List CodePair = drop (next + 1) q in
+    let x : CodePair = c.index-as_slice-next.result in
+    let rows = map (λ (v : Vec Bool Global). v.items) c.loop-next.waits.items in
+    let all = pairs_of c.args.queue.now.items in
+    let there : next < length q = omega (arith, c.loop-next-test.true, c.len-in-loop-next.ensures) in
+    let is : x ≡ get_or q next x = c.index-as_slice-next.is ∙ ap (λ (l : List CodePair). get_or l next x) c.as_slice.ensures in
+    let first : drop next q ≡ x ∷ rest = drop_more q next x there ∙ ap (λ (z : CodePair). z ∷ rest) (sym is) in
+    let not : IsSpared m rows (pair_of x) → ⊥ = λ p. not_true c.is_spared_now.result c.if-is_spared_now.false (c.is_spared_now.ensures.1 (subst (λ (w : List (Vec Bool Global)). IsSpared m (map (λ (v : Vec Bool Global). v.items) w) (pair_of x)) (sym c.deref.ensures.value) p)) in
+    let all_gone : List Pair = inv.tested.0 in
+    let was : AreTested m rows all_gone c.args.tested (pair_of x ∷ pairs_of rest) =
+    subst (λ (l : List CodePair). AreTested m rows all_gone c.args.tested (pairs_of l)) first inv.tested.1 in
+    let rest_tested : AreTested m rows all_gone c.args.tested (pairs_of rest) = record { within = was.within; passed = was.passed.1 } in
+    let more = c.keep.ensures.first x is in
+    let rest_is = c.keep.ensures.rest in
     record {
       wide = inv.wide;
-      kept = subst (Each (IsRealPair m)) (sym is) (Each_append (IsRealPair m) kept (x ∷ []) inv.kept (reals.0, tt));
-      queue = reals.1;
-      none = subst (λ (q : List CodePair). NoneIsSpared m rows (pairs_of q)) (sym is) (subst (NoneIsSpared m rows) (sym (pairs_append kept (x ∷ []))) (Each_append (λ y. IsSpared m rows y → ⊥) (pairs_of kept) (pair_of x ∷ []) inv.none (not, tt)));
+      real = c.keep.ensures.real m inv.real;
+      order = omega (arith, inv.order);
+      within = omega (arith, there, c.keep.ensures.len);
+      sorted = subst (IsSorted (setting_of (variables m.shared.ring) m.shared) (vectors_shown m))
+          (ap (λ (l : List CodePair). pairs_of kept ++ pairs_of l) first ∙ left_kept kept rest x ∙ (λ i. pairs_of (sym more i) ++ pairs_of (sym rest_is i))) inv.sorted;
+      none = subst (λ (l : List CodePair). NoneIsSpared m rows (pairs_of l)) (sym more) (subst (NoneIsSpared m rows) (sym (pairs_append kept (x ∷ []))) (Each_append (λ y. IsSpared m rows y → ⊥) (pairs_of kept) (pair_of x ∷ []) inv.none (not, tt)));
       skips = λ out table.
-          subst (λ (q : List Pair). AreSkipped m out (pairs_of c.args.queue.now.items) c.loop-x.skipped.items q rows)
-          (ap (λ (q : List CodePair). pairs_of kept ++ pairs_of q) first ∙ left_kept kept (reverse rest) x ∙ ap (λ (q : List CodePair). pairs_of q ++ pairs_of (reverse rest)) (sym is)) (inv.skips out table);
-      capacity = c.in-Some.ensures.capacity ∙ inv.capacity;
-      queue_room = omega (arith, inv.queue_room, c.in-Some.ensures.capacity, c.in-Some.ensures.cases, c.pop.new.self.ok, c.loop-x.queue.ok, c.push_reserved-else-is_spared.ensures.len, c.push_reserved-else-is_spared.new.self.ok, c.loop-x.kept.ok);
-      kept_room = omega (arith, inv.kept_room, c.in-Some.ensures.cases, c.pop.new.self.ok, c.loop-x.queue.ok, c.push_reserved-else-is_spared.ensures.len, c.push_reserved-else-is_spared.ensures.capacity, c.push_reserved-else-is_spared.new.self.ok, c.loop-x.kept.ok);
-      skipped_room = omega (arith, inv.skipped_room, c.in-Some.ensures.cases, c.pop.new.self.ok, c.loop-x.queue.ok, c.push_reserved-else-is_spared.ensures.len, c.push_reserved-else-is_spared.new.self.ok, c.loop-x.kept.ok);
+          subst (λ (l : List Pair). AreSkipped m out all c.loop-next.skipped.items l rows)
+          (ap (λ (l : List CodePair). pairs_of kept ++ pairs_of l) first ∙ left_kept kept rest x ∙ (λ i. pairs_of (sym more i) ++ pairs_of (sym rest_is i))) (inv.skips out table);
+      tested = (all_gone, subst (λ (l : List CodePair). AreTested m rows all_gone c.args.tested (pairs_of l)) (sym rest_is) rest_tested, inv.tested.2);
+      gone = inv.gone;
+      gone_room = omega (arith, inv.gone_room, c.keep.ensures.len, there);
+      len = c.keep.ensures.len ∙ inv.len;
+      left = omega (arith, inv.left, c.keep.ensures.len, there);
+      skipped_room = inv.skipped_room;
     }

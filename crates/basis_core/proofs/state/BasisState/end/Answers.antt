@@ -28,7 +28,7 @@ invariant_of-self c =
     let e = c.ending_at-ending.result in
     let end : IsEnd w s e c.mark_ended.new.ended.items = record {
       may = subst (MayEnd w) (sym c.self.view_is) c.requires;
-      answers = end_answer (variables_of s) s e c.deref.result.now (ap pairs_of c.deref.ensures.value) (c.ending_at-ending.ensures (variables_of s));
+      answers = end_answer (variables_of s) s e c.as_slice.result.now (ap pairs_of c.as_slice.ensures) (c.ending_at-ending.ensures (variables_of s));
       marks = c.mark_ended.ensures.marks;
       leaves = c.mark_ended.ensures.leaves;
     } in
@@ -41,7 +41,7 @@ returns-clause-step c =
     let e = c.ending_at-ending.result in
     let end : IsEnd w s e c.mark_ended.new.ended.items = record {
       may = subst (MayEnd w) (sym c.self.view_is) c.requires;
-      answers = end_answer (variables_of s) s e c.deref.result.now (ap pairs_of c.deref.ensures.value) (c.ending_at-ending.ensures (variables_of s));
+      answers = end_answer (variables_of s) s e c.as_slice.result.now (ap pairs_of c.as_slice.ensures) (c.ending_at-ending.ensures (variables_of s));
       marks = c.mark_ended.ensures.marks;
       leaves = c.mark_ended.ensures.leaves;
     } in

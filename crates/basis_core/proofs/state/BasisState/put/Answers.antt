@@ -1,4 +1,4 @@
-use Rattle.std.proofs.Common.{Bool, Global, List, Vec, [], ap, arith, get_or, length, map, refl, subst, sym, take, false, true, ℕ, ◌++◌, ◌-◌, ◌<◌, ◌∙◌, ◌∷◌, ◌≡◌, ◌≤◌}
+use Rattle.std.proofs.Common.{Bool, Global, List, Vec, [], ap, arith, get_or, length, length-append, map, refl, subst, sym, take, false, true, ℕ, ◌++◌, ◌-◌, ◌<◌, ◌∙◌, ◌∷◌, ◌≡◌, ◌≤◌}
 use Rattle.std.proofs.lemmas.List.{length-map}
 use Rattle.formal_sums.specs.FormalSums.{Each}
 use Rattle.module_vectors.specs.Rings.{variables}
@@ -8,7 +8,7 @@ use Rattle.vector_division.specs.Marks.{AreMarks}
 use Rattle.basis_steps.specs.Divisions.{IsMonicMember}
 use Rattle.basis_steps.specs.Invariant.{HoldsInvariant}
 use Rattle.basis_steps.specs.Queues.{IsSorted, QueuesNewPairs}
-use Rattle.basis_steps.specs.States.{Member as PlainMember, pairs_out, vectors, with_others}
+use Rattle.basis_steps.specs.States.{Member as PlainMember, job_of, pairs_out, vectors, with_others}
 use Rattle.basis_steps.specs.Steps.{Puts}
 use Rattle.basis_core.specs.Answers.{IsJobOut, PutStops}
 use Rattle.basis_core.specs.Inside.{shown}
@@ -21,6 +21,9 @@ use Rattle.basis_core.specs.Members.{MembersShown, Shared, Tracked, members_of, 
 use Rattle.basis_core.specs.Outcomes.{OutcomeShown}
 use Rattle.basis_core.specs.Shown.{Shown}
 use Rattle.basis_core.specs.Views.{outs_of, run_of, state_of, variables_of}
+use Rattle.basis_core.specs.Tested.{IsTested, waited}
+use Rattle.basis_core.proofs.Testing.{loose_indices, put_members}
+use Rattle.basis_steps.specs.Pairs.{Pair}
 use Rattle.basis_core.specs.Waits.{IsWide}
 use Rattle.basis_core.proofs.AfterPut.{HasPut, IsWithin, base_more, each_out, each_queued, each_within, front_same, front_vectors, kept_same, one_stops, out_within, outcome_of, put_kept, put_step, put_stops, queue_lcms, queue_sorted, queue_within, rows_enough}
 use Rattle.basis_core.proofs.state.BasisState.put.Goals as goal
@@ -42,9 +45,9 @@ make_members-requires-clause-monic c = (holds_shown (shown c.self.inside) c.args
 pub invariant_of-self : goal.invariant_of-self
 invariant_of-self c =
     let stops = c.in-Err.ensures.stop in
-    kept_same c.self.inside c.truncate.new.self c.self.inside.marks c.self.inside.queue c.self.inside.history c.self.inside.waits
+    kept_same c.self.inside c.truncate.new.self c.self.inside.marks c.self.inside.queue c.self.inside.history c.self.inside.waits c.self.inside.loose
     (taken_back c.self.inside.members c.make_members.new.members c.truncate.new.self c.len-first.result (stops.made).made c.in-Err.ensures.shared (stops.made).same c.len-first.ensures c.truncate.ensures.shared c.truncate.ensures.list)
-    refl refl refl (omega arith) refl c.self.invariant
+    refl refl refl (omega arith) refl refl c.self.invariant
 
 pub put_stop-stop-requires-clause-monic : goal.put_stop-stop-requires-clause-monic
 put_stop-stop-requires-clause-monic c =
@@ -113,13 +116,20 @@ queue_made-requires-clause-sorted c =
     subst (λ (l : List Tracked). IsSorted (setting_of n s.shared) (vectors (members_of n l)) s.queue) (sym made.same) (queue_sorted n s.shared s.members made.made s.queue (queue_within n s inv) inv.sorted) in
     subst (λ (sh : Shared). IsSorted (setting_of (variables sh.ring) sh) (vectors (members_of (variables sh.ring) c.make_members.new.members.list)) s.queue) (sym c.in_default.ensures.shared) there
 
+pub invariant_of-self-then-is_err : goal.invariant_of-self-then-is_err
+invariant_of-self-then-is_err c =
+    let made = c.in_default.ensures.made in
+    kept_same c.self.inside c.truncate-then-is_err.new.self c.self.inside.marks c.self.inside.queue c.self.inside.history c.self.inside.waits c.reserve.new.self
+    (taken_back c.self.inside.members c.make_members.new.members c.truncate-then-is_err.new.self c.len-first.result made.made c.in_default.ensures.shared made.same c.len-first.ensures c.truncate-then-is_err.ensures.shared c.truncate-then-is_err.ensures.list)
+    refl refl refl (omega arith) refl c.reserve.ensures.items c.self.invariant
+
 pub invariant_of-self-in-Err-queue_made : goal.invariant_of-self-in-Err-queue_made
 invariant_of-self-in-Err-queue_made c =
     let made = c.in_default.ensures.made in
     let kept = c.in-Err-queue_made.ensures in
-    kept_same c.self.inside c.truncate-in-Err-queue_made.new.self c.queue_made.new.marks c.queue_made.new.queue c.queue_made.new.history c.queue_made.new.waits
+    kept_same c.self.inside c.truncate-in-Err-queue_made.new.self c.queue_made.new.marks c.queue_made.new.queue c.queue_made.new.history c.queue_made.new.waits c.reserve.new.self
     (taken_back c.self.inside.members c.make_members.new.members c.truncate-in-Err-queue_made.new.self c.len-first.result made.made c.in_default.ensures.shared made.same c.len-first.ensures c.truncate-in-Err-queue_made.ensures.shared c.truncate-in-Err-queue_made.ensures.list)
-    kept.marks kept.queue_kept kept.history kept.history_kept kept.flags_kept c.self.invariant
+    kept.marks kept.queue_kept kept.history kept.history_kept kept.flags_kept c.reserve.ensures.items c.self.invariant
 
 pub mark_members-requires-clause-marks : goal.mark_members-requires-clause-marks
 mark_members-requires-clause-marks c =
@@ -161,8 +171,8 @@ has_put c =
       out_is = c.close_job.ensures.out ∙ ap (λ w. with_others w s.out) worker;
       read = c.self.invariant.read;
       events = c.push_reserved.ensures.items
-          ∙ ap (λ (l : List Event). l ++ (Put c.worker-worker.result c.len-first.result (c.len.result - c.len-first.result) ∷ [])) c.in_default-queue_made.ensures.history
-          ∙ (λ i. s.history ++ (Put (worker i) c.len-first.result (c.len.ensures i - c.len-first.result) ∷ []));
+          ∙ ap (λ (l : List Event). l ++ (Put c.worker-worker.result c.len-first.result (c.len-2.result - c.len-first.result) ∷ [])) c.in_default-queue_made.ensures.history
+          ∙ (λ i. s.history ++ (Put (worker i) c.len-first.result (c.len-2.ensures i - c.len-first.result) ∷ []));
     }
 
 pub invariant_of-self-2 : goal.invariant_of-self-2
@@ -181,8 +191,16 @@ invariant_of-self-2 c =
     subst (λ k. IsWide k (map (λ row. row.items) c.close_job.new.waits.items)) tall c.close_job.ensures.wide in
     let out : Each (IsWithin c.len-first.result) (pairs_out s.out) = subst (λ k. Each (IsWithin k) (pairs_out s.out)) (sym c.len-first.ensures) (out_within n s inv) in
     let table = c.close_job.ensures.table (pairs_of queue) (queued.table s.out out c.self.invariant.table) in
-    put_kept c.self.inside c.args.outcome after c.mark_members.new.marks c.queue_made.new.queue c.close_job.new.out c.push_reserved.new.self c.close_job.new.waits
-    c.self.invariant shared (has_put c) lcms c.mark_members.ensures wide table (omega (arith, queued.history_room, c.push_reserved.ensures.capacity))
+    let put = has_put c in
+    let w : ℕ = c.worker-worker.result in
+    let loose : List Pair = c.self.inside.loose.items in
+    let now : c.loosen.new.loose.items ≡ loose ++ job_of w s.out = c.loosen.ensures ∙ (λ i. c.reserve.ensures.items i ++ job_of w (outs_of (c.deref.ensures.value i))) in
+    let more : length s.members ≤ length after.list = omega (arith, ap length (put.made).same, length-append s.members ((put.made).made)) in
+    let tested : IsTested (setting_of n s.shared) (vectors (members_of n after.list)) (waited (map (λ row. row.items) c.close_job.new.waits.items) c.loosen.new.loose.items) c.self.inside.tested (pairs_of queue) =
+    put_members n s.shared s.members ((put.made).made) after.list (map (λ row. row.items) c.self.inside.waits.items) (map (λ row. row.items) c.close_job.new.waits.items) s.queue (pairs_of queue) loose c.loosen.new.loose.items s.out (outs_of c.close_job.new.out.items) w c.self.inside.tested put.first
+    (put.made).same put.first_is c.close_job.ensures.out now c.self.invariant.table table put.queues (queue_within n s inv) c.self.invariant.tested in
+    put_kept c.self.inside c.args.outcome after c.mark_members.new.marks c.queue_made.new.queue c.close_job.new.out c.push_reserved.new.self c.close_job.new.waits c.loosen.new.loose
+    c.self.invariant shared put lcms c.mark_members.ensures wide table tested (loose_indices (length s.members) (length after.list) loose c.loosen.new.loose.items s.out w more now c.self.invariant.loose (out_within n s inv)) (omega (arith, queued.history_room, c.push_reserved.ensures.capacity))
 
 pub returns-clause-step : goal.returns-clause-step
 returns-clause-step c =

@@ -1,10 +1,9 @@
-use Rattle.std.proofs.Common.{Bool, Global, List, Vec, [], ap, append-nil, arith, drop, inl, inr, length, map, refl, reverse, subst, sym, take, ◌++◌, ◌+◌, ◌<◌, ◌∙◌, ◌∷◌, ◌≡◌}
-use Rattle.std.proofs.lemmas.List.{length-take}
+use Rattle.std.proofs.Common.{Bool, Global, List, Vec, [], ap, arith, drop, inl, inr, length, map, refl, subst, sym, take, ◌++◌, ◌+◌, ◌<◌, ◌∙◌, ◌∷◌, ◌≡◌, ◌≤◌, ℕ}
 use Rattle.pair_criteria.specs.declared.pair.Pair.{Pair as CodePair}
 use Rattle.basis_steps.specs.Pairs.{Pair}
 use Rattle.basis_steps.specs.Steps as steps
 use Rattle.basis_steps.specs.Steps.{out_with}
-use Rattle.basis_core.proofs.TakenPairs.{IsAfter, IsFound, MayTake, after_take, fewer_left, found_by, job_is, kept_stop, no_stop, none_left, real_pairs, stopped_kept, stopped_step, take_kept, take_step, unstopped_given}
+use Rattle.basis_core.proofs.TakenPairs.{IsAfter, IsFound, MayTake, after_take, cut_to, fewer_left, found_by, job_is, kept_stop, no_stop, none_left, real_pairs, stopped_kept, stopped_step, take_kept, take_step}
 use Rattle.basis_core.proofs.Replaying.{replayed_holds}
 use Rattle.basis_core.specs.Answers.{pairs_given}
 use Rattle.basis_core.specs.Inside.{shown}
@@ -28,61 +27,35 @@ skip-requires-clause-real c =
     let holds = replayed_holds (variables_of s) s c.domain.ensures c.self.invariant.some c.self.invariant.replays in
     real_pairs c.self.inside.members c.self.inside.queue.items (λ x h. holds.real x (omega (arith, h))) c.self.invariant.lcms
 
+pub skip-requires-clause-sorted : goal.skip-requires-clause-sorted
+skip-requires-clause-sorted c =
+    let s : Shown = shown c.self.inside in
+    (replayed_holds (variables_of s) s c.domain.ensures c.self.invariant.some c.self.invariant.replays).sorted
+
 pub share_of-share-requires-clause-taken : goal.share_of-share-requires-clause-taken
 share_of-share-requires-clause-taken c =
     let s : Shown = shown c.self.inside in
     (replayed_holds (variables_of s) s c.domain.ensures c.self.invariant.some c.self.invariant.replays).within_budget
-
-pub keep_stop-requires : goal.keep_stop-requires
-keep_stop-requires c = no_stop c.self.inside.stop (sym c.if-is_some.ensures)
-
-pub put_back-requires : goal.put_back-requires
-put_back-requires c =
-    let i : Inside = c.self.inside in
-    let fewer = fewer_left i.members (outs_of i.out.items) i.queue.items c.skip.new.kept.items c.skip.new.skipped.items (map (λ (row : Vec Bool Global). row.items) c.skip.new.waits.items) (c.skip.ensures.skips (outs_of i.out.items) c.self.invariant.table) in
-    omega (arith, fewer, ap length c.skip.ensures.queue, c.skip.ensures.room, i.queue.ok)
-
-pub give-requires-clause-room : goal.give-requires-clause-room
-give-requires-clause-room c =
-    let i : Inside = c.self.inside in
-    let left : List CodePair = c.skip.new.kept.items in
-    let k = c.share_of-share.result in
-    let fewer = fewer_left i.members (outs_of i.out.items) i.queue.items left c.skip.new.skipped.items (map (λ (row : Vec Bool Global). row.items) c.skip.new.waits.items) (c.skip.ensures.skips (outs_of i.out.items) c.self.invariant.table) in
-    let many : length c.deref-4.result.now ≡ length (take k left) = ap length (c.deref-4.ensures.value ∙ c.put_back.ensures.pairs) in
-    omega (arith, fewer, many, length-take k left, c.in_ok-reserve-2.ensures.ok, c.len-count.ensures, c.reserve-2.new.self.ok, i.queue.ok)
-
-pub give-requires-clause-given : goal.give-requires-clause-given
-give-requires-clause-given c =
-    let i : Inside = c.self.inside in
-    let left : List CodePair = c.skip.new.kept.items in
-    let k = c.share_of-share.result in
-    let fewer = fewer_left i.members (outs_of i.out.items) i.queue.items left c.skip.new.skipped.items (map (λ (row : Vec Bool Global). row.items) c.skip.new.waits.items) (c.skip.ensures.skips (outs_of i.out.items) c.self.invariant.table) in
-    let many : length c.deref-4.result.now ≡ length (take k left) = ap length (c.deref-4.ensures.value ∙ c.put_back.ensures.pairs) in
-    (c.in_ok-given.ensures.items, omega (arith, fewer, many, length-take k left, c.in_ok-given.ensures.capacity, c.len-count.ensures, i.queue.ok))
-
-pub answer-requires-clause-unstopped : goal.answer-requires-clause-unstopped
-answer-requires-clause-unstopped c = λ some.
-    let i : Inside = c.self.inside in
-    let left : List CodePair = c.skip.new.kept.items in
-    let k = c.share_of-share.result in
-    let many : length c.put_back.new.pairs.items ≡ length (take k left) = ap length c.put_back.ensures.pairs in
-    unstopped_given c.keep_stop.new.stop i.taken i.budget k (length c.put_back.new.pairs.items) c.keep_stop.ensures.kind c.share_of-share.ensures.budget (omega (arith, many, length-take k left)) some
 
 pub answer-requires-clause-job : goal.answer-requires-clause-job
 answer-requires-clause-job c = λ some.
     let i : Inside = c.self.inside in
     let s : Shown = shown i in
     let k = c.share_of-share.result in
-    let left : List CodePair = c.skip.new.kept.items in
+    let left : List CodePair = c.skip.new.queue.items in
     let rows = map (λ (row : Vec Bool Global). row.items) c.skip.new.waits.items in
+    let fewer = fewer_left i.members (outs_of i.out.items) i.queue.items left c.skip.new.skipped.items rows (c.skip.ensures.skips (outs_of i.out.items) c.self.invariant.table) in
+    let enough : k ≤ c.min-most_given.result = omega (arith, fewer, c.min-most_given.ensures, c.len-count.ensures, c.share_of-share.ensures.most, c.share_of-share.ensures.few, ap length c.as_slice-left.ensures) in
+    let many : length c.truncate.new.self.items ≡ k = cut_to k c.min-most_given.result c.in_ok-pairs.pairs.items c.truncate.new.self.items c.truncate.ensures.items c.in_ok-pairs.ensures enough in
+    let gives : c.take_front.new.taken.items ≡ take k left = c.take_front.ensures.taken ∙ ap (λ (j : ℕ). take j left) many in
     let stop = c.keep_stop.new.stop in
     let found : IsFound i c.args.worker c.args.most k c.skip.new.skipped.items left rows stop =
-    found_by i c.args.worker c.args.most k c.skip.new.skipped.items left c.deref-2.result.now c.deref-3.result.now rows stop
+    found_by i c.args.worker c.args.most k c.skip.new.skipped.items left c.as_slice-left.result.now c.as_slice-left.result.now rows stop
     (subst (MayTake c.args.worker c.args.most) (sym c.self.view_is) c.requires) (no_stop i.stop (sym c.if-is_some.ensures)) c.self.invariant
-    c.skip.ensures.skips c.skip.ensures.none c.skip.ensures.real c.skip.ensures.wide c.deref-2.ensures.value (λ n r ms a b h. c.share_of-share.ensures.share n r ms a b h) c.share_of-share.ensures.few
-    c.deref-3.ensures.value (λ n r a. c.keep_stop.ensures.stop n r a) c.keep_stop.ensures.kind in
-    subst (λ (z : MembersShown × List CodePair). IsJobOver (record { shared = z.0.shared; worker = c.args.worker; members = z.0.list; pairs = z.1 })) (λ j. (sym c.in_ok-members.ensures j, sym c.put_back.ensures.pairs j))
-    (job_is i c.args.worker c.args.most k c.skip.new.skipped.items left rows stop found c.domain.ensures c.self.invariant (subst (λ (z : List CodePair). 0 < length z) c.put_back.ensures.pairs some))
+    (replayed_holds (variables_of s) s c.domain.ensures c.self.invariant.some c.self.invariant.replays).sorted c.skip.ensures.skips c.skip.ensures.none c.skip.ensures.real c.skip.ensures.wide c.as_slice-left.ensures (λ n r ms a b h o. c.share_of-share.ensures.share n r ms a b h o) c.share_of-share.ensures.few
+    c.as_slice-left.ensures (λ n r a. c.keep_stop.ensures.stop n r a) c.keep_stop.ensures.kind in
+    subst (λ (z : MembersShown × List CodePair). IsJobOver (record { shared = z.0.shared; worker = c.args.worker; members = z.0.list; pairs = z.1 })) (λ j. (sym c.in_ok-members.ensures j, sym gives j))
+    (job_is i c.args.worker c.args.most k c.skip.new.skipped.items left rows stop found c.domain.ensures c.self.invariant (subst (λ (z : List CodePair). 0 < length z) gives some))
 
 pub invariant_of-self-then-is_some : goal.invariant_of-self-then-is_some
 invariant_of-self-then-is_some c =
@@ -109,17 +82,21 @@ invariant_of-self-2 c =
     let i : Inside = c.self.inside in
     let s : Shown = shown i in
     let k = c.share_of-share.result in
-    let left : List CodePair = c.skip.new.kept.items in
+    let left : List CodePair = c.skip.new.queue.items in
     let rows = map (λ (row : Vec Bool Global). row.items) c.skip.new.waits.items in
+    let fewer = fewer_left i.members (outs_of i.out.items) i.queue.items left c.skip.new.skipped.items rows (c.skip.ensures.skips (outs_of i.out.items) c.self.invariant.table) in
+    let enough : k ≤ c.min-most_given.result = omega (arith, fewer, c.min-most_given.ensures, c.len-count.ensures, c.share_of-share.ensures.most, c.share_of-share.ensures.few, ap length c.as_slice-left.ensures) in
+    let many : length c.truncate.new.self.items ≡ k = cut_to k c.min-most_given.result c.in_ok-pairs.pairs.items c.truncate.new.self.items c.truncate.ensures.items c.in_ok-pairs.ensures enough in
+    let gives : c.take_front.new.taken.items ≡ take k left = c.take_front.ensures.taken ∙ ap (λ (j : ℕ). take j left) many in
     let stop = c.keep_stop.new.stop in
     let found : IsFound i c.args.worker c.args.most k c.skip.new.skipped.items left rows stop =
-    found_by i c.args.worker c.args.most k c.skip.new.skipped.items left c.deref-2.result.now c.deref-3.result.now rows stop
+    found_by i c.args.worker c.args.most k c.skip.new.skipped.items left c.as_slice-left.result.now c.as_slice-left.result.now rows stop
     (subst (MayTake c.args.worker c.args.most) (sym c.self.view_is) c.requires) (no_stop i.stop (sym c.if-is_some.ensures)) c.self.invariant
-    c.skip.ensures.skips c.skip.ensures.none c.skip.ensures.real c.skip.ensures.wide c.deref-2.ensures.value (λ n r ms a b h. c.share_of-share.ensures.share n r ms a b h) c.share_of-share.ensures.few
-    c.deref-3.ensures.value (λ n r a. c.keep_stop.ensures.stop n r a) c.keep_stop.ensures.kind in
-    let out_now : c.deref-4.result.now ≡ take k left = c.deref-4.ensures.value ∙ c.put_back.ensures.pairs in
-    let after : IsAfter i c.args.worker k c.skip.new.skipped.items left c.reverse.new.self.items c.give.new.out.items c.push_reserved-2.new.self.items = record {
-      queue_is = c.reverse.ensures.items ∙ c.put_back.ensures.queue ∙ ap (λ (q : List CodePair). drop k left ++ reverse q) c.skip.ensures.queue ∙ append-nil (drop k left);
+    (replayed_holds (variables_of s) s c.domain.ensures c.self.invariant.some c.self.invariant.replays).sorted c.skip.ensures.skips c.skip.ensures.none c.skip.ensures.real c.skip.ensures.wide c.as_slice-left.ensures (λ n r ms a b h o. c.share_of-share.ensures.share n r ms a b h o) c.share_of-share.ensures.few
+    c.as_slice-left.ensures (λ n r a. c.keep_stop.ensures.stop n r a) c.keep_stop.ensures.kind in
+    let out_now : c.deref-2.result.now ≡ take k left = c.deref-2.ensures.value ∙ gives in
+    let after : IsAfter i c.args.worker k c.skip.new.skipped.items left c.take_front.new.self.items c.give.new.out.items c.push_reserved-2.new.self.items = record {
+      queue_is = c.take_front.ensures.rest ∙ ap (λ (j : ℕ). drop j left) many;
       out_is = c.give.ensures.out ∙ (λ j. outs_of (c.reserve-2.ensures.items j) ++ out_with c.args.worker (pairs_of (out_now j)));
       skipped_kept = c.shrink_to_fit.new.self;
       given_kept = c.shrink_to_fit-2.new.self;
@@ -127,7 +104,7 @@ invariant_of-self-2 c =
       given_is = c.shrink_to_fit-2.ensures.items ∙ c.give.ensures.given ∙ ap pairs_of out_now;
       history_is = c.push_reserved-2.ensures.items ∙ ap (λ (l : List Event). l ++ Take c.args.worker c.shrink_to_fit.new.self c.shrink_to_fit-2.new.self ∷ []) c.reserve.ensures.items;
     } in
-    take_kept i c.args.worker c.args.most k c.skip.new.skipped.items left rows stop found c.reverse.new.self c.give.new.out c.push_reserved-2.new.self c.skip.new.waits c.self.invariant after refl
+    take_kept i c.args.worker c.args.most k c.skip.new.skipped.items left rows stop found c.take_front.new.self c.give.new.out c.push_reserved-2.new.self c.skip.new.waits c.len-self-inside.result c.clear.new.self c.len-self-inside.ensures c.clear.ensures.items c.self.invariant after refl
     (omega (arith, c.in_ok-reserve.ensures.ok, c.reserve.ensures.len, c.push_reserved-2.ensures.capacity, i.history.ok, c.reserve.new.self.ok))
 
 pub returns-clause-step : goal.returns-clause-step
@@ -135,17 +112,21 @@ returns-clause-step c =
     let i : Inside = c.self.inside in
     let s : Shown = shown i in
     let k = c.share_of-share.result in
-    let left : List CodePair = c.skip.new.kept.items in
+    let left : List CodePair = c.skip.new.queue.items in
     let rows = map (λ (row : Vec Bool Global). row.items) c.skip.new.waits.items in
+    let fewer = fewer_left i.members (outs_of i.out.items) i.queue.items left c.skip.new.skipped.items rows (c.skip.ensures.skips (outs_of i.out.items) c.self.invariant.table) in
+    let enough : k ≤ c.min-most_given.result = omega (arith, fewer, c.min-most_given.ensures, c.len-count.ensures, c.share_of-share.ensures.most, c.share_of-share.ensures.few, ap length c.as_slice-left.ensures) in
+    let many : length c.truncate.new.self.items ≡ k = cut_to k c.min-most_given.result c.in_ok-pairs.pairs.items c.truncate.new.self.items c.truncate.ensures.items c.in_ok-pairs.ensures enough in
+    let gives : c.take_front.new.taken.items ≡ take k left = c.take_front.ensures.taken ∙ ap (λ (j : ℕ). take j left) many in
     let stop = c.keep_stop.new.stop in
     let found : IsFound i c.args.worker c.args.most k c.skip.new.skipped.items left rows stop =
-    found_by i c.args.worker c.args.most k c.skip.new.skipped.items left c.deref-2.result.now c.deref-3.result.now rows stop
+    found_by i c.args.worker c.args.most k c.skip.new.skipped.items left c.as_slice-left.result.now c.as_slice-left.result.now rows stop
     (subst (MayTake c.args.worker c.args.most) (sym c.self.view_is) c.requires) (no_stop i.stop (sym c.if-is_some.ensures)) c.self.invariant
-    c.skip.ensures.skips c.skip.ensures.none c.skip.ensures.real c.skip.ensures.wide c.deref-2.ensures.value (λ n r ms a b h. c.share_of-share.ensures.share n r ms a b h) c.share_of-share.ensures.few
-    c.deref-3.ensures.value (λ n r a. c.keep_stop.ensures.stop n r a) c.keep_stop.ensures.kind in
-    let out_now : c.deref-4.result.now ≡ take k left = c.deref-4.ensures.value ∙ c.put_back.ensures.pairs in
-    let after : IsAfter i c.args.worker k c.skip.new.skipped.items left c.reverse.new.self.items c.give.new.out.items c.push_reserved-2.new.self.items = record {
-      queue_is = c.reverse.ensures.items ∙ c.put_back.ensures.queue ∙ ap (λ (q : List CodePair). drop k left ++ reverse q) c.skip.ensures.queue ∙ append-nil (drop k left);
+    (replayed_holds (variables_of s) s c.domain.ensures c.self.invariant.some c.self.invariant.replays).sorted c.skip.ensures.skips c.skip.ensures.none c.skip.ensures.real c.skip.ensures.wide c.as_slice-left.ensures (λ n r ms a b h o. c.share_of-share.ensures.share n r ms a b h o) c.share_of-share.ensures.few
+    c.as_slice-left.ensures (λ n r a. c.keep_stop.ensures.stop n r a) c.keep_stop.ensures.kind in
+    let out_now : c.deref-2.result.now ≡ take k left = c.deref-2.ensures.value ∙ gives in
+    let after : IsAfter i c.args.worker k c.skip.new.skipped.items left c.take_front.new.self.items c.give.new.out.items c.push_reserved-2.new.self.items = record {
+      queue_is = c.take_front.ensures.rest ∙ ap (λ (j : ℕ). drop j left) many;
       out_is = c.give.ensures.out ∙ (λ j. outs_of (c.reserve-2.ensures.items j) ++ out_with c.args.worker (pairs_of (out_now j)));
       skipped_kept = c.shrink_to_fit.new.self;
       given_kept = c.shrink_to_fit-2.new.self;
@@ -153,10 +134,10 @@ returns-clause-step c =
       given_is = c.shrink_to_fit-2.ensures.items ∙ c.give.ensures.given ∙ ap pairs_of out_now;
       history_is = c.push_reserved-2.ensures.items ∙ ap (λ (l : List Event). l ++ Take c.args.worker c.shrink_to_fit.new.self c.shrink_to_fit-2.new.self ∷ []) c.reserve.ensures.items;
     } in
-    let t : Shown = after_take s (pairs_of c.reverse.new.self.items) (outs_of c.give.new.out.items) (i.taken + k) stop c.push_reserved-2.new.self.items in
+    let t : Shown = after_take s (pairs_of c.take_front.new.self.items) (outs_of c.give.new.out.items) (i.taken + k) stop c.push_reserved-2.new.self.items in
     let takes : steps.Takes (run_of (variables_of s) s) (state_of (variables_of s) s) c.args.worker c.args.most c.skip.new.skipped.items (pairs_of (take k left)) (pairs_of left) (state_of (variables_of s) t) =
-    take_step i c.args.worker c.args.most k c.skip.new.skipped.items left rows stop found c.reverse.new.self.items c.give.new.out.items c.push_reserved-2.new.self.items after c.self.invariant.read in
-    let given : pairs_of (take k left) ≡ pairs_given c.answer.result = ap pairs_of (sym c.put_back.ensures.pairs) ∙ sym c.answer.ensures.given in (
+    take_step i c.args.worker c.args.most k c.skip.new.skipped.items left rows stop found c.take_front.new.self.items c.give.new.out.items c.push_reserved-2.new.self.items after c.self.invariant.read in
+    let given : pairs_of (take k left) ≡ pairs_given c.answer.result = ap pairs_of (sym gives) ∙ sym c.answer.ensures.given in (
       c.skip.new.skipped.items,
       inr (
         pairs_of left,
@@ -170,17 +151,21 @@ returns-clause-answer c =
     let i : Inside = c.self.inside in
     let s : Shown = shown i in
     let k = c.share_of-share.result in
-    let left : List CodePair = c.skip.new.kept.items in
+    let left : List CodePair = c.skip.new.queue.items in
     let rows = map (λ (row : Vec Bool Global). row.items) c.skip.new.waits.items in
+    let fewer = fewer_left i.members (outs_of i.out.items) i.queue.items left c.skip.new.skipped.items rows (c.skip.ensures.skips (outs_of i.out.items) c.self.invariant.table) in
+    let enough : k ≤ c.min-most_given.result = omega (arith, fewer, c.min-most_given.ensures, c.len-count.ensures, c.share_of-share.ensures.most, c.share_of-share.ensures.few, ap length c.as_slice-left.ensures) in
+    let many : length c.truncate.new.self.items ≡ k = cut_to k c.min-most_given.result c.in_ok-pairs.pairs.items c.truncate.new.self.items c.truncate.ensures.items c.in_ok-pairs.ensures enough in
+    let gives : c.take_front.new.taken.items ≡ take k left = c.take_front.ensures.taken ∙ ap (λ (j : ℕ). take j left) many in
     let stop = c.keep_stop.new.stop in
     let found : IsFound i c.args.worker c.args.most k c.skip.new.skipped.items left rows stop =
-    found_by i c.args.worker c.args.most k c.skip.new.skipped.items left c.deref-2.result.now c.deref-3.result.now rows stop
+    found_by i c.args.worker c.args.most k c.skip.new.skipped.items left c.as_slice-left.result.now c.as_slice-left.result.now rows stop
     (subst (MayTake c.args.worker c.args.most) (sym c.self.view_is) c.requires) (no_stop i.stop (sym c.if-is_some.ensures)) c.self.invariant
-    c.skip.ensures.skips c.skip.ensures.none c.skip.ensures.real c.skip.ensures.wide c.deref-2.ensures.value (λ n r ms a b h. c.share_of-share.ensures.share n r ms a b h) c.share_of-share.ensures.few
-    c.deref-3.ensures.value (λ n r a. c.keep_stop.ensures.stop n r a) c.keep_stop.ensures.kind in
-    let out_now : c.deref-4.result.now ≡ take k left = c.deref-4.ensures.value ∙ c.put_back.ensures.pairs in
-    let after : IsAfter i c.args.worker k c.skip.new.skipped.items left c.reverse.new.self.items c.give.new.out.items c.push_reserved-2.new.self.items = record {
-      queue_is = c.reverse.ensures.items ∙ c.put_back.ensures.queue ∙ ap (λ (q : List CodePair). drop k left ++ reverse q) c.skip.ensures.queue ∙ append-nil (drop k left);
+    (replayed_holds (variables_of s) s c.domain.ensures c.self.invariant.some c.self.invariant.replays).sorted c.skip.ensures.skips c.skip.ensures.none c.skip.ensures.real c.skip.ensures.wide c.as_slice-left.ensures (λ n r ms a b h o. c.share_of-share.ensures.share n r ms a b h o) c.share_of-share.ensures.few
+    c.as_slice-left.ensures (λ n r a. c.keep_stop.ensures.stop n r a) c.keep_stop.ensures.kind in
+    let out_now : c.deref-2.result.now ≡ take k left = c.deref-2.ensures.value ∙ gives in
+    let after : IsAfter i c.args.worker k c.skip.new.skipped.items left c.take_front.new.self.items c.give.new.out.items c.push_reserved-2.new.self.items = record {
+      queue_is = c.take_front.ensures.rest ∙ ap (λ (j : ℕ). drop j left) many;
       out_is = c.give.ensures.out ∙ (λ j. outs_of (c.reserve-2.ensures.items j) ++ out_with c.args.worker (pairs_of (out_now j)));
       skipped_kept = c.shrink_to_fit.new.self;
       given_kept = c.shrink_to_fit-2.new.self;
@@ -188,6 +173,6 @@ returns-clause-answer c =
       given_is = c.shrink_to_fit-2.ensures.items ∙ c.give.ensures.given ∙ ap pairs_of out_now;
       history_is = c.push_reserved-2.ensures.items ∙ ap (λ (l : List Event). l ++ Take c.args.worker c.shrink_to_fit.new.self c.shrink_to_fit-2.new.self ∷ []) c.reserve.ensures.items;
     } in
-    let t : Shown = after_take s (pairs_of c.reverse.new.self.items) (outs_of c.give.new.out.items) (i.taken + k) stop c.push_reserved-2.new.self.items in
+    let t : Shown = after_take s (pairs_of c.take_front.new.self.items) (outs_of c.give.new.out.items) (i.taken + k) stop c.push_reserved-2.new.self.items in
     c.answer.ensures.answers t refl (ap (λ (m : MembersShown). m.shared) (sym c.in_ok-members.ensures)) (ap (λ (m : MembersShown). m.list) (sym c.in_ok-members.ensures))
-    (λ unstopped empty. none_left i c.args.worker c.args.most k c.skip.new.skipped.items left rows stop found c.reverse.new.self.items c.give.new.out.items c.push_reserved-2.new.self.items after c.self.invariant.read c.domain.ensures c.self.invariant unstopped (sym c.put_back.ensures.pairs ∙ empty))
+    (λ unstopped empty. none_left i c.args.worker c.args.most k c.skip.new.skipped.items left rows stop found c.take_front.new.self.items c.give.new.out.items c.push_reserved-2.new.self.items after c.self.invariant.read c.domain.ensures c.self.invariant unstopped (sym gives ∙ empty))

@@ -1,0 +1,74 @@
+-- The keys of members' vectors and of products of these, and which of them occur
+use Rattle.std.proofs.Common.{◌*◌, List, [], ap, arith, cond, get_or, inl, inr, refl, subst, suc, sym, zero, ℕ, ◌∙◌, ◌∷◌, ◌≡◌, ◌⊎◌}
+use Rattle.residues.proofs.Congruences.{IsCongruent_of, IsCongruent_trans}
+use Rattle.monomials.specs.Exponents.{Exponents, exponents_of}
+use Rattle.formal_sums.proofs.WeightedSums.{same_key-shift, weighted_sum-scale, weighted_sum_ext}
+use Rattle.formal_sums.specs.FormalSums.{Each, FormalSum, Key, coefficient, indicator, scale, shift}
+use Rattle.module_vectors.proofs.NormalVectors.{residues_of}
+use Rattle.module_vectors.specs.Rings.{ring_comparison, variables}
+use Rattle.module_vectors.specs.Trails.{HasKey, IsInProduct, Step}
+use Rattle.module_vectors.specs.Vectors.{IsVector, sum_of}
+use Rattle.module_vectors.specs.declared.key.Key.{Key as CodeKey}
+use Rattle.vector_division.proofs.Occurring.{at_key, nonzeros, occurs, scaled_key}
+use Rattle.basis_steps.specs.Divisions.{Occurs}
+use Rattle.basis_steps.specs.Outcomes.{product_vector}
+use Rattle.basis_steps.specs.States.{vectors}
+use Rattle.basis_core.specs.Members.{Shared, Tracked, members_of, setting_of}
+use Rattle.basis_core.specs.Outcomes.{product_of}
+use Rattle.basis_core.specs.RowDivision.{IsTracked}
+use Rattle.basis_core.specs.Rows.{vectors_in}
+use Rattle.basis_core.proofs.Tracking.{ring_lawful}
+
+-- ---- the members' vectors
+pub vector_at : (n : ℕ) (ms : List Tracked) (k : ℕ) → get_or (vectors (members_of n ms)) k [] ≡ sum_of n (get_or (vectors_in ms) k [])
+vector_at n [] k = refl
+vector_at n (m ∷ ms) zero = refl
+vector_at n (m ∷ ms) (suc k) = vector_at n ms k
+
+pub member_vector : (shared : Shared) (ms : List Tracked) (k : ℕ) → Each (IsTracked shared) ms → IsVector (variables shared.ring) shared.ring.modulus.value (ring_comparison shared.ring (variables shared.ring)) (get_or (vectors_in ms) k [])
+member_vector shared [] k h = record { each = tt; descends = tt }
+member_vector shared (m ∷ ms) zero h = h.0.vector.vector
+member_vector shared (m ∷ ms) (suc k) h = member_vector shared ms k h.1
+
+-- ---- keys of products
+-- what occurs in a product is a key of it
+pub occurs_in :
+    (n p : ℕ) (vs : List (List (CodeKey × ℕ))) (G : List (FormalSum n)) (s : Step) (k : Key n)
+    → get_or G s.0 [] ≡ sum_of n (get_or vs s.0 []) → Occurs p (product_vector G (product_of n s)) k → IsInProduct n vs k s
+occurs_in n p vs G s k e o = go (occurs (scale 1 (exponents_of n s.1) (get_or G s.0 [])) k)
+  where
+    go : HasKey (scale 1 (exponents_of n s.1) (get_or G s.0 [])) k ⊎ (coefficient (scale 1 (exponents_of n s.1) (get_or G s.0 [])) k ≡ 0) → IsInProduct n vs k s
+    go (inl h) =
+        let r = scaled_key 1 (exponents_of n s.1) (get_or G s.0 []) k h in
+        (r.0, subst (λ v. HasKey v r.0) e r.1, r.2)
+    go (inr z) = absurd (o (IsCongruent_of p _ _ z))
+
+-- a key of a vector occurs in it
+pub key_occurs :
+    (shared : Shared) (v : List (CodeKey × ℕ)) (k : Key (variables shared.ring))
+    → IsVector (variables shared.ring) shared.ring.modulus.value (ring_comparison shared.ring (variables shared.ring)) v
+    → HasKey (sum_of (variables shared.ring) v) k → Occurs shared.ring.modulus.value (sum_of (variables shared.ring) v) k
+key_occurs shared v k h there =
+    let n : ℕ = variables shared.ring in
+    at_key (λ l. Occurs shared.ring.modulus.value (sum_of n v) l) (sum_of n v) k
+    (nonzeros (setting_of n shared) (ring_lawful shared) (sum_of n v) h.descends (residues_of n shared.ring.modulus.value v h.each)) there
+
+coefficient_shifted : {n : ℕ} (m : Exponents n) (v : FormalSum n) (k : Key n) → coefficient (scale 1 m v) (shift m k) ≡ coefficient v k
+coefficient_shifted m v k =
+    weighted_sum-scale (indicator (shift m k)) 1 m v
+    ∙ ap (λ x. 1 * x) (weighted_sum_ext _ (indicator k) (λ l. ap (λ b. cond b 1 0) (same_key-shift m k l)) v)
+    ∙ omega arith
+
+-- a key of a product of a vector occurs in it
+pub in_occurs :
+    (shared : Shared) (vs : List (List (CodeKey × ℕ))) (G : List (FormalSum (variables shared.ring))) (s : Step) (k : Key (variables shared.ring))
+    → get_or G s.0 [] ≡ sum_of (variables shared.ring) (get_or vs s.0 [])
+    → IsVector (variables shared.ring) shared.ring.modulus.value (ring_comparison shared.ring (variables shared.ring)) (get_or vs s.0 [])
+    → IsInProduct (variables shared.ring) vs k s → Occurs shared.ring.modulus.value (product_vector G (product_of (variables shared.ring) s)) k
+in_occurs shared vs G s k e v (l, there, is) z =
+    let n : ℕ = variables shared.ring in
+    let p : ℕ = shared.ring.modulus.value in
+    let t : Exponents n = exponents_of n s.1 in
+    let same : coefficient (sum_of n (get_or vs s.0 [])) l ≡ coefficient (scale 1 t (get_or G s.0 [])) k =
+    sym (coefficient_shifted t (sum_of n (get_or vs s.0 [])) l) ∙ (λ i. coefficient (scale 1 t (sym e i)) (sym is i)) in
+    key_occurs shared (get_or vs s.0 []) l v there (IsCongruent_trans (IsCongruent_of p _ _ same) z)
