@@ -1,7 +1,9 @@
 -- Trails of jobs are trails of the run, and copies of trails
-use Rattle.std.proofs.Common.{List, Some, [], ap, arith, length, subst, sym, ℕ, ◌∙◌, ◌∷◌, ◌≡◌, ◌≤◌}
-use Rattle.module_vectors.specs.Rings.{variables}
+use Rattle.std.proofs.Common.{List, Some, [], ap, append-nil, arith, inl, length, refl, subst, sym, take, ℕ, ◌∙◌, ◌∷◌, ◌≡◌, ◌≤◌}
+use Rattle.std.proofs.lemmas.List.{take_all}
+use Rattle.module_vectors.specs.Rings.{ring_comparison, variables}
 use Rattle.module_vectors.specs.Trails.{IsTrail as IsKeptTrail, Step, last_step}
+use Rattle.module_vectors.specs.Vectors.{AreVectorsOver}
 use Rattle.module_vectors.specs.declared.trail.KeptTrail.{KeptTrail}
 use Rattle.module_vectors.specs.declared.trail.WorkStop.{WorkStop}
 use Rattle.module_vectors.specs.declared.trail.WorkStop.TheVariants as works
@@ -23,19 +25,21 @@ use Rattle.s_vectors.specs.Trails.{IsJobTrail, JobStops}
 use Rattle.plain_buchberger.specs.Copies.{IsSameTrail}
 use Rattle.plain_buchberger.specs.Rounds.{IsDegreeStop, IsOut, WorkStops}
 
--- ring, rank, generators and limit are all that a trail takes of the run
+-- ring, rank, generators and limit are all that a trail by all members takes of the run
 trail_in_run :
-    (n : ℕ) (s : Shown) (way : Trail n) (job taken : List Pair) → ((x : Pair) → count x job ≤ count x taken)
+    (n : ℕ) (s : Shown) (way : Trail n) (job taken : List Pair)
+    → ((x : Pair) → count x job ≤ count x taken) → way.members ≡ members_of n s.members
     → IsTrail (work_of n s.shared) (members_of n s.members) job way → IsTrail (run_of n s) (members_of n s.members) taken way
-trail_in_run n s way job taken more h = record {
+trail_in_run n s way job taken more all h = record {
   members = record {
-    first = h.members.first;
-    there = h.members.there;
-    rows = h.members.rows;
-    combined = h.members.combined;
-    made = h.members.made;
-    makes = h.members.makes;
-    same = h.members.same;
+    first = length (members_of n s.members);
+    there = omega arith;
+    rows = [];
+    put = inl refl;
+    made = [];
+    makes = refl;
+    same =
+        all ∙ sym (append-nil (take (length (members_of n s.members)) (members_of n s.members)) ∙ take_all (length (members_of n s.members)) (members_of n s.members) (omega arith));
   };
   start = let some = more way.start in let begins = h.start in omega (arith, some, begins);
   pair = h.pair;
@@ -50,6 +54,8 @@ run_trail_of_job s job t out h = record {
   pair = subst (λ (sh : Shared). IsPairTrail sh t) out.shared h.pair;
   way =
       trail_in_run (variables_of s) s (trail_of (variables_of s) t) (pairs_of job.pairs) (pairs_taken (state_of (variables_of s) s).history) out.taken
+      (subst (λ (ms : List Tracked). (trail_of (variables_of s) t).members ≡ members_of (variables_of s) ms) out.members
+      (subst (λ (sh : Shared). (trail_of (variables sh.ring) t).members ≡ members_of (variables sh.ring) job.members) out.shared h.members))
       (subst (λ (ms : List Tracked). IsTrail (work_of (variables_of s) s.shared) (members_of (variables_of s) ms) (pairs_of job.pairs) (trail_of (variables_of s) t)) out.members
       (subst (λ (sh : Shared). IsTrail (work_of (variables sh.ring) sh) (members_of (variables sh.ring) job.members) (pairs_of job.pairs) (trail_of (variables sh.ring) t)) out.shared h.way));
 }
@@ -99,9 +105,11 @@ module _ (t u : KeptTrail) (same : IsSameTrail t u) where
         record {
           steps = same.steps ∙ c.steps;
           known = c.known;
+          variables = c.variables;
           begins = c.begins;
           met = c.met;
           last = c.last;
+          last_variables = c.last_variables;
           too_great = c.too_great;
         },
       )
@@ -115,10 +123,12 @@ module _ (t u : KeptTrail) (same : IsSameTrail t u) where
         rank = same.rank ∙ h.pair.over.rank;
         generators = same.generators ∙ h.pair.over.generators;
         below = same.below ∙ h.pair.over.below;
+        vectors = subst (AreVectorsOver s.shared.ring (ring_comparison s.shared.ring)) (sym same.members) h.pair.over.vectors;
         cofactors = (
           h.pair.over.cofactors.0,
           same.cofs ∙ h.pair.over.cofactors.1,
           h.pair.over.cofactors.2 ∙ ap length (sym same.members),
+          h.pair.over.cofactors.3,
         );
       };
       vector = same.vector ∙ h.pair.vector;

@@ -11,4 +11,10 @@ mod runs;
 pub use engine::PlainEngine;
 
 #[cfg(test)]
+mod basis_tables;
+#[cfg(test)]
+mod basis_tests;
+#[cfg(test)]
+mod degree_tests;
+#[cfg(test)]
 mod tests;

@@ -13,12 +13,17 @@ use std::test::Fail;
 use std::thread::Threads;
 use zp_field::Modulus;
 
-// Z/32003[x, y, z].
-fn space(alloc: Global, order: Order, module_order: ModOrder) -> Result<Ring, AllocError>
+// Z/p[x, y, z].
+pub(crate) fn space_over(
+    alloc: Global,
+    p: u64,
+    order: Order,
+    module_order: ModOrder,
+) -> Result<Ring, AllocError>
     ensures { IfOk result (λ ring. variables ring ≡ 3) }
 {
     Ok(Ring {
-        modulus: Modulus::of(32003).ok_or(AllocError)?,
+        modulus: Modulus::of(p).ok_or(AllocError)?,
         vars: Names::from_vec(vec![in alloc;
             String::from_str(alloc, "x")?,
             String::from_str(alloc, "y")?,
@@ -27,6 +32,13 @@ fn space(alloc: Global, order: Order, module_order: ModOrder) -> Result<Ring, Al
         order,
         module_order,
     })
+}
+
+// Z/32003[x, y, z].
+fn space(alloc: Global, order: Order, module_order: ModOrder) -> Result<Ring, AllocError>
+    ensures { IfOk result (λ ring. variables ring ≡ 3) }
+{
+    space_over(alloc, 32003, order, module_order)
 }
 
 fn term(
@@ -46,7 +58,7 @@ fn term(
     ))
 }
 
-fn terms(
+pub(crate) fn terms(
     alloc: Global,
     modulus: &Modulus,
     entries: &[(u128, [u16; 3], u32)],

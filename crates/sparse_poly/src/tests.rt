@@ -127,18 +127,11 @@ fn is_too_great(alloc: Global, left: &[Row], n: u128, right: &[Row]) -> bool {
 }
 
 #[test]
-fn products_and_powers(rt: HostRuntime) {
+fn powers_modulo_two(rt: HostRuntime) {
     let alloc = rt.alloc();
     let one = [Row(1, 0, 0, 0)];
-    let x = [Row(1, 1, 0, 0)];
     let x_plus_y = [Row(1, 1, 0, 0), Row(1, 0, 1, 0)];
     let x_plus_one = [Row(1, 1, 0, 0), Row(1, 0, 0, 0)];
-    let sum = [
-        Row(1, 1, 0, 0),
-        Row(1, 0, 1, 0),
-        Row(1, 0, 0, 1),
-        Row(1, 0, 0, 0),
-    ];
     assert!(rt;
         is_product(
             alloc,
@@ -159,6 +152,11 @@ fn products_and_powers(rt: HostRuntime) {
             &[Row(1, 2, 0, 0), Row(1, 0, 0, 0)]
         )
     );
+}
+
+#[test]
+fn products_modulo_three(rt: HostRuntime) {
+    let alloc = rt.alloc();
     assert!(rt;
         is_product(
             alloc,
@@ -193,6 +191,18 @@ fn products_and_powers(rt: HostRuntime) {
             ]
         )
     );
+}
+
+#[test]
+fn powers_have_residues(rt: HostRuntime) {
+    let alloc = rt.alloc();
+    let one = [Row(1, 0, 0, 0)];
+    let sum = [
+        Row(1, 1, 0, 0),
+        Row(1, 0, 1, 0),
+        Row(1, 0, 0, 1),
+        Row(1, 0, 0, 0),
+    ];
     assert!(rt;
         is_product(
             alloc,
@@ -228,6 +238,13 @@ fn products_and_powers(rt: HostRuntime) {
             &[Row(6479, 20, 1, 0), Row(63841, 20, 0, 0)]
         )
     );
+}
+
+#[test]
+fn powers_at_the_bounds(rt: HostRuntime) {
+    let alloc = rt.alloc();
+    let one = [Row(1, 0, 0, 0)];
+    let x = [Row(1, 1, 0, 0)];
     // The power 0 is 1, also of 0.
     assert!(rt; is_product(alloc, 5, &[], 0, &x, &x));
     assert!(rt; is_product(alloc, 5, &[], 3, &x, &[]));
