@@ -1,6 +1,7 @@
 //! The program: its words, standard input and standard output, handed to the call that does all the
 //! work. It ends with the status of the run: 0 all done, 1 a refusal, 2 wrong words, 3 a failed read,
-//! 4 a failed write, 5 want of memory.
+//! 4 a failed write, 5 want of memory, 6 a basis run met its budget of pairs, 7 a product of total
+//! degree above 65,535 was needed.
 #![tactic(auto)]
 
 use byte_ports::{StdSink, StdSource};
@@ -52,6 +53,6 @@ fn main(rt: HostRuntime) -> ExitCode {
     };
     let mut source = StdSource::new(rt.reader());
     let mut sink = StdSink::new(io::writer(&rt));
-    let ended = run(alloc, &words, &mut source, &mut sink, &OpenGate);
+    let ended = run(&rt, alloc, &words, &mut source, &mut sink, &OpenGate);
     ExitCode::from(ended.status)
 }

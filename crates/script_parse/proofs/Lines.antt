@@ -1,20 +1,32 @@
 -- A line's word and what stands behind it
-use Rattle.std.proofs.Common.{◌≡◌, ℕ, List, [], ◌∷◌, ◌++◌, map, Option, Some, None, Vec, Global, Result, Ok, Err, IfOk, IfSome, refl, sym, ap, subst, ◌∙◌, length, arith}
+use Rattle.std.proofs.Common.{◌≡◌, ℕ, List, [], ◌∷◌, ◌++◌, map, cond, nat_eq, Option, Some, None, Vec, Global, Result, Ok, Err, IfSome, refl, sym, ap, ap₂, subst, ◌∙◌, length, arith}
+use Rattle.std.specs.Prelude.{codes}
+use Rattle.std.specs.Cmp.Lexicographic.{pointwise}
 use Rattle.std.proofs.lemmas.List.{map_push, same_from_push}
 use Rattle.script_tokens.specs.declared.token.Token.{Token}
 use Rattle.script_tokens.specs.declared.token.TokenKind.{TokenKind}
 use Rattle.script_tokens.specs.declared.token.TokenKind.TheVariants as kinds
-use Rattle.poly_grammar.specs.Lexemes.{Lexeme, comma, lexeme, lexeme_as, name, number}
+use Rattle.poly_grammar.specs.Lexemes.{Lexeme, comma, equals, lexeme, lexeme_as, name, number}
 use Rattle.poly_grammar.specs.Numerals.{text_of}
 use Rattle.poly_grammar.specs.declared.stop.ReadStop.{ReadStop}
 use Rattle.poly_grammar.specs.declared.stop.ReadStop.TheVariants.{Memory, Syntax}
+use Rattle.poly_grammar.specs.Steps.{steps}
+use Rattle.poly_grammar.specs.Trees.{Poly}
+use Rattle.poly_grammar.specs.declared.step.Step.{Step}
 use Rattle.poly_grammar.proofs.Unique.{one_tree}
-use Rattle.script_parse.specs.Forms.{Gives, IsFormOf, IsRead, IsReadBehind, names_behind, names_of, with_name}
-use Rattle.script_parse.specs.Written.{Written, nothing, ring_line, show_line, Word, ring_word, show_word, word_text, word_of, IsBehind, IsLine, IsWritten, IsWrittenAs, comma_names, order_word}
+use Rattle.script_parse.specs.Forms.{AreReadAs, Gives, IsRead, IsReadBehind, head_of, names_behind, names_of, with_name}
+use Rattle.script_parse.specs.Written.{AreEntries, ArePolys, IsOnePoly, Written, ask_line, divide_line, equal_line, ideal_line, nothing, ring_line, show_line, Word, division_word, equal_word, ideal_word, question_word, ring_word, show_word, polys_of, word_text, word_of, IsBehind, IsLine, IsWritten, IsWrittenAs, comma_names, order_word}
+use Rattle.script_parse.specs.declared.form.Division.{Division}
+use Rattle.script_parse.specs.declared.form.Division.TheVariants.{Member, NormalForm}
+use Rattle.script_parse.specs.declared.form.Head.{Head}
+use Rattle.script_parse.specs.declared.form.Head.TheVariants as heads
+use Rattle.script_parse.specs.declared.form.Question.{Question}
+use Rattle.script_parse.specs.declared.form.Question.TheVariants.{Gb, Gens, Size}
 use Rattle.script_parse.specs.declared.form.Form.{Form}
 use Rattle.script_parse.specs.declared.form.Form.TheVariants as forms
 use Rattle.script_parse.specs.declared.form.OrderName.{OrderName}
 use Rattle.script_parse.specs.declared.form.OrderName.TheVariants.{Lex, Grevlex}
+use Rattle.script_parse.proofs.Pieces.{one_list, one_vector}
 
 named : (k : TokenKind) (t : Token) → k ≡ kinds.Name → lexeme_as k t ≡ name t
 named k t e = rw e refl
@@ -34,19 +46,31 @@ one_order text Grevlex Grevlex e f = refl
 one_order text Lex Grevlex e f = let n : 3 ≡ 7 = ap length (sym e ∙ f) in absurd (omega (arith, n))
 one_order text Grevlex Lex e f = let n : 7 ≡ 3 = ap length (sym e ∙ f) in absurd (omega (arith, n))
 
-head_or : List ℕ → ℕ
-head_or [] = 0
-head_or (b ∷ bs) = b
+-- the word that a text is
+abbrev says : List ℕ → List ℕ → Word → Option Word → Option Word
+says text word w other = cond (pointwise nat_eq text word) (Some w) other
 
--- nor of two words: they begin with other letters
+abbrev word_named : List ℕ → Option Word
+word_named text =
+    says text (codes "ring") ring_word (says text (codes "show") show_word (says text (codes "ideal") ideal_word (says text (codes "gens") (question_word Gens)
+    (says text (codes "gb") (question_word Gb) (says text (codes "size") (question_word Size) (says text (codes "nf") (division_word NormalForm)
+    (says text (codes "member") (division_word Member) (says text (codes "equal") equal_word None))))))))
+
+word_again : (w : Word) → word_named (word_text w) ≡ Some w
+word_again ring_word = refl
+word_again show_word = refl
+word_again ideal_word = refl
+word_again (question_word Gens) = refl
+word_again (question_word Gb) = refl
+word_again (question_word Size) = refl
+word_again (division_word NormalForm) = refl
+word_again (division_word Member) = refl
+word_again equal_word = refl
+
+-- no text is that of two words
 one_word : (text : List ℕ) (a b : Word) → text ≡ word_text a → text ≡ word_text b → a ≡ b
-unfolding head_or
-one_word text ring_word ring_word e f = refl
-one_word text show_word show_word e f = refl
-one_word text ring_word show_word e f = let n : 114 ≡ 115 = ap head_or (sym e ∙ f) in absurd (omega (arith, n))
-one_word text show_word ring_word e f = let n : 115 ≡ 114 = ap head_or (sym e ∙ f) in absurd (omega (arith, n))
+one_word text a b e f = let same : Some a ≡ Some b = sym (word_again a) ∙ ap word_named (sym e ∙ f) ∙ word_again b in cc
 
--- what a line that begins with a token says
 pub record Starts (line : List ℕ) (t : Token) (behind : List Token) (w : Written) : Type 0 where
   pub word : Word
   pub word_is : word_of w ≡ Some word
@@ -79,11 +103,6 @@ word_read line word ts behind t (Err Syntax) kind text is h = λ w written.
     let s = starts line t behind w (subst (λ l. IsWritten line (map lexeme l) w) is written) in
     let same : s.word ≡ word = one_word (text_of line t) s.word word s.text text in
     h w (s.word_is ∙ ap Some same) s.rest
-
--- a line that begins with no word of these is none
-pub no_word : (line : List ℕ) (ts behind : List Token) (t : Token) → ts ≡ t ∷ behind → ((word : Word) → t.kind ≡ kinds.Name → text_of line t ≡ word_text word → ⊥) → (w : Written) → IsWritten line (map lexeme ts) w → ⊥
-no_word line ts behind t is none w written =
-    let s = starts line t behind w (subst (λ l. IsWritten line (map lexeme l) w) is written) in none s.word s.kind s.text
 
 behind_step : (t : Token) (xs : List Lexeme) (o : Option (List Token)) → IfSome o (λ ts. xs ≡ comma_names ts) → IfSome (with_name t o) (λ ts. comma ∷ name t ∷ xs ≡ comma_names ts)
 behind_step t xs None h = tt
@@ -142,12 +161,7 @@ module _ (line : List ℕ) (ts behind middle : List Token) (m last : Token) (is 
   pub no_order : ((order : OrderName) → last.kind ≡ kinds.Name → text_of line last ≡ order_word order → ⊥) → (w : Written) → word_of w ≡ Some ring_word → IsBehind line (map lexeme ts) w → ⊥
   no_order none nothing e h = h
   no_order none (ring_line modulus first more order) e h = let p = ring_parts modulus first more order h in none order p.name_kind p.says
-  no_order none (show_line p) e h = absurd cc
-
-  pub no_number : (m.kind ≡ kinds.Number → ⊥) → (w : Written) → word_of w ≡ Some ring_word → IsBehind line (map lexeme ts) w → ⊥
-  no_number none nothing e h = h
-  no_number none (ring_line modulus first more order) e h = none (ring_parts modulus first more order h).number_kind
-  no_number none (show_line p) e h = absurd cc
+  no_order none _ e h = absurd cc
 
   pub no_names : (stop : ReadStop) → Gives {X = Vec Token Global} (λ found. found.items) (Err stop) (names_of (map lexeme middle)) → IsReadBehind ring_word line (map lexeme ts) (Err stop)
   no_names Memory none = tt
@@ -159,18 +173,53 @@ module _ (line : List ℕ) (ts behind middle : List Token) (m last : Token) (is 
           let p = ring_parts modulus first more order h in
           let s : names_of (map lexeme middle) ≡ Some (first ∷ more) = ap names_of p.names ∙ ap (with_name first) (names_again more) in
           let n : names_of (map lexeme middle) ≡ None = none in absurd cc
-      go (show_line p) e h = absurd cc
+      go _ e h = absurd cc
 
--- too few tokens behind `ring`
-pub none_behind_ring : (line : List ℕ) (w : Written) → word_of w ≡ Some ring_word → IsBehind line [] w → ⊥
-none_behind_ring line nothing e h = h
-none_behind_ring line (ring_line modulus first more order) e h = let q = h.2 in absurd cc
-none_behind_ring line (show_line p) e h = absurd cc
+-- a parser of polynomials gives a line
+pub line_read :
+    (word : Word) (line : List ℕ) (xs : List Lexeme) (head : Head) (Are : List Poly → Type 0) (found : Vec (Vec Step Global) Global)
+    → ((ps : List Poly) → Are ps → (w : Written) × (word_of w ≡ Some word) × IsBehind line xs w × (head_of w ≡ Some head) × (polys_of w ≡ ps))
+    → AreReadAs Are (Ok found) → IsReadBehind word line xs (Ok (forms.Line head found))
+line_read word line xs head Are found make h =
+    let m = make h.0 h.1 in
+    (m.0, m.1, m.2, record { head_is = m.3; steps_are = h.2 ∙ ap (λ l. map steps l) (sym m.4) })
 
-pub one_behind_ring : (line : List ℕ) (m : Token) (w : Written) → word_of w ≡ Some ring_word → IsBehind line (lexeme m ∷ []) w → ⊥
-one_behind_ring line m nothing e h = h
-one_behind_ring line m (ring_line modulus first more order) e h = let q = h.2 in absurd cc
-one_behind_ring line m (show_line p) e h = absurd cc
+-- or there is none
+pub line_none :
+    (word : Word) (line : List ℕ) (xs : List Lexeme) (Are : List Poly → Type 0) (stop : ReadStop)
+    → ((w : Written) → word_of w ≡ Some word → IsBehind line xs w → (ps : List Poly) × Are ps)
+    → AreReadAs Are (Err stop) → IsReadBehind word line xs (Err stop)
+line_none word line xs Are Memory split h = tt
+line_none word line xs Are Syntax split h = λ w e k. let s = split w e k in h s.0 s.1
+
+pub show_made : (line : List ℕ) (xs : List Lexeme) (ps : List Poly) → IsOnePoly xs ps → (w : Written) × (word_of w ≡ Some show_word) × IsBehind line xs w × (head_of w ≡ Some heads.Show) × (polys_of w ≡ ps)
+show_made line xs ps k = (show_line k.0, refl, k.2, refl, sym k.1)
+
+pub show_split : (line : List ℕ) (xs : List Lexeme) (w : Written) → word_of w ≡ Some show_word → IsBehind line xs w → (ps : List Poly) × IsOnePoly xs ps
+show_split line xs (show_line p) e h = (p ∷ [], (p, refl, h))
+show_split line xs _ e h = absurd cc
+
+module _ (line : List ℕ) (xs rest : List Lexeme) (t : Token) (is : xs ≡ name t ∷ rest) where
+  -- what stands behind the first name
+  behind_name : (s : Token) (ys : List Lexeme) → xs ≡ name s ∷ ys → rest ≡ ys
+  behind_name s ys e = let all : name t ∷ rest ≡ name s ∷ ys = sym is ∙ e in cc
+
+  pub ideal_made : (after : List Lexeme) → rest ≡ equals ∷ after → (ps : List Poly) → ArePolys after ps → (w : Written) × (word_of w ≡ Some ideal_word) × IsBehind line xs w × (head_of w ≡ Some (heads.Ideal t)) × (polys_of w ≡ ps)
+  ideal_made after e ps k = (ideal_line t ps, refl, (after, is ∙ ap (λ l. name t ∷ l) e, k), refl, refl)
+
+  pub ask_read : (question : Question) (found : Vec (Vec Step Global) Global) → rest ≡ [] → found.items ≡ [] → IsReadBehind (question_word question) line xs (Ok (forms.Line (heads.Ask question t) found))
+  ask_read question found e none = (ask_line question t, refl, is ∙ ap (λ l. name t ∷ l) e, record { head_is = refl; steps_are = ap (λ l. map (λ v. v.items) l) none })
+
+  pub divide_made : (division : Division) (ps : List Poly) → AreEntries rest ps → (w : Written) × (word_of w ≡ Some (division_word division)) × IsBehind line xs w × (head_of w ≡ Some (heads.Divide division t)) × (polys_of w ≡ ps)
+  divide_made division ps k = (divide_line division t ps, refl, (rest, is, k), refl, refl)
+
+  pub divide_split : (division : Division) (w : Written) → word_of w ≡ Some (division_word division) → IsBehind line xs w → (ps : List Poly) × AreEntries rest ps
+  divide_split division (divide_line other value ps) e h = (ps, subst (λ l. AreEntries l ps) (sym (behind_name value h.0 h.1)) h.2)
+  divide_split division nothing e h = absurd h
+  divide_split division _ e h = absurd cc
+
+  pub equal_read : (s : Token) (after : List Lexeme) (found : Vec (Vec Step Global) Global) → rest ≡ name s ∷ after → after ≡ [] → found.items ≡ [] → IsReadBehind equal_word line xs (Ok (forms.Line (heads.Equal t s) found))
+  equal_read s after found e f none = (equal_line t s, refl, is ∙ ap (λ l. name t ∷ l) (e ∙ ap (λ l. name s ∷ l) f), record { head_is = refl; steps_are = ap (λ l. map (λ v. v.items) l) none })
 
 same_behind : (line : List ℕ) (xs : List Lexeme) (v w : Written) (word : Word) → word_of v ≡ Some word → word_of w ≡ Some word → IsBehind line xs v → IsBehind line xs w → v ≡ w
 same_behind line xs nothing w word e f h k = absurd h
@@ -187,15 +236,38 @@ same_behind line xs (ring_line m first more o) (ring_line m' first' more' o') wo
     let more_is : more ≡ more' = cc (mores) in
     rw (ms, firsts, more_is, orders) refl
 same_behind line xs (show_line p) (show_line q) word e f h k = ap show_line (one_tree p q (sym h.spelled ∙ k.spelled))
-same_behind line xs (ring_line m first more o) (show_line q) word e f h k = absurd cc
-same_behind line xs (show_line p) (ring_line m first more o) word e f h k = absurd cc
+same_behind line xs (ideal_line g ps) (ideal_line g' ps') word e f h k =
+    let all : name g ∷ equals ∷ h.0 ≡ name g' ∷ equals ∷ k.0 = sym h.1 ∙ k.1 in
+    let given : g ≡ g' = cc in
+    let rest : h.0 ≡ k.0 = cc in
+    ap₂ ideal_line given (one_list k.0 ps ps' (subst (λ l. ArePolys l ps) rest h.2) k.2)
+same_behind line xs (ask_line q t) (ask_line q' t') word e f h k =
+    let all : name t ∷ [] ≡ name t' ∷ [] = sym h ∙ k in
+    let words : Some (question_word q) ≡ Some (question_word q') = e ∙ sym f in
+    let questions : q ≡ q' = cc in
+    let values : t ≡ t' = cc in
+    ap₂ ask_line questions values
+same_behind line xs (divide_line d t ps) (divide_line d' t' ps') word e f h k =
+    let all : name t ∷ h.0 ≡ name t' ∷ k.0 = sym h.1 ∙ k.1 in
+    let words : Some (division_word d) ≡ Some (division_word d') = e ∙ sym f in
+    let divisions : d ≡ d' = cc in
+    let values : t ≡ t' = cc in
+    let rest : h.0 ≡ k.0 = cc in
+    let entries : ps ≡ ps' = one_vector k.0 ps ps' (subst (λ l. AreEntries l ps) rest h.2) k.2 in
+    rw (divisions, values, entries) refl
+same_behind line xs (equal_line a b) (equal_line a' b') word e f h k =
+    let all : name a ∷ name b ∷ [] ≡ name a' ∷ name b' ∷ [] = sym h ∙ k in
+    let lefts : a ≡ a' = cc in
+    let rights : b ≡ b' = cc in
+    ap₂ equal_line lefts rights
+same_behind line xs v w word e f h k = absurd cc
+
+blank_written : (line : List ℕ) (w : Written) → IsWritten line [] w → w ≡ nothing
+blank_written line nothing h = refl
+blank_written line _ h = let q = h.1.2 in absurd cc
 
 same_written : (line : List ℕ) (ts : List Token) (v w : Written) → IsWritten line (map lexeme ts) v → IsWritten line (map lexeme ts) w → v ≡ w
-same_written line [] nothing nothing h k = refl
-same_written line [] (ring_line m first more o) w h k = let q = h.1.2 in absurd cc
-same_written line [] (show_line p) w h k = let q = h.1.2 in absurd cc
-same_written line [] nothing (ring_line m first more o) h k = let q = k.1.2 in absurd cc
-same_written line [] nothing (show_line p) h k = let q = k.1.2 in absurd cc
+same_written line [] v w h k = blank_written line v h ∙ sym (blank_written line w k)
 same_written line (t ∷ ts) v w h k =
     let s = starts line t ts v h in
     let r = starts line t ts w k in

@@ -1,7 +1,7 @@
 -- The texts of a line's names, and its numbers
-use Rattle.std.proofs.Common.{◌≡◌, ℕ, zero, suc, ◌+◌, ◌<◌, ◌≤◌, ◌^◌, ◌⊎◌, inl, inr, cond, nat_eq, Bool, true, false, List, [], ◌∷◌, ◌++◌, map, length, Option, Some, None, Ok, refl, sym, ap, ap₂, subst, ◌∙◌, arith}
+use Rattle.std.proofs.Common.{◌≡◌, ℕ, zero, suc, ◌<◌, ◌≤◌, ◌^◌, ◌⊎◌, inl, inr, cond, nat_eq, Bool, true, false, List, [], ◌∷◌, ◌++◌, map, length, Some, Result, Ok, Err, IfOk, Vec, Global, refl, sym, ap, ap₂, subst, ◌∙◌, arith}
 use Rattle.std.proofs.lemmas.Bool.{cases_lt}
-use Rattle.std.specs.List.{AllByRecursion, slice_index, slice_index_or}
+use Rattle.std.specs.List.{AllByRecursion, slice_index_or}
 use Rattle.std.specs.Prelude.{Contains}
 use Rattle.std.specs.Str.{IsAscii}
 use Rattle.std.specs.Str.Lossy.{utf8_lossy}
@@ -14,16 +14,20 @@ use Rattle.script_tokens.specs.declared.token.TokenKind.TheVariants as kinds
 use Rattle.script_tokens.specs.Tokens.{is_name_byte, tokens_of}
 use Rattle.script_tokens.specs.Cuts.{HaveTexts, IsToken, Passes}
 use Rattle.script_tokens.proofs.Texts.{have_texts}
-use Rattle.poly_grammar.specs.Lexemes.{Lexeme, comma, lexeme, lexeme_as, name, names_in, number, numbers_in}
+use Rattle.poly_grammar.specs.Lexemes.{Lexeme, close_bracket, comma, lexeme, lexeme_as, name, names_in, number, numbers_in}
 use Rattle.poly_grammar.specs.Numerals.{FitsAs, NumeralFits, number_of, text_of, value_of}
 use Rattle.poly_grammar.specs.Steps.{numbers_of_steps, steps}
+use Rattle.poly_grammar.specs.Trees.{Poly, Reads, spelling}
 use Rattle.poly_grammar.specs.declared.step.Step.{Step}
 use Rattle.poly_grammar.proofs.NumbersOfSteps.{steps_have_numbers}
-use Rattle.script_parse.specs.Forms.{IsFormOf, IsSound, repeats, stands_among}
+use Rattle.script_parse.specs.Forms.{IsFormOf, IsPolynomial, IsSound, head_names, head_of, repeats, stands_among}
 use Rattle.script_parse.specs.Refusals.{HasGreatNumeral, HasRepeat}
-use Rattle.script_parse.specs.Written.{IsWritten, Written, comma_names, nothing, ring_line, show_line}
+use Rattle.script_parse.specs.Written.{AreEntries, ArePolys, IsWritten, Written, ask_line, comma_names, divide_line, equal_line, ideal_line, nothing, polys_of, ring_line, show_line}
 use Rattle.script_parse.specs.declared.form.Form.{Form}
 use Rattle.script_parse.specs.declared.form.Form.TheVariants as forms
+use Rattle.script_parse.specs.declared.form.Head.{Head}
+use Rattle.script_parse.specs.declared.form.Head.TheVariants as heads
+use Rattle.script_parse.specs.declared.form.OrderName.{OrderName}
 
 letter_ascii : (b : ℕ) → is_ascii_alphabetic b ≡ true → b < 128
 letter_ascii b e = grind arith
@@ -67,21 +71,96 @@ all_front : (P : Token → Type 0) (xs ys : List Token) → AllByRecursion P (xs
 all_front P [] ys h = tt
 all_front P (x ∷ xs) ys h = (h.0, all_front P xs ys h.1)
 
-pub sound : (line : List ℕ) (found : List Token) (w : Written) (form : Form) → tokens_of line ≡ Ok found → IsWritten line (map lexeme found) w → IsFormOf form w → AllByRecursion (NumeralFits line) found → IsSound line form
-sound line found nothing forms.Nothing cut h is fits = tt
-sound line found (ring_line m first more o) (forms.Ring modulus names order) cut h is fits =
+all_back : (P : Token → Type 0) (xs ys : List Token) → AllByRecursion P (xs ++ ys) → AllByRecursion P ys
+all_back P [] ys h = h
+all_back P (x ∷ xs) ys h = all_back P xs ys h.1
+
+-- the names of a line's head are among its names
+head_among : (P : Token → Type 0) (line : List ℕ) (xs : List Lexeme) (w : Written) (head : Head) → head_of w ≡ Some head → IsWritten line xs w → AllByRecursion P (names_in xs) → AllByRecursion P (head_names head)
+head_among P line xs nothing head e h all = absurd cc
+head_among P line xs (ring_line m first more o) head e h all = absurd cc
+head_among P line xs (show_line p) head e h all =
+    let is : heads.Show ≡ head = cc in subst (λ d. AllByRecursion P (head_names d)) is tt
+head_among P line xs (ideal_line given ps) head e h all =
+    let is : heads.Ideal given ≡ head = cc in
+    let names = subst (λ l. AllByRecursion P (names_in l)) (h.1.2 ∙ ap (λ l. name h.1.0 ∷ l) h.2.1) all in
+    subst (λ d. AllByRecursion P (head_names d)) is (names.1.0, tt)
+head_among P line xs (ask_line question value) head e h all =
+    let is : heads.Ask question value ≡ head = cc in
+    let names = subst (λ l. AllByRecursion P (names_in l)) (h.1.2 ∙ ap (λ l. name h.1.0 ∷ l) h.2) all in
+    subst (λ d. AllByRecursion P (head_names d)) is (names.1.0, tt)
+head_among P line xs (divide_line division value ps) head e h all =
+    let is : heads.Divide division value ≡ head = cc in
+    let names = subst (λ l. AllByRecursion P (names_in l)) (h.1.2 ∙ ap (λ l. name h.1.0 ∷ l) h.2.1) all in
+    subst (λ d. AllByRecursion P (head_names d)) is (names.1.0, tt)
+head_among P line xs (equal_line left right) head e h all =
+    let is : heads.Equal left right ≡ head = cc in
+    let names = subst (λ l. AllByRecursion P (names_in l)) (h.1.2 ∙ ap (λ l. name h.1.0 ∷ l) h.2) all in
+    subst (λ d. AllByRecursion P (head_names d)) is (names.1.0, (names.1.1.0, tt))
+
+numbers_in_both : (a b : List Lexeme) → numbers_in (a ++ b) ≡ numbers_in a ++ numbers_in b
+numbers_in_both [] b = refl
+numbers_in_both (number t ∷ a) b = ap (λ l. t ∷ l) (numbers_in_both a b)
+numbers_in_both (_ ∷ a) b = numbers_in_both a b
+
+-- the numbers of a line's POLYs are among its numbers
+module _ (P : Token → Type 0) where
+  abbrev InPolys : List Poly → Type 0
+  InPolys ps = AllByRecursion (λ p. AllByRecursion P (numbers_in (spelling p))) ps
+
+  in_poly : (xs : List Lexeme) (p : Poly) → Reads xs p → AllByRecursion P (numbers_in xs) → InPolys (p ∷ [])
+  in_poly xs p r all = (subst (λ l. AllByRecursion P (numbers_in l)) r.spelled all, tt)
+
+  in_polys : (xs : List Lexeme) (ps : List Poly) → ArePolys xs ps → AllByRecursion P (numbers_in xs) → InPolys ps
+  in_polys xs [] h all = absurd h
+  in_polys xs (p ∷ []) h all = in_poly xs p h all
+  in_polys xs (p ∷ q ∷ ps) h all =
+      let both = subst (λ l. AllByRecursion P l) (ap numbers_in h.2 ∙ numbers_in_both h.0 (comma ∷ h.1)) all in
+      ((in_poly h.0 p h.3 (all_front P (numbers_in h.0) (numbers_in h.1) both)).0, in_polys h.1 (q ∷ ps) h.4 (all_back P (numbers_in h.0) (numbers_in h.1) both))
+
+  in_entries : (xs : List Lexeme) (ps : List Poly) → AreEntries xs ps → AllByRecursion P (numbers_in xs) → InPolys ps
+  in_entries xs ps (inl h) all = subst InPolys (sym h.1) (in_poly xs h.0 h.2 all)
+  in_entries xs ps (inr h) all =
+      let both = subst (λ l. AllByRecursion P l) (ap numbers_in h.1 ∙ numbers_in_both h.0 (close_bracket ∷ [])) all in
+      in_polys h.0 ps h.2 (all_front P (numbers_in h.0) [] both)
+
+  in_line : (line : List ℕ) (xs : List Lexeme) (w : Written) → IsWritten line xs w → AllByRecursion P (numbers_in xs) → InPolys (polys_of w)
+  in_line line xs (show_line p) h all = in_poly h.0 p h.2 (subst (λ l. AllByRecursion P (numbers_in l)) h.1.2 all)
+  in_line line xs (ideal_line given ps) h all = in_polys h.2.0 ps h.2.2 (subst (λ l. AllByRecursion P (numbers_in l)) (h.1.2 ∙ ap (λ l. name h.1.0 ∷ l) h.2.1) all)
+  in_line line xs (divide_line division value ps) h all = in_entries h.2.0 ps h.2.2 (subst (λ l. AllByRecursion P (numbers_in l)) (h.1.2 ∙ ap (λ l. name h.1.0 ∷ l) h.2.1) all)
+  in_line line xs _ h all = tt
+
+  in_pieces : (pieces : List (Vec Step Global)) (ps : List Poly) → map (λ v. v.items) pieces ≡ map steps ps → InPolys ps → AllByRecursion (λ v. AllByRecursion P (numbers_of_steps v.items)) pieces
+  in_pieces [] ps e h = tt
+  in_pieces (v ∷ pieces) [] e h = absurd cc
+  in_pieces (v ∷ pieces) (p ∷ ps) e h =
+      let head : v.items ≡ steps p = cc in
+      let tail : map (λ v. v.items) pieces ≡ map steps ps = cc in
+      (subst (λ l. AllByRecursion P l) (sym (ap numbers_of_steps head ∙ steps_have_numbers p)) h.0, in_pieces pieces ps tail h.1)
+
+-- the steps of a line's POLYs are those of POLYs
+pub are_polynomials : (pieces : List (Vec Step Global)) (ps : List Poly) → map (λ v. v.items) pieces ≡ map steps ps → AllByRecursion IsPolynomial pieces
+are_polynomials [] ps e = tt
+are_polynomials (v ∷ pieces) [] e = absurd cc
+are_polynomials (v ∷ pieces) (p ∷ ps) e =
+    let head : v.items ≡ steps p = cc in
+    let tail : map (λ v. v.items) pieces ≡ map steps ps = cc in
+    ((p, head), are_polynomials pieces ps tail)
+
+sound_ring : (line : List ℕ) (found : List Token) (w : Written) (modulus : Token) (names : Vec Token Global) (order : OrderName) → tokens_of line ≡ Ok found → IsWritten line (map lexeme found) w → IsFormOf (forms.Ring modulus names order) w → AllByRecursion (λ u. IsAscii (text_of line u)) names.items
+sound_ring line found (ring_line m first more o) modulus names order cut h is =
     let all = subst (λ l. AllByRecursion (λ u. IsAscii (text_of line u)) (names_in l)) (h.1.2 ∙ ap (λ l. name h.1.0 ∷ l) h.2.2) (names_ascii line found (have_texts line found cut)) in
     let behind = subst (λ l. AllByRecursion (λ u. IsAscii (text_of line u)) l) (names_behind_commas more (name h.2.0 ∷ [])) all.1.1 in
     subst (λ l. AllByRecursion (λ u. IsAscii (text_of line u)) l) (sym is.1) (all.1.0, all_front (λ u. IsAscii (text_of line u)) more (h.2.0 ∷ []) behind)
-sound line found (show_line p) (forms.Show steps) cut h is fits =
-    let all = subst (λ l. AllByRecursion (λ u. value_of line u < 2 ^ 128) (numbers_in l)) (h.1.2 ∙ ap (λ l. name h.1.0 ∷ l) h.2.spelled) (numbers_fit line found fits) in
-    subst (λ l. AllByRecursion (λ u. value_of line u < 2 ^ 128) l) (sym (ap numbers_of_steps is ∙ steps_have_numbers p)) all
-sound line found nothing (forms.Ring modulus names order) cut h is fits = absurd is
-sound line found nothing (forms.Show steps) cut h is fits = absurd is
-sound line found (ring_line m first more o) forms.Nothing cut h is fits = absurd is
-sound line found (ring_line m first more o) (forms.Show steps) cut h is fits = absurd is
-sound line found (show_line p) forms.Nothing cut h is fits = absurd is
-sound line found (show_line p) (forms.Ring modulus names order) cut h is fits = absurd is
+sound_ring line found _ modulus names order cut h is = absurd is
+
+pub sound : (line : List ℕ) (found : List Token) (w : Written) (form : Form) → tokens_of line ≡ Ok found → IsWritten line (map lexeme found) w → IsFormOf form w → AllByRecursion (NumeralFits line) found → IsSound line form
+sound line found w forms.Nothing cut h is fits = tt
+sound line found w (forms.Ring modulus names order) cut h is fits = sound_ring line found w modulus names order cut h is
+sound line found w (forms.Line head pieces) cut h is fits = (
+  head_among (λ u. IsAscii (text_of line u)) line (map lexeme found) w head is.head_is h (names_ascii line found (have_texts line found cut)),
+  in_pieces (λ u. value_of line u < 2 ^ 128) pieces.items (polys_of w) is.steps_are (in_line (λ u. value_of line u < 2 ^ 128) line (map lexeme found) w h (numbers_fit line found fits)),
+)
 
 -- a number that does not fit
 great_as : (k : TokenKind) (text : List ℕ) → FitsAs k text ⊎ ((k ≡ kinds.Number) × (2 ^ 128 ≤ number_of text))
@@ -129,6 +208,10 @@ no_great line found cut fits g =
 pub own_texts : (line : List ℕ) (ts : List Token) → AllByRecursion (λ t. IsAscii (text_of line t)) ts → map (λ t. utf8_lossy (text_of line t)) ts ≡ map (text_of line) ts
 own_texts line [] h = refl
 own_texts line (t ∷ ts) h = ap₂ (λ x l. x ∷ l) (utf8_lossy-IsUtf8 (text_of line t) (IsUtf8-from_ascii (text_of line t) h.0)) (own_texts line ts h.1)
+
+pub own_name : {A E : Type 0} (view : A → List ℕ) (bytes line : List ℕ) (t : Token) (r : Result A E) → bytes ≡ text_of line t → IsAscii (text_of line t) → IfOk r (λ n. view n ≡ utf8_lossy bytes) → IfOk r (λ n. view n ≡ text_of line t)
+own_name view bytes line t (Ok n) e ascii h = h ∙ ap utf8_lossy e ∙ utf8_lossy-IsUtf8 (text_of line t) (IsUtf8-from_ascii (text_of line t) ascii)
+own_name view bytes line t (Err stop) e ascii h = tt
 
 -- the tests of names say what they mean
 contains_later : (xs : List (List ℕ)) (x word : List ℕ) → Contains xs word → Contains (x ∷ xs) word

@@ -5,10 +5,11 @@ use Rattle.script_parse.specs.Refusals.{Refuses}
 use Rattle.script_parse.specs.Statements.{States}
 use Rattle.script_parse.specs.declared.kind.ParseStop.{ParseStop}
 use Rattle.script_parse.specs.declared.kind.ParseStop.TheVariants.{Memory, Refused}
+use Rattle.script_parse.specs.declared.named.NameInfo.{NameInfo}
 use Rattle.script_parse.specs.declared.stated.Statement.{Statement}
 
 -- a statement is what the line states, a refusal is for the first kind that holds, and memory may be wanting
-abbrev pub Answers : Option Ring → List ℕ → Result Statement ParseStop → Type 0
-Answers ring line (Ok statement) = States ring line statement
-Answers ring line (Err Memory) = Unit {0}
-Answers ring line (Err (Refused kind)) = Refuses ring line kind
+abbrev pub Answers : Option Ring → List NameInfo → List ℕ → Result Statement ParseStop → Type 0
+Answers ring names line (Ok statement) = States ring names line statement
+Answers ring names line (Err Memory) = Unit {0}
+Answers ring names line (Err (Refused kind)) = Refuses ring names line kind

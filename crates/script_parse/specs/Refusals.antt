@@ -1,17 +1,19 @@
 -- Why a line is refused: each kind by its own sentence, and the first kind that holds
-use Rattle.std.specs.Prelude.{Contains, List, None, Ok, Option, Some, [], false, length, map, ℕ, ◌+◌, ◌<◌, ◌^◌, ◌∷◌, ◌≡◌, ◌≤◌, ◌⊎◌}
+use Rattle.std.specs.Prelude.{Contains, List, None, Ok, Option, Some, [], false, if◌then◌else◌, length, map, nat_eq, string_bytes, ℕ, ◌<◌, ◌^◌, ◌∷◌, ◌≡◌, ◌≤◌, ◌⊎◌}
+use Rattle.std.specs.Cmp.Lexicographic.{pointwise}
 use Rattle.script_tokens.specs.Tokens.{tokens_of}
 use Rattle.script_tokens.specs.declared.token.Token.{Token}
 use Rattle.script_tokens.specs.declared.token.TokenKind.TheVariants.{Number}
 use Rattle.poly_grammar.specs.Degrees.{formal_degree}
 use Rattle.poly_grammar.specs.Lexemes.{names_in}
 use Rattle.poly_grammar.specs.Numerals.{text_of, value_of}
-use Rattle.poly_grammar.specs.Trees.{spelling}
+use Rattle.poly_grammar.specs.Trees.{Poly, spelling}
 use Rattle.zp_field.specs.Moduli.{is_modulus}
 use Rattle.module_vectors.specs.declared.ring.Ring.{Ring}
-use Rattle.script_parse.specs.Written.{IsLine, Written, nothing, ring_line, show_line}
+use Rattle.script_parse.specs.Written.{IsLine, Written, divide_line, equal_line, given_by, ideal_line, nothing, polys_of, ring_line, value_places}
 use Rattle.script_parse.specs.declared.kind.Kind.{Kind}
 use Rattle.script_parse.specs.declared.kind.Kind.TheVariants as kinds
+use Rattle.script_parse.specs.declared.named.NameInfo.{NameInfo}
 
 -- a NUM of the line has a value of 2^128 or more
 pub record HasGreatNumeral (line : List ℕ) : Type 0 where
@@ -31,31 +33,66 @@ HasRepeat (x ∷ xs) = Contains xs x ⊎ HasRepeat xs
 abbrev pub LacksRing : Option Ring → List ℕ → Written → Type 0
 LacksRing ring line nothing = ⊥
 LacksRing ring line (ring_line modulus first more order) = (15 < length (first ∷ more)) ⊎ HasRepeat (map (text_of line) (first ∷ more))
-LacksRing ring line (show_line p) = ring ≡ None
+LacksRing ring line _ = ring ≡ None
 
 -- the first number of a ring line is not in the table
 abbrev pub HasOtherModulus : List ℕ → Written → Type 0
 HasOtherModulus line (ring_line modulus first more order) = is_modulus (value_of line modulus) ≡ false
 HasOtherModulus line _ = ⊥
 
--- a NAME in a POLY is not a variable
-abbrev pub HasUnknownName : Option Ring → List ℕ → Written → Type 0
-HasUnknownName (Some ring) line (show_line p) = (t : Token) × Contains (names_in (spelling p)) t × (Contains ring.vars (text_of line t) → ⊥)
-HasUnknownName ring line _ = ⊥
+-- the rank of the value with this name; were there more, of the first of them
+abbrev pub rank_named : List NameInfo → List ℕ → Option ℕ
+rank_named [] text = None
+rank_named (value ∷ names) text = if pointwise nat_eq (string_bytes value.name) text then Some value.rank else rank_named names text
+
+-- the text is a variable of the ring
+abbrev pub IsVariable : Option Ring → List ℕ → Type 0
+IsVariable None text = ⊥
+IsVariable (Some ring) text = Contains ring.vars text
+
+-- the text is the name of a value
+abbrev pub IsNamed : List NameInfo → List ℕ → Type 0
+IsNamed names text = (rank : ℕ) × (rank_named names text ≡ Some rank)
+
+-- the NAME stands in a POLY of the line
+abbrev pub StandsInPoly : Written → Token → Type 0
+StandsInPoly w t = (p : Poly) × Contains (polys_of w) p × Contains (names_in (spelling p)) t
+
+-- a NAME in a POLY, or in a value's place, is neither a variable nor a value; or the NAME to be given is a variable
+abbrev pub HasUnknownName : Option Ring → List NameInfo → List ℕ → Written → Type 0
+HasUnknownName ring names line w =
+    ((t : Token) × (StandsInPoly w t ⊎ Contains (value_places w) t) × (IsVariable ring (text_of line t) → ⊥) × (IsNamed names (text_of line t) → ⊥))
+    ⊎ ((t : Token) × Contains (given_by w) t × IsVariable ring (text_of line t))
+
+-- a NAME in a POLY is a value; or a NAME in a value's place is a variable
+abbrev pub HasOtherKind : Option Ring → List NameInfo → List ℕ → Written → Type 0
+HasOtherKind ring names line w =
+    ((t : Token) × StandsInPoly w t × IsNamed names (text_of line t))
+    ⊎ ((t : Token) × Contains (value_places w) t × IsVariable ring (text_of line t))
+
+-- an ideal has more than 1,000 vectors; the number of entries of a divided VEC is not the value's rank; the ranks of
+-- compared values differ
+abbrev pub HasOtherRank : List NameInfo → List ℕ → Written → Type 0
+HasOtherRank names line (ideal_line given ps) = 1000 < length ps
+HasOtherRank names line (divide_line division value entries) = (rank : ℕ) × (rank_named names (text_of line value) ≡ Some rank) × (length entries ≡ rank → ⊥)
+HasOtherRank names line (equal_line left right) =
+    (r s : ℕ) × (rank_named names (text_of line left) ≡ Some r) × (rank_named names (text_of line right) ≡ Some s) × (r ≡ s → ⊥)
+HasOtherRank names line _ = ⊥
 
 -- the formal degree of a POLY or of a part of it is above 1,000
 abbrev pub HasGreatDegree : List ℕ → Written → Type 0
-HasGreatDegree line (show_line p) = formal_degree (value_of line) p ≡ None
-HasGreatDegree line _ = ⊥
+HasGreatDegree line w = (p : Poly) × Contains (polys_of w) p × (formal_degree (value_of line) p ≡ None)
 
--- the kind holds of the line, where this ring is stated
-abbrev pub Holds : Option Ring → List ℕ → Kind → Type 0
-Holds ring line kinds.Syntax = (w : Written) → IsLine line w → ⊥
-Holds ring line kinds.Numeral = HasGreatNumeral line
-Holds ring line kinds.Ring = (w : Written) × IsLine line w × LacksRing ring line w
-Holds ring line kinds.Modulus = (w : Written) × IsLine line w × HasOtherModulus line w
-Holds ring line kinds.Name = (w : Written) × IsLine line w × HasUnknownName ring line w
-Holds ring line kinds.Degree = (w : Written) × IsLine line w × HasGreatDegree line w
+-- the kind holds of the line, where this ring is stated and values have these names
+abbrev pub Holds : Option Ring → List NameInfo → List ℕ → Kind → Type 0
+Holds ring names line kinds.Syntax = (w : Written) → IsLine line w → ⊥
+Holds ring names line kinds.Numeral = HasGreatNumeral line
+Holds ring names line kinds.Ring = (w : Written) × IsLine line w × LacksRing ring line w
+Holds ring names line kinds.Modulus = (w : Written) × IsLine line w × HasOtherModulus line w
+Holds ring names line kinds.Name = (w : Written) × IsLine line w × HasUnknownName ring names line w
+Holds ring names line kinds.OfKind = (w : Written) × IsLine line w × HasOtherKind ring names line w
+Holds ring names line kinds.Rank = (w : Written) × IsLine line w × HasOtherRank names line w
+Holds ring names line kinds.Degree = (w : Written) × IsLine line w × HasGreatDegree line w
 
 -- the place of a kind in the order in which they are tried
 abbrev pub place : Kind → ℕ
@@ -64,9 +101,11 @@ place kinds.Numeral = 2
 place kinds.Ring = 3
 place kinds.Modulus = 4
 place kinds.Name = 5
-place kinds.Degree = 6
+place kinds.OfKind = 6
+place kinds.Rank = 7
+place kinds.Degree = 8
 
 -- the line is refused for this kind: it holds, and none that is tried before it
-pub record Refuses (ring : Option Ring) (line : List ℕ) (kind : Kind) : Type 0 where
-  pub holds : Holds ring line kind
-  pub first : (earlier : Kind) → place earlier < place kind → Holds ring line earlier → ⊥
+pub record Refuses (ring : Option Ring) (names : List NameInfo) (line : List ℕ) (kind : Kind) : Type 0 where
+  pub holds : Holds ring names line kind
+  pub first : (earlier : Kind) → place earlier < place kind → Holds ring names line earlier → ⊥

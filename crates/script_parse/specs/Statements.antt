@@ -1,19 +1,26 @@
 -- What a line states
-use Rattle.std.specs.Prelude.{List, Option, Some, [], map, ℕ, ◌∷◌, ◌≡◌}
+use Rattle.std.specs.Prelude.{List, Option, Some, [], length, map, string_bytes, ℕ, ◌++◌, ◌+◌, ◌∷◌, ◌≡◌}
+use Rattle.monomials.specs.Exponents.{unit}
+use Rattle.formal_sums.specs.FormalSums.{FormalSum, product}
+use Rattle.poly_grammar.specs.Algebras.{worth}
 use Rattle.poly_grammar.specs.Numerals.{text_of, value_of}
-use Rattle.poly_value.specs.Values.{IsValue}
+use Rattle.poly_grammar.specs.Trees.{Poly}
+use Rattle.poly_value.specs.Values.{IsValue, polynomials_of}
 use Rattle.monomial_orders.specs.declared.order.ModOrder.TheVariants.{Pot}
 use Rattle.monomial_orders.specs.declared.order.Order.{Order}
 use Rattle.monomial_orders.specs.declared.order.Order.TheVariants as orders
-use Rattle.module_vectors.specs.Rings.{ring_comparison}
-use Rattle.module_vectors.specs.Vectors.{HasPositions, IsVectorOver}
+use Rattle.module_vectors.specs.Rings.{ring_comparison, variables}
+use Rattle.module_vectors.specs.Vectors.{HasPositions, IsVectorOver, StandsFor}
 use Rattle.module_vectors.specs.declared.key.Key.{Key}
 use Rattle.module_vectors.specs.declared.ring.Ring.{Ring}
 use Rattle.script_parse.specs.Refusals.{Holds}
-use Rattle.script_parse.specs.Written.{IsLine, Written, nothing, ring_line, show_line}
+use Rattle.script_parse.specs.Written.{IsLine, Written, ask_line, divide_line, equal_line, ideal_line, nothing, ring_line, show_line}
+use Rattle.script_parse.specs.declared.form.Division.TheVariants as divisions
 use Rattle.script_parse.specs.declared.form.OrderName.{OrderName}
 use Rattle.script_parse.specs.declared.form.OrderName.TheVariants.{Grevlex, Lex}
+use Rattle.script_parse.specs.declared.form.Question.TheVariants as questions
 use Rattle.script_parse.specs.declared.kind.Kind.{Kind}
+use Rattle.script_parse.specs.declared.named.NameInfo.{NameInfo}
 use Rattle.script_parse.specs.declared.stated.Statement.{Statement}
 use Rattle.script_parse.specs.declared.stated.Statement.TheVariants as statements
 
@@ -29,24 +36,64 @@ pub record Makes (line : List ℕ) (modulus : ℕ) (names : List (List ℕ)) (or
   pub order_is : ring.order ≡ order_named order
   pub module_order_is : ring.module_order ≡ Pot
 
--- a shown polynomial is this vector: the normal one of rank 1 that stands for the value of the line's tree
+-- the normal vector of rank 1 that stands for the value of the line's tree
+abbrev pub IsPolynomialOf : Ring → List ℕ → Poly → List (Key × ℕ) → Type 0
+IsPolynomialOf ring line p v = IsVectorOver ring (ring_comparison ring) v × HasPositions 1 v × IsValue ring line p v
+
+-- one such vector for each tree, in order
+abbrev pub ArePolynomialsOf : Ring → List ℕ → List Poly → List (List (Key × ℕ)) → Type 0
+ArePolynomialsOf ring line [] [] = Unit {0}
+ArePolynomialsOf ring line (p ∷ ps) (v ∷ vs) = IsPolynomialOf ring line p v × ArePolynomialsOf ring line ps vs
+ArePolynomialsOf ring line _ _ = ⊥
+
+-- x e_i + y e_(i + 1) + .., for polynomials x, y, ..
+abbrev pub entries_from : {n : ℕ} → ℕ → List (FormalSum n) → FormalSum n
+entries_from i [] = []
+entries_from {n} i (x ∷ xs) = product x (((i, unit n), 1) ∷ []) ++ entries_from (i + 1) xs
+
+-- terms stand for the vector whose entries are the values of the line's trees: entry i at position i, from 0
+pub record HasEntries (ring : Ring) (line : List ℕ) (ps : List Poly) (terms : List (Key × ℕ)) : Type 0 where
+  pub entries : List (FormalSum (variables ring))
+  pub worths_are : map (worth (polynomials_of ring line)) ps ≡ map Some entries
+  pub stands : StandsFor ring terms (entries_from 0 entries)
+
+-- the normal vector with these entries, of as many positions
+abbrev pub IsVectorOf : Ring → List ℕ → List Poly → List (Key × ℕ) → Type 0
+IsVectorOf ring line ps v = IsVectorOver ring (ring_comparison ring) v × HasPositions (length ps) v × HasEntries ring line ps v
+
+-- what a line states: its vectors are in the ring's own order, and its names are the texts of its NAMEs
 abbrev pub Says : Option Ring → List ℕ → Written → Statement → Type 0
 Says ring line nothing statements.Nothing = Unit {0}
 Says ring line (ring_line modulus first more order) (statements.Ring made) = Makes line (value_of line modulus) (map (text_of line) (first ∷ more)) order made
-Says (Some ring) line (show_line p) (statements.Show v) = IsVectorOver ring (ring_comparison ring) v × HasPositions 1 v × IsValue ring line p v
+Says (Some ring) line (show_line p) (statements.Show v) = IsPolynomialOf ring line p v
+Says (Some ring) line (ideal_line given ps) (statements.Ideal name list) = (string_bytes name ≡ text_of line given) × ArePolynomialsOf ring line ps list
+Says ring line (ask_line questions.Gens value) (statements.Gens name) = string_bytes name ≡ text_of line value
+Says ring line (ask_line questions.Gb value) (statements.Gb name) = string_bytes name ≡ text_of line value
+Says ring line (ask_line questions.Size value) (statements.Size name) = string_bytes name ≡ text_of line value
+Says (Some ring) line (divide_line divisions.NormalForm value entries) (statements.NormalForm name v) = (string_bytes name ≡ text_of line value) × IsVectorOf ring line entries v
+Says (Some ring) line (divide_line divisions.Member value entries) (statements.Member name v) = (string_bytes name ≡ text_of line value) × IsVectorOf ring line entries v
+Says ring line (equal_line left right) (statements.Equal first second) = (string_bytes first ≡ text_of line left) × (string_bytes second ≡ text_of line right)
 Says ring line _ _ = ⊥
 
--- the line states this, where this ring is stated: it is written so, and no kind of refusal holds
-pub record States (ring : Option Ring) (line : List ℕ) (statement : Statement) : Type 0 where
+-- the line states this, where this ring is stated and values have these names: it is written so, and no kind of refusal
+-- holds
+pub record States (ring : Option Ring) (names : List NameInfo) (line : List ℕ) (statement : Statement) : Type 0 where
   pub written : Written
   pub is_line : IsLine line written
-  pub free : (kind : Kind) → Holds ring line kind → ⊥
+  pub free : (kind : Kind) → Holds ring names line kind → ⊥
   pub says : Says ring line written statement
 
--- two statements are one: blank, or rings with the same modulus, names and orders, or the same terms
+-- two statements are one: rings with the same modulus, names and orders, or the same names and the same terms
 abbrev pub IsSameStatement : Statement → Statement → Type 0
 IsSameStatement statements.Nothing statements.Nothing = Unit {0}
 IsSameStatement (statements.Ring a) (statements.Ring b) =
     (a.modulus.value ≡ b.modulus.value) × (a.vars ≡ b.vars) × (a.order ≡ b.order) × (a.module_order ≡ b.module_order)
 IsSameStatement (statements.Show v) (statements.Show w) = v ≡ w
+IsSameStatement (statements.Ideal a v) (statements.Ideal b w) = (string_bytes a ≡ string_bytes b) × (v ≡ w)
+IsSameStatement (statements.Gens a) (statements.Gens b) = string_bytes a ≡ string_bytes b
+IsSameStatement (statements.Gb a) (statements.Gb b) = string_bytes a ≡ string_bytes b
+IsSameStatement (statements.Size a) (statements.Size b) = string_bytes a ≡ string_bytes b
+IsSameStatement (statements.NormalForm a v) (statements.NormalForm b w) = (string_bytes a ≡ string_bytes b) × (v ≡ w)
+IsSameStatement (statements.Member a v) (statements.Member b w) = (string_bytes a ≡ string_bytes b) × (v ≡ w)
+IsSameStatement (statements.Equal a b) (statements.Equal c d) = (string_bytes a ≡ string_bytes c) × (string_bytes b ≡ string_bytes d)
 IsSameStatement _ _ = ⊥

@@ -1,18 +1,30 @@
--- The lines of a script, as they are written: line := nothing | ring NUM NAME {, NAME} order | show POLY
-use Rattle.std.specs.Prelude.{List, None, Ok, Option, Some, [], codes, map, ℕ, ◌++◌, ◌∷◌, ◌≡◌}
+-- The lines of a script, as they are written:
+-- line := nothing | ring NUM NAME {, NAME} order | show POLY | ideal NAME = POLY {, POLY}
+--       | gens NAME | gb NAME | size NAME | nf NAME VEC | member NAME VEC | equal NAME NAME
+-- VEC := POLY | [ POLY {, POLY} ]
+use Rattle.std.specs.Prelude.{List, None, Ok, Option, Some, [], codes, map, ℕ, ◌++◌, ◌∷◌, ◌≡◌, ◌⊎◌}
 use Rattle.script_tokens.specs.Tokens.{tokens_of}
 use Rattle.script_tokens.specs.declared.token.Token.{Token}
-use Rattle.poly_grammar.specs.Lexemes.{Lexeme, comma, lexeme, name, number}
+use Rattle.poly_grammar.specs.Lexemes.{Lexeme, close_bracket, comma, equals, lexeme, name, number, open_bracket}
 use Rattle.poly_grammar.specs.Numerals.{text_of}
 use Rattle.poly_grammar.specs.Trees.{Poly, Reads}
+use Rattle.script_parse.specs.declared.form.Division.{Division}
+use Rattle.script_parse.specs.declared.form.Division.TheVariants.{Member, NormalForm}
 use Rattle.script_parse.specs.declared.form.OrderName.{OrderName}
 use Rattle.script_parse.specs.declared.form.OrderName.TheVariants.{Grevlex, Lex}
+use Rattle.script_parse.specs.declared.form.Question.{Question}
+use Rattle.script_parse.specs.declared.form.Question.TheVariants.{Gb, Gens, Size}
 
--- a line: nothing; a ring by its NUM, its first NAME, the other NAMEs and its order; a shown polynomial
+-- a line: nothing; a ring by its NUM, its first NAME, the other NAMEs and its order; a shown polynomial; an ideal by its
+-- NAME and its POLYs; a question on a value; a division of a VEC, by its entries, by a value; two values to be compared
 pub data Written : Type 0 where
   nothing : Written
   ring_line : Token → Token → List Token → OrderName → Written
   show_line : Poly → Written
+  ideal_line : Token → List Poly → Written
+  ask_line : Question → Token → Written
+  divide_line : Division → Token → List Poly → Written
+  equal_line : Token → Token → Written
 
 -- order := lex | grevlex
 abbrev pub order_word : OrderName → List ℕ
@@ -23,22 +35,55 @@ order_word Grevlex = codes "grevlex"
 pub data Word : Type 0 where
   ring_word : Word
   show_word : Word
+  ideal_word : Word
+  question_word : Question → Word
+  division_word : Division → Word
+  equal_word : Word
 
 -- how a word is written
 abbrev pub word_text : Word → List ℕ
 word_text ring_word = codes "ring"
 word_text show_word = codes "show"
+word_text ideal_word = codes "ideal"
+word_text (question_word Gens) = codes "gens"
+word_text (question_word Gb) = codes "gb"
+word_text (question_word Size) = codes "size"
+word_text (division_word NormalForm) = codes "nf"
+word_text (division_word Member) = codes "member"
+word_text equal_word = codes "equal"
 
 -- the word of a line, if it has any
 abbrev pub word_of : Written → Option Word
 word_of nothing = None
 word_of (ring_line modulus first more order) = Some ring_word
 word_of (show_line p) = Some show_word
+word_of (ideal_line given ps) = Some ideal_word
+word_of (ask_line question value) = Some (question_word question)
+word_of (divide_line division value entries) = Some (division_word division)
+word_of (equal_line left right) = Some equal_word
 
 -- { , NAME }
 abbrev pub comma_names : List Token → List Lexeme
 comma_names [] = []
 comma_names (t ∷ ts) = comma ∷ name t ∷ comma_names ts
+
+-- POLY { , POLY }
+abbrev pub ArePolys : List Lexeme → List Poly → Type 0
+ArePolys xs [] = ⊥
+ArePolys xs (p ∷ []) = Reads xs p
+ArePolys xs (p ∷ q ∷ more) = (front behind : List Lexeme) × (xs ≡ front ++ comma ∷ behind) × Reads front p × ArePolys behind (q ∷ more)
+
+-- POLY, as the list of one
+abbrev pub IsOnePoly : List Lexeme → List Poly → Type 0
+IsOnePoly xs ps = (p : Poly) × (ps ≡ p ∷ []) × Reads xs p
+
+-- [ POLY { , POLY } ]
+abbrev pub AreInBrackets : List Lexeme → List Poly → Type 0
+AreInBrackets xs ps = (inside : List Lexeme) × (xs ≡ open_bracket ∷ (inside ++ close_bracket ∷ [])) × ArePolys inside ps
+
+-- VEC := POLY | [ POLY { , POLY } ], by its entries
+abbrev pub AreEntries : List Lexeme → List Poly → Type 0
+AreEntries xs ps = IsOnePoly xs ps ⊎ AreInBrackets xs ps
 
 -- what stands behind the word of a line
 abbrev pub IsBehind : List ℕ → List Lexeme → Written → Type 0
@@ -46,6 +91,29 @@ IsBehind line xs nothing = ⊥
 IsBehind line xs (ring_line modulus first more order) =
     (o : Token) × (text_of line o ≡ order_word order) × (xs ≡ number modulus ∷ name first ∷ (comma_names more ++ name o ∷ []))
 IsBehind line xs (show_line p) = Reads xs p
+IsBehind line xs (ideal_line given ps) = (rest : List Lexeme) × (xs ≡ name given ∷ equals ∷ rest) × ArePolys rest ps
+IsBehind line xs (ask_line question value) = xs ≡ name value ∷ []
+IsBehind line xs (divide_line division value entries) = (rest : List Lexeme) × (xs ≡ name value ∷ rest) × AreEntries rest entries
+IsBehind line xs (equal_line left right) = xs ≡ name left ∷ name right ∷ []
+
+-- the POLYs of a line
+abbrev pub polys_of : Written → List Poly
+polys_of (show_line p) = p ∷ []
+polys_of (ideal_line given ps) = ps
+polys_of (divide_line division value entries) = entries
+polys_of _ = []
+
+-- the NAMEs in a value's place
+abbrev pub value_places : Written → List Token
+value_places (ask_line question value) = value ∷ []
+value_places (divide_line division value entries) = value ∷ []
+value_places (equal_line left right) = left ∷ right ∷ []
+value_places _ = []
+
+-- the NAME to be given, if any
+abbrev pub given_by : Written → List Token
+given_by (ideal_line given ps) = given ∷ []
+given_by _ = []
 
 -- the lexemes are a NAME that says the word, and then the rest
 abbrev pub Follows : List ℕ → Word → List Lexeme → List Lexeme → Type 0

@@ -1,13 +1,17 @@
 //! The form of a line: its word and what stands behind it, before a name or a number is looked at.
 
-ghost use Rattle.std.specs.Prelude.{◌≡◌, ◌↔◌, ℕ, List, map, IsTrue, IfSome, IfNone};
+ghost use Rattle.std.specs.Prelude.{◌≡◌, ◌↔◌, ◌∷◌, ℕ, List, map, IsTrue, IfSome, IfNone};
+ghost use Rattle.script_tokens.specs.declared.token.Token.{Token as TokenValue};
 ghost use Rattle.script_tokens.specs.declared.token.TokenKind.TheVariants.{Name};
-ghost use Rattle.poly_grammar.specs.Lexemes.{lexeme};
+ghost use Rattle.poly_grammar.specs.Lexemes.{Lexeme, lexeme, name};
 ghost use Rattle.poly_grammar.specs.Numerals.{text_of};
 ghost use Rattle.script_parse.specs.Forms.{Gives, IsRead, IsReadBehind, names_of};
-ghost use Rattle.script_parse.specs.Written.{order_word, ring_word, show_word};
+ghost use Rattle.script_parse.specs.declared.form.Division.{Division as DivisionValue};
+ghost use Rattle.script_parse.specs.declared.form.Question.{Question as QuestionValue};
+ghost use Rattle.script_parse.specs.Written.{division_word, equal_word, ideal_word, order_word, question_word, ring_word, show_word, word_text};
 
-use poly_grammar::{ReadStop, Step, read_polynomial, text};
+use crate::polynomials::{entries, one_polynomial, polynomials};
+use poly_grammar::{ReadStop, Step, text};
 use script_tokens::{Token, TokenKind};
 use std::alloc::Global;
 
@@ -18,6 +22,41 @@ pub enum OrderName {
     Lex,
     /// `grevlex`
     Grevlex,
+}
+
+/// The word of a question on a value.
+#[derive(Clone, Copy, Debug, PartialEq, Eq)]
+pub enum Question {
+    /// `gens`
+    Gens,
+    /// `gb`
+    Gb,
+    /// `size`
+    Size,
+}
+
+/// The word of a division of a vector by a value.
+#[derive(Clone, Copy, Debug, PartialEq, Eq)]
+pub enum Division {
+    /// `nf`
+    NormalForm,
+    /// `member`
+    Member,
+}
+
+/// The word and the names of a line that needs a ring, without its polynomials.
+#[derive(Clone, Copy, Debug)]
+pub enum Head {
+    /// `show`
+    Show,
+    /// `ideal`, by the name that it gives.
+    Ideal(Token),
+    /// A question, by the name of its value.
+    Ask(Question, Token),
+    /// A division, by the name of its value.
+    Divide(Division, Token),
+    /// `equal`, by the names of both values.
+    Equal(Token, Token),
 }
 
 /// A line as it is written.
@@ -31,8 +70,8 @@ pub enum Form {
         names: Vec<Token>,
         order: OrderName,
     },
-    /// `show`, by the steps of its polynomial.
-    Show(Vec<Step>),
+    /// Any other line, by the steps of each of its polynomials.
+    Line(Head, Vec<Vec<Step>>),
 }
 
 /// Whether the token is this name.
@@ -108,13 +147,118 @@ fn ring_form(alloc: Global, line: &[u8], tokens: &[Token]) -> Result<Form, ReadS
     }
 }
 
+/// The name that stands first, and what stands behind it.
+fn name_first(tokens: &[Token]) -> Option<(Token, &[Token])>
+    ensures found { IfSome result (λ f. map lexeme tokens.now ≡ name f.0 ∷ map lexeme f.1.now) }
+    ensures none { IfNone result ((t : TokenValue) (rest : List Lexeme) → map lexeme tokens.now ≡ name t ∷ rest → ⊥) }
+{
+    let Some((first, behind)) = tokens.split_first() else {
+        return None;
+    };
+    let TokenKind::Name = first.kind else {
+        return None;
+    };
+    Some((*first, behind))
+}
+
 /// What stands behind `show`.
 fn show_form(alloc: Global, tokens: &[Token]) -> Result<Form, ReadStop>
     ensures { (line : List ℕ) → IsReadBehind show_word line (map lexeme tokens.now) result }
 {
-    match read_polynomial(alloc, tokens) {
-        Ok(steps) => Ok(Form::Show(steps)),
+    match one_polynomial(alloc, tokens) {
+        Ok(found) => Ok(Form::Line(Head::Show, found)),
         Err(stop) => Err(stop),
+    }
+}
+
+/// What stands behind `ideal`.
+fn ideal_form(alloc: Global, tokens: &[Token]) -> Result<Form, ReadStop>
+    ensures { (line : List ℕ) → IsReadBehind ideal_word line (map lexeme tokens.now) result }
+{
+    let Some((given, behind)) = name_first(tokens) else {
+        return Err(ReadStop::Syntax);
+    };
+    let Some((sign, rest)) = behind.split_first() else {
+        return Err(ReadStop::Syntax);
+    };
+    let TokenKind::Equals = sign.kind else {
+        return Err(ReadStop::Syntax);
+    };
+    match polynomials(alloc, rest) {
+        Ok(found) => Ok(Form::Line(Head::Ideal(given), found)),
+        Err(stop) => Err(stop),
+    }
+}
+
+/// What stands behind the word of a question.
+fn ask_form(alloc: Global, question: Question, tokens: &[Token]) -> Result<Form, ReadStop>
+    ensures { (line : List ℕ) → IsReadBehind (question_word question) line (map lexeme tokens.now) result }
+{
+    let Some((value, behind)) = name_first(tokens) else {
+        return Err(ReadStop::Syntax);
+    };
+    if !behind.is_empty() {
+        return Err(ReadStop::Syntax);
+    }
+    Ok(Form::Line(Head::Ask(question, value), Vec::new(alloc)))
+}
+
+/// What stands behind the word of a division.
+fn divide_form(alloc: Global, division: Division, tokens: &[Token]) -> Result<Form, ReadStop>
+    ensures { (line : List ℕ) → IsReadBehind (division_word division) line (map lexeme tokens.now) result }
+{
+    let Some((value, behind)) = name_first(tokens) else {
+        return Err(ReadStop::Syntax);
+    };
+    match entries(alloc, behind) {
+        Ok(found) => Ok(Form::Line(Head::Divide(division, value), found)),
+        Err(stop) => Err(stop),
+    }
+}
+
+/// What stands behind `equal`.
+fn equal_form(alloc: Global, tokens: &[Token]) -> Result<Form, ReadStop>
+    ensures { (line : List ℕ) → IsReadBehind equal_word line (map lexeme tokens.now) result }
+{
+    let Some((left, behind)) = name_first(tokens) else {
+        return Err(ReadStop::Syntax);
+    };
+    let Some((right, rest)) = name_first(behind) else {
+        return Err(ReadStop::Syntax);
+    };
+    if !rest.is_empty() {
+        return Err(ReadStop::Syntax);
+    }
+    Ok(Form::Line(Head::Equal(left, right), Vec::new(alloc)))
+}
+
+/// Which question a word asks.
+fn question_of(line: &[u8], token: Token) -> Option<Question>
+    ensures found { IfSome result (λ question. (token.kind ≡ Name) × (text_of line.now token ≡ word_text (question_word question))) }
+    ensures none { IfNone result ((question : QuestionValue) → token.kind ≡ Name → text_of line.now token ≡ word_text (question_word question) → ⊥) }
+{
+    if is_word(line, token, b"gens") {
+        Some(Question::Gens)
+    } else if is_word(line, token, b"gb") {
+        Some(Question::Gb)
+    } else if is_word(line, token, b"size") {
+        Some(Question::Size)
+    } else {
+        None
+    }
+}
+
+/// Which division a word is for.
+fn division_of(line: &[u8], token: Token) -> Option<Division>
+    ensures found { IfSome result (λ division. (token.kind ≡ Name) × (text_of line.now token ≡ word_text (division_word division))) }
+    ensures none { IfNone result ((division : DivisionValue) → token.kind ≡ Name → text_of line.now token ≡ word_text (division_word division) → ⊥) }
+{
+    if is_word(line, token, b"nf") {
+        Some(Division::NormalForm)
+    } else if is_word(line, token, b"member") {
+        Some(Division::Member)
+    } else {
+        None
     }
 }
 
@@ -126,10 +270,22 @@ pub fn read_form(alloc: Global, line: &[u8], tokens: &[Token]) -> Result<Form, R
         return Ok(Form::Nothing);
     };
     if is_word(line, *word, b"ring") {
-        ring_form(alloc, line, behind)
-    } else if is_word(line, *word, b"show") {
-        show_form(alloc, behind)
-    } else {
-        Err(ReadStop::Syntax)
+        return ring_form(alloc, line, behind);
     }
+    if is_word(line, *word, b"show") {
+        return show_form(alloc, behind);
+    }
+    if is_word(line, *word, b"ideal") {
+        return ideal_form(alloc, behind);
+    }
+    if is_word(line, *word, b"equal") {
+        return equal_form(alloc, behind);
+    }
+    if let Some(question) = question_of(line, *word) {
+        return ask_form(alloc, question, behind);
+    }
+    if let Some(division) = division_of(line, *word) {
+        return divide_form(alloc, division, behind);
+    }
+    Err(ReadStop::Syntax)
 }

@@ -3,7 +3,7 @@
 ghost use Rattle.std.specs.Prelude.{◌≡◌};
 ghost use Rattle.script_parse.specs.declared.kind.ParseStop.TheVariants.{Memory};
 
-use poly_grammar::ReadStop;
+use module_vectors::NoMemory;
 use std::alloc::{AllocError, AllocFailed};
 
 /// Why a line is refused. The kinds are tried in this order, and the first that holds is answered.
@@ -18,8 +18,14 @@ pub enum Kind {
     Ring,
     /// The modulus of a ring is not in the table.
     Modulus,
-    /// A name in a polynomial is not a variable.
+    /// A name in a polynomial or in a value's place is neither a variable nor a value, or the name to be given is a
+    /// variable.
     Name,
+    /// A name in a polynomial is a value, or a name in a value's place is a variable.
+    OfKind,
+    /// An ideal of more than 1,000 vectors; or the entries of a vector are not as many as the value's rank, or two ranks
+    /// differ.
+    Rank,
     /// The formal degree of a polynomial or of a part of it is above 1,000.
     Degree,
 }
@@ -45,6 +51,14 @@ impl<T: Drop> From<AllocFailed<T>> for ParseStop {
     ghost from_gives = { λ _ e. e ≡ Memory };
 
     fn from(_e: AllocFailed<T>) -> ParseStop {
+        ParseStop::Memory
+    }
+}
+
+impl From<NoMemory> for ParseStop {
+    ghost from_gives = { λ _ e. e ≡ Memory };
+
+    fn from(_e: NoMemory) -> ParseStop {
         ParseStop::Memory
     }
 }

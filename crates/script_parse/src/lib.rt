@@ -3,17 +3,24 @@
 //! A line is read without a tree in memory and without recursion; a polynomial is brought to its normal form.
 #![tactic(auto)]
 
+mod checks;
 mod form;
+#[cfg(test)]
+mod ideal_tests;
 mod kind;
 mod line_laws;
+mod named;
+mod polynomials;
 mod reading;
 mod ring_line;
-mod show_line;
+mod ring_needed;
 mod stated;
 #[cfg(test)]
 mod tests;
+mod values;
 
 pub use kind::{Kind, ParseStop};
 pub use line_laws::one_answer;
+pub use named::NameInfo;
 pub use reading::statement;
 pub use stated::Statement;

@@ -6,8 +6,9 @@ ghost use Rattle.script_parse.specs.Forms.{IsFormed};
 
 use crate::form::{Form, read_form};
 use crate::kind::{Kind, ParseStop};
+use crate::named::NameInfo;
 use crate::ring_line::ring_statement;
-use crate::show_line::show_statement;
+use crate::ring_needed::line_statement;
 use crate::stated::Statement;
 use module_vectors::Ring;
 use poly_grammar::{ReadStop, numerals_fit};
@@ -34,15 +35,22 @@ fn formed(alloc: Global, line: &[u8]) -> Result<Form, ParseStop>
     Ok(form)
 }
 
-/// What a line states, where this ring is stated before it.
+/// What a line states, where this ring is stated before it and values have these names.
 ///
-/// The lines are `ring NUM NAME {, NAME} order` with the orders `lex` and `grevlex`, `show POLY`, and blank ones. A
-/// number stands for its residue, `-x^2` for minus the square, and each power with exponent 0 for 1.
+/// The lines are `ring NUM NAME {, NAME} order` with the orders `lex` and `grevlex`, `show POLY`,
+/// `ideal NAME = POLY {, POLY}`, `gens NAME`, `gb NAME`, `size NAME`, `nf NAME VEC`, `member NAME VEC`,
+/// `equal NAME NAME` and blank ones, where VEC is POLY or `[ POLY {, POLY} ]`. A number stands for its residue, `-x^2`
+/// for minus the square, and each power with exponent 0 for 1. Entry i of a VEC is at position i, from 0.
 ///
 /// Answers `Refused` exactly for the first `Kind` that holds, and `Memory` where a growth was refused. The ring is as it
 /// was.
-pub fn statement(alloc: Global, line: &[u8], ring: Option<&Ring>) -> Result<Statement, ParseStop>
-    ensures { Answers (option_copied ring.entry) line.now result }
+pub fn statement(
+    alloc: Global,
+    line: &[u8],
+    ring: Option<&Ring>,
+    names: &[NameInfo],
+) -> Result<Statement, ParseStop>
+    ensures { Answers (option_copied ring.entry) names.now line.now result }
 {
     let form = match formed(alloc, line) {
         Ok(form) => form,
@@ -52,9 +60,11 @@ pub fn statement(alloc: Global, line: &[u8], ring: Option<&Ring>) -> Result<Stat
         Form::Nothing => Ok(Statement::Nothing),
         Form::Ring {
             modulus,
-            names,
+            names: variables,
             order,
-        } => ring_statement(alloc, line, modulus, &names, order),
-        Form::Show(steps) => show_statement(alloc, line, ring, &steps),
+        } => ring_statement(alloc, line, modulus, &variables, order),
+        Form::Line(head, polynomials) => {
+            line_statement(alloc, line, ring, names, head, &polynomials)
+        }
     }
 }

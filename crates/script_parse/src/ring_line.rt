@@ -8,6 +8,7 @@ ghost use Rattle.script_tokens.specs.declared.token.Token.{Token as TokenValue};
 ghost use Rattle.poly_grammar.specs.Numerals.{text_of, value_of};
 ghost use Rattle.zp_field.specs.Moduli.{is_modulus};
 ghost use Rattle.module_vectors.specs.declared.ring.Ring.{Ring as RingValue};
+ghost use Rattle.script_parse.specs.declared.named.NameInfo.{NameInfo as NameValue};
 ghost use Rattle.script_parse.specs.Forms.{AnswersForm, repeats, stands_among};
 ghost use Rattle.script_parse.specs.Statements.{order_named};
 ghost use Rattle.script_parse.specs.Written.{ring_line};
@@ -94,7 +95,7 @@ pub fn ring_statement(
     order: OrderName,
 ) -> Result<Statement, ParseStop>
     requires { AllByRecursion (λ t. IsAscii (text_of line.now t)) names.now }
-    ensures { (ring : Option RingValue) (first : TokenValue) (more : List TokenValue) → names.now ≡ first ∷ more → AnswersForm ring line.now (ring_line modulus first more order) result }
+    ensures { (ring : Option RingValue) (infos : List NameValue) (first : TokenValue) (more : List TokenValue) → names.now ≡ first ∷ more → AnswersForm ring infos line.now (ring_line modulus first more order) result }
 {
     if names.len() > VARIABLES || has_repeat(line, names) {
         return Err(ParseStop::Refused(Kind::Ring));

@@ -5,7 +5,7 @@ use std::test::Fail;
 
 /// The kind for which a line is refused, if it is.
 fn kind(alloc: Global, line: &[u8], ring: Option<&Ring>) -> Option<Kind> {
-    match statement(alloc, line, ring) {
+    match statement(alloc, line, ring, &[]) {
         Err(ParseStop::Refused(kind)) => Some(kind),
         _ => None,
     }
@@ -13,7 +13,7 @@ fn kind(alloc: Global, line: &[u8], ring: Option<&Ring>) -> Option<Kind> {
 
 /// The ring that a line states.
 fn ring(alloc: Global, line: &[u8]) -> Option<Ring> {
-    match statement(alloc, line, None) {
+    match statement(alloc, line, None, &[]) {
         Ok(Statement::Ring(ring)) => Some(ring),
         _ => None,
     }
@@ -74,8 +74,13 @@ fn kinds(rt: HostRuntime) -> Result<(), Fail> {
         return Ok(());
     };
     let some = Some(&made);
-    assert!(rt; matches!(statement(alloc, b"", None), Ok(Statement::Nothing)));
-    assert!(rt; matches!(statement(alloc, b" \r# \xff", None), Ok(Statement::Nothing)));
+    assert!(rt; matches!(statement(alloc, b"", None, &[]), Ok(Statement::Nothing)));
+    assert!(rt;
+        matches!(
+            statement(alloc, b" \r# \xff", None, &[]),
+            Ok(Statement::Nothing)
+        )
+    );
     assert_eq!(rt; kind(alloc, b"show x", None), Some(Kind::Ring));
     assert_eq!(rt; kind(alloc, b"show x!", None), Some(Kind::Syntax));
     assert_eq!(rt; kind(alloc, b"show 2x", some), Some(Kind::Syntax));
@@ -122,7 +127,7 @@ fn has_terms(v: &Vect, want: &[Row]) -> bool {
 
 /// Whether the line shows the polynomial with these terms.
 fn shows(alloc: Global, ring: &Ring, line: &[u8], want: &[Row]) -> bool {
-    match statement(alloc, line, Some(ring)) {
+    match statement(alloc, line, Some(ring), &[]) {
         Ok(Statement::Show(v)) => has_terms(&v, want),
         _ => false,
     }

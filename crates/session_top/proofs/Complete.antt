@@ -5,29 +5,36 @@ use Rattle.std.proofs.Math.Seq.{take-append-add}
 use Rattle.std.proofs.lemmas.Bool.{cases_lt}
 use Rattle.std.specs.declared.option.Option.{Option}
 use Rattle.std.specs.Io.KnownBytes.{Appends, IsAtEnd}
-use Rattle.session_top.specs.declared.lines.Refusal.{Refusal}
-use Rattle.session_top.specs.declared.lines.Refusal.TheVariants.{OfLine}
-use Rattle.session_top.specs.Session.{State, no_ring}
-use Rattle.session_top.proofs.Unique.{line_unique, line_not_refused, refused_unique}
+use Rattle.session_top.specs.declared.early.Refusal.{Refusal}
+use Rattle.session_top.specs.declared.early.Refusal.TheVariants.{OfLine}
+use Rattle.session_lang.specs.Names.{State, no_names}
+use Rattle.session_lang.specs.Lines.{Line, Refuses}
+use Rattle.script_parse.specs.declared.kind.Kind.{Kind}
 use Rattle.session_top.specs.declared.TheConstants.{SCRIPT_LIMIT}
 use Rattle.session_top.specs.Lines.{lines_in, lines_of, whole_lines, onto_first, onto_whole}
 use Rattle.session_top.specs.Meaning.{Ending, Done, Refused, Folds, Meaning, is_long, last_of, script_lines, closing}
-use Rattle.session_top.specs.Run.{Meant, IsSettled, Answers}
+use Rattle.session_top.specs.Run.{Meant, MeantRefused, IsSettled, IsComplete, Answers}
 use Rattle.session_top.proofs.Whole.{long_script, short_script}
 
+-- a line that is done has one outcome, a refused one has one kind, and no line is both
+pub record LineLaws : Type 0 where
+  pub done : (before : State) (line : List ℕ) (p q : State) (x y : List ℕ) → Line before line p x → Line before line q y → (p ≡ q) × (x ≡ y)
+  pub kind : (before : State) (line : List ℕ) (j k : Kind) → Refuses before line j → Refuses before line k → j ≡ k
+  pub apart : (before : State) (line : List ℕ) (p : State) (x : List ℕ) (k : Kind) → Line before line p x → Refuses before line k → ⊥
+
 -- the fold has one outcome
-pub folds_unique : (last : Ending) (n : ℕ) (c : State) (lines : List (List ℕ)) (t u : List ℕ) (e f : Ending)
+pub folds_unique : (laws : LineLaws) (last : Ending) (n : ℕ) (c : State) (lines : List (List ℕ)) (t u : List ℕ) (e f : Ending)
     → Folds last n c lines t e → Folds last n c lines u f → (t ≡ u) × (e ≡ f)
-folds_unique last n c [] t u e f (same, text) (same', text') = (text ∙ sym text', same ∙ sym same')
-folds_unique last n c (l ∷ lines) t u e f (inl (mid, first, rest, one, others, parts)) (inl (mid', first', rest', one', others', parts')) =
-    let line = line_unique c l mid mid' first first' one one' in
+folds_unique laws last n c [] t u e f (same, text) (same', text') = (text ∙ sym text', same ∙ sym same')
+folds_unique laws last n c (l ∷ lines) t u e f (inl (mid, first, rest, one, others, parts)) (inl (mid', first', rest', one', others', parts')) =
+    let line = laws.done c l mid mid' first first' one one' in
     let others_here = subst (λ k. Folds last (n + 1) k lines rest e) line.0 others in
-    let tail = folds_unique last (n + 1) mid' lines rest rest' e f others_here others' in
+    let tail = folds_unique laws last (n + 1) mid' lines rest rest' e f others_here others' in
     (parts ∙ ap (λ x. x ++ rest) line.1 ∙ ap (λ x. first' ++ x) tail.0 ∙ sym parts', tail.1)
-folds_unique last n c (l ∷ lines) t u e f (inl (mid, first, rest, one, others, parts)) (inr (kind, refuses, same, text)) = absurd (line_not_refused c l mid first kind one refuses)
-folds_unique last n c (l ∷ lines) t u e f (inr (kind, refuses, same, text)) (inl (mid, first, rest, one, others, parts)) = absurd (line_not_refused c l mid first kind one refuses)
-folds_unique last n c (l ∷ lines) t u e f (inr (kind, refuses, same, text)) (inr (kind', refuses', same', text')) =
-    let k = refused_unique c l kind kind' refuses refuses' in
+folds_unique laws last n c (l ∷ lines) t u e f (inl (mid, first, rest, one, others, parts)) (inr (kind, refuses, same, text)) = absurd (laws.apart c l mid first kind one refuses)
+folds_unique laws last n c (l ∷ lines) t u e f (inr (kind, refuses, same, text)) (inl (mid, first, rest, one, others, parts)) = absurd (laws.apart c l mid first kind one refuses)
+folds_unique laws last n c (l ∷ lines) t u e f (inr (kind, refuses, same, text)) (inr (kind', refuses', same', text')) =
+    let k = laws.kind c l kind kind' refuses refuses' in
     (text ∙ ap (λ x. closing (Refused n (OfLine x))) k ∙ sym text', same ∙ ap (λ x. Refused n (OfLine x)) k ∙ sym same')
 
 line_at : Ending → ℕ
@@ -77,19 +84,19 @@ whole_first false (b ∷ bs) ys = let more = whole_first false bs ys in first_of
 whole_first true (b ∷ bs) ys = let more = whole_first true bs ys in cut_of (b == 10) b (whole_lines (bs ++ ys)) (whole_lines bs) more.0 more.1
 
 -- a refusal in lines that are whole in a short beginning is that of the script
-short_meaning : (w : Bool) (xs ys : List ℕ) (t : List ℕ) (m : ℕ) (k : Refusal) → Folds Done 1 no_ring (lines_of xs) t (Refused m k) → m ≤ length (whole_lines xs)
-    → Folds (last_of w) 1 no_ring (lines_in w (xs ++ ys)) t (Refused m k)
+short_meaning : (w : Bool) (xs ys : List ℕ) (t : List ℕ) (m : ℕ) (k : Refusal) → Folds Done 1 no_names (lines_of xs) t (Refused m k) → m ≤ length (whole_lines xs)
+    → Folds (last_of w) 1 no_names (lines_in w (xs ++ ys)) t (Refused m k)
 short_meaning w xs ys t m k folds below =
     let here = whole_first false xs [] in
     let there = whole_first w xs ys in
     let here_is : lines_of xs ≡ whole_lines xs ++ here.0 = ap lines_of (sym (append-nil xs)) ∙ here.1 in
-    subst (λ l. Folds (last_of w) 1 no_ring l t (Refused m k)) (sym there.1)
-    (refused_within (last_of w) 1 no_ring (whole_lines xs) here.0 there.0 t m k (subst (λ l. Folds Done 1 no_ring l t (Refused m k)) here_is folds) (omega arith))
+    subst (λ l. Folds (last_of w) 1 no_names l t (Refused m k)) (sym there.1)
+    (refused_within (last_of w) 1 no_names (whole_lines xs) here.0 there.0 t m k (subst (λ l. Folds Done 1 no_names l t (Refused m k)) here_is folds) (omega arith))
 
 -- a script that goes on behind a refused line has that meaning
 pub extends : (xs ys t : List ℕ) (m : ℕ) (k : Refusal) → Meaning xs t (Refused m k) → m ≤ length (whole_lines xs) → Meaning (xs ++ ys) t (Refused m k)
 extends xs ys t m k means below =
-    let F : Bool → List ℕ → Type 0 = λ w front. Folds (last_of w) 1 no_ring (lines_in w front) t (Refused m k) in
+    let F : Bool → List ℕ → Type 0 = λ w front. Folds (last_of w) 1 no_names (lines_in w front) t (Refused m k) in
     let len : length (xs ++ ys) ≡ length xs + length ys = length-append xs ys in
     elim (cases_lt SCRIPT_LIMIT (length xs)) [
       | inl long ↦
@@ -127,16 +134,24 @@ unfolding script_of
 same_script xs ys e = ap script_of e
 
 -- where the source tells its script, the ending is the script's and the bytes are its text
-pub complete : (a b t u : Option (List ℕ)) (e : Ending) → Meant a b t u e → (script text : List ℕ) (ending : Ending) → a ≡ Some script → Meaning script text ending
+pub complete : LineLaws → (a b t u : Option (List ℕ)) (e : Ending) → Meant a b t u e → (script text : List ℕ) (ending : Ending) → a ≡ Some script → Meaning script text ending
     → Appends t u text × (ending ≡ e) × (ending ≡ Done → IsAtEnd b)
-complete None b t u e meant script text ending told means = cc
-complete (Some x) None t u e meant script text ending told means = absurd meant.read
-complete (Some x) (Some y) t u e meant script text ending told means =
+complete laws None b t u e meant script text ending told means = cc
+complete laws (Some x) None t u e meant script text ending told means = absurd meant.read
+complete laws (Some x) (Some y) t u e meant script text ending told means =
     let whole : script ≡ meant.script ++ y = sym (same_script x script told) ∙ meant.read in
     let all : Meaning script meant.text e = meaning_of_all script meant.script y meant.text e whole meant.settled meant.means in
-    let same = folds_unique (last_of (is_long script)) 1 no_ring (script_lines script) text meant.text ending e means all in
+    let same = folds_unique laws (last_of (is_long script)) 1 no_names (script_lines script) text meant.text ending e means all in
     (subst (Appends t u) (sym same.0) meant.written, same.1, at_end_of meant.script (Some y) e ending same.1 meant.settled)
 
--- an ending that is a refusal is answered by status 1 and its line
-pub refused_answers : (line : ℕ) (refusal : Refusal) (ending : Ending) → ending ≡ Refused line refusal → Answers 1 line ending
-refused_answers line refusal ending same = subst (Answers 1 line) (sym same) (refl, refl)
+-- a script whose lines all are done is answered by status 0
+pub done_complete : LineLaws → (a b t u : Option (List ℕ)) → Meant a b t u Done → IsComplete a b t u 0 0
+done_complete laws a b t u meant script text ending told means =
+    let all = complete laws a b t u Done meant script text ending told means in
+    inr (inr (inr (subst (Answers 0 0) (sym all.1) (refl, refl), all.0, all.2)))
+
+-- a script of which a line is refused is answered by status 1 and this line
+pub refused_complete : LineLaws → (a b t u : Option (List ℕ)) (line : ℕ) → MeantRefused a b t u line → IsComplete a b t u 1 line
+refused_complete laws a b t u line refused script text ending told means =
+    let all = complete laws a b t u (Refused line refused.refusal) refused.meant script text ending told means in
+    inr (inr (inr (subst (Answers 1 line) (sym all.1) (refl, refl), all.0, all.2)))

@@ -1,5 +1,5 @@
 -- Known bytes that grew by fronts of texts.
-use Rattle.std.proofs.Common.{◌≡◌, ℕ, ◌+◌, List, ◌++◌, length, take, sym, subst, arith, Result, Ok, Err, OnErr}
+use Rattle.std.proofs.Common.{◌≡◌, ℕ, ◌+◌, List, ◌++◌, length, take, sym, subst, arith, Result, Ok, Err, OnOk, OnErr}
 use Rattle.std.proofs.lemmas.List.{length-append, take-append-le}
 use Rattle.std.proofs.Math.Seq.{take-append-add}
 use Rattle.std.proofs.KnownBytes.{Appends-trans}
@@ -37,3 +37,19 @@ pub after_both : {T E : Type 0} (a b c d : Option (List ℕ)) (one two three wri
 after_both a b c d one two three written (Ok x) first second same front = tt
 after_both a b c d one two three written (Err e) first second same front =
     front_after a b d one (two ++ three) first (front_after b c d two three second (subst (AppendsFront c d) same front))
+
+-- two texts, the second where the result is not an error
+pub all_two : {T E : Type 0} (a b c : Option (List ℕ)) (one two : List ℕ) (r : Result T E) → Appends a b one → OnOk r (Appends b c two) → OnOk r (Appends a c (one ++ two))
+all_two a b c one two (Ok x) first then = Appends-trans a b c one two first then
+all_two a b c one two (Err e) first then = tt
+
+-- a text, and of the second, where the result is an error, a front
+pub front_two : {T E : Type 0} (a b c : Option (List ℕ)) (one two : List ℕ) (r : Result T E) → Appends a b one → OnErr r (AppendsFront b c two)
+    → OnErr r (AppendsFront a c (one ++ two))
+front_two a b c one two (Ok x) first front = tt
+front_two a b c one two (Err e) first front = front_after a b c one two first front
+
+-- two texts, and the third where the result is not an error
+pub all_three : {T E : Type 0} (a b c d : Option (List ℕ)) (one two three : List ℕ) (r : Result T E) → Appends a b one → Appends b c two → OnOk r (Appends c d three)
+    → OnOk r (Appends a d (one ++ (two ++ three)))
+all_three a b c d one two three r first second then = all_two a b d one (two ++ three) r first (all_two b c d two three r second then)

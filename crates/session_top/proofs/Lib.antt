@@ -1,10 +1,11 @@
-mod Endings
+mod Causes
 mod Complete
+mod Degrees
+mod Endings
 mod Going
 mod Goings
 mod Numbers
 mod Shown
 mod Steps
 mod Texts
-mod Unique
 mod Whole

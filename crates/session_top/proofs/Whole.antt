@@ -1,20 +1,23 @@
 -- From what was done with the lines of a script to what a run says.
-use Rattle.std.proofs.Common.{nat_lt, ◌≡◌, ℕ, zero, suc, ◌+◌, ◌<◌, ◌≤◌, ◌⊎◌, inl, inr, Bool, true, false, if◌then◌else◌, ◌==◌, List, [], ◌∷◌, ◌++◌, length, take, refl, sym, ap, ◌∙◌, subst, arith, rules}
+use Rattle.std.proofs.Common.{Some, None, nat_lt, ◌≡◌, ℕ, zero, suc, ◌+◌, ◌<◌, ◌≤◌, ◌⊎◌, inl, inr, Bool, true, false, if◌then◌else◌, ◌==◌, List, [], ◌∷◌, ◌++◌, length, take, refl, sym, ap, ◌∙◌, subst, arith, rules}
 use Rattle.std.proofs.KnownBytes.{Appends-nil, Appends-kept, Keeps-refl}
 use Rattle.std.proofs.lemmas.Bool.{lt-ltb}
 use Rattle.std.specs.declared.option.Option.{Option}
 use Rattle.std.proofs.Common.{Result, Ok, Err, OnOk, IfErr}
 use Rattle.std.specs.Io.KnownBytes.{Consumes, IsAtEnd, Keeps}
-use Rattle.session_top.specs.declared.lines.Refusal.{Refusal}
-use Rattle.session_top.specs.declared.lines.Refusal.TheVariants.{OfLine, Length}
+use Rattle.session_top.specs.declared.early.Refusal.{Refusal}
+use Rattle.session_top.specs.declared.early.Refusal.TheVariants.{OfLine, Length}
 use Rattle.session_top.specs.declared.TheConstants.{SCRIPT_LIMIT}
-use Rattle.session_top.specs.declared.lines.Early.{Early}
-use Rattle.session_top.specs.declared.lines.Early.TheVariants as early
-use Rattle.session_top.specs.Session.{State, no_ring}
+use Rattle.session_top.specs.declared.early.Early.{Early}
+use Rattle.session_top.specs.declared.early.Early.TheVariants as early
+use Rattle.session_lang.specs.Names.{State, no_names}
 use Rattle.session_top.specs.Lines.{lines_in, whole_lines, onto_whole}
 use Rattle.session_top.specs.Meaning.{Ending, Done, Refused, Folds, is_long, last_of, script_lines}
+use Rattle.module_vectors.specs.declared.trail.KeptTrail.{KeptTrail}
+use Rattle.basis_core.specs.Shown.{Shown}
 use Rattle.session_top.specs.Parts.{LinesMeant, LinesStop}
-use Rattle.session_top.specs.Run.{Meant, ReadCut, MemoryCut, RunStops, AreReady}
+use Rattle.session_top.specs.Run.{Meant, ReadCut, MemoryCut, RunStops, AreReady, Stopped, StoppedByPairs, StoppedByDegree}
+use Rattle.session_top.specs.Stops.{StopsScript, stop_status}
 
 not_lt : (m n : ℕ) → n ≤ m → nat_lt m n ≡ false
 not_lt m n le = search rules
@@ -84,18 +87,18 @@ meant_done a b t u script read end meant = record {
   settled = elim end [
     | inl e ↦ e
     | inr long ↦ let true_long : is_long script ≡ true = long_script script long in
-        absurd (not_done (is_long script) true_long (ends_done (last_of (is_long script)) 1 no_ring (script_lines script) meant.text meant.means))
+        absurd (not_done (is_long script) true_long (ends_done (last_of (is_long script)) 1 no_names (script_lines script) meant.text meant.means))
   ];
   means = meant.means;
   written = meant.written;
 }
 
 cut_within : (w : Bool) (script text : List ℕ) (m : ℕ) (k : Refusal) → w ≡ true
-    → Folds (last_of w) 1 no_ring (lines_in w (take SCRIPT_LIMIT script)) text (Refused m k) → m ≤ length (whole_lines script)
+    → Folds (last_of w) 1 no_names (lines_in w (take SCRIPT_LIMIT script)) text (Refused m k) → m ≤ length (whole_lines script)
 cut_within false script text m k e means = cc
 cut_within true script text m k e means =
     let front : length (whole_lines (take SCRIPT_LIMIT script)) ≤ length (whole_lines script) = whole_front SCRIPT_LIMIT script in
-    elim (ends_within (Refused 0 Length) 1 no_ring (whole_lines (take SCRIPT_LIMIT script)) text m k means) [
+    elim (ends_within (Refused 0 Length) 1 no_names (whole_lines (take SCRIPT_LIMIT script)) text m k means) [
       | inl h ↦ omega (arith, front, h)
       | inr same ↦ let zero_line : 0 ≡ m = line_of_refused 0 m Length k same in omega (arith, zero_line)
     ]
@@ -126,24 +129,21 @@ ready b script lines end same = elim end [
   | inr long ↦ let true_long : is_long script ≡ true = long_script script long in inl (sym same ∙ cut_lines (is_long script) script true_long)
 ]
 
-pub run_stops : (a b t u : Option (List ℕ)) (script : List ℕ) → Consumes a b script → IsAtEnd b ⊎ (SCRIPT_LIMIT < length script)
-    → (stop : Early) → LinesStop t u (script_lines script) (last_of (is_long script)) stop → RunStops a b t u stop
-run_stops a b t u script read end (early.Refused n) (refusal, meant) = record { refusal = refusal; meant = meant_refused a b t u script n refusal read end meant }
-run_stops a b t u script read end early.ReadFault stops = absurd stops
-run_stops a b t u script read end early.WriteFault cut = record {
+pub run_stops : (a b t u : Option (List ℕ)) (pairs : ℕ) (script : List ℕ) → Consumes a b script → IsAtEnd b ⊎ (SCRIPT_LIMIT < length script)
+    → (stop : Early) → LinesStop t u pairs (script_lines script) (last_of (is_long script)) stop → RunStops a b t u pairs stop
+run_stops a b t u pairs script read end (early.Refused n) (refusal, meant) = record { refusal = refusal; meant = meant_refused a b t u script n refusal read end meant }
+run_stops a b t u pairs script read end early.ReadFault stops = absurd stops
+run_stops a b t u pairs script read end early.WriteFault cut = record {
   script = script;
   lines = cut.lines;
   rest = cut.rest;
-  last = cut.final;
-  ending = cut.ending;
   text = cut.text;
   read = read;
   ready = ready b script (cut.lines ++ cut.rest) end cut.parts;
   due = cut.due;
-  steps = cut.steps;
   written = cut.written;
 }
-run_stops a b t u script read end (early.NoMemory n) began = record {
+run_stops a b t u pairs script read end (early.NoMemory n) began = record {
   script = script;
   lines = began.lines;
   rest = began.rest;
@@ -155,6 +155,20 @@ run_stops a b t u script read end (early.NoMemory n) began = record {
   steps = began.steps;
   written = began.written;
 }
+run_stops a b t u pairs script read end (early.Stopped n kept) stopped = record {
+  script = script;
+  lines = stopped.lines;
+  stopped = stopped.line;
+  rest = stopped.rest;
+  state = stopped.state;
+  text = stopped.text;
+  read = read;
+  ready = ready b script (stopped.lines ++ (stopped.line ∷ stopped.rest)) end stopped.parts;
+  place = stopped.next;
+  steps = stopped.steps;
+  cause = stopped.cause;
+  written = stopped.written;
+}
 
 -- nothing was done of what was read
 pub nothing_read : (a b t : Option (List ℕ)) (script : List ℕ) → Consumes a b script → ReadCut a b t t
@@ -162,7 +176,7 @@ nothing_read a b t script read = record {
   script = script;
   lines = [];
   rest = whole_lines (take SCRIPT_LIMIT script);
-  state = no_ring;
+  state = no_names;
   text = [];
   read = read;
   ready = refl;
@@ -175,7 +189,7 @@ nothing_done a b t u script read keeps = record {
   script = script;
   lines = [];
   rest = whole_lines (take SCRIPT_LIMIT script);
-  state = no_ring;
+  state = no_names;
   text = [];
   read = read;
   ready = inl refl;
@@ -190,18 +204,62 @@ pub results_done : (a b t u : Option (List ℕ)) (script : List ℕ) → Consume
 results_done a b t u script read end (Ok x) meant = meant_done a b t u script read end meant
 results_done a b t u script read end (Err e) meant = tt
 
-pub results_stop : (a b t u : Option (List ℕ)) (script : List ℕ) → Consumes a b script → IsAtEnd b ⊎ (SCRIPT_LIMIT < length script)
-    → (r : Result Unit Early) → IfErr r (LinesStop t u (script_lines script) (last_of (is_long script))) → IfErr r (RunStops a b t u)
-results_stop a b t u script read end (Ok x) stops = tt
-results_stop a b t u script read end (Err e) stops = run_stops a b t u script read end e stops
+pub results_stop : (a b t u : Option (List ℕ)) (pairs : ℕ) (script : List ℕ) → Consumes a b script → IsAtEnd b ⊎ (SCRIPT_LIMIT < length script)
+    → (r : Result Unit Early) → IfErr r (LinesStop t u pairs (script_lines script) (last_of (is_long script))) → IfErr r (RunStops a b t u pairs)
+results_stop a b t u pairs script read end (Ok x) stops = tt
+results_stop a b t u pairs script read end (Err e) stops = run_stops a b t u pairs script read end e stops
 
 -- what stopped the reading
-pub reading_stops : (a b t : Option (List ℕ)) (stop : Early) → (stop ≡ early.ReadFault) ⊎ (stop ≡ early.NoMemory 0) → (script : List ℕ) × Consumes a b script → RunStops a b t t stop
-reading_stops a b t early.ReadFault why (script, read) = nothing_read a b t script read
-reading_stops a b t (early.NoMemory n) (inl e) (script, read) = cc
-reading_stops a b t (early.NoMemory n) (inr e) (script, read) =
+pub reading_stops : (a b t : Option (List ℕ)) (pairs : ℕ) (stop : Early) → (stop ≡ early.ReadFault) ⊎ (stop ≡ early.NoMemory 0) → (script : List ℕ) × Consumes a b script
+    → RunStops a b t t pairs stop
+reading_stops a b t pairs early.ReadFault why (script, read) = nothing_read a b t script read
+reading_stops a b t pairs (early.NoMemory n) (inl e) (script, read) = cc
+reading_stops a b t pairs (early.NoMemory n) (inr e) (script, read) =
     subst (MemoryCut a b t t) (sym (line_of_memory n 0 e)) (nothing_done a b t t script read (Keeps-refl t))
-reading_stops a b t early.WriteFault (inl e) (script, read) = cc
-reading_stops a b t early.WriteFault (inr e) (script, read) = cc
-reading_stops a b t (early.Refused n) (inl e) (script, read) = cc
-reading_stops a b t (early.Refused n) (inr e) (script, read) = cc
+reading_stops a b t pairs early.WriteFault (inl e) (script, read) = cc
+reading_stops a b t pairs early.WriteFault (inr e) (script, read) = cc
+reading_stops a b t pairs (early.Refused n) (inl e) (script, read) = cc
+reading_stops a b t pairs (early.Refused n) (inr e) (script, read) = cc
+reading_stops a b t pairs (early.Stopped n kept) (inl e) (script, read) = cc
+reading_stops a b t pairs (early.Stopped n kept) (inr e) (script, read) = cc
+
+no_trail : (trail : Option KeptTrail) → stop_status trail ≡ 6 → trail ≡ None
+no_trail None six = refl
+no_trail (Some t) six = absurd (omega arith)
+
+a_trail : (trail : Option KeptTrail) → stop_status trail ≡ 7 → (t : KeptTrail) × (trail ≡ Some t)
+a_trail None seven = absurd (omega arith)
+a_trail (Some t) seven = (t, refl)
+
+none_or_some : (kept : Option Shown) → (kept ≡ None) ⊎ ((s : Shown) × (kept ≡ Some s))
+none_or_some None = inl refl
+none_or_some (Some s) = inr (s, refl)
+
+something_kept : (pairs : ℕ) (before : State) (line : List ℕ) (kept : Option Shown) → StopsScript pairs before line kept None → kept ≡ None → ⊥
+something_kept pairs before line kept cause none = subst (λ k. StopsScript pairs before line k None) none cause
+
+-- a stop that is no stop by a degree keeps a state
+pub stopped_by_pairs : (a b t u : Option (List ℕ)) (pairs line : ℕ) (kept : Option Shown) (trail : Option KeptTrail) → Stopped a b t u pairs line kept trail
+    → stop_status trail ≡ 6 → StoppedByPairs a b t u pairs line kept trail
+stopped_by_pairs a b t u pairs line kept trail stopped six =
+    let none : trail ≡ None = no_trail trail six in
+    let here : Stopped a b t u pairs line kept None = subst (λ o. Stopped a b t u pairs line kept o) none stopped in
+    elim (none_or_some kept) [
+      | inl e ↦ absurd (something_kept pairs here.state here.stopped kept here.cause e)
+      | inr (s, e) ↦ (s, e, none, subst (λ k. Stopped a b t u pairs line k None) e here)
+    ]
+
+-- a stop by a degree keeps a trail
+pub stopped_by_degree : (a b t u : Option (List ℕ)) (pairs line : ℕ) (kept : Option Shown) (trail : Option KeptTrail) → Stopped a b t u pairs line kept trail
+    → stop_status trail ≡ 7 → StoppedByDegree a b t u pairs line kept trail
+stopped_by_degree a b t u pairs line kept trail stopped seven =
+    let some : (t : KeptTrail) × (trail ≡ Some t) = a_trail trail seven in
+    (some.0, some.1, subst (λ o. Stopped a b t u pairs line kept o) some.1 stopped)
+
+-- the same of equal values
+pub as_told : (a b t u : Option (List ℕ)) (pairs asked line told : ℕ) (kept state : Option Shown) (trail path : Option KeptTrail)
+    → asked ≡ pairs → told ≡ line → state ≡ kept → path ≡ trail → Stopped a b t u pairs line kept trail → Stopped a b t u asked told state path
+as_told a b t u pairs asked line told kept state trail path same_pairs same_line same_state same_trail stopped =
+    subst (λ n. Stopped a b t u n told state path) (sym same_pairs)
+    (subst (λ n. Stopped a b t u pairs n state path) (sym same_line)
+    (subst (λ s. Stopped a b t u pairs line s path) (sym same_state) (subst (λ p. Stopped a b t u pairs line kept p) (sym same_trail) stopped)))

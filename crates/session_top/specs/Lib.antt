@@ -3,4 +3,4 @@ pub mod Lines
 pub mod Meaning
 pub mod Parts
 pub mod Run
-pub mod Session
+pub mod Stops

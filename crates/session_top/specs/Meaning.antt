@@ -3,11 +3,11 @@ use Rattle.std.specs.Prelude.{◌≡◌, ℕ, ◌+◌, ◌⊎◌, Bool, true, fa
 use Rattle.std.specs.Fmt.{decimal}
 use Rattle.script_parse.specs.declared.kind.Kind.{Kind}
 use Rattle.script_parse.specs.declared.kind.Kind.TheVariants as kind
-use Rattle.session_top.specs.declared.lines.Refusal.{Refusal}
-use Rattle.session_top.specs.declared.lines.Refusal.TheVariants.{OfLine, Length}
+use Rattle.session_top.specs.declared.early.Refusal.{Refusal}
+use Rattle.session_top.specs.declared.early.Refusal.TheVariants.{OfLine, Length}
 use Rattle.session_top.specs.declared.TheConstants.{SCRIPT_LIMIT}
-use Rattle.script_parse.specs.Refusals.{Refuses}
-use Rattle.session_top.specs.Session.{State, no_ring, Line}
+use Rattle.session_lang.specs.Lines.{Line, Refuses}
+use Rattle.session_lang.specs.Names.{State, no_names}
 use Rattle.session_top.specs.Lines.{lines_in}
 
 -- how a script ends: all its lines are done, or one is refused; line 0 stands for the script as a whole
@@ -22,6 +22,8 @@ kind_word kind.Numeral = codes "numeral"
 kind_word kind.Ring = codes "ring"
 kind_word kind.Modulus = codes "modulus"
 kind_word kind.Name = codes "name"
+kind_word kind.OfKind = codes "kind"
+kind_word kind.Rank = codes "rank"
 kind_word kind.Degree = codes "degree"
 
 abbrev pub refusal_word : Refusal → List ℕ
@@ -64,6 +66,6 @@ abbrev pub last_of : Bool → Ending
 last_of true = Refused 0 Length
 last_of false = Done
 
--- from no ring, the script has this text and this ending
+-- from no names, the script has this text and this ending
 abbrev pub Meaning : List ℕ → List ℕ → Ending → Type 0
-Meaning script text ending = Folds (last_of (is_long script)) 1 no_ring (script_lines script) text ending
+Meaning script text ending = Folds (last_of (is_long script)) 1 no_names (script_lines script) text ending

@@ -1,14 +1,17 @@
 -- What each answer of a run says.
-use Rattle.std.specs.Prelude.{◌≡◌, ℕ, ◌+◌, ◌<◌, ◌≤◌, ◌⊎◌, List, [], ◌++◌, length, take, codes, Some}
+use Rattle.std.specs.Prelude.{◌≡◌, ℕ, ◌+◌, ◌<◌, ◌≤◌, ◌⊎◌, List, [], ◌∷◌, ◌++◌, length, take, codes, None, Some}
 use Rattle.std.specs.declared.option.Option.{Option}
 use Rattle.std.specs.Io.KnownBytes.{Appends, Keeps, Consumes, IsAtEnd}
 use Rattle.byte_ports.specs.Causes.{AppendsFront}
-use Rattle.session_top.specs.declared.lines.Refusal.{Refusal}
-use Rattle.session_top.specs.declared.lines.Early.{Early}
-use Rattle.session_top.specs.declared.lines.Early.TheVariants as early
+use Rattle.module_vectors.specs.declared.trail.KeptTrail.{KeptTrail}
+use Rattle.basis_core.specs.Shown.{Shown}
+use Rattle.session_top.specs.declared.early.Refusal.{Refusal}
+use Rattle.session_top.specs.declared.early.Early.{Early}
+use Rattle.session_top.specs.declared.early.Early.TheVariants as early
 use Rattle.session_top.specs.declared.TheConstants.{SCRIPT_LIMIT}
 use Rattle.session_top.specs.Lines.{whole_lines}
-use Rattle.session_top.specs.Session.{State, no_ring}
+use Rattle.session_lang.specs.Names.{State, no_names}
+use Rattle.session_top.specs.Stops.{StopsScript, stop_line}
 use Rattle.session_top.specs.Meaning.{Ending, Done, Refused, Meaning, Folds, AllDone, script_lines, last_of, is_long}
 
 -- the lines that this ending rests on are whole in the bytes read, or the input is at its end
@@ -39,7 +42,7 @@ pub record ReadCut (left left' taken taken' : Option (List ℕ)) : Type 0 where
   pub text : List ℕ
   pub read : Consumes left left' script
   pub ready : lines ++ rest ≡ whole_lines (take SCRIPT_LIMIT script)
-  pub steps : AllDone no_ring lines state text
+  pub steps : AllDone no_names lines state text
   pub written : Appends taken taken' text
 
 -- lines that may be done once these bytes are read
@@ -60,33 +63,75 @@ pub record MemoryCut (left left' taken taken' : Option (List ℕ)) (line : ℕ) 
   pub read : Consumes left left' script
   pub ready : AreReady script left' (lines ++ rest)
   pub place : IsBeingDone line lines rest
-  pub steps : AllDone no_ring lines state text
+  pub steps : AllDone no_names lines state text
   pub written : Appends taken taken' text
 
 -- the last line is due once each line before it is done
-abbrev pub IsDue : List ℕ → List (List ℕ) → Ending → Type 0
-IsDue script rest last = (last ≡ Done) ⊎ ((rest ≡ []) × (last ≡ last_of (is_long script)))
+abbrev pub IsLast : Ending → List (List ℕ) → Ending → Type 0
+IsLast last rest final = (final ≡ Done) ⊎ ((rest ≡ []) × (final ≡ last))
 
--- a front was written of the text of the first lines and the error line, if one was due
-pub record WriteCut (left left' taken taken' : Option (List ℕ)) : Type 0 where
+-- the text of these lines and the stop line of the first line of the rest
+pub record IsStopText (pairs : ℕ) (lines rest : List (List ℕ)) (text : List ℕ) : Type 0 where
+  pub state : State
+  pub done : List ℕ
+  pub line : List ℕ
+  pub more : List (List ℕ)
+  pub kept : Option Shown
+  pub trail : Option KeptTrail
+  pub steps : AllDone no_names lines state done
+  pub next : rest ≡ line ∷ more
+  pub cause : StopsScript pairs state line kept trail
+  pub parts : text ≡ done ++ stop_line kept trail
+
+-- the text that is due of these lines: their own with the error line, if one is due, or with a stop line
+abbrev pub IsTextDue : (pairs : ℕ) → Ending → (lines rest : List (List ℕ)) → List ℕ → Type 0
+IsTextDue pairs last lines rest text =
+    ((final : Ending) × (ending : Ending) × IsLast last rest final × Folds final 1 no_names lines text ending)
+    ⊎ IsStopText pairs lines rest text
+
+-- a front was written of the text of the first lines and the error line or stop line, if one was due
+pub record WriteCut (left left' taken taken' : Option (List ℕ)) (pairs : ℕ) : Type 0 where
   pub script : List ℕ
   pub lines : List (List ℕ)
   pub rest : List (List ℕ)
-  pub last : Ending
-  pub ending : Ending
   pub text : List ℕ
   pub read : Consumes left left' script
   pub ready : AreReady script left' (lines ++ rest)
-  pub due : IsDue script rest last
-  pub steps : Folds last 1 no_ring lines text ending
+  pub due : IsTextDue pairs (last_of (is_long script)) lines rest text
   pub written : AppendsFront taken taken' text
 
+-- A line stopped the script: the lines before it were done, and their text and the stop line are what was written.
+pub record Stopped (left left' taken taken' : Option (List ℕ)) (pairs line : ℕ) (kept : Option Shown) (trail : Option KeptTrail) : Type 0 where
+  pub script : List ℕ
+  pub lines : List (List ℕ)
+  pub stopped : List ℕ
+  pub rest : List (List ℕ)
+  pub state : State
+  pub text : List ℕ
+  pub read : Consumes left left' script
+  pub ready : AreReady script left' (lines ++ (stopped ∷ rest))
+  pub place : line ≡ length lines + 1
+  pub steps : AllDone no_names lines state text
+  pub cause : StopsScript pairs state stopped kept trail
+  pub written : Appends taken taken' (text ++ stop_line kept trail)
+
+-- a run of a line met its budget of pairs, and its state is kept
+abbrev pub StoppedByPairs : Option (List ℕ) → Option (List ℕ) → Option (List ℕ) → Option (List ℕ) → (pairs line : ℕ) → Option Shown → Option KeptTrail → Type 0
+StoppedByPairs left left' taken taken' pairs line kept trail =
+    (s : Shown) × (kept ≡ Some s) × (trail ≡ None) × Stopped left left' taken taken' pairs line (Some s) None
+
+-- a line needed a product of too great a degree, and the trail to it is kept
+abbrev pub StoppedByDegree : Option (List ℕ) → Option (List ℕ) → Option (List ℕ) → Option (List ℕ) → (pairs line : ℕ) → Option Shown → Option KeptTrail → Type 0
+StoppedByDegree left left' taken taken' pairs line kept trail =
+    (t : KeptTrail) × (trail ≡ Some t) × Stopped left left' taken taken' pairs line kept (Some t)
+
 -- why a run did not come to the end of its script
-abbrev pub RunStops : Option (List ℕ) → Option (List ℕ) → Option (List ℕ) → Option (List ℕ) → Early → Type 0
-RunStops left left' taken taken' (early.Refused n) = MeantRefused left left' taken taken' n
-RunStops left left' taken taken' early.ReadFault = ReadCut left left' taken taken'
-RunStops left left' taken taken' early.WriteFault = WriteCut left left' taken taken'
-RunStops left left' taken taken' (early.NoMemory n) = MemoryCut left left' taken taken' n
+abbrev pub RunStops : Option (List ℕ) → Option (List ℕ) → Option (List ℕ) → Option (List ℕ) → (pairs : ℕ) → Early → Type 0
+RunStops left left' taken taken' pairs (early.Refused n) = MeantRefused left left' taken taken' n
+RunStops left left' taken taken' pairs early.ReadFault = ReadCut left left' taken taken'
+RunStops left left' taken taken' pairs early.WriteFault = WriteCut left left' taken taken' pairs
+RunStops left left' taken taken' pairs (early.NoMemory n) = MemoryCut left left' taken taken' n
+RunStops left left' taken taken' pairs (early.Stopped n kept) = Stopped left left' taken taken' pairs n kept.state kept.trail
 
 -- The error line for words was written, or a front of it, or memory ran out before.
 abbrev pub WordsEnd : Option (List ℕ) → Option (List ℕ) → ℕ → Type 0
@@ -99,7 +144,7 @@ abbrev pub Answers : ℕ → ℕ → Ending → Type 0
 Answers status line Done = (status ≡ 0) × (line ≡ 0)
 Answers status line (Refused n refusal) = (status ≡ 1) × (line ≡ n)
 
--- Where the source tells a script of this meaning, the answer is its ending and the bytes are its text, or memory ran out.
+-- Where the source tells a script of this meaning, the answer is its ending and the bytes are its text; or memory ran out, or a run was stopped by its budget or by a degree.
 abbrev pub IsComplete : Option (List ℕ) → Option (List ℕ) → Option (List ℕ) → Option (List ℕ) → ℕ → ℕ → Type 0
 IsComplete left left' taken taken' status line = (script text : List ℕ) (ending : Ending) → left ≡ Some script → Meaning script text ending
-    → (status ≡ 5) ⊎ (Answers status line ending × Appends taken taken' text × (ending ≡ Done → IsAtEnd left'))
+    → (status ≡ 5) ⊎ (status ≡ 6) ⊎ (status ≡ 7) ⊎ (Answers status line ending × Appends taken taken' text × (ending ≡ Done → IsAtEnd left'))

@@ -3,11 +3,10 @@
 //! for each status when it comes.
 #![tactic(auto)]
 
+mod early;
 mod lines;
 mod reading;
-mod session;
-#[cfg(test)]
-mod tests;
+mod stops;
 mod top;
 mod words;
 
@@ -16,3 +15,10 @@ pub use words::{Command, Request, WordStop, read_words};
 
 /// The most bytes that a script has.
 pub const SCRIPT_LIMIT: usize = 1_048_576;
+
+#[cfg(test)]
+mod stop_tests;
+#[cfg(test)]
+mod telling_tests;
+#[cfg(test)]
+mod tests;

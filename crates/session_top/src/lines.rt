@@ -1,41 +1,30 @@
 // The lines of a script, done one after another.
-ghost use Rattle.std.specs.Prelude.{◌≡◌, ℕ, ◌+◌, ◌<◌, ◌≤◌, List, length, take, drop, codes, [], ◌∷◌, ◌++◌, IfErr, OnOk, OnErr, MatchOption, IfSome, None, Err};
+ghost use Rattle.std.specs.Prelude.{◌≡◌, ℕ, ◌+◌, ◌<◌, ◌≤◌, List, length, take, drop, codes, [], ◌∷◌, ◌++◌, IfErr, OnOk, OnErr, MatchOption, IfSome, None, Some, Err};
 ghost use Rattle.std.specs.Io.KnownBytes.{Appends};
 ghost use Rattle.byte_ports.specs.Causes.{Rose, HasCause, AppendsFront};
-ghost use Rattle.session_top.specs.Session.{State, Line};
+ghost use Rattle.session_lang.specs.Lines.{Line};
+ghost use Rattle.session_lang.specs.Names.{State};
 ghost use Rattle.session_top.specs.Lines.{lines_in, HasNoNewline};
 ghost use Rattle.session_top.specs.Meaning.{refusal_word, error_line, last_of, Done};
-ghost use Rattle.session_top.specs.Parts.{ErrorEnds, LineStops, LinesMeant, LinesStop};
+ghost use Rattle.basis_core.specs.Views.{run_of, state_of, variables_of};
+ghost use Rattle.basis_steps.specs.Steps.{Replays};
+ghost use Rattle.plain_buchberger.specs.Stops.{IsStop};
+ghost use Rattle.session_top.specs.Parts.{ErrorEnds, LineStops, LinesMeant, LinesStop, StopEnds};
 
 use crate::SCRIPT_LIMIT;
-use crate::session::{NoMemory, Session, Step};
+use crate::early::{Early, Kept, Refusal};
+use crate::stops::write_stop_line;
+use basis_core::BasisState;
 use byte_ports::{Failed, Sink, write_all_to};
+use groebner_iface::OpStop;
 use itoa::Buffer;
+use module_vectors::KeptTrail;
+use plain_buchberger::PlainEngine;
 use script_parse::Kind;
+use session_lang::{Session, Step};
 use std::alloc::Global;
-
-/// What is refused: a line, for its kind, or the script as a whole, for its length.
-#[derive(Clone, Copy, Debug, PartialEq, Eq)]
-pub enum Refusal {
-    OfLine(Kind),
-    Length,
-}
-
-/// Why a run did not come to the end of its script.
-#[derive(Clone, Copy, Debug, PartialEq, Eq)]
-pub enum Early {
-    /// This line was refused (0 for the length), and its error line was written.
-    Refused(u32),
-
-    /// A read failed.
-    ReadFault,
-
-    /// A write failed.
-    WriteFault,
-
-    /// Memory ran out while this line was done (0 while none was).
-    NoMemory(u32),
-}
+use std::mem::replace;
+use std::thread::Threads;
 
 /// The end of the error line of a refusal.
 fn error_end(refusal: Refusal) -> &'static [u8]
@@ -47,6 +36,8 @@ fn error_end(refusal: Refusal) -> &'static [u8]
         Refusal::OfLine(Kind::Ring) => b" ring\n",
         Refusal::OfLine(Kind::Modulus) => b" modulus\n",
         Refusal::OfLine(Kind::Name) => b" name\n",
+        Refusal::OfLine(Kind::OfKind) => b" kind\n",
+        Refusal::OfLine(Kind::Rank) => b" rank\n",
         Refusal::OfLine(Kind::Degree) => b" degree\n",
         Refusal::Length => b" length\n",
     }
@@ -103,51 +94,131 @@ fn refuse<K: Sink>(sink: &mut K, number: u32, refusal: Refusal) -> Early
     }
 }
 
-/// Does a line and writes its text, or its error line. `out` is where the text is made.
-fn do_line<K: Sink>(
+/// A kept state replays its history. It does nothing: its contract is the law.
+fn replays(state: &Option<BasisState>)
+    ensures { IfSome state.now (λ s. let n = variables_of s in Replays (run_of n s) (state_of n s)) }
+{
+    if let Some(state) = state {
+        state.kept();
+    }
+}
+
+/// Takes out what an engine keeps of the last run that stopped. A new engine with the same budget stands in its place.
+fn take_stop(engine: &mut PlainEngine) -> Kept
+    ensures state { result.state ≡ engine.old.state }
+    ensures trail { result.trail ≡ engine.old.trail }
+    ensures kept { IsStop engine.old.pairs engine.old.state engine.old.trail }
+    ensures replays { IfSome engine.old.state (λ s. let n = variables_of s in Replays (run_of n s) (state_of n s)) }
+{
+    let fresh = PlainEngine::new(engine.pairs());
+    let (state, trail) = replace(engine, fresh).into_stop();
+    replays(&state);
+    Kept { state, trail }
+}
+
+/// Writes the stop line of what is kept, and tells how the run ends.
+fn stop<K: Sink>(sink: &mut K, number: u32, kept: Kept) -> Early
+    ensures says { StopEnds (K.taken sink.old) (K.taken sink.new) number kept.state kept.trail result }
+    ensures write { result ≡ Early.WriteFault → Rose (K.faults sink.old) (K.faults sink.new) }
+    ensures later { K.faults sink.old ≤ K.faults sink.new }
+{
+    match write_stop_line(sink, &kept) {
+        Ok(()) => Early::Stopped(number, kept),
+        Err(_) => Early::WriteFault,
+    }
+}
+
+/// The end of a run of lines at a basis run that stopped, of which the engine keeps what it can tell.
+fn stop_at_run<K: Sink>(sink: &mut K, number: u32, engine: &mut PlainEngine) -> Early
+    ensures says { StopEnds (K.taken sink.old) (K.taken sink.new) number engine.old.state engine.old.trail result }
+    ensures kept { IsStop engine.old.pairs engine.old.state engine.old.trail }
+    ensures replays { IfSome engine.old.state (λ s. let n = variables_of s in Replays (run_of n s) (state_of n s)) }
+    ensures write { result ≡ Early.WriteFault → Rose (K.faults sink.old) (K.faults sink.new) }
+    ensures later { K.faults sink.old ≤ K.faults sink.new }
+{
+    stop(sink, number, take_stop(engine))
+}
+
+/// The same at a division by a reduced basis that stopped.
+fn stop_at_division<K: Sink>(sink: &mut K, number: u32, trail: KeptTrail) -> Early
+    ensures says { StopEnds (K.taken sink.old) (K.taken sink.new) number None (Some trail) result }
+    ensures write { result ≡ Early.WriteFault → Rose (K.faults sink.old) (K.faults sink.new) }
+    ensures later { K.faults sink.old ≤ K.faults sink.new }
+{
+    let kept = Kept {
+        state: None,
+        trail: Some(trail),
+    };
+    stop(sink, number, kept)
+}
+
+/// What a run of lines works with from line to line.
+#[derive(Drop)]
+pub struct Desk {
+    engine: PlainEngine,
+    session: Session,
+    /// Where the text of a line is made.
+    out: Vec<u8>,
+}
+
+/// Does a line and writes its text, its error line or its stop line.
+fn do_line<R: Threads + Sync, K: Sink>(
+    rt: &R,
     alloc: Global,
-    session: &mut Session,
-    out: &mut Vec<u8>,
+    desk: &mut Desk,
     sink: &mut K,
     number: u32,
     line: &[u8],
 ) -> Result<(), Early>
-    ensures done { OnOk result ((text : List ℕ) × Line session.old line.now session.new text × Appends (K.taken sink.old) (K.taken sink.new) text) }
-    ensures stops { IfErr result (LineStops (K.taken sink.old) (K.taken sink.new) session.old line.now number) }
+    ensures done { OnOk result ((text : List ℕ) × Line desk.old.session line.now desk.new.session text × Appends (K.taken sink.old) (K.taken sink.new) text) }
+    ensures pairs { OnOk result (desk.new.engine.pairs ≡ desk.old.engine.pairs) }
+    ensures stops { IfErr result (LineStops (K.taken sink.old) (K.taken sink.new) desk.old.engine.pairs desk.old.session line.now number) }
     ensures write { result ≡ Err Early.WriteFault → Rose (K.faults sink.old) (K.faults sink.new) }
     ensures later { K.faults sink.old ≤ K.faults sink.new }
 {
-    out.clear();
-    match session.step(alloc, line, out) {
-        Ok(Step::Done) => match write_all_to(sink, out) {
+    desk.out.clear();
+    match desk
+        .session
+        .step(rt, alloc, &mut desk.engine, line, &mut desk.out)
+    {
+        Ok(Step::Done) => match write_all_to(sink, &desk.out) {
             Ok(()) => Ok(()),
             Err(_) => Err(Early::WriteFault),
         },
         Ok(Step::Refused(kind)) => Err(refuse(sink, number, Refusal::OfLine(kind))),
-        Err(NoMemory) => Err(Early::NoMemory(number)),
+        Err(OpStop::Memory) => Err(Early::NoMemory(number)),
+        Err(OpStop::Pairs) => Err(stop_at_run(sink, number, &mut desk.engine)),
+        Err(OpStop::Degree) => Err(stop_at_run(sink, number, &mut desk.engine)),
+        Err(OpStop::Trail(trail)) => Err(stop_at_division(sink, number, trail)),
     }
 }
 
-/// Does the lines of a text. Where it is the front of a longer one, the script is refused behind them.
-pub fn do_lines<K: Sink>(
+/// Does the lines of a text, with this budget of pairs for each basis run. Where the text is the front of a longer one, the
+/// script is refused behind it.
+pub fn do_lines<R: Threads + Sync, K: Sink>(
+    rt: &R,
     alloc: Global,
+    pairs: u64,
     sink: &mut K,
     text: &[u8],
     is_cut: bool,
 ) -> Result<(), Early>
     requires { length text.now ≤ SCRIPT_LIMIT }
     ensures done { OnOk result (LinesMeant (K.taken sink.old) (K.taken sink.new) (lines_in is_cut text.now) (last_of is_cut) Done) }
-    ensures stops { IfErr result (LinesStop (K.taken sink.old) (K.taken sink.new) (lines_in is_cut text.now) (last_of is_cut)) }
+    ensures stops { IfErr result (LinesStop (K.taken sink.old) (K.taken sink.new) pairs (lines_in is_cut text.now) (last_of is_cut)) }
     ensures write { result ≡ Err Early.WriteFault → Rose (K.faults sink.old) (K.faults sink.new) }
     ensures later { K.faults sink.old ≤ K.faults sink.new }
 {
-    let mut session = Session::new();
-    let mut out = Vec::new(alloc);
+    let mut desk = Desk {
+        engine: PlainEngine::new(pairs),
+        session: Session::new(alloc),
+        out: Vec::new(alloc),
+    };
     let mut rest = text;
     let mut number: u32 = 0;
     while let Some((line, after)) = next_line(rest, is_cut) {
         number += 1;
-        match do_line(alloc, &mut session, &mut out, sink, number, line) {
+        match do_line(rt, alloc, &mut desk, sink, number, line) {
             Ok(()) => rest = after,
             Err(early) => return Err(early),
         }

@@ -4,7 +4,7 @@ ghost use Rattle.std.specs.Io.KnownBytes.{Consumes, IsAtEnd};
 ghost use Rattle.byte_ports.specs.Causes.{Rose};
 
 use crate::SCRIPT_LIMIT;
-use crate::lines::Early;
+use crate::early::Early;
 use byte_ports::Source;
 use std::alloc::Global;
 

@@ -1,81 +1,81 @@
-// Whole runs over ports in memory.
-use crate::{Command, Ended, Request, SCRIPT_LIMIT, WordStop, read_words, run};
-use byte_ports::{MemSink, MemSource};
+// Scripts without basis runs: their texts, what is refused, and ports that fail.
+use crate::SCRIPT_LIMIT;
+use crate::telling_tests::{CALM, Ports, Report, told};
 use std::alloc::Global;
 use std::test::Fail;
-use worker_gate::OpenGate;
+use std::thread::Threads;
 
-/// How the ports behave.
-#[derive(Clone, Copy)]
-struct Ports<'a> {
-    piece: usize,
-    room: usize,
-    failing_reads: &'a [u64],
-    failing_writes: &'a [u64],
-}
+/// A script, its text and its ending.
+type Row = (&'static str, &'static str, &'static str);
 
-const CALM: Ports<'static> = Ports {
-    piece: 5000,
-    room: 1000,
-    failing_reads: &[],
-    failing_writes: &[],
-};
-
-fn owned(alloc: Global, words: &str) -> Result<Vec<String>, Fail> {
-    let mut all = Vec::new(alloc);
-    for word in words.split(' ') {
-        all.push(String::from_str(alloc, word)?)?;
-    }
-    Ok(all)
-}
-
-/// Runs a script with these words over such ports, and gives the ending and what was written.
-fn try_run(
-    alloc: Global,
-    words: &str,
-    script: Vec<u8>,
-    ports: &Ports<'_>,
-) -> Result<(Ended, String), Fail> {
-    let words = owned(alloc, words)?;
-    let piece = ports.piece.max(1);
-    let mut source = MemSource::new(script, piece, ports.failing_reads.to_vec(alloc)?);
-    let mut sink = MemSink::new(
-        alloc,
-        ports.room,
-        piece,
-        ports.failing_writes.to_vec(alloc)?,
-    )?;
-    let ended = run(alloc, &words, &mut source, &mut sink, &OpenGate);
-    let text = String::from_utf8_lossy(alloc, sink.bytes())?;
-    Ok((ended, text))
-}
-
-#[test]
-fn scripts_have_their_text(rt: HostRuntime) -> Result<(), Fail> {
-    let alloc = rt.alloc();
-    for (script, want) in [
-        ("", ""),
-        ("\n\n", ""),
+/// Scripts that are done.
+fn done() -> [Row; 7] {
+    [
+        ("", "", "0 0"),
+        ("\n\n", "", "0 0"),
         (
             "ring 101 x,y grevlex\nshow (x+y)^2-1\nshow x-x\n",
             "x^2+2*x*y+y^2+100\n0\n",
+            "0 0",
         ),
-        ("ring 2 x,y lex\nshow (x+y)^2\n", "x^2+y^2\n"),
+        ("ring 2 x,y lex\nshow (x+y)^2\n", "x^2+y^2\n", "0 0"),
         (
             "ring 7 x lex\nshow x^1000\nshow 340282366920938463463374607431768211455\n",
             "x^1000\n3\n",
+            "0 0",
         ),
-        ("ring 5 x lex\r\n# c\n\nshow -(x-1)*(x+1)", "4*x^2+1\n"),
+        (
+            "ring 5 x lex\r\n# c\n\nshow -(x-1)*(x+1)",
+            "4*x^2+1\n",
+            "0 0",
+        ),
         (
             "ring 7 x,y,z grevlex\nshow y^2+x*z\nring 7 x,y,z lex\nshow y^2+x*z\n",
             "y^2+x*z\nx*z+y^2\n",
+            "0 0",
         ),
-    ] {
+    ]
+}
+
+/// Scripts with a line that is refused.
+fn refused() -> [Row; 7] {
+    [
+        ("ring 4 x lex\n", "error 1 modulus\n", "1 1"),
+        ("show x", "error 1 ring\n", "1 1"),
+        ("ring 7 x,x lex\n", "error 1 ring\n", "1 1"),
+        ("ring 7 x lex\nshow 2x\n", "error 2 syntax\n", "1 2"),
+        (
+            "ring 7 x lex\nshow 340282366920938463463374607431768211456\n",
+            "error 2 numeral\n",
+            "1 2",
+        ),
+        ("ring 7 x lex\nshow x^1001\n", "error 2 degree\n", "1 2"),
+        (
+            "ring 7 x lex\n\nshow x\nshow y\nshow x\n",
+            "x\nerror 4 name\n",
+            "1 4",
+        ),
+    ]
+}
+
+/// Runs the script of a row.
+fn run_row<R: Threads + Sync>(
+    rt: &R,
+    alloc: Global,
+    row: &Row,
+    ports: &Ports<'_>,
+) -> Result<Report, Fail> {
+    told(rt, alloc, "p run", row.0.as_bytes().to_vec(alloc)?, ports)
+}
+
+/// Whole scripts, read and written in pieces of these many bytes at most.
+#[test]
+fn scripts_have_their_text(rt: HostRuntime) -> Result<(), Fail> {
+    for row in &done() {
         for piece in [1, 3, 5000] {
-            let ports = Ports { piece, ..CALM };
-            let (ended, text) = try_run(alloc, "p run", script.as_bytes().to_vec(alloc)?, &ports)?;
-            assert_eq!(rt; ended, Ended { status: 0, line: 0 }, "at {script:?}");
-            assert_eq!(rt; text.as_str(), want, "at {script:?}");
+            let got = run_row(&rt, rt.alloc(), row, &Ports { piece, ..CALM })?;
+            assert_eq!(rt; got.text.as_str(), row.1, "at {:?}", row.0);
+            assert_eq!(rt; got.ending.as_str(), row.2, "at {:?}", row.0);
         }
     }
     Ok(())
@@ -83,148 +83,106 @@ fn scripts_have_their_text(rt: HostRuntime) -> Result<(), Fail> {
 
 #[test]
 fn refusals_name_their_line(rt: HostRuntime) -> Result<(), Fail> {
-    let alloc = rt.alloc();
-    for (script, line, want) in [
-        ("ring 4 x lex\n", 1, "error 1 modulus\n"),
-        ("show x", 1, "error 1 ring\n"),
-        ("ring 7 x,x lex\n", 1, "error 1 ring\n"),
-        ("ring 7 x lex\nshow 2x\n", 2, "error 2 syntax\n"),
-        (
-            "ring 7 x lex\nshow 340282366920938463463374607431768211456\n",
-            2,
-            "error 2 numeral\n",
-        ),
-        ("ring 7 x lex\nshow x^1001\n", 2, "error 2 degree\n"),
-        (
-            "ring 7 x lex\n\nshow x\nshow y\nshow x\n",
-            4,
-            "x\nerror 4 name\n",
-        ),
-    ] {
-        let (ended, text) = try_run(alloc, "p run", script.as_bytes().to_vec(alloc)?, &CALM)?;
-        assert_eq!(rt; ended, Ended { status: 1, line }, "at {script:?}");
-        assert_eq!(rt; text.as_str(), want, "at {script:?}");
+    for row in &refused() {
+        let got = run_row(&rt, rt.alloc(), row, &CALM)?;
+        assert_eq!(rt; got.text.as_str(), row.1, "at {:?}", row.0);
+        assert_eq!(rt; got.ending.as_str(), row.2, "at {:?}", row.0);
     }
     Ok(())
+}
+
+/// Runs a script of a ring, a line that shows and a comment that ends at this length.
+fn run_length<R: Threads + Sync>(rt: &R, alloc: Global, length: usize) -> Result<Report, Fail> {
+    let mut script = b"ring 101 x,y grevlex\nshow (x+y)^2-1\n#".to_vec(alloc)?;
+    script.resize(length, b'a')?;
+    told(rt, alloc, "p run", script, &CALM)
 }
 
 /// A script of the limit is run whole. Of one that is a byte longer the whole lines are done.
 #[test]
 fn the_length_has_a_limit(rt: HostRuntime) -> Result<(), Fail> {
-    let alloc = rt.alloc();
-    let mut script = b"ring 101 x,y grevlex\nshow (x+y)^2-1\n#".to_vec(alloc)?;
-    script.resize(SCRIPT_LIMIT, b'a')?;
-    let (ended, text) = try_run(alloc, "p run", script.clone()?, &CALM)?;
-    assert_eq!(rt; ended, Ended { status: 0, line: 0 });
-    assert_eq!(rt; text.as_str(), "x^2+2*x*y+y^2+100\n");
-    script.push(b'a')?;
-    let (ended, text) = try_run(alloc, "p run", script, &CALM)?;
-    assert_eq!(rt; ended, Ended { status: 1, line: 0 });
-    assert_eq!(rt; text.as_str(), "x^2+2*x*y+y^2+100\nerror 0 length\n");
+    for (length, text, ending) in [
+        (SCRIPT_LIMIT, "x^2+2*x*y+y^2+100\n", "0 0"),
+        (
+            SCRIPT_LIMIT + 1,
+            "x^2+2*x*y+y^2+100\nerror 0 length\n",
+            "1 0",
+        ),
+    ] {
+        let got = run_length(&rt, rt.alloc(), length)?;
+        assert_eq!(rt; got.text.as_str(), text);
+        assert_eq!(rt; got.ending.as_str(), ending);
+    }
     Ok(())
 }
 
-/// Each read fails in its turn, then each write: nothing is written then, or a front of the text.
-#[test]
-fn faults_are_told(rt: HostRuntime) -> Result<(), Fail> {
-    let alloc = rt.alloc();
-    let script = b"ring 7 x lex\nshow x\nshow x+1\nshow y";
-    let whole = "x\nx+1\nerror 4 name\n";
-    for call in 1..=36 {
-        let ports = Ports {
-            piece: 1,
-            failing_reads: &[call],
-            ..CALM
-        };
-        let (ended, text) = try_run(alloc, "p run", script.to_vec(alloc)?, &ports)?;
-        assert_eq!(rt; ended, Ended { status: 3, line: 0 });
-        assert_eq!(rt; text.as_str(), "");
-    }
-    for call in 1..=19 {
-        let ports = Ports {
-            piece: 1,
-            failing_writes: &[call],
-            ..CALM
-        };
-        let (ended, text) = try_run(alloc, "p run", script.to_vec(alloc)?, &ports)?;
-        assert_eq!(rt; ended, Ended { status: 4, line: 0 });
-        assert_eq!(rt; text.as_bytes(), &whole.as_bytes()[..call as usize - 1]);
-    }
-    let late = Ports {
+/// The text of the script that is run with faults.
+const WHOLE: &str = "x\nx+1\nerror 4 name\n";
+
+/// Runs a script of 36 bytes, byte by byte, over ports of which these calls fail.
+fn run_with_faults<R: Threads + Sync>(
+    rt: &R,
+    alloc: Global,
+    failing_reads: &[u64],
+    failing_writes: &[u64],
+) -> Result<Report, Fail> {
+    let ports = Ports {
         piece: 1,
-        failing_reads: &[37],
-        failing_writes: &[20],
+        failing_reads,
+        failing_writes,
         ..CALM
     };
-    let (ended, text) = try_run(alloc, "p run", script.to_vec(alloc)?, &late)?;
-    assert_eq!(rt; ended, Ended { status: 1, line: 4 });
-    assert_eq!(rt; text.as_str(), whole);
+    let script = b"ring 7 x lex\nshow x\nshow x+1\nshow y".to_vec(alloc)?;
+    told(rt, alloc, "p run", script, &ports)
+}
+
+/// Where a read fails nothing is written yet.
+#[test]
+fn failing_reads_are_told(rt: HostRuntime) -> Result<(), Fail> {
+    for call in 1..=36 {
+        let got = run_with_faults(&rt, rt.alloc(), &[call], &[])?;
+        assert_eq!(rt; got.text.as_str(), "");
+        assert_eq!(rt; got.ending.as_str(), "3 0");
+    }
     Ok(())
 }
 
+/// Where a write fails a front of the text is written.
+#[test]
+fn failing_writes_are_told(rt: HostRuntime) -> Result<(), Fail> {
+    for (written, _) in WHOLE.char_indices() {
+        let got = run_with_faults(&rt, rt.alloc(), &[], &[written as u64 + 1])?;
+        assert_eq!(rt; got.text.len(), written);
+        assert!(rt; WHOLE.starts_with(got.text.as_str()));
+        assert_eq!(rt; got.ending.as_str(), "4 0");
+    }
+    Ok(())
+}
+
+/// Calls that fail behind the last ones change nothing.
+#[test]
+fn later_faults_are_not_met(rt: HostRuntime) -> Result<(), Fail> {
+    let got = run_with_faults(&rt, rt.alloc(), &[37], &[20])?;
+    assert_eq!(rt; got.text.as_str(), WHOLE);
+    assert_eq!(rt; got.ending.as_str(), "1 4");
+    Ok(())
+}
+
+/// Words that are not of the form, and how many bytes the sink takes.
 #[test]
 fn other_words_are_told(rt: HostRuntime) -> Result<(), Fail> {
-    let alloc = rt.alloc();
-    for words in ["p", "p run --workers 0", "p large x", "p --help"] {
-        let (ended, text) = try_run(alloc, words, b"show\n".to_vec(alloc)?, &CALM)?;
-        assert_eq!(rt; ended, Ended { status: 2, line: 0 });
-        assert_eq!(rt; text.as_str(), "error words\n");
-    }
-    let narrow = Ports { room: 3, ..CALM };
-    let (ended, text) = try_run(alloc, "p ran", b"show\n".to_vec(alloc)?, &narrow)?;
-    assert_eq!(rt; ended, Ended { status: 4, line: 0 });
-    assert_eq!(rt; text.as_str(), "err");
-    Ok(())
-}
-
-#[test]
-fn words_are_read(rt: HostRuntime) -> Result<(), Fail> {
-    let alloc = rt.alloc();
-    for (words, workers, helpers, pairs) in [
-        ("p run", 2, 2, 1_000_000),
-        ("p run --workers 1", 1, 2, 1_000_000),
-        ("p run --workers 16 --helpers=1", 16, 1, 1_000_000),
-        ("p run --pairs 0 --helpers 16", 2, 16, 0),
-        ("p run --pairs=1000000000", 2, 2, 1_000_000_000),
+    for (words, room, text, ending) in [
+        ("p", 1000, "error words\n", "2 0"),
+        ("p run --workers 0", 1000, "error words\n", "2 0"),
+        ("p large x", 1000, "error words\n", "2 0"),
+        ("p --help", 1000, "error words\n", "2 0"),
+        ("p ran", 3, "err", "4 0"),
     ] {
-        let want = Request {
-            command: Command::Run,
-            workers,
-            helpers,
-            pairs,
-        };
-        assert_eq!(rt;
-            read_words(alloc, &owned(alloc, words)?),
-            Ok(want),
-            "at {words}"
-        );
+        let ports = Ports { room, ..CALM };
+        let script = b"show\n".to_vec(rt.alloc())?;
+        let got = told(&rt, rt.alloc(), words, script, &ports)?;
+        assert_eq!(rt; got.text.as_str(), text);
+        assert_eq!(rt; got.ending.as_str(), ending);
     }
-    for words in [
-        "p",
-        "p run more",
-        "p run --workers 0",
-        "p run --workers 17",
-        "p run --helpers 0",
-        "p run --helpers 17",
-        "p run --pairs 1000000001",
-        "p run --pairs 18446744073709551616",
-        "p run --workers 1 --workers 1",
-        "p run --pairs",
-        "p run --pairs x",
-        "p run --colour 1",
-        "p --workers 1 run",
-        "p large 1",
-        "p run --help",
-        "p --help",
-        "p --version",
-        "p help",
-    ] {
-        assert_eq!(rt;
-            read_words(alloc, &owned(alloc, words)?),
-            Err(WordStop::Words),
-            "at {words}"
-        );
-    }
-    assert_eq!(rt; read_words(alloc, &[]), Err(WordStop::Words));
     Ok(())
 }

@@ -1,36 +1,89 @@
 // The run of a script: from the bytes of a source to the bytes of a sink.
-ghost use Rattle.std.specs.Prelude.{◌≡◌, ◌≢◌, ◌≤◌, map, codes, string_bytes, Err, IfErr, OnOk};
+ghost use Rattle.std.specs.Prelude.{◌≡◌, ◌≢◌, ◌≤◌, map, codes, string_bytes, Err, IfErr, None, OnOk};
 ghost use Rattle.std.specs.Io.KnownBytes.{Appends};
 ghost use Rattle.byte_ports.specs.Causes.{Rose};
-ghost use Rattle.session_top.specs.Command.{IsForm};
+ghost use Rattle.session_top.specs.Command.{IsForm, request_of};
 ghost use Rattle.session_top.specs.Meaning.{Done};
-ghost use Rattle.session_top.specs.Run.{Meant, MeantRefused, ReadCut, WriteCut, MemoryCut, RunStops, WordsEnd, IsComplete};
+ghost use Rattle.session_top.specs.Stops.{stop_status};
+ghost use Rattle.session_top.specs.Run.{Meant, MeantRefused, ReadCut, WriteCut, MemoryCut, RunStops, StoppedByDegree, StoppedByPairs, WordsEnd, IsComplete};
 
 use crate::SCRIPT_LIMIT;
-use crate::lines::{Early, do_lines};
+use crate::early::{Early, Kept};
+use crate::lines::do_lines;
 use crate::reading::read_script;
 use crate::words::{WordStop, read_words};
+use basis_core::BasisState;
 use byte_ports::{Sink, Source, write_all_to};
+use module_vectors::KeptTrail;
+use session_lang::one_result;
 use std::alloc::Global;
+use std::thread::Threads;
 use worker_gate::Gate;
 
 /// How a run ended.
-#[derive(Clone, Copy, Debug, PartialEq, Eq)]
+#[derive(Drop)]
 pub struct Ended {
     /// 0: all lines were done and the input was read to its end. 1: a line was refused, or the script
     /// is too long. 2: the words are not of the form. 3: a read failed. 4: a write failed. 5: memory
-    /// ran out.
+    /// ran out. 6: a basis run met its budget of pairs. 7: a product of total degree above 65,535 was
+    /// needed.
     pub status: u8,
 
-    /// The line that was refused (0 for the length of the script), or under status 5 the line that
-    /// was being done (0 where none was); else 0.
+    /// The line that was refused (0 for the length of the script) or that stopped, or under status 5
+    /// the line that was being done (0 where none was); else 0.
     pub line: u32,
+
+    /// Under status 6 the state of the run that met its budget; under 7 that of the run in which the
+    /// product was met, if it had begun.
+    pub kept: Option<BasisState>,
+
+    /// Under status 7 how the product was met.
+    pub trail: Option<KeptTrail>,
 }
 
-/// Reads a script and runs it.
-fn run_script<S: Source, K: Sink>(alloc: Global, source: &mut S, sink: &mut K) -> Result<(), Early>
+/// An ending with this status and line, of which nothing is kept.
+fn plain_ending(status: u8, line: u32) -> Ended
+    ensures status { result.status ≡ status }
+    ensures line { result.line ≡ line }
+    ensures kept { result.kept ≡ None }
+    ensures trail { result.trail ≡ None }
+{
+    Ended {
+        status,
+        line,
+        kept: None,
+        trail: None,
+    }
+}
+
+/// The ending of a line that stopped: status 7 with a trail, and else 6.
+fn stop_ending(line: u32, kept: Kept) -> Ended
+    ensures status { result.status ≡ stop_status kept.trail }
+    ensures line { result.line ≡ line }
+    ensures kept { result.kept ≡ kept.state }
+    ensures trail { result.trail ≡ kept.trail }
+    ensures least { 6 ≤ result.status }
+    ensures most { result.status ≤ 7 }
+    ensures only { result.status ≢ 7 → result.trail ≡ None }
+{
+    Ended {
+        status: if kept.trail.is_some() { 7 } else { 6 },
+        line,
+        kept: kept.state,
+        trail: kept.trail,
+    }
+}
+
+/// Reads a script and runs it, with this budget of pairs for each basis run.
+fn run_script<R: Threads + Sync, S: Source, K: Sink>(
+    rt: &R,
+    alloc: Global,
+    pairs: u64,
+    source: &mut S,
+    sink: &mut K,
+) -> Result<(), Early>
     ensures done { OnOk result (Meant (S.left source.old) (S.left source.new) (K.taken sink.old) (K.taken sink.new) Done) }
-    ensures stops { IfErr result (RunStops (S.left source.old) (S.left source.new) (K.taken sink.old) (K.taken sink.new)) }
+    ensures stops { IfErr result (RunStops (S.left source.old) (S.left source.new) (K.taken sink.old) (K.taken sink.new) pairs) }
     ensures read { result ≡ Err Early.ReadFault → Rose (S.faults source.old) (S.faults source.new) }
     ensures write { result ≡ Err Early.WriteFault → Rose (K.faults sink.old) (K.faults sink.new) }
     ensures read_later { S.faults source.old ≤ S.faults source.new }
@@ -39,7 +92,7 @@ fn run_script<S: Source, K: Sink>(alloc: Global, source: &mut S, sink: &mut K) -
     match read_script(alloc, source) {
         Ok(script) => {
             let text = &script[..SCRIPT_LIMIT.min(script.len())];
-            do_lines(alloc, sink, text, script.len() > SCRIPT_LIMIT)
+            do_lines(rt, alloc, pairs, sink, text, script.len() > SCRIPT_LIMIT)
         }
         Err(early) => Err(early),
     }
@@ -48,17 +101,21 @@ fn run_script<S: Source, K: Sink>(alloc: Global, source: &mut S, sink: &mut K) -
 /// Runs the script that the source gives, as the words ask, and writes its text into the sink.
 ///
 /// The script is read whole and then done line by line. The text of a line is written only when the
-/// line is done; a refused line writes its error line and ends the run. Words that are not of the
-/// form write `error words`, and nothing is read then. The gate is for the workers of basis runs.
-pub fn run<S: Source, K: Sink, G: Gate + Sync>(
+/// line is done; a refused line writes its error line, and one that stops its stop line, and both end
+/// the run. Words that are not of the form write `error words`, and nothing is read then. Basis runs
+/// take as many pairs each as the words say, with one worker. The gate is for further workers.
+pub fn run<R: Threads + Sync, S: Source, K: Sink, G: Gate + Sync>(
+    rt: &R,
     alloc: Global,
     words: &[String],
     source: &mut S,
     sink: &mut K,
     _gate: &G,
 ) -> Ended
-    ensures range { result.status ≤ 5 }
-    ensures line { result.status ≢ 1 → result.status ≢ 5 → result.line ≡ 0 }
+    ensures range { result.status ≤ 7 }
+    ensures line { result.status ≢ 1 → result.status ≢ 5 → result.status ≢ 6 → result.status ≢ 7 → result.line ≡ 0 }
+    ensures kept { result.status ≢ 6 → result.status ≢ 7 → result.kept ≡ None }
+    ensures trail { result.status ≢ 7 → result.trail ≡ None }
 
     // Statuses 0 and 1: what was read has this meaning, and its text is what was written.
     ensures done { result.status ≡ 0 → Meant (S.left source.old) (S.left source.new) (K.taken sink.old) (K.taken sink.new) Done }
@@ -77,32 +134,43 @@ pub fn run<S: Source, K: Sink, G: Gate + Sync>(
         → ReadCut (S.left source.old) (S.left source.new) (K.taken sink.old) (K.taken sink.new) }
     ensures write_fault { result.status ≡ 4 → Rose (K.faults sink.old) (K.faults sink.new) }
     ensures write_cut { result.status ≡ 4 → IsForm (map string_bytes words.now)
-        → WriteCut (S.left source.old) (S.left source.new) (K.taken sink.old) (K.taken sink.new) }
+        → WriteCut (S.left source.old) (S.left source.new) (K.taken sink.old) (K.taken sink.new) (request_of (map string_bytes words.now)).pairs }
 
     // Want of memory is the one free answer.
     ensures memory { result.status ≡ 5
         → MemoryCut (S.left source.old) (S.left source.new) (K.taken sink.old) (K.taken sink.new) result.line }
 
-    // Where no count rose, a script that has a meaning ends as it means, or memory ran out.
+    // Status 6: a run of this line took as many pairs as the words allow, and one more was to be looked at.
+    ensures pairs { result.status ≡ 6
+        → StoppedByPairs (S.left source.old) (S.left source.new) (K.taken sink.old) (K.taken sink.new) (request_of (map string_bytes words.now)).pairs result.line result.kept result.trail }
+
+    // Status 7: this line led to a product of too great a degree.
+    ensures degree { result.status ≡ 7
+        → StoppedByDegree (S.left source.old) (S.left source.new) (K.taken sink.old) (K.taken sink.new) (request_of (map string_bytes words.now)).pairs result.line result.kept result.trail }
+
+    // Where no count rose, a script that has a meaning ends as it means, or memory ran out, or a line stopped.
     ensures complete { IsForm (map string_bytes words.now)
         → (Rose (S.faults source.old) (S.faults source.new) → ⊥) → (Rose (K.faults sink.old) (K.faults sink.new) → ⊥)
         → IsComplete (S.left source.old) (S.left source.new) (K.taken sink.old) (K.taken sink.new) result.status result.line }
 {
-    match read_words(alloc, words) {
-        Ok(_) => {}
-        Err(WordStop::Memory) => return Ended { status: 5, line: 0 },
+    let request = match read_words(alloc, words) {
+        Ok(request) => request,
+        Err(WordStop::Memory) => return plain_ending(5, 0),
         Err(WordStop::Words) => {
             return match write_all_to(sink, b"error words\n") {
-                Ok(()) => Ended { status: 2, line: 0 },
-                Err(_) => Ended { status: 4, line: 0 },
+                Ok(()) => plain_ending(2, 0),
+                Err(_) => plain_ending(4, 0),
             };
         }
-    }
-    match run_script(alloc, source, sink) {
-        Ok(()) => Ended { status: 0, line: 0 },
-        Err(Early::Refused(line)) => Ended { status: 1, line },
-        Err(Early::ReadFault) => Ended { status: 3, line: 0 },
-        Err(Early::WriteFault) => Ended { status: 4, line: 0 },
-        Err(Early::NoMemory(line)) => Ended { status: 5, line },
+    };
+    // A script has one meaning, because each line has one result.
+    one_result();
+    match run_script(rt, alloc, request.pairs, source, sink) {
+        Ok(()) => plain_ending(0, 0),
+        Err(Early::Refused(line)) => plain_ending(1, line),
+        Err(Early::ReadFault) => plain_ending(3, 0),
+        Err(Early::WriteFault) => plain_ending(4, 0),
+        Err(Early::NoMemory(line)) => plain_ending(5, line),
+        Err(Early::Stopped(line, kept)) => stop_ending(line, kept),
     }
 }

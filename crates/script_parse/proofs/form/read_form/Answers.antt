@@ -1,6 +1,12 @@
-use Rattle.script_parse.specs.Written.{ring_word, show_word}
+use Rattle.std.proofs.Common.{ap, map}
+use Rattle.poly_grammar.specs.Lexemes.{lexeme}
+use Rattle.script_parse.specs.Written.{division_word, equal_word, ideal_word, nothing, question_word, ring_word, show_word}
 use Rattle.script_parse.proofs.Lines.{word_read}
+use Rattle.script_parse.proofs.Pieces.{nil_of}
 use Rattle.script_parse.proofs.form.read_form.Goals as goal
+
+pub returns-in_default : goal.returns-in_default
+returns-in_default c = (nothing, ap (λ l. map lexeme l) (nil_of c.args.tokens.now c.in_default.ensures.cases), tt)
 
 pub returns-then-is_word : goal.returns-then-is_word
 returns-then-is_word c =
@@ -9,5 +15,25 @@ returns-then-is_word c =
 
 pub returns-then-is_word-2 : goal.returns-then-is_word-2
 returns-then-is_word-2 c =
-    let says = c.is_word-else-is_word.ensures.0 c.if-is_word-2.true in
+    let says = c.is_word-2.ensures.0 c.if-is_word-2.true in
     word_read c.args.line.now show_word c.args.tokens.now c.in-Some.behind.now c.in-Some.word.now c.show_form.result says.0 says.1 c.in-Some.ensures.cases.0 (c.show_form.ensures c.args.line.now)
+
+pub returns-then-is_word-3 : goal.returns-then-is_word-3
+returns-then-is_word-3 c =
+    let says = c.is_word-3.ensures.0 c.if-is_word-3.true in
+    word_read c.args.line.now ideal_word c.args.tokens.now c.in-Some.behind.now c.in-Some.word.now c.ideal_form.result says.0 says.1 c.in-Some.ensures.cases.0 (c.ideal_form.ensures c.args.line.now)
+
+pub returns-then-is_word-4 : goal.returns-then-is_word-4
+returns-then-is_word-4 c =
+    let says = c.is_word-4.ensures.0 c.if-is_word-4.true in
+    word_read c.args.line.now equal_word c.args.tokens.now c.in-Some.behind.now c.in-Some.word.now c.equal_form.result says.0 says.1 c.in-Some.ensures.cases.0 (c.equal_form.ensures c.args.line.now)
+
+pub returns-in-Some-question_of : goal.returns-in-Some-question_of
+returns-in-Some-question_of c =
+    let says = c.in-Some-question_of.ensures.found in
+    word_read c.args.line.now (question_word c.in-Some-question_of.question) c.args.tokens.now c.in-Some.behind.now c.in-Some.word.now c.ask_form.result says.0 says.1 c.in-Some.ensures.cases.0 (c.ask_form.ensures c.args.line.now)
+
+pub returns-in-Some-division_of : goal.returns-in-Some-division_of
+returns-in-Some-division_of c =
+    let says = c.in-Some-division_of.ensures.found in
+    word_read c.args.line.now (division_word c.in-Some-division_of.division) c.args.tokens.now c.in-Some.behind.now c.in-Some.word.now c.divide_form.result says.0 says.1 c.in-Some.ensures.cases.0 (c.divide_form.ensures c.args.line.now)

@@ -1,4 +1,4 @@
-use Rattle.std.proofs.Common.{◌≡◌, true, false, sym, ap, ◌∙◌, subst, map}
+use Rattle.std.proofs.Common.{◌≡◌, true, sym, subst, map}
 use Rattle.std.specs.List.{AllByRecursion}
 use Rattle.poly_grammar.specs.Lexemes.{lexeme}
 use Rattle.poly_grammar.specs.Numerals.{NumeralFits}

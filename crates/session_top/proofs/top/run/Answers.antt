@@ -1,21 +1,37 @@
-use Rattle.std.proofs.Common.{[], inr, refl, sym, subst}
+use Rattle.std.proofs.Common.{[], sym, ap, map, string_bytes, ◌≡◌, ◌∙◌}
 use Rattle.std.proofs.KnownBytes.{Consumes-nil, Keeps-refl}
-use Rattle.session_top.specs.Meaning.{Done}
-use Rattle.session_top.specs.Run.{Answers}
-use Rattle.session_top.proofs.Complete.{complete, refused_answers}
-use Rattle.session_top.proofs.Whole.{nothing_done}
+use Rattle.session_top.specs.Command.{request_of}
+use Rattle.session_top.specs.Stops.{stop_status}
+use Rattle.session_top.specs.declared.words.Request.{Request}
+use Rattle.session_top.proofs.Complete.{LineLaws, done_complete, refused_complete}
+use Rattle.session_top.proofs.Whole.{as_told, nothing_done, stopped_by_degree, stopped_by_pairs}
 use Rattle.session_top.proofs.top.run.Goals as goal
 
 pub returns-in-Err-Memory-clause-memory : goal.returns-in-Err-Memory-clause-memory
-returns-in-Err-Memory-clause-memory g c five = nothing_done _ _ _ _ [] (Consumes-nil _) (Keeps-refl _)
+returns-in-Err-Memory-clause-memory g c five = rw (c.plain_ending.ensures.line) (nothing_done _ _ _ _ [] (Consumes-nil _) (Keeps-refl _))
 
 pub returns-in-Ok-run_script-clause-complete : goal.returns-in-Ok-run_script-clause-complete
-returns-in-Ok-run_script-clause-complete g c form calm_source calm_sink script text ending told means =
-    let all = complete _ _ _ _ Done c.in-Ok-run_script.ensures.done script text ending told means in
-    inr (subst (Answers 0 0) (sym all.1) (refl, refl), all.0, all.2)
+returns-in-Ok-run_script-clause-complete g c form calm_source calm_sink =
+    let laws : LineLaws = record { done = c.one_result.ensures.done; kind = c.one_result.ensures.kind; apart = c.one_result.ensures.apart } in
+    rw (c.plain_ending-in-Ok-run_script.ensures.status, c.plain_ending-in-Ok-run_script.ensures.line)
+    (done_complete laws _ _ _ _ c.in-Ok-run_script.ensures.done)
 
 pub returns-in-Err-Refused-clause-complete : goal.returns-in-Err-Refused-clause-complete
-returns-in-Err-Refused-clause-complete g c form calm_source calm_sink script text ending told means =
-    let why = rw c.in-Err-Refused.field-0-is at c.in-Err-Refused.ensures.stops in
-    let all = complete _ _ _ _ _ why.meant script text ending told means in
-    inr (refused_answers c.in-Err-Refused.line _ ending all.1, all.0, all.2)
+returns-in-Err-Refused-clause-complete g c form calm_source calm_sink =
+    let laws : LineLaws = record { done = c.one_result.ensures.done; kind = c.one_result.ensures.kind; apart = c.one_result.ensures.apart } in
+    rw (c.plain_ending-in-Err-Refused.ensures.status, c.plain_ending-in-Err-Refused.ensures.line)
+    (refused_complete laws _ _ _ _ _ (rw c.in-Err-Refused.field-0-is at c.in-Err-Refused.ensures.stops))
+
+pub returns-in-Err-Stopped-clause-pairs : goal.returns-in-Err-Stopped-clause-pairs
+returns-in-Err-Stopped-clause-pairs g c six =
+    let why = rw c.in-Err-Stopped.field-0-is at c.in-Err-Stopped.ensures.stops in
+    let asked : (request_of (map string_bytes c.args.words.now)).pairs ≡ c.in-Ok.request.pairs = sym (ap (λ (r : Request). r.pairs) c.in-Ok.ensures.request) in
+    stopped_by_pairs _ _ _ _ _ _ _ _ (as_told _ _ _ _ _ _ _ _ _ _ _ _ asked c.stop_ending.ensures.line c.stop_ending.ensures.kept c.stop_ending.ensures.trail why)
+    (ap stop_status c.stop_ending.ensures.trail ∙ sym c.stop_ending.ensures.status ∙ six)
+
+pub returns-in-Err-Stopped-clause-degree : goal.returns-in-Err-Stopped-clause-degree
+returns-in-Err-Stopped-clause-degree g c seven =
+    let why = rw c.in-Err-Stopped.field-0-is at c.in-Err-Stopped.ensures.stops in
+    let asked : (request_of (map string_bytes c.args.words.now)).pairs ≡ c.in-Ok.request.pairs = sym (ap (λ (r : Request). r.pairs) c.in-Ok.ensures.request) in
+    stopped_by_degree _ _ _ _ _ _ _ _ (as_told _ _ _ _ _ _ _ _ _ _ _ _ asked c.stop_ending.ensures.line c.stop_ending.ensures.kept c.stop_ending.ensures.trail why)
+    (ap stop_status c.stop_ending.ensures.trail ∙ sym c.stop_ending.ensures.status ∙ seven)

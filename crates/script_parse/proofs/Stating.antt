@@ -1,0 +1,152 @@
+-- What is worked out is what the line says
+use Rattle.std.proofs.Common.{◌≡◌, ℕ, cond, Bool, true, false, List, [], ◌∷◌, length, map, Option, Some, None, Vec, Global, refl, sym, ap, ap₂, subst, ◌∙◌}
+use Rattle.std.proofs.lemmas.List.{length-map}
+use Rattle.std.specs.List.{AllByRecursion, list_all}
+use Rattle.std.specs.Prelude.{is_some, string_bytes}
+use Rattle.script_tokens.specs.declared.token.Token.{Token}
+use Rattle.poly_grammar.specs.Algebras.{Algebra, worth, worth_of_steps}
+use Rattle.poly_grammar.specs.Degrees.{degrees}
+use Rattle.poly_grammar.specs.Numerals.{text_of, value_of}
+use Rattle.poly_grammar.specs.Steps.{steps}
+use Rattle.poly_grammar.specs.Trees.{Poly}
+use Rattle.poly_grammar.specs.declared.step.Step.{Step}
+use Rattle.poly_grammar.specs.declared.step.Step.TheVariants.{Name}
+use Rattle.poly_grammar.proofs.Worths.{worth_is_left}
+use Rattle.module_vectors.specs.Rings.{ring_comparison, variables}
+use Rattle.module_vectors.specs.Vectors.{HasPositions, IsVectorOver}
+use Rattle.module_vectors.specs.declared.key.Key.{Key}
+use Rattle.module_vectors.specs.declared.ring.Ring.{Ring}
+use Rattle.poly_value.specs.Values.{place_of, polynomials_of}
+use Rattle.script_parse.specs.Forms.{AreWorths, HaveNumerals, IsLineOf, IsWorkable, IsWorth, StandsForEntries, is_known, is_no_value, known_names, knows, low_degree, names_pass, right_kinds}
+use Rattle.script_parse.specs.Refusals.{rank_named}
+use Rattle.script_parse.specs.Statements.{ArePolynomialsOf, IsPolynomialOf, IsVectorOf, Says}
+use Rattle.script_parse.specs.Written.{Written, divide_line, ideal_line, show_line}
+use Rattle.script_parse.specs.declared.form.Division.TheVariants.{Member, NormalForm}
+use Rattle.script_parse.specs.declared.form.Head.{Head}
+use Rattle.script_parse.specs.declared.form.Head.TheVariants as heads
+use Rattle.script_parse.specs.declared.named.NameInfo.{NameInfo}
+use Rattle.script_parse.specs.declared.stated.Statement.TheVariants as statements
+use Rattle.script_parse.proofs.Testing.{both_true}
+use Rattle.script_parse.proofs.Working.{has_worth}
+
+-- ---- what passed the tests can be worked out
+
+is_variable : (vars : List (List ℕ)) (infos : List NameInfo) (text : List ℕ) → is_known vars infos text ≡ true → is_no_value infos text ≡ true → is_some (place_of vars text) ≡ true
+is_variable vars infos text e f = by_cases (is_some (place_of vars text)) (is_some (rank_named infos text)) refl refl
+  where
+    by_cases : (a b : Bool) → is_some (place_of vars text) ≡ a → is_some (rank_named infos text) ≡ b → is_some (place_of vars text) ≡ true
+    by_cases true b p q = p
+    by_cases false true p q = absurd cc
+    by_cases false false p q = absurd cc
+
+only_variables : (vars : List (List ℕ)) (infos : List NameInfo) (line : List ℕ) (xs : List Step) → names_pass (is_known vars infos) line xs ≡ true → names_pass (is_no_value infos) line xs ≡ true → knows vars line xs ≡ true
+only_variables vars infos line [] e f = refl
+only_variables vars infos line (Name t ∷ xs) e f = by_tests (is_known vars infos (text_of line t)) (is_no_value infos (text_of line t)) refl refl e f (λ g h. only_variables vars infos line xs g h)
+  where
+    by_tests : (a b : Bool) → is_known vars infos (text_of line t) ≡ a → is_no_value infos (text_of line t) ≡ b → cond a (names_pass (is_known vars infos) line xs) false ≡ true → cond b (names_pass (is_no_value infos) line xs) false ≡ true
+        → (names_pass (is_known vars infos) line xs ≡ true → names_pass (is_no_value infos) line xs ≡ true → knows vars line xs ≡ true) → knows vars line (Name t ∷ xs) ≡ true
+    by_tests true true p q g h later = let v = is_variable vars infos (text_of line t) p q in ap (λ b. cond b (knows vars line xs) false) v ∙ later g h
+    by_tests true false p q g h later = absurd cc
+    by_tests false b p q g h later = absurd cc
+only_variables vars infos line (_ ∷ xs) e f = only_variables vars infos line xs e f
+
+low : (o : Option ℕ) → is_some o ≡ true → (d : ℕ) × (o ≡ Some d)
+low None e = absurd cc
+low (Some d) e = (d, refl)
+
+able : (ring : Ring) (infos : List NameInfo) (line : List ℕ) (pieces : List (Vec Step Global))
+    → list_all (λ v. names_pass (is_known ring.vars infos) line v.items) pieces ≡ true → list_all (λ v. names_pass (is_no_value infos) line v.items) pieces ≡ true
+    → list_all (λ v. low_degree line v.items) pieces ≡ true → AllByRecursion (HaveNumerals line) pieces → AllByRecursion (IsWorkable ring line) pieces
+able ring infos line [] n k d h = tt
+able ring infos line (v ∷ pieces) n k d h =
+    let ns = both_true (names_pass (is_known ring.vars infos) line v.items) (list_all (λ v. names_pass (is_known ring.vars infos) line v.items) pieces) n in
+    let ks = both_true (names_pass (is_no_value infos) line v.items) (list_all (λ v. names_pass (is_no_value infos) line v.items) pieces) k in
+    let ds = both_true (low_degree line v.items) (list_all (λ v. low_degree line v.items) pieces) d in
+    let degree = low (worth_of_steps (degrees (value_of line)) v.items) ds.0 in
+    let worth = has_worth (variables ring) ring.modulus.value ring.vars line v.items degree.0 (only_variables ring.vars infos line v.items ns.0 ks.0) degree.1 in
+    (record { worth = worth; degree = degree; numerals = h.0 }, able ring infos line pieces ns.1 ks.1 ds.1 h.1)
+
+pub workable : (ring : Ring) (infos : List NameInfo) (line : List ℕ) (head : Head) (pieces : List (Vec Step Global))
+    → known_names ring.vars infos line head pieces ≡ true → right_kinds ring.vars infos line head pieces ≡ true → list_all (λ v. low_degree line v.items) pieces ≡ true
+    → AllByRecursion (HaveNumerals line) pieces → AllByRecursion (IsWorkable ring line) pieces
+workable ring infos line head pieces n k d h = able ring infos line pieces (both_true _ (list_all (λ v. names_pass (is_known ring.vars infos) line v.items) pieces) n).1 (both_true _ (list_all (λ v. names_pass (is_no_value infos) line v.items) pieces) k).1 d h
+
+-- ---- what is worked out
+
+polynomial_of : (ring : Ring) (line : List ℕ) (p : Poly) (v : Vec Step Global) (u : List (Key × ℕ)) → v.items ≡ steps p → IsWorkable ring line v → IsWorth ring line v.items u → IsPolynomialOf ring line p u
+polynomial_of ring line p v u e able w = (
+  w.vector,
+  w.polynomial,
+  record {
+    value = able.worth.0;
+    worth_is = sym (worth_is_left (polynomials_of ring line) p) ∙ ap (worth_of_steps (polynomials_of ring line)) (sym e) ∙ able.worth.1;
+    stands = w.value able.worth.0 able.worth.1;
+  },
+)
+
+polynomials_are : (ring : Ring) (line : List ℕ) (pieces : List (Vec Step Global)) (ps : List Poly) (us : List (List (Key × ℕ))) → map (λ v. v.items) pieces ≡ map steps ps → AllByRecursion (IsWorkable ring line) pieces → AreWorths ring line pieces us → ArePolynomialsOf ring line ps us
+polynomials_are ring line [] [] [] e able w = tt
+polynomials_are ring line [] [] (u ∷ us) e able w = absurd w
+polynomials_are ring line [] (p ∷ ps) us e able w = absurd cc
+polynomials_are ring line (v ∷ pieces) [] us e able w = absurd cc
+polynomials_are ring line (v ∷ pieces) (p ∷ ps) [] e able w = absurd w
+polynomials_are ring line (v ∷ pieces) (p ∷ ps) (u ∷ us) e able w =
+    let head : v.items ≡ steps p = cc in
+    let tail : map (λ v. v.items) pieces ≡ map steps ps = cc in
+    (polynomial_of ring line p v u head able.0 w.0, polynomials_are ring line pieces ps us tail able.1 w.1)
+
+worths_of : {A : Type 0} (g : Algebra A) (pieces : List (Vec Step Global)) (ps : List Poly) → map (λ v. v.items) pieces ≡ map steps ps → map (λ v. worth_of_steps g v.items) pieces ≡ map (worth g) ps
+worths_of g [] [] e = refl
+worths_of g [] (p ∷ ps) e = absurd cc
+worths_of g (v ∷ pieces) [] e = absurd cc
+worths_of g (v ∷ pieces) (p ∷ ps) e =
+    let head : v.items ≡ steps p = cc in
+    let tail : map (λ v. v.items) pieces ≡ map steps ps = cc in
+    ap₂ (λ x l. x ∷ l) (ap (worth_of_steps g) head ∙ worth_is_left g p) (worths_of g pieces ps tail)
+
+vector_is : (ring : Ring) (line : List ℕ) (pieces : List (Vec Step Global)) (ps : List Poly) (u : List (Key × ℕ)) → map (λ v. v.items) pieces ≡ map steps ps
+    → IsVectorOver ring (ring_comparison ring) u → HasPositions (length pieces) u → StandsForEntries ring line pieces u → IsVectorOf ring line ps u
+vector_is ring line pieces ps u e vector positions stands = (
+  vector,
+  subst (λ k. HasPositions k u) (sym (length-map pieces (λ v. v.items)) ∙ ap length e ∙ length-map ps steps) positions,
+  record { entries = stands.entries; worths_are = sym (worths_of (polynomials_of ring line) pieces ps e) ∙ stands.worths_are; stands = stands.stands },
+)
+
+-- ---- what is said
+
+pub show_says : (ring : Ring) (line : List ℕ) (pieces more : List (Vec Step Global)) (v : Vec Step Global) (u : List (Key × ℕ)) → pieces ≡ v ∷ more → AllByRecursion (IsWorkable ring line) pieces → IsWorth ring line v.items u
+    → (w : Written) → IsLineOf heads.Show pieces w → Says (Some ring) line w (statements.Show u)
+show_says ring line pieces more v u e able worth (show_line p) is =
+    let all : map (λ v. v.items) (v ∷ more) ≡ steps p ∷ [] = ap (λ l. map (λ v. v.items) l) (sym e) ∙ is.steps_are in
+    let head : v.items ≡ steps p = cc in
+    let one = subst (λ l. AllByRecursion (IsWorkable ring line) l) e able in
+    polynomial_of ring line p v u head one.0 worth
+show_says ring line pieces more v u e able worth _ is = let h = is.head_is in absurd cc
+
+pub ideal_says : (ring : Ring) (line : List ℕ) (pieces : List (Vec Step Global)) (given : Token) (name : _) (us : List (List (Key × ℕ))) → string_bytes name ≡ text_of line given → AllByRecursion (IsWorkable ring line) pieces → AreWorths ring line pieces us
+    → (w : Written) → IsLineOf (heads.Ideal given) pieces w → Says (Some ring) line w (statements.Ideal name us)
+ideal_says ring line pieces given name us e able worths (ideal_line t ps) is =
+    let h = is.head_is in
+    let same : given ≡ t = cc in
+    (e ∙ ap (text_of line) same, polynomials_are ring line pieces ps us is.steps_are able worths)
+ideal_says ring line pieces given name us e able worths _ is = let h = is.head_is in absurd cc
+
+pub normal_says : (ring : Ring) (line : List ℕ) (pieces : List (Vec Step Global)) (value : Token) (name : _) (u : List (Key × ℕ)) → string_bytes name ≡ text_of line value
+    → IsVectorOver ring (ring_comparison ring) u → HasPositions (length pieces) u → StandsForEntries ring line pieces u
+    → (w : Written) → IsLineOf (heads.Divide NormalForm value) pieces w → Says (Some ring) line w (statements.NormalForm name u)
+normal_says ring line pieces value name u e vector positions stands (divide_line NormalForm t ps) is =
+    let h = is.head_is in
+    let same : value ≡ t = cc in
+    (e ∙ ap (text_of line) same, vector_is ring line pieces ps u is.steps_are vector positions stands)
+normal_says ring line pieces value name u e vector positions stands (divide_line Member t ps) is = let h = is.head_is in absurd cc
+normal_says ring line pieces value name u e vector positions stands _ is = let h = is.head_is in absurd cc
+
+pub member_says : (ring : Ring) (line : List ℕ) (pieces : List (Vec Step Global)) (value : Token) (name : _) (u : List (Key × ℕ)) → string_bytes name ≡ text_of line value
+    → IsVectorOver ring (ring_comparison ring) u → HasPositions (length pieces) u → StandsForEntries ring line pieces u
+    → (w : Written) → IsLineOf (heads.Divide Member value) pieces w → Says (Some ring) line w (statements.Member name u)
+member_says ring line pieces value name u e vector positions stands (divide_line Member t ps) is =
+    let h = is.head_is in
+    let same : value ≡ t = cc in
+    (e ∙ ap (text_of line) same, vector_is ring line pieces ps u is.steps_are vector positions stands)
+member_says ring line pieces value name u e vector positions stands (divide_line NormalForm t ps) is = let h = is.head_is in absurd cc
+member_says ring line pieces value name u e vector positions stands _ is = let h = is.head_is in absurd cc

@@ -1,0 +1,332 @@
+-- The tests of a line's names, ranks and degrees
+use Rattle.std.proofs.Common.{◌≡◌, ℕ, zero, suc, ◌+◌, ◌<◌, ◌≤◌, ◌⊎◌, inl, inr, cond, nat_eq, Bool, true, false, List, [], ◌∷◌, length, map, Option, Some, None, Vec, Global, refl, sym, ap, ap₂, subst, ◌∙◌, arith}
+use Rattle.std.proofs.lemmas.List.{length-map}
+use Rattle.std.proofs.lemmas.Bool.Decides.{nat_tests}
+use Rattle.std.specs.Cmp.Lexicographic.{pointwise, same_text, other_text}
+use Rattle.std.specs.List.{list_all}
+use Rattle.std.specs.Option.{option_map}
+use Rattle.std.specs.Prelude.{Contains, is_some, nat_le, not, ◌&&◌, ◌||◌}
+use Rattle.script_tokens.specs.declared.token.Token.{Token}
+use Rattle.poly_grammar.specs.Degrees.{formal_degree}
+use Rattle.poly_grammar.specs.Lexemes.{names_in}
+use Rattle.poly_grammar.specs.Numerals.{text_of, value_of}
+use Rattle.poly_grammar.specs.Steps.{names_of_steps, steps}
+use Rattle.poly_grammar.specs.Trees.{Poly, spelling}
+use Rattle.poly_grammar.specs.declared.step.Step.{Step}
+use Rattle.poly_grammar.specs.declared.step.Step.TheVariants.{Name}
+use Rattle.poly_grammar.proofs.Names.{steps_have_names}
+use Rattle.poly_value.specs.Values.{place_of}
+use Rattle.module_vectors.specs.declared.ring.Ring.{Ring}
+use Rattle.script_parse.specs.Forms.{IsLineOf, given_name, head_of, is_known, is_no_value, is_no_variable, known_names, low_degree, names_pass, places, rank_fits, right_kinds, same_rank}
+use Rattle.script_parse.specs.Refusals.{HasGreatDegree, HasOtherKind, HasOtherRank, HasUnknownName, IsNamed, StandsInPoly, rank_named}
+use Rattle.script_parse.specs.Written.{Written, ask_line, divide_line, equal_line, given_by, ideal_line, nothing, polys_of, ring_line, show_line, value_places}
+use Rattle.script_parse.specs.declared.form.Head.{Head}
+use Rattle.script_parse.specs.declared.form.Head.TheVariants as heads
+use Rattle.script_parse.specs.declared.named.NameInfo.{NameInfo}
+use Rattle.script_parse.proofs.Working.{degree_of_steps}
+
+-- a text has a place among names exactly where it is one of them
+contains_later : (xs : List (List ℕ)) (x word : List ℕ) → Contains xs word → Contains (x ∷ xs) word
+contains_later xs x word c = (suc c.0, (let lt = c.1 in omega arith), c.2)
+
+later_place : (o : Option ℕ) → is_some (option_map (λ i. i + 1) o) ≡ is_some o
+later_place None = refl
+later_place (Some i) = refl
+
+placed : (vars : List (List ℕ)) (word : List ℕ) → is_some (place_of vars word) ≡ true → Contains vars word
+placed [] word e = absurd cc
+placed (v ∷ vars) word e = by_test (pointwise nat_eq v word) refl e (λ h. placed vars word h)
+  where
+    by_test : (b : Bool) → pointwise nat_eq v word ≡ b → is_some (cond b (Some 0) (option_map (λ i. i + 1) (place_of vars word))) ≡ true → (is_some (place_of vars word) ≡ true → Contains vars word) → Contains (v ∷ vars) word
+    by_test true q h later = (0, omega arith, same_text v word (sym q))
+    by_test false q h later = contains_later vars v word (later (sym (later_place (place_of vars word)) ∙ h))
+
+not_placed : (vars : List (List ℕ)) (word : List ℕ) → is_some (place_of vars word) ≡ false → Contains vars word → ⊥
+not_placed [] word e c = omega (arith, c.1)
+not_placed (v ∷ vars) word e c = by_test (pointwise nat_eq v word) refl e c (λ h d. not_placed vars word h d)
+  where
+    by_test : (b : Bool) → pointwise nat_eq v word ≡ b → is_some (cond b (Some 0) (option_map (λ i. i + 1) (place_of vars word))) ≡ false → Contains (v ∷ vars) word → (is_some (place_of vars word) ≡ false → Contains vars word → ⊥) → ⊥
+    by_test true q h d later = absurd cc
+    by_test false q h (zero, lt, is) later = other_text v word (sym q) is
+    by_test false q h (suc i, lt, is) later = later (sym (later_place (place_of vars word)) ∙ h) (i, omega arith, is)
+
+-- ---- tests
+
+pub both_true : (a b : Bool) → (a && b) ≡ true → (a ≡ true) × (b ≡ true)
+both_true true b h = (refl, h)
+both_true false b h = absurd cc
+
+one_false : (a b : Bool) → (a && b) ≡ false → (a ≡ false) ⊎ (b ≡ false)
+one_false true b h = inr h
+one_false false b h = inl refl
+
+one_true : (a b : Bool) → (a || b) ≡ true → (a ≡ true) ⊎ (b ≡ true)
+one_true true b h = inl refl
+one_true false b h = inr h
+
+both_false : (a b : Bool) → (a || b) ≡ false → (a ≡ false) × (b ≡ false)
+both_false true b h = absurd cc
+both_false false b h = (refl, h)
+
+not_false : (b : Bool) → not b ≡ false → b ≡ true
+not_false true h = refl
+not_false false h = absurd cc
+
+not_true : (b : Bool) → not b ≡ true → b ≡ false
+not_true true h = absurd cc
+not_true false h = refl
+
+cond_and : (a b : Bool) → cond a b false ≡ (a && b)
+cond_and true b = refl
+cond_and false b = refl
+
+some_fails : {X : Type 0} (f : X → Bool) (xs : List X) → list_all f xs ≡ false → (x : X) × Contains xs x × (f x ≡ false)
+some_fails f [] e = absurd cc
+some_fails f (x ∷ xs) e = by_test (one_false (f x) (list_all f xs) e) (λ h. some_fails f xs h)
+  where
+    by_test : (f x ≡ false) ⊎ (list_all f xs ≡ false) → (list_all f xs ≡ false → (y : _) × Contains xs y × (f y ≡ false)) → (y : _) × Contains (x ∷ xs) y × (f y ≡ false)
+    by_test (inl h) later = (x, (0, omega arith, refl), h)
+    by_test (inr h) later = let l = later h in (l.0, (suc l.1.0, (let lt = l.1.1 in omega arith), l.1.2), l.2)
+
+all_pass : {X : Type 0} (f : X → Bool) (xs : List X) (x : X) → list_all f xs ≡ true → Contains xs x → f x ≡ true
+all_pass f [] x e c = absurd (omega (arith, c.1))
+all_pass f (y ∷ xs) x e (zero, lt, is) = subst (λ z. f z ≡ true) is (both_true (f y) (list_all f xs) e).0
+all_pass f (y ∷ xs) x e (suc i, lt, is) = all_pass f xs x (both_true (f y) (list_all f xs) e).1 (i, omega (arith, lt), is)
+
+-- where no variable is a value, a name that has a place among the variables is none
+pub variable_no_value : (vars : List (List ℕ)) (infos : List NameInfo) (text : List ℕ) (apart : Bool) → apart ≡ list_all (is_no_value infos) vars → apart ≡ true → is_some (place_of vars text) ≡ true → true ≡ is_no_value infos text
+variable_no_value vars infos text apart e f h = sym (all_pass (is_no_value infos) vars text (sym e ∙ f) (placed vars text h))
+
+pass_names : (test : List ℕ → Bool) (line : List ℕ) (xs : List Step) → names_pass test line xs ≡ list_all (λ t. test (text_of line t)) (names_of_steps xs)
+pass_names test line [] = refl
+pass_names test line (Name t ∷ xs) = cond_and (test (text_of line t)) (names_pass test line xs) ∙ ap (λ b. test (text_of line t) && b) (pass_names test line xs)
+pass_names test line (_ ∷ xs) = pass_names test line xs
+
+-- a test of a POLY's steps is one of the POLY
+same_tests : (F : List Step → Bool) (G : Poly → Bool) → ((p : Poly) → F (steps p) ≡ G p) → (pieces : List (Vec Step Global)) (ps : List Poly) → map (λ v. v.items) pieces ≡ map steps ps → list_all (λ v. F v.items) pieces ≡ list_all G ps
+same_tests F G same [] [] e = refl
+same_tests F G same [] (p ∷ ps) e = absurd cc
+same_tests F G same (v ∷ pieces) [] e = absurd cc
+same_tests F G same (v ∷ pieces) (p ∷ ps) e =
+    let head : v.items ≡ steps p = cc in
+    let tail : map (λ v. v.items) pieces ≡ map steps ps = cc in
+    ap₂ (λ a b. a && b) (ap F head ∙ same p) (same_tests F G same pieces ps tail)
+
+abbrev names_test : (List ℕ → Bool) → List ℕ → Poly → Bool
+names_test test line p = list_all (λ t. test (text_of line t)) (names_in (spelling p))
+
+poly_names : (test : List ℕ → Bool) (line : List ℕ) (p : Poly) → names_pass test line (steps p) ≡ names_test test line p
+poly_names test line p = pass_names test line (steps p) ∙ ap (λ l. list_all (λ t. test (text_of line t)) l) (steps_have_names p)
+
+-- ---- the names of a head are those of its line
+
+places_are : (w : Written) (head : Head) → head_of w ≡ Some head → places head ≡ value_places w
+places_are nothing head e = absurd cc
+places_are (ring_line m first more o) head e = absurd cc
+places_are (show_line p) head e = let is : heads.Show ≡ head = cc in ap places (sym is)
+places_are (ideal_line given ps) head e = let is : heads.Ideal given ≡ head = cc in ap places (sym is)
+places_are (ask_line question value) head e = let is : heads.Ask question value ≡ head = cc in ap places (sym is)
+places_are (divide_line division value ps) head e = let is : heads.Divide division value ≡ head = cc in ap places (sym is)
+places_are (equal_line left right) head e = let is : heads.Equal left right ≡ head = cc in ap places (sym is)
+
+given_are : (w : Written) (head : Head) → head_of w ≡ Some head → given_name head ≡ given_by w
+given_are nothing head e = absurd cc
+given_are (ring_line m first more o) head e = absurd cc
+given_are (show_line p) head e = let is : heads.Show ≡ head = cc in ap given_name (sym is)
+given_are (ideal_line given ps) head e = let is : heads.Ideal given ≡ head = cc in ap given_name (sym is)
+given_are (ask_line question value) head e = let is : heads.Ask question value ≡ head = cc in ap given_name (sym is)
+given_are (divide_line division value ps) head e = let is : heads.Divide division value ≡ head = cc in ap given_name (sym is)
+given_are (equal_line left right) head e = let is : heads.Equal left right ≡ head = cc in ap given_name (sym is)
+
+some_rank : (o : Option ℕ) → is_some o ≡ true → (r : ℕ) × (o ≡ Some r)
+some_rank None e = absurd cc
+some_rank (Some r) e = (r, refl)
+
+no_rank : (o : Option ℕ) → is_some o ≡ false → (r : ℕ) × (o ≡ Some r) → ⊥
+no_rank None e h = let q = h.1 in cc
+no_rank (Some r) e h = cc
+
+ranks_differ : (o q : Option ℕ) → same_rank o q ≡ false → (r s : ℕ) × (o ≡ Some r) × (q ≡ Some s) × (r ≡ s → ⊥)
+ranks_differ (Some r) (Some s) e = (r, s, refl, refl, λ same. (let n : r ≡ s = same in grind (arith, nat_tests)))
+ranks_differ (Some r) None e = absurd cc
+ranks_differ None q e = absurd cc
+
+ranks_same : (o q : Option ℕ) (r s : ℕ) → same_rank o q ≡ true → o ≡ Some r → q ≡ Some s → r ≡ s
+ranks_same (Some a) (Some b) r s e f g =
+    let n : a ≡ b = grind (arith, nat_tests) in
+    let x : a ≡ r = cc in
+    let y : b ≡ s = cc in sym x ∙ n ∙ y
+ranks_same (Some a) None r s e f g = absurd cc
+ranks_same None q r s e f g = absurd cc
+
+many : (n m : ℕ) → n ≡ m → nat_le n 1000 ≡ false → 1000 < m
+many n m e f = let lt : 1000 < n = grind (arith, nat_tests) in omega arith
+
+few : (n m : ℕ) → n ≡ m → nat_le n 1000 ≡ true → 1000 < m → ⊥
+few n m e f lt = let le : n ≤ 1000 = grind (arith, nat_tests) in omega arith
+
+other_rank_of : (names : List NameInfo) (line : List ℕ) (w : Written) (head : Head) (count : ℕ) → head_of w ≡ Some head → count ≡ length (polys_of w) → rank_fits names line head count ≡ false → HasOtherRank names line w
+other_rank_of names line nothing head count e n f = absurd cc
+other_rank_of names line (ring_line m first more o) head count e n f = absurd cc
+other_rank_of names line (show_line p) head count e n f =
+    let is : head ≡ heads.Show = cc in let no : true ≡ false = subst (λ h. rank_fits names line h count ≡ false) is f in absurd cc
+other_rank_of names line (ideal_line given ps) head count e n f =
+    let is : head ≡ heads.Ideal given = cc in many count (length ps) n (subst (λ h. rank_fits names line h count ≡ false) is f)
+other_rank_of names line (ask_line question value) head count e n f =
+    let is : head ≡ heads.Ask question value = cc in let no : true ≡ false = subst (λ h. rank_fits names line h count ≡ false) is f in absurd cc
+other_rank_of names line (divide_line division value ps) head count e n f =
+    let is : head ≡ heads.Divide division value = cc in
+    let d = ranks_differ (rank_named names (text_of line value)) (Some count) (subst (λ h. rank_fits names line h count ≡ false) is f) in
+    (d.0, d.2, λ same. d.4 (let c : count ≡ d.1 = (let q = d.3 in cc) in sym same ∙ sym n ∙ c))
+other_rank_of names line (equal_line left right) head count e n f =
+    let is : head ≡ heads.Equal left right = cc in
+    ranks_differ (rank_named names (text_of line left)) (rank_named names (text_of line right)) (subst (λ h. rank_fits names line h count ≡ false) is f)
+
+right_rank_of : (names : List NameInfo) (line : List ℕ) (w : Written) (head : Head) (count : ℕ) → head_of w ≡ Some head → count ≡ length (polys_of w) → rank_fits names line head count ≡ true → HasOtherRank names line w → ⊥
+right_rank_of names line (ideal_line given ps) head count e n f h =
+    let is : head ≡ heads.Ideal given = cc in few count (length ps) n (subst (λ d. rank_fits names line d count ≡ true) is f) h
+right_rank_of names line (divide_line division value ps) head count e n f h =
+    let is : head ≡ heads.Divide division value = cc in
+    let same = ranks_same (rank_named names (text_of line value)) (Some count) h.0 count (subst (λ d. rank_fits names line d count ≡ true) is f) h.1 refl in
+    h.2 (sym n ∙ sym same)
+right_rank_of names line (equal_line left right) head count e n f h =
+    let is : head ≡ heads.Equal left right = cc in
+    h.4 (ranks_same (rank_named names (text_of line left)) (rank_named names (text_of line right)) h.0 h.1 (subst (λ d. rank_fits names line d count ≡ true) is f) h.2 h.3)
+right_rank_of names line _ head count e n f h = h
+
+low_poly : (line : List ℕ) (p : Poly) → low_degree line (steps p) ≡ is_some (formal_degree (value_of line) p)
+low_poly line p = ap is_some (degree_of_steps line (steps p) p (formal_degree (value_of line) p) refl refl)
+
+no_number : (o : Option ℕ) → is_some o ≡ false → o ≡ None
+no_number None e = refl
+no_number (Some n) e = absurd cc
+
+-- ---- the kinds of a line
+
+module _ (ring : Ring) (names : List NameInfo) (line : List ℕ) (w : Written) (head : Head) (pieces : List (Vec Step Global)) (is : IsLineOf head pieces w) where
+  abbrev vars : List (List ℕ)
+  vars = ring.vars
+
+  abbrev known : List ℕ → Bool
+  known text = is_known vars names text
+
+  abbrev no_value : List ℕ → Bool
+  no_value text = is_no_value names text
+
+  abbrev no_variable : List ℕ → Bool
+  no_variable text = is_no_variable vars text
+
+  in_pieces : (test : List ℕ → Bool) → list_all (λ v. names_pass test line v.items) pieces ≡ list_all (names_test test line) (polys_of w)
+  in_pieces test = same_tests (names_pass test line) (names_test test line) (poly_names test line) pieces (polys_of w) is.steps_are
+
+  -- some NAME of a POLY fails the test, or each passes
+  some_name : (test : List ℕ → Bool) → list_all (λ v. names_pass test line v.items) pieces ≡ false → (t : Token) × StandsInPoly w t × (test (text_of line t) ≡ false)
+  some_name test e =
+      let f = some_fails (names_test test line) (polys_of w) (sym (in_pieces test) ∙ e) in
+      let g = some_fails (λ t. test (text_of line t)) (names_in (spelling f.0)) f.2 in
+      (g.0, (f.0, f.1, g.1), g.2)
+
+  each_name : (test : List ℕ → Bool) → list_all (λ v. names_pass test line v.items) pieces ≡ true → (t : Token) → StandsInPoly w t → test (text_of line t) ≡ true
+  each_name test e t s = all_pass (λ t. test (text_of line t)) (names_in (spelling s.0)) t (all_pass (names_test test line) (polys_of w) s.0 (sym (in_pieces test) ∙ e) s.1) s.2
+
+  in_place : (t : Token) → Contains (places head) t → Contains (value_places w) t
+  in_place t c = subst (λ l. Contains l t) (places_are w head is.head_is) c
+
+  of_place : (t : Token) → Contains (value_places w) t → Contains (places head) t
+  of_place t c = subst (λ l. Contains l t) (sym (places_are w head is.head_is)) c
+
+  unknown : (text : List ℕ) → known text ≡ false → (Contains vars text → ⊥) × (IsNamed names text → ⊥)
+  unknown text e =
+      let b = both_false (is_some (place_of vars text)) (is_some (rank_named names text)) e in
+      (not_placed vars text b.0, no_rank (rank_named names text) b.1)
+
+  not_unknown : (text : List ℕ) → known text ≡ true → (Contains vars text → ⊥) → (IsNamed names text → ⊥) → ⊥
+  not_unknown text e no_var no_val = by_test (one_true (is_some (place_of vars text)) (is_some (rank_named names text)) e)
+    where
+      by_test : (is_some (place_of vars text) ≡ true) ⊎ (is_some (rank_named names text) ≡ true) → ⊥
+      by_test (inl h) = no_var (placed vars text h)
+      by_test (inr h) = no_val (some_rank (rank_named names text) h)
+
+  variable : (text : List ℕ) → no_variable text ≡ false → Contains vars text
+  variable text e = placed vars text (not_false (is_some (place_of vars text)) e)
+
+  not_variable : (text : List ℕ) → no_variable text ≡ true → Contains vars text → ⊥
+  not_variable text e = not_placed vars text (not_true (is_some (place_of vars text)) e)
+
+  value : (text : List ℕ) → no_value text ≡ false → IsNamed names text
+  value text e = some_rank (rank_named names text) (not_false (is_some (rank_named names text)) e)
+
+  not_value : (text : List ℕ) → no_value text ≡ true → IsNamed names text → ⊥
+  not_value text e = no_rank (rank_named names text) (not_true (is_some (rank_named names text)) e)
+
+  pub unknown_name : known_names vars names line head pieces ≡ false → HasUnknownName (Some ring) names line w
+  unknown_name e = by_parts (one_false (list_all (λ t. known (text_of line t)) (places head) && list_all (λ t. no_variable (text_of line t)) (given_name head)) (list_all (λ v. names_pass known line v.items) pieces) e)
+    where
+      by_head : (list_all (λ t. known (text_of line t)) (places head) ≡ false) ⊎ (list_all (λ t. no_variable (text_of line t)) (given_name head) ≡ false) → HasUnknownName (Some ring) names line w
+      by_head (inl h) =
+          let f = some_fails (λ t. known (text_of line t)) (places head) h in
+          let u = unknown (text_of line f.0) f.2 in inl (f.0, inr (in_place f.0 f.1), u.0, u.1)
+      by_head (inr h) =
+          let f = some_fails (λ t. no_variable (text_of line t)) (given_name head) h in
+          inr (f.0, subst (λ l. Contains l f.0) (given_are w head is.head_is) f.1, variable (text_of line f.0) f.2)
+
+      by_parts : ((list_all (λ t. known (text_of line t)) (places head) && list_all (λ t. no_variable (text_of line t)) (given_name head)) ≡ false) ⊎ (list_all (λ v. names_pass known line v.items) pieces ≡ false) → HasUnknownName (Some ring) names line w
+      by_parts (inl h) = by_head (one_false (list_all (λ t. known (text_of line t)) (places head)) (list_all (λ t. no_variable (text_of line t)) (given_name head)) h)
+      by_parts (inr h) =
+          let f = some_name known h in
+          let u = unknown (text_of line f.0) f.2 in inl (f.0, inl f.1, u.0, u.1)
+
+  pub each_known : known_names vars names line head pieces ≡ true → HasUnknownName (Some ring) names line w → ⊥
+  each_known e = go
+    where
+      parts : ((list_all (λ t. known (text_of line t)) (places head) && list_all (λ t. no_variable (text_of line t)) (given_name head)) ≡ true) × (list_all (λ v. names_pass known line v.items) pieces ≡ true)
+      parts = both_true (list_all (λ t. known (text_of line t)) (places head) && list_all (λ t. no_variable (text_of line t)) (given_name head)) (list_all (λ v. names_pass known line v.items) pieces) e
+
+      front : (list_all (λ t. known (text_of line t)) (places head) ≡ true) × (list_all (λ t. no_variable (text_of line t)) (given_name head) ≡ true)
+      front = both_true (list_all (λ t. known (text_of line t)) (places head)) (list_all (λ t. no_variable (text_of line t)) (given_name head)) parts.0
+
+      go : HasUnknownName (Some ring) names line w → ⊥
+      go (inl (t, inl s, no_var, no_val)) = not_unknown (text_of line t) (each_name known parts.1 t s) no_var no_val
+      go (inl (t, inr c, no_var, no_val)) = not_unknown (text_of line t) (all_pass (λ t. known (text_of line t)) (places head) t front.0 (of_place t c)) no_var no_val
+      go (inr (t, c, v)) = not_variable (text_of line t) (all_pass (λ t. no_variable (text_of line t)) (given_name head) t front.1 (subst (λ l. Contains l t) (sym (given_are w head is.head_is)) c)) v
+
+  pub other_kind : right_kinds vars names line head pieces ≡ false → HasOtherKind (Some ring) names line w
+  other_kind e = by_parts (one_false (list_all (λ t. no_variable (text_of line t)) (places head)) (list_all (λ v. names_pass no_value line v.items) pieces) e)
+    where
+      by_parts : (list_all (λ t. no_variable (text_of line t)) (places head) ≡ false) ⊎ (list_all (λ v. names_pass no_value line v.items) pieces ≡ false) → HasOtherKind (Some ring) names line w
+      by_parts (inl h) =
+          let f = some_fails (λ t. no_variable (text_of line t)) (places head) h in
+          inr (f.0, in_place f.0 f.1, variable (text_of line f.0) f.2)
+      by_parts (inr h) = let f = some_name no_value h in inl (f.0, f.1, value (text_of line f.0) f.2)
+
+  pub each_right : right_kinds vars names line head pieces ≡ true → HasOtherKind (Some ring) names line w → ⊥
+  each_right e = go
+    where
+      parts : (list_all (λ t. no_variable (text_of line t)) (places head) ≡ true) × (list_all (λ v. names_pass no_value line v.items) pieces ≡ true)
+      parts = both_true (list_all (λ t. no_variable (text_of line t)) (places head)) (list_all (λ v. names_pass no_value line v.items) pieces) e
+
+      go : HasOtherKind (Some ring) names line w → ⊥
+      go (inl (t, s, v)) = not_value (text_of line t) (each_name no_value parts.1 t s) v
+      go (inr (t, c, v)) = not_variable (text_of line t) (all_pass (λ t. no_variable (text_of line t)) (places head) t parts.0 (of_place t c)) v
+
+  count : length pieces ≡ length (polys_of w)
+  count = sym (length-map pieces (λ v. v.items)) ∙ ap length is.steps_are ∙ length-map (polys_of w) steps
+
+  pub other_rank : rank_fits names line head (length pieces) ≡ false → HasOtherRank names line w
+  other_rank e = other_rank_of names line w head (length pieces) is.head_is count e
+
+  pub right_rank : rank_fits names line head (length pieces) ≡ true → HasOtherRank names line w → ⊥
+  right_rank e = right_rank_of names line w head (length pieces) is.head_is count e
+
+  degrees_in : list_all (λ v. low_degree line v.items) pieces ≡ list_all (λ p. is_some (formal_degree (value_of line) p)) (polys_of w)
+  degrees_in = same_tests (low_degree line) (λ p. is_some (formal_degree (value_of line) p)) (low_poly line) pieces (polys_of w) is.steps_are
+
+  pub great_degree : list_all (λ v. low_degree line v.items) pieces ≡ false → HasGreatDegree line w
+  great_degree e =
+      let f = some_fails (λ p. is_some (formal_degree (value_of line) p)) (polys_of w) (sym degrees_in ∙ e) in
+      (f.0, f.1, no_number (formal_degree (value_of line) f.0) f.2)
+
+  pub low_degrees : list_all (λ v. low_degree line v.items) pieces ≡ true → HasGreatDegree line w → ⊥
+  low_degrees e h =
+      let low = all_pass (λ p. is_some (formal_degree (value_of line) p)) (polys_of w) h.0 (sym degrees_in ∙ e) h.1 in
+      let none : is_some (formal_degree (value_of line) h.0) ≡ false = ap is_some h.2 in absurd cc

@@ -1,0 +1,7 @@
+use Rattle.std.proofs.Common.{◌≡◌, drop}
+use Rattle.std.specs.List.{list_all}
+use Rattle.script_parse.specs.Forms.{is_known, names_pass}
+use Rattle.script_parse.proofs.checks.polynomials_known.Given as goal
+
+abbrev pub invariant-loop-steps : goal.invariant-loop-steps
+invariant-loop-steps l = list_all (λ v. names_pass (is_known l.vars l.names) l.line v.items) (drop l.steps-index l.polynomials) ≡ list_all (λ v. names_pass (is_known l.vars l.names) l.line v.items) l.polynomials

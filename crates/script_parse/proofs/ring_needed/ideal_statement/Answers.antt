@@ -1,0 +1,5 @@
+use Rattle.script_parse.proofs.Stating.{ideal_says}
+use Rattle.script_parse.proofs.ring_needed.ideal_statement.Goals as goal
+
+pub returns-in-Ok : goal.returns-in-Ok
+returns-in-Ok c = ideal_says c.args.ring.now c.args.line.now c.args.polynomials.now c.args.given c.in_ok-name.name c.in-Ok.list c.in_ok-name.ensures c.requires.workable c.in-Ok.ensures

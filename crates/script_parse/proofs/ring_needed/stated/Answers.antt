@@ -1,0 +1,9 @@
+use Rattle.std.proofs.Common.{subst, sym}
+use Rattle.script_parse.specs.Forms.{IsStated}
+use Rattle.script_parse.proofs.ring_needed.stated.Goals as goal
+
+pub returns-in-Ask : goal.returns-in-Ask
+returns-in-Ask c = subst (λ h. IsStated c.args.ring.now c.args.line.now h c.args.polynomials.now c.ask_statement.result) (sym c.in-Ask.is) (c.ask_statement.ensures c.args.ring.now c.args.polynomials.now)
+
+pub returns-in-Equal : goal.returns-in-Equal
+returns-in-Equal c = subst (λ h. IsStated c.args.ring.now c.args.line.now h c.args.polynomials.now c.equal_statement.result) (sym c.in-Equal.is) (c.equal_statement.ensures c.args.ring.now c.args.polynomials.now)

@@ -1,0 +1,24 @@
+//! What is known of the values that have a name.
+
+ghost use Rattle.std.specs.Prelude.{◌≡◌};
+ghost use Rattle.script_parse.specs.Refusals.{rank_named};
+
+/// What is known of a value: its name, its rank, and the length of its stored list.
+#[derive(Debug, Drop)]
+pub struct NameInfo {
+    pub name: String,
+    pub rank: u64,
+    pub length: u64,
+}
+
+/// The rank of the value with this name; none exactly where there is no such value.
+pub fn rank_named(names: &[NameInfo], text: &[u8]) -> Option<u64>
+    ensures { result ≡ rank_named names.now text.now }
+{
+    for value in names {
+        if value.name.as_bytes() == text {
+            return Some(value.rank);
+        }
+    }
+    None
+}

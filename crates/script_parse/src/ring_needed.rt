@@ -1,0 +1,216 @@
+//! What a line that needs a ring states.
+
+ghost use Rattle.std.specs.Prelude.{◌≡◌, List, Vec as VecValue, IfOk};
+ghost use Rattle.std.specs.Global.{Global};
+ghost use Rattle.std.specs.List.{AllByRecursion};
+ghost use Rattle.std.specs.Option.{option_copied};
+ghost use Rattle.std.specs.Prelude.{string_bytes};
+ghost use Rattle.std.specs.Str.{IsAscii};
+ghost use Rattle.poly_grammar.specs.Numerals.{text_of};
+ghost use Rattle.poly_grammar.specs.declared.step.Step.{Step as StepValue};
+ghost use Rattle.module_vectors.specs.declared.ring.Ring.{Ring as RingValue};
+ghost use Rattle.script_parse.specs.Forms.{AnswersForm, HaveNumerals, IsLineOf, IsPolynomial, IsStated, IsWorkable, head_names, known_names, right_kinds};
+ghost use Rattle.script_parse.specs.Written.{Written};
+ghost use Rattle.script_parse.specs.declared.form.Head.TheVariants as heads;
+
+use crate::checks::{
+    degrees_fit, given_free, places_free, places_known, polynomials_free, polynomials_known,
+    rank_fits,
+};
+use crate::form::{Division, Head, Question};
+use crate::kind::{Kind, ParseStop};
+use crate::named::NameInfo;
+use crate::stated::Statement;
+use crate::values::{list_value, vector_value};
+use module_vectors::Ring;
+use poly_grammar::{Step, text};
+use poly_value::polynomial_value;
+use script_tokens::Token;
+use std::alloc::{AllocError, Global};
+
+/// The name that a token is.
+fn name_of(alloc: Global, line: &[u8], token: Token) -> Result<String, AllocError>
+    requires { IsAscii (text_of line.now token) }
+    ensures { IfOk result (λ name. string_bytes name ≡ text_of line.now token) }
+{
+    String::from_utf8_lossy(alloc, text(line, token))
+}
+
+/// Whether each name in a polynomial or in a value's place is known, and the name to be given is no variable.
+fn names_known(
+    line: &[u8],
+    ring: &Ring,
+    names: &[NameInfo],
+    head: Head,
+    polynomials: &[Vec<Step>],
+) -> bool
+    ensures { result ≡ known_names ring.now.vars names.now line.now head polynomials.now }
+{
+    places_known(line, &ring.vars, names, head)
+        && given_free(line, &ring.vars, head)
+        && polynomials_known(line, &ring.vars, names, polynomials)
+}
+
+/// Whether no name in a polynomial is a value and none in a value's place a variable.
+fn kinds_right(
+    line: &[u8],
+    ring: &Ring,
+    names: &[NameInfo],
+    head: Head,
+    polynomials: &[Vec<Step>],
+) -> bool
+    ensures { result ≡ right_kinds ring.now.vars names.now line.now head polynomials.now }
+{
+    places_free(line, &ring.vars, head) && polynomials_free(line, &ring.vars, names, polynomials)
+}
+
+/// The statement of `show`.
+fn show_statement(
+    alloc: Global,
+    ring: &Ring,
+    line: &[u8],
+    polynomials: &[Vec<Step>],
+) -> Result<Statement, ParseStop>
+    requires { AllByRecursion (IsWorkable ring.now line.now) polynomials.now }
+    ensures { IsStated ring.now line.now heads.Show polynomials.now result }
+{
+    let Some((steps, _)) = polynomials.split_first() else {
+        return Err(ParseStop::Memory);
+    };
+    match polynomial_value(alloc, ring, line, steps) {
+        Ok(value) => Ok(Statement::Show(value)),
+        Err(_) => Err(ParseStop::Memory),
+    }
+}
+
+/// The statement of `ideal`.
+fn ideal_statement(
+    alloc: Global,
+    ring: &Ring,
+    line: &[u8],
+    given: Token,
+    polynomials: &[Vec<Step>],
+) -> Result<Statement, ParseStop>
+    requires ascii { IsAscii (text_of line.now given) }
+    requires workable { AllByRecursion (IsWorkable ring.now line.now) polynomials.now }
+    ensures { IsStated ring.now line.now (heads.Ideal given) polynomials.now result }
+{
+    let name = name_of(alloc, line, given)?;
+    match list_value(alloc, ring, line, polynomials) {
+        Ok(list) => Ok(Statement::Ideal(name, list)),
+        Err(_) => Err(ParseStop::Memory),
+    }
+}
+
+/// The statement of a question.
+fn ask_statement(
+    alloc: Global,
+    line: &[u8],
+    question: Question,
+    value: Token,
+) -> Result<Statement, ParseStop>
+    requires { IsAscii (text_of line.now value) }
+    ensures { (ring : RingValue) (pieces : List (VecValue StepValue Global)) → IsStated ring line.now (heads.Ask question value) pieces result }
+{
+    let name = name_of(alloc, line, value)?;
+    match question {
+        Question::Gens => Ok(Statement::Gens(name)),
+        Question::Gb => Ok(Statement::Gb(name)),
+        Question::Size => Ok(Statement::Size(name)),
+    }
+}
+
+/// The statement of a division.
+fn divide_statement(
+    alloc: Global,
+    ring: &Ring,
+    line: &[u8],
+    division: Division,
+    value: Token,
+    polynomials: &[Vec<Step>],
+) -> Result<Statement, ParseStop>
+    requires ascii { IsAscii (text_of line.now value) }
+    requires workable { AllByRecursion (IsWorkable ring.now line.now) polynomials.now }
+    ensures { IsStated ring.now line.now (heads.Divide division value) polynomials.now result }
+{
+    let name = name_of(alloc, line, value)?;
+    match vector_value(alloc, ring, line, polynomials) {
+        Ok(vector) => match division {
+            Division::NormalForm => Ok(Statement::NormalForm(name, vector)),
+            Division::Member => Ok(Statement::Member(name, vector)),
+        },
+        Err(_) => Err(ParseStop::Memory),
+    }
+}
+
+/// The statement of `equal`.
+fn equal_statement(
+    alloc: Global,
+    line: &[u8],
+    left: Token,
+    right: Token,
+) -> Result<Statement, ParseStop>
+    requires left { IsAscii (text_of line.now left) }
+    requires right { IsAscii (text_of line.now right) }
+    ensures { (ring : RingValue) (pieces : List (VecValue StepValue Global)) → IsStated ring line.now (heads.Equal left right) pieces result }
+{
+    let first = name_of(alloc, line, left)?;
+    let second = name_of(alloc, line, right)?;
+    Ok(Statement::Equal(first, second))
+}
+
+/// The statement of a line that is refused for no kind.
+fn stated(
+    alloc: Global,
+    ring: &Ring,
+    line: &[u8],
+    head: Head,
+    polynomials: &[Vec<Step>],
+) -> Result<Statement, ParseStop>
+    requires ascii { AllByRecursion (λ t. IsAscii (text_of line.now t)) (head_names head) }
+    requires workable { AllByRecursion (IsWorkable ring.now line.now) polynomials.now }
+    ensures { IsStated ring.now line.now head polynomials.now result }
+{
+    match head {
+        Head::Show => show_statement(alloc, ring, line, polynomials),
+        Head::Ideal(given) => ideal_statement(alloc, ring, line, given, polynomials),
+        Head::Ask(question, value) => ask_statement(alloc, line, question, value),
+        Head::Divide(division, value) => {
+            divide_statement(alloc, ring, line, division, value, polynomials)
+        }
+        Head::Equal(left, right) => equal_statement(alloc, line, left, right),
+    }
+}
+
+/// What a line states that needs a ring, by its head and its polynomials: else `Ring` where none is stated, then `Name`,
+/// `OfKind`, `Rank` and `Degree`, the first that holds.
+pub fn line_statement(
+    alloc: Global,
+    line: &[u8],
+    ring: Option<&Ring>,
+    names: &[NameInfo],
+    head: Head,
+    polynomials: &[Vec<Step>],
+) -> Result<Statement, ParseStop>
+    requires ascii { AllByRecursion (λ t. IsAscii (text_of line.now t)) (head_names head) }
+    requires polynomials { AllByRecursion IsPolynomial polynomials.now }
+    requires numerals { AllByRecursion (HaveNumerals line.now) polynomials.now }
+    ensures { (w : Written) → IsLineOf head polynomials.now w → AnswersForm (option_copied ring.entry) names.now line.now w result }
+{
+    let Some(ring) = ring else {
+        return Err(ParseStop::Refused(Kind::Ring));
+    };
+    if !names_known(line, ring, names, head, polynomials) {
+        return Err(ParseStop::Refused(Kind::Name));
+    }
+    if !kinds_right(line, ring, names, head, polynomials) {
+        return Err(ParseStop::Refused(Kind::OfKind));
+    }
+    if !rank_fits(line, names, head, polynomials.len()) {
+        return Err(ParseStop::Refused(Kind::Rank));
+    }
+    if !degrees_fit(alloc, line, polynomials)? {
+        return Err(ParseStop::Refused(Kind::Degree));
+    }
+    stated(alloc, ring, line, head, polynomials)
+}

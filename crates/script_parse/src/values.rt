@@ -1,0 +1,75 @@
+//! What the polynomials of a line are worth: a list of them, or a vector that has them for its entries.
+
+ghost use Rattle.std.specs.Prelude.{◌≡◌, ◌++◌, IfOk, length};
+ghost use Rattle.std.specs.List.{AllByRecursion};
+ghost use Rattle.module_vectors.specs.Rings.{ring_comparison};
+ghost use Rattle.module_vectors.specs.Vectors.{HasPositions, IsVectorOver};
+ghost use Rattle.script_parse.specs.Forms.{AreWorths, HasEntryTerms, IsWorkable, StandsForEntries, at_position};
+
+use module_vectors::{Key, NoMemory, Ring, Vect, VectList};
+use poly_grammar::Step;
+use poly_value::polynomial_value;
+use std::alloc::Global;
+
+/// The vectors of rank 1 that polynomials are worth.
+pub fn list_value(
+    alloc: Global,
+    ring: &Ring,
+    line: &[u8],
+    polynomials: &[Vec<Step>],
+) -> Result<VectList, NoMemory>
+    requires { AllByRecursion (IsWorkable ring.now line.now) polynomials.now }
+    ensures { IfOk result (λ list. AreWorths ring.now line.now polynomials.now list) }
+{
+    let mut list = VectList::new(alloc);
+    for steps in polynomials {
+        let value = polynomial_value(alloc, ring, line, steps)?;
+        list.push(value)?;
+    }
+    Ok(list)
+}
+
+/// Moves terms to a position.
+fn move_terms(position: u128, terms: &mut Vec<(Key, u32)>)
+    ensures { terms.new.items ≡ at_position position terms.old.items }
+{
+    for i in 0..terms.len() {
+        terms[i].0.position = position;
+    }
+}
+
+/// The terms of the vector that has these polynomials for its entries, in any order.
+fn entry_terms(
+    alloc: Global,
+    ring: &Ring,
+    line: &[u8],
+    polynomials: &[Vec<Step>],
+) -> Result<Vec<(Key, u32)>, NoMemory>
+    requires { AllByRecursion (IsWorkable ring.now line.now) polynomials.now }
+    ensures { IfOk result (λ terms. HasEntryTerms ring.now line.now polynomials.now terms.items) }
+{
+    let mut all = Vec::new(alloc);
+    for i in 0..polynomials.len() {
+        let value = polynomial_value(alloc, ring, line, &polynomials[i])?;
+        let mut terms = value.into_terms();
+        move_terms(i as u128, &mut terms);
+        all.append(&mut terms)?;
+    }
+    Ok(all)
+}
+
+/// The vector that has these polynomials for its entries: entry i at position i, from 0.
+pub fn vector_value(
+    alloc: Global,
+    ring: &Ring,
+    line: &[u8],
+    polynomials: &[Vec<Step>],
+) -> Result<Vect, NoMemory>
+    requires { AllByRecursion (IsWorkable ring.now line.now) polynomials.now }
+    ensures vector { IfOk result (λ v. IsVectorOver ring.now (ring_comparison ring.now) v) }
+    ensures positions { IfOk result (λ v. HasPositions (length polynomials.now) v) }
+    ensures entries { IfOk result (λ v. StandsForEntries ring.now line.now polynomials.now v) }
+{
+    let terms = entry_terms(alloc, ring, line, polynomials)?;
+    Vect::from_terms(alloc, ring, terms)
+}

@@ -1,0 +1,14 @@
+mod Values
+mod DegreeLines
+mod Dividing
+mod Reading
+mod OneModule
+mod Finding
+mod Stopping
+mod Reported
+mod KeptValues
+mod OneForm
+mod OneAnswer
+mod OneDoing
+mod OneResult
+mod ZeroBasis

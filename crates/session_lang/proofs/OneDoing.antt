@@ -1,0 +1,121 @@
+-- Statements that say the same do the same
+use Rattle.std.proofs.Common.{List, Some, [], ap, ap₂, codes, false, refl, subst, subst₂, sym, true, ℕ, ◌++◌, ◌∙◌, ◌∷◌, ◌≡◌}
+use mathlib.Core.Bool.{Bool-set}
+use mathlib.Core.HLevel.{is_prop→PathP}
+use Rattle.std.specs.Prelude.{string_bytes}
+use Rattle.zp_field.specs.Moduli.{is_modulus}
+use Rattle.zp_field.specs.declared.modulus.Modulus.{Modulus}
+use Rattle.monomial_orders.specs.declared.order.ModOrder.{ModOrder}
+use Rattle.monomial_orders.specs.declared.order.Order.{Order}
+use Rattle.module_vectors.specs.declared.key.Key.{Key}
+use Rattle.module_vectors.specs.declared.ring.Ring.{Ring}
+use Rattle.poly_text.specs.Texts.{names_of, poly_text}
+use Rattle.script_parse.specs.Statements.{IsSameStatement}
+use Rattle.script_parse.specs.declared.stated.Statement.{Statement}
+use Rattle.script_parse.specs.declared.stated.Statement.TheVariants as statements
+use Rattle.session_lang.proofs.OneAnswer.{answers_once, decides_once, one_ring, one_value}
+use Rattle.session_lang.specs.Answers.{Asked, Decides, IsOneModule, basis, member, normal_form, sizes_of_basis}
+use Rattle.session_lang.specs.Lines.{Answers, Does}
+use Rattle.session_lang.specs.Names.{HasValue, State, Value, after_run, with_value}
+use Rattle.session_lang.specs.Texts.{listing}
+
+abbrev Terms : Type 0
+Terms = List (Key × ℕ)
+
+some_same : {X : Type 0} {x y : X} → Some x ≡ Some y → x ≡ y
+some_same e = cc
+
+-- rings of one modulus, with the same names and orders, are one
+modulus_same : (m n : Modulus) → m.value ≡ n.value → m ≡ n
+modulus_same m n e = λ i. record { value = e i; table = is_prop→PathP (λ i. is_modulus (e i) ≡ true) (λ i. Bool-set (is_modulus (e i)) true) m.table n.table i }
+
+abbrev ring_of : Modulus → List (List ℕ) → Order → ModOrder → Ring
+ring_of m v o d = record { modulus = m; vars = v; order = o; module_order = d }
+
+ring_same : (r s : Ring) → r.modulus ≡ s.modulus → r.vars ≡ s.vars → r.order ≡ s.order → r.module_order ≡ s.module_order → r ≡ s
+ring_same r s a b c d = λ i. ring_of (a i) (b i) (c i) (d i)
+
+abbrev stated : Ring → State
+stated r = record { ring = Some r; values = [] }
+
+abbrev given : State → List ℕ → List Terms → State
+given before name list = record { ring = before.ring; values = with_value (record { name = name; rank = 1; list = list; kept = false }) before.values }
+
+stated_once : (r s : Ring) → IsSameStatement (statements.Ring r) (statements.Ring s) → stated r ≡ stated s
+stated_once r s e = ap stated (ring_same r s (modulus_same r.modulus s.modulus e.0) e.1 e.2 e.3)
+
+module _ (before : State) where
+  -- a polynomial is printed one way
+  shown_once :
+      (v w : Terms) (r s : Ring) (x y : List ℕ) → v ≡ w → before.ring ≡ Some r → before.ring ≡ Some s
+      → x ≡ poly_text (names_of r) v ++ 10 ∷ [] → y ≡ poly_text (names_of s) w ++ 10 ∷ [] → x ≡ y
+  shown_once v w r s x y e is is' text text' =
+      text ∙ ap₂ (λ ring u. poly_text (names_of ring) u ++ 10 ∷ []) (some_same (sym is ∙ is')) e ∙ sym text'
+
+  -- and a stored list
+  listed_once :
+      (m n : List ℕ) (r s : Ring) (v w : Value) (x y : List ℕ) → m ≡ n → HasValue before m r v → HasValue before n s w
+      → x ≡ listing (codes "gens") r v v.list → y ≡ listing (codes "gens") s w w.list → x ≡ y
+  listed_once m n r s v w x y e has has' text text' =
+      let there : HasValue before m s w = subst (λ z. HasValue before z s w) (sym e) has' in
+      text ∙ ap₂ (λ ring value. listing (codes "gens") ring value value.list) (one_ring before m m r s v w has there) (one_value before m r s v w has there) ∙ sym text'
+
+  asked_once : (m n : List ℕ) (a b : Asked) (x y : List ℕ) → m ≡ n → a ≡ b → Answers before m a x → Answers before n b y → x ≡ y
+  asked_once m n a b x y e f g h = answers_once before m a x y g (subst₂ (λ name asked. Answers before name asked y) (sym e) (sym f) h)
+
+  -- what Equal asks of two lists, over the ring that is stated
+  abbrev Compares : Ring → Value → Value → List ℕ → Type 0
+  Compares ring left right text = Decides (IsOneModule ring left.list right.list) text
+
+  compared_once :
+      (k m l n : List ℕ) (r s : Ring) (v w v' w' : Value) (x y : List ℕ) → k ≡ l → m ≡ n
+      → HasValue before k r v → HasValue before m r w → HasValue before l s v' → HasValue before n s w'
+      → Compares r v w x → Compares s v' w' y → x ≡ y
+  compared_once k m l n r s v w v' w' x y e f has1 has2 has1' has2' g h =
+      let first : HasValue before k s v' = subst (λ z. HasValue before z s v') (sym e) has1' in
+      let second : HasValue before m s w' = subst (λ z. HasValue before z s w') (sym f) has2' in
+      let at_ring : Compares r v' w' y = subst (λ z. Compares z v' w' y) (sym (one_ring before k k r s v v' has1 first)) h in
+      let same : Compares r v w y =
+      subst₂ (λ a b. Compares r a b y) (sym (one_value before k r s v v' has1 first)) (sym (one_value before m r s w w' has2 second)) at_ring in
+      decides_once (IsOneModule r v.list w.list) x y g same
+
+  -- the basis of one value is kept, or those of two
+  kept_once : (m n : List ℕ) → m ≡ n → after_run m before ≡ after_run n before
+  kept_once m n e = ap (λ name. after_run name before) e
+
+  both_kept_once : (k m l n : List ℕ) → k ≡ l → m ≡ n → after_run m (after_run k before) ≡ after_run n (after_run l before)
+  both_kept_once k m l n e f = ap₂ (λ first second. after_run second (after_run first before)) e f
+
+  pub does_once :
+      (s t : Statement) (p q : State) (x y : List ℕ) → IsSameStatement s t → Does before s p x → Does before t q y → (p ≡ q) × (x ≡ y)
+  does_once statements.Nothing statements.Nothing p q x y e a b = (a.0 ∙ sym b.0, a.1 ∙ sym b.1)
+  does_once statements.Nothing _ p q x y e a b = absurd e
+  does_once (statements.Ring r) (statements.Ring s) p q x y e a b = (a.0 ∙ stated_once r s e ∙ sym b.0, a.1 ∙ sym b.1)
+  does_once (statements.Ring r) _ p q x y e a b = absurd e
+  does_once (statements.Show v) (statements.Show w) p q x y e a b =
+      (a.0 ∙ sym b.0, shown_once v w a.1.0 b.1.0 x y e a.1.1 b.1.1 a.1.2 b.1.2)
+  does_once (statements.Show v) _ p q x y e a b = absurd e
+  does_once (statements.Ideal m v) (statements.Ideal n w) p q x y e a b = (a.0 ∙ ap₂ (given before) e.0 e.1 ∙ sym b.0, a.1 ∙ sym b.1)
+  does_once (statements.Ideal m v) _ p q x y e a b = absurd e
+  does_once (statements.Gens m) (statements.Gens n) p q x y e a b =
+      (a.0 ∙ sym b.0, listed_once (string_bytes m) (string_bytes n) a.1.0 b.1.0 a.1.1 b.1.1 x y e a.1.2 b.1.2 a.1.3 b.1.3)
+  does_once (statements.Gens m) _ p q x y e a b = absurd e
+  does_once (statements.Gb m) (statements.Gb n) p q x y e a b =
+      (a.0 ∙ kept_once (string_bytes m) (string_bytes n) e ∙ sym b.0, asked_once (string_bytes m) (string_bytes n) basis basis x y e refl a.1 b.1)
+  does_once (statements.Gb m) _ p q x y e a b = absurd e
+  does_once (statements.Size m) (statements.Size n) p q x y e a b =
+      (a.0 ∙ kept_once (string_bytes m) (string_bytes n) e ∙ sym b.0, asked_once (string_bytes m) (string_bytes n) sizes_of_basis sizes_of_basis x y e refl a.1 b.1)
+  does_once (statements.Size m) _ p q x y e a b = absurd e
+  does_once (statements.NormalForm m v) (statements.NormalForm n w) p q x y e a b =
+      (a.0 ∙ kept_once (string_bytes m) (string_bytes n) e.0 ∙ sym b.0, asked_once (string_bytes m) (string_bytes n) (normal_form v) (normal_form w) x y e.0 (ap normal_form e.1) a.1 b.1)
+  does_once (statements.NormalForm m v) _ p q x y e a b = absurd e
+  does_once (statements.Member m v) (statements.Member n w) p q x y e a b =
+      (a.0 ∙ kept_once (string_bytes m) (string_bytes n) e.0 ∙ sym b.0, asked_once (string_bytes m) (string_bytes n) (member v) (member w) x y e.0 (ap member e.1) a.1 b.1)
+  does_once (statements.Member m v) _ p q x y e a b = absurd e
+  does_once (statements.Equal k m) (statements.Equal l n) p q x y e a b =
+      let c = a.1 in
+      let d = b.1 in (
+        a.0 ∙ both_kept_once (string_bytes k) (string_bytes m) (string_bytes l) (string_bytes n) e.0 e.1 ∙ sym b.0,
+        compared_once (string_bytes k) (string_bytes m) (string_bytes l) (string_bytes n) c.0 d.0 c.1 c.2 d.1 d.2 x y e.0 e.1 c.3 c.4 d.3 d.4 c.5 d.5,
+      )
+  does_once (statements.Equal k m) _ p q x y e a b = absurd e

@@ -1,0 +1,210 @@
+-- What a reader of lines is told, and what it says
+use Rattle.std.proofs.Common.{◌≡◌, ℕ, ◌⊎◌, inl, inr, cond, nat_eq, Bool, true, false, List, [], ◌∷◌, Option, Some, None, refl, sym, ap, ◌∙◌, arith}
+use Rattle.std.proofs.lemmas.Bool.Decides.{eqb_tells}
+use Rattle.std.specs.Prelude.{Contains, string_bytes}
+use Rattle.std.specs.Cmp.Lexicographic.{pointwise}
+use Rattle.formal_sums.specs.FormalSums.{Each}
+use Rattle.poly_grammar.specs.Numerals.{text_of}
+use Rattle.poly_grammar.specs.Trees.{Poly}
+use Rattle.script_tokens.specs.declared.token.Token.{Token}
+use Rattle.module_vectors.specs.Rings.{ring_comparison}
+use Rattle.module_vectors.specs.Vectors.{AreVectorsOver, HasPositions, IsVectorOver}
+use Rattle.module_vectors.specs.declared.key.Key.{Key}
+use Rattle.module_vectors.specs.declared.ring.Ring.{Ring}
+use Rattle.script_parse.specs.Refusals.{HasOtherKind, HasOtherRank, HasUnknownName, Holds, IsNamed, Refuses, rank_named}
+use Rattle.script_parse.specs.Statements.{ArePolynomialsOf, Says, States}
+use Rattle.script_parse.specs.Written.{IsLine, Written, ask_line, divide_line, equal_line, ideal_line, nothing, ring_line, show_line, value_places}
+use Rattle.script_parse.specs.declared.form.Division.{Division}
+use Rattle.script_parse.specs.declared.form.Division.TheVariants as divisions
+use Rattle.script_parse.specs.declared.form.Question.{Question}
+use Rattle.script_parse.specs.declared.form.Question.TheVariants as questions
+use Rattle.script_parse.specs.declared.kind.Kind.{Kind}
+use Rattle.script_parse.specs.declared.kind.Kind.TheVariants as kinds
+use Rattle.script_parse.specs.declared.named.NameInfo.{NameInfo}
+use Rattle.script_parse.specs.declared.stated.Statement.{Statement}
+use Rattle.script_parse.specs.declared.stated.Statement.TheVariants as statements
+use Rattle.session_lang.specs.Kept.{IsFit, IsGiven, IsOfValue}
+use Rattle.session_lang.specs.Names.{AreInfosOf, HasValue, State, Value, value_named}
+
+-- the rank of a value that may be none
+abbrev rank_of : Option Value → Option ℕ
+rank_of None = None
+rank_of (Some v) = Some v.rank
+
+-- what is told of a name is the rank of the value that has it
+pub ranks_told : (values : List Value) (infos : List NameInfo) (text : List ℕ) → AreInfosOf values infos → rank_named infos text ≡ rank_of (value_named values text)
+ranks_told [] [] text h = refl
+ranks_told [] (i ∷ infos) text h = absurd h
+ranks_told (v ∷ values) [] text h = absurd h
+ranks_told (v ∷ values) (i ∷ infos) text h =
+    (λ k. cond (pointwise nat_eq (h.0 k) text) (Some (h.1 k)) (ranks_told values infos text h.3 k))
+    ∙ choose (pointwise nat_eq v.name text)
+  where
+    choose : (b : Bool) → cond b (Some v.rank) (rank_of (value_named values text)) ≡ rank_of (cond b (Some v) (value_named values text))
+    choose true = refl
+    choose false = refl
+
+-- a line is refused alike by all who are told the same ranks
+module _ (ring : Option Ring) (infos more : List NameInfo) (line : List ℕ) (same : (text : List ℕ) → rank_named infos text ≡ rank_named more text) where
+  named : (text : List ℕ) → IsNamed infos text → IsNamed more text
+  named text h = (h.0, sym (same text) ∙ h.1)
+
+  named_back : (text : List ℕ) → IsNamed more text → IsNamed infos text
+  named_back text h = (h.0, same text ∙ h.1)
+
+  unknown : (w : Written) → HasUnknownName ring infos line w → HasUnknownName ring more line w
+  unknown w (inl (t, stands, other, none)) = inl (t, stands, other, λ h. none (named_back (text_of line t) h))
+  unknown w (inr h) = inr h
+
+  other_kind : (w : Written) → HasOtherKind ring infos line w → HasOtherKind ring more line w
+  other_kind w (inl (t, stands, h)) = inl (t, stands, named (text_of line t) h)
+  other_kind w (inr h) = inr h
+
+  other_rank : (w : Written) → HasOtherRank infos line w → HasOtherRank more line w
+  other_rank (divide_line d t ps) (r, e, ne) = (r, sym (same (text_of line t)) ∙ e, ne)
+  other_rank (equal_line s t) (q, r, e, f, ne) = (q, r, sym (same (text_of line s)) ∙ e, sym (same (text_of line t)) ∙ f, ne)
+  other_rank (ideal_line t ps) h = h
+  other_rank nothing h = h
+  other_rank (ring_line m first rest o) h = h
+  other_rank (show_line p) h = h
+  other_rank (ask_line q t) h = h
+
+  pub holds_alike : (kind : Kind) → Holds ring infos line kind → Holds ring more line kind
+  holds_alike kinds.Syntax h = h
+  holds_alike kinds.Numeral h = h
+  holds_alike kinds.Ring h = h
+  holds_alike kinds.Modulus h = h
+  holds_alike kinds.Name h = (h.0, h.1, unknown h.0 h.2)
+  holds_alike kinds.OfKind h = (h.0, h.1, other_kind h.0 h.2)
+  holds_alike kinds.Rank h = (h.0, h.1, other_rank h.0 h.2)
+  holds_alike kinds.Degree h = h
+
+module _ (values : List Value) (infos more : List NameInfo) (told : AreInfosOf values infos) (told' : AreInfosOf values more) where
+  ranks_alike : (text : List ℕ) → rank_named infos text ≡ rank_named more text
+  ranks_alike text = ranks_told values infos text told ∙ sym (ranks_told values more text told')
+
+  pub states_alike : (ring : Option Ring) (line : List ℕ) (s : Statement) → States ring infos line s → States ring more line s
+  states_alike ring line s h = record {
+    written = h.written;
+    is_line = h.is_line;
+    free = λ kind x. h.free kind (holds_alike ring more infos line (λ text. sym (ranks_alike text)) kind x);
+    says = h.says;
+  }
+
+  pub refuses_alike : (ring : Option Ring) (line : List ℕ) (k : Kind) → Refuses ring infos line k → Refuses ring more line k
+  refuses_alike ring line k h = record {
+    holds = holds_alike ring infos more line ranks_alike k h.holds;
+    first = λ earlier lt x. h.first earlier lt (holds_alike ring more infos line (λ text. sym (ranks_alike text)) earlier x);
+  }
+
+-- ---- what is stated is fit to be done
+polynomials_fit : (ring : Ring) (line : List ℕ) (ps : List Poly) (vs : List (List (Key × ℕ))) → ArePolynomialsOf ring line ps vs
+    → AreVectorsOver ring (ring_comparison ring) vs × Each (HasPositions 1) vs
+polynomials_fit ring line [] [] h = (tt, tt)
+polynomials_fit ring line [] (v ∷ vs) h = absurd h
+polynomials_fit ring line (p ∷ ps) [] h = absurd h
+polynomials_fit ring line (p ∷ ps) (v ∷ vs) h = let r = polynomials_fit ring line ps vs h.1 in ((h.0.0, r.0), (h.0.1, r.1))
+
+value_of_rank : (o : Option Value) (r : ℕ) → rank_of o ≡ Some r → (v : Value) × (o ≡ Some v) × (v.rank ≡ r)
+value_of_rank None r e = absurd cc
+value_of_rank (Some v) r e = (v, refl, inner e)
+  where
+    inner : {X : Type 0} {x y : X} → Some x ≡ Some y → x ≡ y
+    inner e = cc
+
+module _ (values : List Value) (infos : List NameInfo) (line : List ℕ) (told : AreInfosOf values infos) where
+  -- a name in a value's place is that of a value
+  placed :
+      (ring : Ring) (w : Written) (t : Token) → IsLine line w → ((kind : Kind) → Holds (Some ring) infos line kind → ⊥) → Contains (value_places w) t
+      → (v : Value) × (value_named values (text_of line t) ≡ Some v) × (rank_named infos (text_of line t) ≡ Some v.rank)
+  placed ring w t is free stands = go (rank_named infos (text_of line t)) refl
+    where
+      none_there : rank_named infos (text_of line t) ≡ None → IsNamed infos (text_of line t) → ⊥
+      none_there e h = apart (sym e ∙ h.1)
+        where
+          apart : {X : Type 0} {x : X} → None ≡ Some x → ⊥
+          apart e = cc
+
+      go : (o : Option ℕ) → rank_named infos (text_of line t) ≡ o → (v : Value) × (value_named values (text_of line t) ≡ Some v) × (rank_named infos (text_of line t) ≡ Some v.rank)
+      go None e = absurd (free kinds.Name (w, is, inl (t, inr stands, (λ h. free kinds.OfKind (w, is, inr (t, stands, h))), none_there e)))
+      go (Some r) e =
+          let x = value_of_rank (value_named values (text_of line t)) r (sym (ranks_told values infos (text_of line t) told) ∙ e) in
+          (x.0, x.1, e ∙ ap Some (sym x.2))
+
+  at_name :
+      (ring : Ring) (name text : List ℕ) (v : Value) → name ≡ text → value_named values text ≡ Some v
+      → HasValue (record { ring = Some ring; values = values }) name ring v
+  at_name ring name text v e h = record { stated = refl; named = ap (value_named values) e ∙ h }
+
+  given :
+      (ring : Ring) (w : Written) (t : Token) (name : List ℕ) → IsLine line w → ((kind : Kind) → Holds (Some ring) infos line kind → ⊥) → Contains (value_places w) t → name ≡ text_of line t
+      → (v : Value) × HasValue (record { ring = Some ring; values = values }) name ring v × (rank_named infos (text_of line t) ≡ Some v.rank)
+  given ring w t name is free stands e =
+      let x = placed ring w t is free stands in
+      (x.0, at_name ring name (text_of line t) x.0 e x.1, x.2)
+
+  -- the value with a name that a line asks of
+  asked_of :
+      (ring : Option Ring) (q : Question) (t : Token) (name : List ℕ) → IsLine line (ask_line q t)
+      → ((kind : Kind) → Holds ring infos line kind → ⊥) → name ≡ text_of line t → IsGiven (record { ring = ring; values = values }) name
+  asked_of None q t name is free e = absurd (free kinds.Ring (ask_line q t, is, refl))
+  asked_of (Some r) q t name is free e =
+      let x = given r (ask_line q t) t name is free (0, omega arith, refl) e in
+      (r, x.0, x.1)
+
+  -- the value with a name that a vector is divided by
+  divided_by :
+      (r : Ring) (d : Division) (t : Token) (ps : List Poly) (name : List ℕ) (v : List (Key × ℕ)) → IsLine line (divide_line d t ps)
+      → ((kind : Kind) → Holds (Some r) infos line kind → ⊥) → name ≡ text_of line t → IsVectorOver r (ring_comparison r) v
+      → IsOfValue (record { ring = Some r; values = values }) name v
+  divided_by r d t ps name v is free e vector =
+      let x = given r (divide_line d t ps) t name is free (0, omega arith, refl) e in
+      (r, x.0, x.1, vector)
+
+  -- the values with names that are compared: their ranks are one
+  compared :
+      (ring : Option Ring) (s t : Token) (a b : List ℕ) → IsLine line (equal_line s t)
+      → ((kind : Kind) → Holds ring infos line kind → ⊥) → a ≡ text_of line s → b ≡ text_of line t
+      → (r : Ring) × (left : Value) × (right : Value) × HasValue (record { ring = ring; values = values }) a r left
+      × HasValue (record { ring = ring; values = values }) b r right × (left.rank ≡ right.rank)
+  compared None s t a b is free e f = absurd (free kinds.Ring (equal_line s t, is, refl))
+  compared (Some r) s t a b is free e f =
+      let x = given r (equal_line s t) s a is free (0, omega arith, refl) e in
+      let y = given r (equal_line s t) t b is free (1, omega arith, refl) f in
+      (r, x.0, y.0, x.1, y.1, go (eqb_tells x.0.rank y.0.rank) (λ ne. free kinds.Rank (equal_line s t, is, (x.0.rank, y.0.rank, x.2, y.2, ne))))
+    where
+      go : {m n : ℕ} {P Q : Type 0} → (P × (m ≡ n)) ⊎ (Q × (m ≡ n → ⊥)) → ((m ≡ n → ⊥) → ⊥) → m ≡ n
+      go (inl h) k = h.1
+      go (inr h) k = absurd (k h.1)
+
+  fit :
+      (ring : Option Ring) (w : Written) (s : Statement) → IsLine line w → ((kind : Kind) → Holds ring infos line kind → ⊥)
+      → Says ring line w s → IsFit (record { ring = ring; values = values }) s
+  fit ring nothing statements.Nothing is free h = tt
+  fit ring nothing _ is free h = absurd h
+  fit ring (ring_line m first rest o) (statements.Ring r) is free h = tt
+  fit ring (ring_line m first rest o) _ is free h = absurd h
+  fit (Some r) (show_line p) (statements.Show v) is free h = (r, refl, h.0)
+  fit (Some r) (show_line p) _ is free h = absurd h
+  fit None (show_line p) s is free h = absurd h
+  fit (Some r) (ideal_line t ps) (statements.Ideal name list) is free h = let x = polynomials_fit r line ps list h.1 in (r, refl, x.0, x.1)
+  fit (Some r) (ideal_line t ps) _ is free h = absurd h
+  fit None (ideal_line t ps) s is free h = absurd h
+  fit ring (ask_line questions.Gens t) (statements.Gens name) is free h = asked_of ring questions.Gens t (string_bytes name) is free h
+  fit ring (ask_line questions.Gens t) _ is free h = absurd h
+  fit ring (ask_line questions.Gb t) (statements.Gb name) is free h = asked_of ring questions.Gb t (string_bytes name) is free h
+  fit ring (ask_line questions.Gb t) _ is free h = absurd h
+  fit ring (ask_line questions.Size t) (statements.Size name) is free h = asked_of ring questions.Size t (string_bytes name) is free h
+  fit ring (ask_line questions.Size t) _ is free h = absurd h
+  fit (Some r) (divide_line divisions.NormalForm t ps) (statements.NormalForm name v) is free h =
+      divided_by r divisions.NormalForm t ps (string_bytes name) v is free h.0 h.1.0
+  fit (Some r) (divide_line divisions.NormalForm t ps) _ is free h = absurd h
+  fit (Some r) (divide_line divisions.Member t ps) (statements.Member name v) is free h =
+      divided_by r divisions.Member t ps (string_bytes name) v is free h.0 h.1.0
+  fit (Some r) (divide_line divisions.Member t ps) _ is free h = absurd h
+  fit None (divide_line d t ps) s is free h = absurd h
+  fit ring (equal_line s t) (statements.Equal a b) is free h = compared ring s t (string_bytes a) (string_bytes b) is free h.0 h.1
+  fit ring (equal_line s t) _ is free h = absurd h
+
+pub stated_fits : (before : State) (infos : List NameInfo) (line : List ℕ) (s : Statement) → AreInfosOf before.values infos → States before.ring infos line s → IsFit before s
+stated_fits before infos line s told h = fit before.values infos line told before.ring h.written s h.is_line h.free h.says

@@ -1,0 +1,42 @@
+use Rattle.std.proofs.Common.{refl, subst, sym}
+use Rattle.std.specs.Prelude.{option_copied}
+use Rattle.session_lang.proofs.Reported.{fits, refuses, states}
+use Rattle.session_lang.proofs.Stopping.{step_prevented}
+use Rattle.session_lang.specs.Lines.{Refuses}
+use Rattle.session_lang.proofs.session.Session.step.Goals as goal
+
+pub perform-requires-clause-fit : goal.perform-requires-clause-fit
+perform-requires-clause-fit g c κs within =
+    fits c.args.self.now c.self.inside.ring c.self.inside.names.items c.self.inside.stored.items c.self.view_is c.self.invariant
+    (option_copied c.as_ref.result) c.deref.result.now c.as_ref.ensures.value c.deref.ensures.value c.args.line.now c.in-Ok.stated c.in-Ok.ensures
+
+pub returns-in-Ok-perform-clause-steps : goal.returns-in-Ok-perform-clause-steps
+returns-in-Ok-perform-clause-steps g c =
+    let done = c.in-Ok-perform.ensures.done in (
+      done.0,
+      (
+        c.in-Ok.stated,
+        states c.args.self.now c.self.inside.ring c.self.inside.names.items c.self.inside.stored.items c.self.view_is c.self.invariant
+            (option_copied c.as_ref.result) c.deref.result.now c.as_ref.ensures.value c.deref.ensures.value c.args.line.now c.in-Ok.stated c.in-Ok.ensures,
+        done.1,
+      ),
+      done.2,
+    )
+
+pub returns-in-Err-clause-stop : goal.returns-in-Err-clause-stop
+returns-in-Err-clause-stop g c =
+    step_prevented (g.B.Groebner.stops c.args.engine.now) (g.B.Groebner.stops c.perform.new.engine) (g.B.Groebner.stopped c.args.engine.now) (g.B.Groebner.stopped c.perform.new.engine)
+    c.args.self.now c.args.line.now c.in-Ok.stated
+    (states c.args.self.now c.self.inside.ring c.self.inside.names.items c.self.inside.stored.items c.self.view_is c.self.invariant
+    (option_copied c.as_ref.result) c.deref.result.now c.as_ref.ensures.value c.deref.ensures.value c.args.line.now c.in-Ok.stated c.in-Ok.ensures)
+    c.in-Err.stop c.in-Err.ensures.stop
+
+pub returns-in-Err-Refused-clause-steps : goal.returns-in-Err-Refused-clause-steps
+returns-in-Err-Refused-clause-steps g c = (
+  subst (λ kind. Refuses c.args.self.now c.args.line.now kind) (sym c.in-Err-Refused.kind-is)
+      (refuses c.args.self.now c.self.inside.ring c.self.inside.names.items c.self.inside.stored.items c.self.view_is c.self.invariant
+      (option_copied c.as_ref.result) c.deref.result.now c.as_ref.ensures.value c.deref.ensures.value c.args.line.now c.in-Err-Refused.kind
+      (rw c.in-Err-Refused.field-0-is at c.in-Err-Refused.ensures)),
+  refl,
+  refl,
+)

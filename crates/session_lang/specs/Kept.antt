@@ -1,0 +1,69 @@
+-- What the code keeps of values, and what it is to the state
+use Rattle.std.specs.Prelude.{IfSome, List, None, Option, Some, [], if◌then◌else◌, is_some, length, nat_eq, option_map, string_bytes, suc, ℕ, ◌∷◌, ◌≡◌}
+use Rattle.std.specs.Cmp.Lexicographic.{pointwise}
+use Rattle.formal_sums.specs.FormalSums.{Each}
+use Rattle.module_vectors.specs.Rings.{ring_comparison}
+use Rattle.module_vectors.specs.Vectors.{AreVectorsOver, HasPositions, IsVectorOver}
+use Rattle.module_vectors.specs.declared.key.Key.{Key}
+use Rattle.module_vectors.specs.declared.ring.Ring.{Ring}
+use Rattle.groebner_iface.specs.Runs.{IsReducedBasisOf}
+use Rattle.script_parse.specs.declared.named.NameInfo.{NameInfo}
+use Rattle.script_parse.specs.declared.stated.Statement.{Statement}
+use Rattle.script_parse.specs.declared.stated.Statement.TheVariants as statements
+use Rattle.session_lang.specs.Names.{HasValue, State, Value}
+use Rattle.session_lang.specs.declared.stored.Stored.{Stored}
+
+-- the list is one of vectors of this rank, and what is kept as its reduced basis is that
+pub record IsSound (ring : Ring) (rank : ℕ) (s : Stored) : Type 0 where
+  pub vectors : AreVectorsOver ring (ring_comparison ring) s.list
+  pub positions : Each (HasPositions rank) s.list
+  pub basis : IfSome s.basis (IsReducedBasisOf ring rank s.list)
+
+-- name, list and mark of a value as one
+abbrev pub value_of : NameInfo → Stored → Value
+value_of i s = record { name = string_bytes i.name; rank = i.rank; list = s.list; kept = is_some s.basis }
+
+-- the values: their names and their lists stand beside one another
+abbrev pub values_of : List NameInfo → List Stored → List Value
+values_of (i ∷ infos) (s ∷ stored) = value_of i s ∷ values_of infos stored
+values_of _ _ = []
+
+-- each value is sound, and its length is told
+abbrev pub AreSound : Ring → List NameInfo → List Stored → Type 0
+AreSound ring [] [] = Unit {0}
+AreSound ring (i ∷ infos) (s ∷ stored) = IsSound ring i.rank s × (i.length ≡ length s.list) × AreSound ring infos stored
+AreSound ring _ _ = ⊥
+
+-- the values are sound over the ring, and where none is stated there are none
+abbrev pub AreKept : Option Ring → List NameInfo → List Stored → Type 0
+AreKept None infos stored = (infos ≡ []) × (stored ≡ [])
+AreKept (Some ring) infos stored = AreSound ring infos stored
+
+-- the place of the first with this name
+abbrev pub place_named : List NameInfo → List ℕ → Option ℕ
+place_named [] name = None
+place_named (i ∷ infos) name = if pointwise nat_eq (string_bytes i.name) name then Some 0 else option_map suc (place_named infos name)
+
+-- a value has this name
+abbrev pub IsGiven : State → List ℕ → Type 0
+IsGiven before name = (ring : Ring) × (value : Value) × HasValue before name ring value
+
+-- a value has this name, and the vector is of its rank over the ring
+abbrev pub IsOfValue : State → List ℕ → List (Key × ℕ) → Type 0
+IsOfValue before name v = (ring : Ring) × (value : Value) × HasValue before name ring value × IsVectorOver ring (ring_comparison ring) v
+
+-- what a statement that is read from a line says is fit to be done
+abbrev pub IsFit : State → Statement → Type 0
+IsFit before statements.Nothing = Unit {0}
+IsFit before (statements.Ring ring) = Unit {0}
+IsFit before (statements.Show v) = (ring : Ring) × (before.ring ≡ Some ring) × IsVectorOver ring (ring_comparison ring) v
+IsFit before (statements.Ideal name list) =
+    (ring : Ring) × (before.ring ≡ Some ring) × AreVectorsOver ring (ring_comparison ring) list × Each (HasPositions 1) list
+IsFit before (statements.Gens name) = IsGiven before (string_bytes name)
+IsFit before (statements.Gb name) = IsGiven before (string_bytes name)
+IsFit before (statements.Size name) = IsGiven before (string_bytes name)
+IsFit before (statements.NormalForm name v) = IsOfValue before (string_bytes name) v
+IsFit before (statements.Member name v) = IsOfValue before (string_bytes name) v
+IsFit before (statements.Equal first second) =
+    (ring : Ring) × (left : Value) × (right : Value) × HasValue before (string_bytes first) ring left
+    × HasValue before (string_bytes second) ring right × (left.rank ≡ right.rank)

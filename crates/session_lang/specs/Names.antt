@@ -1,0 +1,54 @@
+-- What a session keeps from line to line
+use Rattle.std.specs.Prelude.{Bool, List, None, Option, Some, [], if◌then◌else◌, length, nat_eq, string_bytes, true, ℕ, ◌∷◌, ◌≡◌}
+use Rattle.std.specs.Cmp.Lexicographic.{pointwise}
+use Rattle.module_vectors.specs.declared.key.Key.{Key}
+use Rattle.module_vectors.specs.declared.ring.Ring.{Ring}
+use Rattle.script_parse.specs.declared.named.NameInfo.{NameInfo}
+
+-- a value: its name, its rank, its list as it was typed, and whether a line that was done has computed its reduced basis
+pub record Value : Type 0 where
+  pub name : List ℕ
+  pub rank : ℕ
+  pub list : List (List (Key × ℕ))
+  pub kept : Bool
+
+-- the ring, once one is stated, and the values over it
+pub record State : Type 0 where
+  pub ring : Option Ring
+  pub values : List Value
+
+-- what there is before the first line
+abbrev pub no_names : State
+no_names = record { ring = None; values = [] }
+
+-- the value with this name, if there is one
+abbrev pub value_named : List Value → List ℕ → Option Value
+value_named [] name = None
+value_named (v ∷ values) name = if pointwise nat_eq v.name name then Some v else value_named values name
+
+-- the values, with this one in place of the one with its name, or behind them all
+abbrev pub with_value : Value → List Value → List Value
+with_value v [] = v ∷ []
+with_value v (w ∷ values) = if pointwise nat_eq w.name v.name then v ∷ values else w ∷ with_value v values
+
+-- the values, the one with this name now with its reduced basis
+abbrev pub with_basis : List ℕ → List Value → List Value
+with_basis name [] = []
+with_basis name (v ∷ values) =
+    if pointwise nat_eq v.name name then record { name = v.name; rank = v.rank; list = v.list; kept = true } ∷ values
+    else v ∷ with_basis name values
+
+-- the state once the reduced basis of the value with this name is kept
+abbrev pub after_run : List ℕ → State → State
+after_run name before = record { ring = before.ring; values = with_basis name before.values }
+
+-- this ring is stated, and the value has this name
+pub record HasValue (before : State) (name : List ℕ) (ring : Ring) (value : Value) : Type 0 where
+  pub stated : before.ring ≡ Some ring
+  pub named : value_named before.values name ≡ Some value
+
+-- what a reader of lines is told of the values: name, rank and length of each
+abbrev pub AreInfosOf : List Value → List NameInfo → Type 0
+AreInfosOf [] [] = Unit {0}
+AreInfosOf (v ∷ values) (i ∷ infos) = (string_bytes i.name ≡ v.name) × (i.rank ≡ v.rank) × (i.length ≡ length v.list) × AreInfosOf values infos
+AreInfosOf _ _ = ⊥

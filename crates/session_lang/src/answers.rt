@@ -1,0 +1,202 @@
+// The answers that the reduced bases of values give.
+ghost use Rattle.std.specs.Prelude.{◌≡◌, ◌<◌, ◌≤◌, ◌++◌, ◌⊎◌, Bool, IfErr, IsSome, List, OnErr, OnOk, get_or, length, ℕ, string_bytes};
+ghost use Rattle.groebner_iface.specs.Runs.{IsReducedBasisOf};
+ghost use Rattle.script_parse.specs.declared.named.NameInfo.{NameInfo as Info};
+ghost use Rattle.session_lang.specs.Answers.{Decides, IsAnswer, IsOneModule};
+ghost use Rattle.session_lang.specs.Asking.{AnswerStops, IsAskedOver, asked_of};
+ghost use Rattle.session_lang.specs.Kept.{AreSound, IsSound, value_of};
+ghost use Rattle.session_lang.specs.Preventing.{AnswerFails, Keeps, RunFails};
+ghost use Rattle.session_lang.specs.declared.stored.Stored.{Stored as Kept};
+
+use crate::kept_bases::{forget, is_one_module, keep_basis, kept_of, normal_form};
+use crate::sizes::push_sizes;
+use crate::stored::Stored;
+use crate::texts::{push_line, push_listing, push_verdict};
+use groebner_iface::{Groebner, OpStop};
+use module_vectors::{Ring, Vect, VectList};
+use script_parse::NameInfo;
+use std::alloc::Global;
+use std::thread::Threads;
+
+/// What is asked of a value that its reduced basis answers.
+#[derive(Clone, Copy)]
+pub enum Question<'a> {
+    /// The basis itself.
+    Basis,
+    /// How many members it has, and its leads by degree.
+    Sizes,
+    /// The normal form of a vector modulo the value.
+    NormalForm(&'a Vect),
+    /// Whether a vector is in the value.
+    Member(&'a Vect),
+}
+
+/// Appends the answer. After an error nothing is appended.
+pub fn push_answer(
+    alloc: Global,
+    out: &mut Vec<u8>,
+    ring: &Ring,
+    info: &NameInfo,
+    basis: &VectList,
+    question: Question<'_>,
+) -> Result<(), OpStop>
+    requires basis { (list : List _) × IsReducedBasisOf ring.now info.now.rank list basis.now }
+    requires over { IsAskedOver ring.now (asked_of question) }
+    ensures text { OnOk result ((list : List _) → IsReducedBasisOf ring.now info.now.rank list basis.now
+        → (kept : Bool) → (text : List ℕ) × IsAnswer ring.now (record { name = string_bytes info.now.name; rank = info.now.rank; list = list; kept = kept }) (asked_of question.entry) text × (out.new.items ≡ out.old.items ++ text)) }
+    ensures unwritten { OnErr result (out.new.items ≡ out.old.items) }
+    ensures stop { IfErr result (AnswerStops ring.now (asked_of question.entry) basis.now) }
+{
+    match question {
+        Question::Basis => Ok(push_listing(
+            alloc,
+            out,
+            b"gb",
+            info.name.as_bytes(),
+            ring,
+            info.rank,
+            basis,
+        )?),
+        Question::Sizes => Ok(push_sizes(out, info.name.as_bytes(), basis.as_slice())?),
+        Question::NormalForm(v) => {
+            let rest = normal_form(alloc, ring, v, basis)?;
+            Ok(push_line(alloc, out, ring, info.rank, &rest)?)
+        }
+        Question::Member(v) => {
+            let rest = normal_form(alloc, ring, v, basis)?;
+            Ok(push_verdict(out, rest.terms().is_empty())?)
+        }
+    }
+}
+
+/// Appends the answer to a question of a value, whose reduced basis is kept from then on. After an error nothing is
+/// appended, and no basis is kept that was not.
+pub fn answer_value<R: Threads + Sync, B: Groebner>(
+    rt: &R,
+    alloc: Global,
+    engine: &mut B,
+    ring: &Ring,
+    info: &NameInfo,
+    stored: &mut Stored,
+    question: Question<'_>,
+    out: &mut Vec<u8>,
+) -> Result<(), OpStop>
+    requires sound { IsSound ring.now info.now.rank stored.old }
+    requires over { IsAskedOver ring.now (asked_of question) }
+    ensures sound { IsSound ring.now info.now.rank stored.new }
+    ensures list { stored.new.list ≡ stored.old.list }
+    ensures kept { OnOk result (IsSome stored.new.basis) }
+    ensures as_before { OnErr result (stored.new ≡ stored.old) }
+    ensures text { OnOk result ((text : List ℕ) × IsAnswer ring.now (value_of info.now stored.old) (asked_of question.entry) text × (out.new.items ≡ out.old.items ++ text)) }
+    ensures unwritten { OnErr result (out.new.items ≡ out.old.items) }
+    ensures same { OnOk result ((B.stops engine.new ≡ B.stops engine.old) × (B.stopped engine.new ≡ B.stopped engine.old)) }
+    ensures stop { IfErr result (AnswerFails (B.stops engine.old) (B.stops engine.new) (B.stopped engine.old) (B.stopped engine.new)
+        ring.now (value_of info.now stored.old) (asked_of question.entry)) }
+    ensures later { B.stops engine.old ≤ B.stops engine.new }
+    ensures settings { B.settings engine.new ≡ B.settings engine.old }
+{
+    let fresh = stored.basis.is_none();
+    match keep_basis(rt, alloc, engine, ring, info.rank, stored) {
+        Ok(()) => {}
+        Err(stop) => return Err(OpStop::from(stop)),
+    }
+    match push_answer(alloc, out, ring, info, kept_of(stored), question) {
+        Ok(()) => Ok(()),
+        Err(stop) => {
+            forget(stored, fresh);
+            Err(stop)
+        }
+    }
+}
+
+// Appends whether the values at these places generate one module. The basis of the first is kept, and so is that of the
+// second from then on. After an error nothing is appended, and no basis is kept that was not.
+fn compare_with<R: Threads + Sync, B: Groebner>(
+    rt: &R,
+    alloc: Global,
+    engine: &mut B,
+    ring: &Ring,
+    names: &Vec<NameInfo>,
+    stored: &mut Vec<Stored>,
+    places: (usize, usize),
+    out: &mut Vec<u8>,
+) -> Result<(), OpStop>
+    requires sound { AreSound ring.now names.now.items stored.old.items }
+    requires within { (places.0 < length names.now.items) × (places.1 < length names.now.items) }
+    requires rank { (d : Info) → (get_or names.now.items places.0 d).rank ≡ (get_or names.now.items places.1 d).rank }
+    requires first { (e : Kept) → IsSome (get_or stored.old.items places.0 e).basis }
+    ensures sound { OnOk result (AreSound ring.now names.now.items stored.new.items) }
+    ensures kept { OnOk result (Keeps stored.old.items places.1 stored.new.items) }
+    ensures as_before { OnErr result (stored.new.items ≡ stored.old.items) }
+    ensures text { OnOk result ((e : Kept) → (text : List ℕ)
+        × Decides (IsOneModule ring.now (get_or stored.old.items places.0 e).list (get_or stored.old.items places.1 e).list) text
+        × (out.new.items ≡ out.old.items ++ text)) }
+    ensures unwritten { OnErr result (out.new.items ≡ out.old.items) }
+    ensures same { OnOk result ((B.stops engine.new ≡ B.stops engine.old) × (B.stopped engine.new ≡ B.stopped engine.old)) }
+    ensures stop { IfErr result (λ stop. (d : Info) (e : Kept) → RunFails (B.stops engine.old) (B.stops engine.new) (B.stopped engine.old) (B.stopped engine.new)
+        ring.now (value_of (get_or names.now.items places.1 d) (get_or stored.old.items places.1 e)) stop) }
+    ensures later { B.stops engine.old ≤ B.stops engine.new }
+    ensures settings { B.settings engine.new ≡ B.settings engine.old }
+{
+    let (i, j) = places;
+    let fresh = stored[j].basis.is_none();
+    match keep_basis(rt, alloc, engine, ring, names[j].rank, &mut stored[j]) {
+        Ok(()) => {}
+        Err(stop) => return Err(OpStop::from(stop)),
+    }
+    let one = is_one_module(ring, kept_of(&stored[i]), kept_of(&stored[j]));
+    match push_verdict(out, one) {
+        Ok(()) => Ok(()),
+        Err(_) => {
+            forget(&mut stored[j], fresh);
+            Err(OpStop::Memory)
+        }
+    }
+}
+
+/// Appends whether the values at these places generate one module, whose reduced bases are kept from then on. After an
+/// error nothing is appended, and no basis is kept that was not.
+pub fn compare_values<R: Threads + Sync, B: Groebner>(
+    rt: &R,
+    alloc: Global,
+    engine: &mut B,
+    ring: &Ring,
+    names: &Vec<NameInfo>,
+    stored: &mut Vec<Stored>,
+    places: (usize, usize),
+    out: &mut Vec<u8>,
+) -> Result<(), OpStop>
+    requires sound { AreSound ring.now names.now.items stored.old.items }
+    requires within { (places.0 < length names.now.items) × (places.1 < length names.now.items) }
+    requires rank { (d : Info) → (get_or names.now.items places.0 d).rank ≡ (get_or names.now.items places.1 d).rank }
+    ensures sound { OnOk result (AreSound ring.now names.now.items stored.new.items) }
+    ensures kept { OnOk result ((middle : List Kept) × Keeps stored.old.items places.0 middle × Keeps middle places.1 stored.new.items) }
+    ensures as_before { OnErr result (stored.new.items ≡ stored.old.items) }
+    ensures text { OnOk result ((e : Kept) → (text : List ℕ)
+        × Decides (IsOneModule ring.now (get_or stored.old.items places.0 e).list (get_or stored.old.items places.1 e).list) text
+        × (out.new.items ≡ out.old.items ++ text)) }
+    ensures unwritten { OnErr result (out.new.items ≡ out.old.items) }
+    ensures same { OnOk result ((B.stops engine.new ≡ B.stops engine.old) × (B.stopped engine.new ≡ B.stopped engine.old)) }
+    ensures stop { IfErr result (λ stop. (d : Info) (e : Kept)
+        → RunFails (B.stops engine.old) (B.stops engine.new) (B.stopped engine.old) (B.stopped engine.new)
+        ring.now (value_of (get_or names.now.items places.0 d) (get_or stored.old.items places.0 e)) stop
+        ⊎ ((middle : List Kept) × Keeps stored.old.items places.0 middle
+        × RunFails (B.stops engine.old) (B.stops engine.new) (B.stopped engine.old) (B.stopped engine.new)
+        ring.now (value_of (get_or names.now.items places.1 d) (get_or middle places.1 e)) stop)) }
+    ensures later { B.stops engine.old ≤ B.stops engine.new }
+    ensures settings { B.settings engine.new ≡ B.settings engine.old }
+{
+    let i = places.0;
+    let fresh = stored[i].basis.is_none();
+    match keep_basis(rt, alloc, engine, ring, names[i].rank, &mut stored[i]) {
+        Ok(()) => {}
+        Err(stop) => return Err(OpStop::from(stop)),
+    }
+    match compare_with(rt, alloc, engine, ring, names, stored, places, out) {
+        Ok(()) => Ok(()),
+        Err(stop) => {
+            forget(&mut stored[i], fresh);
+            Err(stop)
+        }
+    }
+}

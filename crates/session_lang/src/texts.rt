@@ -1,0 +1,126 @@
+// The lines that are printed of values.
+ghost use Rattle.std.specs.Prelude.{◌≡◌, ◌++◌, ◌∷◌, [], OnErr, OnOk, length, take};
+ghost use Rattle.std.specs.Fmt.{decimal};
+ghost use Rattle.formal_sums.specs.FormalSums.{Each};
+ghost use Rattle.module_vectors.specs.Rings.{variables};
+ghost use Rattle.module_vectors.specs.Vectors.{HasVariables};
+ghost use Rattle.poly_text.specs.Texts.{list_text, names_of, poly_text, vector_text};
+ghost use Rattle.poly_text.specs.Writing.{Begins};
+ghost use Rattle.session_lang.specs.Texts.{heading, verdict};
+
+use itoa::Buffer;
+use module_vectors::{NoMemory, Ring, Vect, VectList};
+use poly_text::{push_list, push_vect};
+use std::alloc::Global;
+
+/// Keeps what was written, and after an error only so many bytes as there were before.
+pub fn whole_or_none(
+    out: &mut Vec<u8>,
+    before: usize,
+    written: Result<(), NoMemory>,
+) -> Result<(), NoMemory>
+    ensures same { result ≡ written }
+    ensures ok { OnOk written (out.new.items ≡ out.old.items) }
+    ensures err { OnErr written (out.new.items ≡ take before out.old.items) }
+{
+    if written.is_err() {
+        out.truncate(before);
+    }
+    written
+}
+
+/// Appends a word, a name and a number. After an error what was written so far stands there.
+pub fn append_heading(
+    out: &mut Vec<u8>,
+    word: &[u8],
+    name: &[u8],
+    count: usize,
+) -> Result<(), NoMemory>
+    ensures ok { OnOk result (out.new.items ≡ out.old.items ++ heading word.now name.now count) }
+    ensures err { OnErr result (Begins out.old.items out.new.items) }
+{
+    let mut digits = Buffer::new();
+    out.extend_from_slice(word)?;
+    out.push(b' ')?;
+    out.extend_from_slice(name)?;
+    out.push(b' ')?;
+    out.extend_from_slice(digits.format(count).as_bytes())?;
+    out.push(b'\n')?;
+    Ok(())
+}
+
+// Appends a heading and a list. After an error what was written so far stands there.
+fn append_listing(
+    alloc: Global,
+    out: &mut Vec<u8>,
+    word: &[u8],
+    name: &[u8],
+    ring: &Ring,
+    rank: u64,
+    list: &VectList,
+) -> Result<(), NoMemory>
+    requires { Each (λ v. Each (HasVariables (variables ring.now)) v) list.now }
+    ensures ok { OnOk result (out.new.items ≡ out.old.items ++ (heading word.now name.now (length list.now) ++ list_text (names_of ring.now) rank list.now)) }
+    ensures err { OnErr result (Begins out.old.items out.new.items) }
+{
+    append_heading(out, word, name, list.len())?;
+    match push_list(alloc, out, ring, u128::from(rank), list) {
+        Ok(()) => Ok(()),
+        Err(_) => Err(NoMemory),
+    }
+}
+
+/// Appends a list of a value with its heading. After an error nothing is appended.
+pub fn push_listing(
+    alloc: Global,
+    out: &mut Vec<u8>,
+    word: &[u8],
+    name: &[u8],
+    ring: &Ring,
+    rank: u64,
+    list: &VectList,
+) -> Result<(), NoMemory>
+    requires { Each (λ v. Each (HasVariables (variables ring.now)) v) list.now }
+    ensures ok { OnOk result (out.new.items ≡ out.old.items ++ (heading word.now name.now (length list.now) ++ list_text (names_of ring.now) rank list.now)) }
+    ensures err { OnErr result (out.new.items ≡ out.old.items) }
+{
+    let before = out.len();
+    let written = append_listing(alloc, out, word, name, ring, rank, list);
+    whole_or_none(out, before, written)
+}
+
+/// Appends a vector on a line of its own. After an error nothing is appended.
+pub fn push_line(
+    alloc: Global,
+    out: &mut Vec<u8>,
+    ring: &Ring,
+    rank: u64,
+    v: &Vect,
+) -> Result<(), NoMemory>
+    requires { Each (HasVariables (variables ring.now)) v.now }
+    ensures ok { OnOk result (out.new.items ≡ out.old.items ++ (vector_text (names_of ring.now) rank v.now ++ 10 ∷ [])) }
+    ensures err { OnErr result (out.new.items ≡ out.old.items) }
+{
+    let before = out.len();
+    if push_vect(alloc, out, ring, u128::from(rank), v).is_err() {
+        return Err(NoMemory);
+    }
+    if out.push(b'\n').is_err() {
+        out.truncate(before);
+        return Err(NoMemory);
+    }
+    Ok(())
+}
+
+/// Appends yes or no. After an error nothing is appended.
+pub fn push_verdict(out: &mut Vec<u8>, yes: bool) -> Result<(), NoMemory>
+    ensures ok { OnOk result (out.new.items ≡ out.old.items ++ verdict yes) }
+    ensures err { OnErr result (out.new.items ≡ out.old.items) }
+{
+    if yes {
+        out.extend_from_slice(b"yes\n")?;
+    } else {
+        out.extend_from_slice(b"no\n")?;
+    }
+    Ok(())
+}

@@ -1,0 +1,78 @@
+// The line that tells a stop.
+ghost use Rattle.std.specs.Prelude.{◌≡◌, ◌<◌, ◌^◌, ◌++◌, OnOk, OnErr, sum};
+ghost use Rattle.std.specs.Fmt.{decimal};
+ghost use Rattle.std.specs.Io.KnownBytes.{Appends};
+ghost use Rattle.byte_ports.specs.Causes.{AppendsFront, HasCause};
+ghost use Rattle.session_top.specs.Stops.{degree_line, pairs_line, stop_line, trail_degree};
+
+use crate::early::Kept;
+use basis_core::BasisState;
+use byte_ports::{Failed, Sink, write_all_to};
+use itoa::Buffer;
+use module_vectors::KeptTrail;
+use monomial_orders::Mono;
+
+/// The total degree of a monomial. Two such sums fit: an exponent has 16 bits, and the number of exponents has 64.
+fn degree_of(monomial: &Mono) -> u128
+    ensures value { result ≡ sum monomial.now }
+    ensures small { result < 2 ^ 80 }
+{
+    monomial.bounds();
+    let _variables = monomial.variables();
+    monomial.degree()
+}
+
+/// The total degree of the product that a trail leads to, 0 for one without steps.
+fn trail_degree(trail: &KeptTrail) -> u128
+    ensures { result ≡ trail_degree trail.now }
+{
+    match trail.steps.split_last() {
+        Some((step, _)) => degree_of(&step.1) + degree_of(&trail.last),
+        None => 0,
+    }
+}
+
+/// Writes a text and a number behind it. It takes no memory.
+fn write_count<K: Sink>(sink: &mut K, text: &[u8], count: u128) -> Result<(), Failed>
+    ensures all { OnOk result (Appends (K.taken sink.old) (K.taken sink.new) (text.now ++ decimal count)) }
+    ensures front { OnErr result (AppendsFront (K.taken sink.old) (K.taken sink.new) (text.now ++ decimal count)) }
+    ensures cause { HasCause (K.faults sink.old) (K.faults sink.new) result }
+{
+    let mut digits = Buffer::new();
+    write_all_to(sink, text)?;
+    write_all_to(sink, digits.format(count).as_bytes())
+}
+
+/// Writes the line of a stop by the budget: how many pairs were taken, and how many are queued. It takes no memory.
+fn write_pairs_line<K: Sink>(sink: &mut K, state: &BasisState) -> Result<(), Failed>
+    ensures all { OnOk result (Appends (K.taken sink.old) (K.taken sink.new) (pairs_line state.now)) }
+    ensures front { OnErr result (AppendsFront (K.taken sink.old) (K.taken sink.new) (pairs_line state.now)) }
+    ensures cause { HasCause (K.faults sink.old) (K.faults sink.new) result }
+{
+    write_count(sink, b"stop pairs ", u128::from(state.taken()))?;
+    write_count(sink, b" queued ", state.queued().len() as u128)?;
+    write_all_to(sink, b"\n")
+}
+
+/// Writes the line of a stop by the degree. It takes no memory.
+fn write_degree_line<K: Sink>(sink: &mut K, trail: &KeptTrail) -> Result<(), Failed>
+    ensures all { OnOk result (Appends (K.taken sink.old) (K.taken sink.new) (degree_line trail.now)) }
+    ensures front { OnErr result (AppendsFront (K.taken sink.old) (K.taken sink.new) (degree_line trail.now)) }
+    ensures cause { HasCause (K.faults sink.old) (K.faults sink.new) result }
+{
+    write_count(sink, b"stop degree ", trail_degree(trail))?;
+    write_all_to(sink, b"\n")
+}
+
+/// Writes the line of a stop. It takes no memory.
+pub fn write_stop_line<K: Sink>(sink: &mut K, kept: &Kept) -> Result<(), Failed>
+    ensures all { OnOk result (Appends (K.taken sink.old) (K.taken sink.new) (stop_line kept.now.state kept.now.trail)) }
+    ensures front { OnErr result (AppendsFront (K.taken sink.old) (K.taken sink.new) (stop_line kept.now.state kept.now.trail)) }
+    ensures cause { HasCause (K.faults sink.old) (K.faults sink.new) result }
+{
+    match (&kept.state, &kept.trail) {
+        (_, Some(trail)) => write_degree_line(sink, trail),
+        (Some(state), None) => write_pairs_line(sink, state),
+        (None, None) => Ok(()),
+    }
+}
