@@ -25,6 +25,7 @@ pub use frame::Frame;
 pub use key::Key;
 pub use laws::{lawful_setting, normal_vectors, one_list, positions_of_rank};
 pub use list::VectList;
+pub use merge::merge_terms;
 pub use names::Names;
 pub use product::Product;
 pub use ring::Ring;

@@ -100,6 +100,25 @@ fn sum_is(
     }
 }
 
+// Is c y times a, without its first term, the vector of these terms?
+fn tail_is(alloc: Global, ring: &Ring, c: u32, a: &Vect, entries: &[(u128, [u16; 2], u32)]) -> bool
+    requires variables { variables ring.now ≡ 2 }
+    requires nonzero { 0 < c }
+    requires factor { c < ring.now.modulus.value }
+    requires vector { IsVectorOver ring.now (ring_comparison ring.now) a.now }
+{
+    if a.terms().is_empty() {
+        return false;
+    }
+    match Mono::from_exponents(alloc, &[0, 1]) {
+        Ok(y) => match Vect::scaled_tail(alloc, ring, c, &y, a) {
+            Ok(tail) => is(&tail, entries),
+            Err(_) => false,
+        },
+        Err(_) => false,
+    }
+}
+
 #[test]
 fn vectors_and_sums(rt: HostRuntime) -> Result<(), Fail> {
     let alloc = rt.alloc();
@@ -162,6 +181,47 @@ fn combinations(rt: HostRuntime) -> Result<(), Fail> {
             Ok(sum) => assert!(rt; is(&sum, &whole)),
             Err(_) => assert!(rt; false),
         }
+    } else {
+        assert!(rt; false);
+    }
+    Ok(())
+}
+
+#[test]
+fn sums_and_tails(rt: HostRuntime) -> Result<(), Fail> {
+    let alloc = rt.alloc();
+    let first = [(0, [2, 0], 5), (0, [0, 0], 6), (1, [0, 1], 4)];
+    let second = [(0, [2, 0], 2), (0, [1, 1], 1), (1, [0, 1], 5)];
+    let sum = [(0, [1, 1], 1), (0, [0, 0], 6), (1, [0, 1], 2)];
+    let tail = [(0, [0, 1], 4), (1, [0, 2], 5)];
+    let ring = plane(alloc)?;
+    if let Some(mut a) = vector(alloc, &ring, &first)
+        && let Some(b) = vector(alloc, &ring, &second)
+    {
+        assert!(rt; tail_is(alloc, &ring, 3, &a, &tail));
+        assert!(rt; a.add(alloc, &ring, b).is_ok());
+        assert!(rt; is(&a, &sum));
+    } else {
+        assert!(rt; false);
+    }
+    Ok(())
+}
+
+#[test]
+fn copies_of_lists(rt: HostRuntime) -> Result<(), Fail> {
+    let alloc = rt.alloc();
+    let first = [(0, [2, 0], 5), (0, [0, 0], 6), (1, [0, 1], 4)];
+    let second = [(0, [1, 0], 2), (1, [0, 0], 3)];
+    let ring = plane(alloc)?;
+    if let Some(a) = vector(alloc, &ring, &first)
+        && let Some(b) = vector(alloc, &ring, &second)
+        && let Ok(copy) = VectList::copy_of(alloc, &VectList::from_vec(vec![in alloc; a, b]?))
+        && let Some(c) = copy.get(0)
+        && let Some(d) = copy.get(1)
+    {
+        assert!(rt; copy.len() == 2);
+        assert!(rt; is(c, &first));
+        assert!(rt; is(d, &second));
     } else {
         assert!(rt; false);
     }

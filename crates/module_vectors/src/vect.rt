@@ -1,5 +1,5 @@
 // A vector and what is computed of it.
-ghost use Rattle.std.specs.Prelude.{◌≡◌, ◌<◌, ◌++◌, ◌↔◌, IsTrue, [], ◌∷◌, List, ℕ, length, IfOk, IfErr, OnOk, OnErr, MatchOption};
+ghost use Rattle.std.specs.Prelude.{◌≡◌, ◌<◌, ◌++◌, ◌↔◌, IsTrue, [], ◌∷◌, List, ℕ, drop, length, IfOk, IfErr, OnOk, OnErr, MatchOption};
 ghost use Rattle.monomials.specs.Exponents.{exponents_of, unit};
 ghost use Rattle.formal_sums.specs.FormalSums.{Each, scale};
 ghost use Rattle.formal_sums.specs.Combinations.{combination};
@@ -97,6 +97,20 @@ impl Vect {
         }
     }
 
+    /// Adds v, by one merge that moves each term once. `NoMemory` where there is none; then the vector is as before.
+    pub fn add<F: Frame>(&mut self, alloc: Global, frame: &F, v: Vect) -> Result<(), NoMemory>
+        requires left { IsVectorOver (F.over frame.now) (F.compare frame.now) self.old }
+        requires right { IsVectorOver (F.over frame.now) (F.compare frame.now) v }
+        ensures vector { OnOk result (IsVectorOver (F.over frame.now) (F.compare frame.now) self.new) }
+        ensures sum { let n = variables (F.over frame.now) in OnOk result (StandsFor (F.over frame.now) self.new (sum_of n self.old ++ sum_of n v)) }
+        ensures err { OnErr result (self.new ≡ self.old) }
+    {
+        let out = Vec::with_capacity(alloc, self.terms.len() + v.terms.len())?;
+        let left = replace(&mut self.terms, Vec::new(alloc));
+        self.terms = merge(frame, left, v.terms, out);
+        Ok(())
+    }
+
     /// Adds c t v, for a residue c and a monomial t, by one merge that moves each term once. Where c is 0 nothing changes.
     ///
     /// `Degree` exactly where c is not 0 and t times a monomial of v has a total degree above 65,535; it carries the two.
@@ -127,6 +141,32 @@ impl Vect {
         let left = replace(&mut self.terms, Vec::new(alloc));
         self.terms = merge(frame, left, right, out);
         Ok(())
+    }
+
+    /// c t v without its first term, for a residue c that is not 0, a monomial t and a vector v that is not zero.
+    ///
+    /// `Degree` exactly where t times a monomial of v behind the first has a total degree above 65,535; it carries the
+    /// two. `Memory` where there is none.
+    pub fn scaled_tail<F: Frame>(
+        alloc: Global,
+        frame: &F,
+        c: u32,
+        t: &Mono,
+        v: &Vect,
+    ) -> Result<Vect, VectStop>
+        requires nonzero { 0 < c }
+        requires factor { c < (F.over frame.now).modulus.value }
+        requires variables { length t.now ≡ variables (F.over frame.now) }
+        requires vector { IsVectorOver (F.over frame.now) (F.compare frame.now) v.now }
+        requires some { 0 < length v.now }
+        ensures vector { IfOk result (λ u. IsVectorOver (F.over frame.now) (F.compare frame.now) u) }
+        ensures sum { let n = variables (F.over frame.now) in IfOk result (λ u. StandsFor (F.over frame.now) u (scale c (exponents_of n t.now) (sum_of n (drop 1 v.now)))) }
+        ensures fits { OnOk result (Fits t.now (drop 1 v.now)) }
+        ensures stop { IfErr result (ScaledStops c t.now (drop 1 v.now)) }
+    {
+        Ok(Vect {
+            terms: scaled_terms(alloc, frame, c, t, &v.terms[1..])?,
+        })
     }
 
     /// The sum of products of terms and vectors, by halves: each term is moved about as often as the list can be halved.

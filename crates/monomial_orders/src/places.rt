@@ -86,7 +86,14 @@ pub(crate) fn sums(alloc: Global, a: &[u16], b: &[u16]) -> Result<SmallVec<u16, 
     ensures bounded { IfOk result (λ v. (k : ℕ) → slice_index v.items k < 65536) }
     ensures no_memory { length a.now ≤ 16 → IsOk result }
 {
-    let mut exponents = zeros(alloc, a.len())?;
+    let n = a.len();
+    if n <= 16 {
+        // Written in place, so that the exponents are moved once.
+        let mut places = [0; 16];
+        add_places(&mut places[..n], a, b);
+        return Ok(SmallVec::from_buf_and_len(alloc, places, n));
+    }
+    let mut exponents = SmallVec::from_elem(alloc, 0, n)?;
     add_places(exponents.as_mut_slice(), a, b);
     Ok(exponents)
 }
@@ -98,7 +105,14 @@ pub(crate) fn maxima(alloc: Global, a: &[u16], b: &[u16]) -> Result<SmallVec<u16
     ensures bounded { IfOk result (λ v. (k : ℕ) → slice_index v.items k < 65536) }
     ensures no_memory { length a.now ≤ 16 → IsOk result }
 {
-    let mut exponents = zeros(alloc, a.len())?;
+    let n = a.len();
+    if n <= 16 {
+        // Written in place, so that the exponents are moved once.
+        let mut places = [0; 16];
+        max_places(&mut places[..n], a, b);
+        return Ok(SmallVec::from_buf_and_len(alloc, places, n));
+    }
+    let mut exponents = SmallVec::from_elem(alloc, 0, n)?;
     max_places(exponents.as_mut_slice(), a, b);
     Ok(exponents)
 }
@@ -115,7 +129,14 @@ pub(crate) fn differences(
     ensures bounded { IfOk result (λ v. (k : ℕ) → slice_index v.items k < 65536) }
     ensures no_memory { length a.now ≤ 16 → IsOk result }
 {
-    let mut exponents = zeros(alloc, a.len())?;
+    let n = a.len();
+    if n <= 16 {
+        // Written in place, so that the exponents are moved once.
+        let mut places = [0; 16];
+        subtract_places(&mut places[..n], a, b);
+        return Ok(SmallVec::from_buf_and_len(alloc, places, n));
+    }
+    let mut exponents = SmallVec::from_elem(alloc, 0, n)?;
     subtract_places(exponents.as_mut_slice(), a, b);
     Ok(exponents)
 }
