@@ -20,7 +20,7 @@ use Rattle.basis_steps.specs.Outcomes.{AreJobProducts, IsOutcome}
 use Rattle.basis_steps.specs.Pairs.{Pair, count, is_same_pair}
 use Rattle.basis_steps.specs.Queues.{IsSorted, QueuesNewPairs, compare_pairs}
 use Rattle.basis_steps.specs.States as plain
-use Rattle.basis_steps.specs.States.{cofactor_lists, job_of, pairs_out, pairs_taken, vectors, with_others}
+use Rattle.basis_steps.specs.States.{cofactor_lists, pairs_out, vectors, with_others}
 use Rattle.basis_steps.specs.Steps.{Puts, Replays}
 use Rattle.basis_core.specs.declared.event.Event.{Event}
 use Rattle.basis_core.specs.declared.event.Event.TheVariants.{Put}

@@ -1,21 +1,19 @@
 -- A row's cofactors less the products of the members' cofactors
-use Rattle.std.proofs.Common.{List, [], ap, arith, get_or, length, refl, subst, suc, sym, zero, ℕ, ◌%◌, ◌*◌, ◌++◌, ◌+◌, ◌-◌, ◌<◌, ◌∙◌, ◌∷◌, ◌≡◌}
+use Rattle.std.proofs.Common.{List, [], ap, append-nil, arith, get_or, length, refl, subst, suc, sym, zero, ℕ, ◌%◌, ◌*◌, ◌++◌, ◌+◌, ◌-◌, ◌<◌, ◌∙◌, ◌∷◌, ◌≡◌}
 use Rattle.std.specs.Prelude.{Contains}
 use Rattle.std.proofs.Math.ListN.{get_or-map}
 use Rattle.std.proofs.lemmas.List.{length-map}
 use Rattle.residues.proofs.Congruences.{IsCongruent_cancel, IsCongruent_minus, IsCongruent_mod, IsCongruent_multiply, IsCongruent_of, IsCongruent_refl, IsCongruent_sym, IsCongruent_trans}
 use Rattle.residues.specs.Residues.{IsCongruent}
 use Rattle.monomials.specs.Exponents.{Exponents, exponents_of, unit}
-use Rattle.formal_sums.proofs.Combining.{scale-one}
 use Rattle.formal_sums.proofs.Sameness.{IsSame_append, IsSame_of, IsSame_refl, IsSame_trans, coefficient-scale_unit, scale-append}
-use Rattle.formal_sums.proofs.WeightedSums.{Each_append, coefficient-append, weighted_sum-scale}
+use Rattle.formal_sums.proofs.WeightedSums.{coefficient-append, weighted_sum-scale}
 use Rattle.formal_sums.specs.Combinations.{combination}
 use Rattle.formal_sums.specs.FormalSums.{Each, FormalSum, IsSame, coefficient, indicator, scale, shift, weighted_sum}
-use Rattle.monomial_orders.specs.Monomials.{IsMonomial}
 use Rattle.module_vectors.proofs.SumsOfProducts.{Each_member}
 use Rattle.module_vectors.specs.Products.{product_of, sum_of_products}
 use Rattle.module_vectors.specs.Stops.{HasMonomial, IsTooGreat, ProductsStop}
-use Rattle.module_vectors.specs.Vectors.{HasVariables, IsTerm, sum_of, sums_of}
+use Rattle.module_vectors.specs.Vectors.{sum_of, sums_of}
 use Rattle.module_vectors.specs.declared.key.Key.{Key as CodeKey}
 use Rattle.module_vectors.specs.declared.product.Product.{Product}
 use Rattle.module_vectors.specs.declared.stop.VectStop.{VectStop}
@@ -152,18 +150,8 @@ pub cofactors_less :
 cofactors_less n p ms qs xs w taken v pos r h st sw =
     IsSame_trans sw (IsSame_trans (swapped p taken v) (IsSame_append (IsSame_refl p v) (IsSame_trans st (products_minus p (cofactors_in ms) n (vectors_in ms) qs xs pos r h))))
 
--- the terms of a vector are terms of the ring
-terms_over : (n p : ℕ) (v : List (CodeKey × ℕ)) → Each (IsTerm n p) v → Each (λ t. HasVariables n t × (t.1 < p)) v
-terms_over n p [] h = tt
-terms_over n p (t ∷ v) h = ((h.0.variables, h.0.reduced), terms_over n p v h.1)
-
-pub joined_terms :
-    (n p : ℕ) (u v w : List (CodeKey × ℕ))
-    → Each (IsTerm n p) u → Each (IsTerm n p) v → w ≡ u ++ v → Each (λ t. HasVariables n t × (t.1 < p)) w
-joined_terms n p u v w hu hv e = subst (Each (λ t. HasVariables n t × (t.1 < p))) (sym e) (Each_append (λ t. HasVariables n t × (t.1 < p)) u v (terms_over n p u hu) (terms_over n p v hv))
-
--- 1 times a vector
-pub times_one : (n k : ℕ) (m : List ℕ) (v : FormalSum n) → k ≡ n → IsMonomial k (unit k) m → scale 1 (exponents_of n m) v ≡ v
-times_one n k m v e h =
-    let g : IsMonomial n (unit n) m = subst (λ (z : ℕ). IsMonomial z (unit z) m) e h in
-    ap (λ (x : Exponents n). scale 1 x v) g.exponents ∙ scale-one v
+-- less nothing they stay
+pub cofactors_whole :
+    (n p : ℕ) (F : List (FormalSum n)) (qs : List Quotient) (v : FormalSum n)
+    → qs ≡ [] → IsSame p v (difference p v (combination F (cofactors_of n qs)))
+cofactors_whole n p F qs v e = subst (λ (z : List Quotient). IsSame p v (difference p v (combination F (cofactors_of n z)))) (sym e) (IsSame_of p _ _ (sym (append-nil v)))

@@ -35,6 +35,7 @@ use Rattle.basis_steps.proofs.Sparing.{monic_list}
 use Rattle.basis_steps.specs.Divisions as plain
 use Rattle.basis_steps.specs.Divisions.{AreQuotients, IsKeyAtMost, IsMonicMember, LeavesMember, LeavesNothing, difference}
 use Rattle.basis_steps.specs.States.{Member, vectors}
+use Rattle.basis_core.proofs.Reaching.{quotients_reached}
 use Rattle.basis_core.proofs.Tracking.{cofactors_of_members, cofactors_rank, rank_of_positions, ring_lawful, vectors_of_members, vectors_rank}
 use Rattle.basis_core.specs.Members.{Shared, Tracked, member_of, members_of, setting_of}
 use Rattle.basis_core.specs.RowDivision.{AreRowCofactors, AreRowQuotients, IsRowRest, IsTracked, lead_residue}
@@ -166,11 +167,11 @@ module _ (shared : Shared) (ms : List Tracked) (row : Tracked) (qs : List Quotie
   -- nothing is left
   pub nothing_left :
       (rest : List (CodeKey × ℕ))
-      → rest ≡ [] → AreRowQuotients shared ms row qs → IsRowRest shared ms row qs rest
+      → rest ≡ [] → Each (IsTracked shared) ms → IsTracked shared row → AreRowQuotients shared ms row qs → IsRowRest shared ms row qs rest
       → LeavesNothing S G (member_of n row) a
-  nothing_left rest e hq hr = record {
+  nothing_left rest e members tracked hq hr = record {
     quotients = are_quotients hq;
-    reached = hq.reached;
+    reached = quotients_reached shared ms members row.vector tracked.vector.vector qs hq.met;
     vector = IsSame_trans (whole rest hr) (IsSame_of p _ _ (ap (λ x. combination (vectors G) a ++ sum_of n x) e ∙ append-nil (combination (vectors G) a)));
   }
 
@@ -221,7 +222,7 @@ module _ (shared : Shared) (ms : List Tracked) (row : Tracked) (qs : List Quotie
               let nv = vector_normal shared.ring (ring_comparison shared.ring) shared.rank v iv in
               record {
                 quotients = are_quotients hq;
-                reached = hq.reached;
+                reached = quotients_reached shared ms members row.vector tracked.vector.vector qs hq.met;
                 at_most = subst (λ (k : Key n). IsKeyAtMost S k (head_key (sum_of n row.vector))) (sym key)
                     (rest_at_most S lawful (vectors G) (sum_of n row.vector) (key_of n t.0, t.1) (sum_of n u) a (monic_list S lawful (vectors G) monic)
                     (vector_normal shared.ring (ring_comparison shared.ring) shared.rank row.vector tracked.vector.vector)

@@ -4,6 +4,7 @@ use Rattle.residues.proofs.Congruences.{IsCongruent_of, IsCongruent_trans}
 use Rattle.monomials.specs.Exponents.{Exponents, exponents_of}
 use Rattle.formal_sums.proofs.WeightedSums.{same_key-shift, weighted_sum-scale, weighted_sum_ext}
 use Rattle.formal_sums.specs.FormalSums.{Each, FormalSum, Key, coefficient, indicator, scale, shift}
+use Rattle.bases.specs.Settings.{IsLawful, Setting}
 use Rattle.module_vectors.proofs.NormalVectors.{residues_of}
 use Rattle.module_vectors.specs.Rings.{ring_comparison, variables}
 use Rattle.module_vectors.specs.Trails.{HasKey, IsInProduct, Step}
@@ -13,11 +14,10 @@ use Rattle.vector_division.proofs.Occurring.{at_key, nonzeros, occurs, scaled_ke
 use Rattle.basis_steps.specs.Divisions.{Occurs}
 use Rattle.basis_steps.specs.Outcomes.{product_vector}
 use Rattle.basis_steps.specs.States.{vectors}
-use Rattle.basis_core.specs.Members.{Shared, Tracked, members_of, setting_of}
+use Rattle.basis_core.specs.Members.{Shared, Tracked, members_of}
 use Rattle.basis_core.specs.Outcomes.{product_of}
 use Rattle.basis_core.specs.RowDivision.{IsTracked}
 use Rattle.basis_core.specs.Rows.{vectors_in}
-use Rattle.basis_core.proofs.Tracking.{ring_lawful}
 
 -- ---- the members' vectors
 pub vector_at : (n : ℕ) (ms : List Tracked) (k : ℕ) → get_or (vectors (members_of n ms)) k [] ≡ sum_of n (get_or (vectors_in ms) k [])
@@ -43,32 +43,28 @@ occurs_in n p vs G s k e o = go (occurs (scale 1 (exponents_of n s.1) (get_or G 
         (r.0, subst (λ v. HasKey v r.0) e r.1, r.2)
     go (inr z) = absurd (o (IsCongruent_of p _ _ z))
 
--- a key of a vector occurs in it
-pub key_occurs :
-    (shared : Shared) (v : List (CodeKey × ℕ)) (k : Key (variables shared.ring))
-    → IsVector (variables shared.ring) shared.ring.modulus.value (ring_comparison shared.ring (variables shared.ring)) v
-    → HasKey (sum_of (variables shared.ring) v) k → Occurs shared.ring.modulus.value (sum_of (variables shared.ring) v) k
-key_occurs shared v k h there =
-    let n : ℕ = variables shared.ring in
-    at_key (λ l. Occurs shared.ring.modulus.value (sum_of n v) l) (sum_of n v) k
-    (nonzeros (setting_of n shared) (ring_lawful shared) (sum_of n v) h.descends (residues_of n shared.ring.modulus.value v h.each)) there
-
 coefficient_shifted : {n : ℕ} (m : Exponents n) (v : FormalSum n) (k : Key n) → coefficient (scale 1 m v) (shift m k) ≡ coefficient v k
 coefficient_shifted m v k =
     weighted_sum-scale (indicator (shift m k)) 1 m v
     ∙ ap (λ x. 1 * x) (weighted_sum_ext _ (indicator k) (λ l. ap (λ b. cond b 1 0) (same_key-shift m k l)) v)
     ∙ omega arith
 
--- a key of a product of a vector occurs in it
-pub in_occurs :
-    (shared : Shared) (vs : List (List (CodeKey × ℕ))) (G : List (FormalSum (variables shared.ring))) (s : Step) (k : Key (variables shared.ring))
-    → get_or G s.0 [] ≡ sum_of (variables shared.ring) (get_or vs s.0 [])
-    → IsVector (variables shared.ring) shared.ring.modulus.value (ring_comparison shared.ring (variables shared.ring)) (get_or vs s.0 [])
-    → IsInProduct (variables shared.ring) vs k s → Occurs shared.ring.modulus.value (product_vector G (product_of (variables shared.ring) s)) k
-in_occurs shared vs G s k e v (l, there, is) z =
-    let n : ℕ = variables shared.ring in
-    let p : ℕ = shared.ring.modulus.value in
-    let t : Exponents n = exponents_of n s.1 in
-    let same : coefficient (sum_of n (get_or vs s.0 [])) l ≡ coefficient (scale 1 t (get_or G s.0 [])) k =
-    sym (coefficient_shifted t (sum_of n (get_or vs s.0 [])) l) ∙ (λ i. coefficient (scale 1 t (sym e i)) (sym is i)) in
-    key_occurs shared (get_or vs s.0 []) l v there (IsCongruent_trans (IsCongruent_of p _ _ same) z)
+module _ {n : ℕ} (S : Setting n) (lawful : IsLawful S) where
+  -- a key of a vector occurs in it
+  pub key_occurs :
+      (v : List (CodeKey × ℕ)) (k : Key n)
+      → IsVector n S.modulus S.compare v → HasKey (sum_of n v) k → Occurs S.modulus (sum_of n v) k
+  key_occurs v k h there =
+      at_key (λ l. Occurs S.modulus (sum_of n v) l) (sum_of n v) k
+      (nonzeros S lawful (sum_of n v) h.descends (residues_of n S.modulus v h.each)) there
+
+  -- a key of a product of a vector occurs in it
+  pub in_occurs :
+      (vs : List (List (CodeKey × ℕ))) (G : List (FormalSum n)) (s : Step) (k : Key n)
+      → get_or G s.0 [] ≡ sum_of n (get_or vs s.0 []) → IsVector n S.modulus S.compare (get_or vs s.0 [])
+      → IsInProduct n vs k s → Occurs S.modulus (product_vector G (product_of n s)) k
+  in_occurs vs G s k e v (l, there, is) z =
+      let t : Exponents n = exponents_of n s.1 in
+      let same : coefficient (sum_of n (get_or vs s.0 [])) l ≡ coefficient (scale 1 t (get_or G s.0 [])) k =
+      sym (coefficient_shifted t (sum_of n (get_or vs s.0 [])) l) ∙ (λ i. coefficient (scale 1 t (sym e i)) (sym is i)) in
+      key_occurs (get_or vs s.0 []) l v there (IsCongruent_trans (IsCongruent_of S.modulus _ _ same) z)

@@ -4,7 +4,7 @@ use Rattle.std.proofs.lemmas.List.{take-append-le, length-append}
 use Rattle.std.proofs.Common.{arith, append-nil}
 use Rattle.basis_steps.specs.Pairs.{Pair}
 use Rattle.basis_steps.specs.States as plain
-use Rattle.basis_steps.specs.States.{State, job_of, with_others}
+use Rattle.basis_steps.specs.States.{job_of, with_others}
 use Rattle.basis_steps.specs.Steps.{Ends, MayTake, Puts, Stops, ended_after, out_with}
 use Rattle.basis_core.specs.declared.taken.Taken.{Taken}
 use Rattle.basis_core.specs.declared.taken.Taken.TheVariants as taken

@@ -16,11 +16,12 @@ use Rattle.vector_division.specs.declared.reduction.Quotient.{Quotient}
 use Rattle.basis_steps.specs.Divisions.{AreReached, IsReached, Occurs}
 use Rattle.basis_steps.specs.Outcomes.{product_vector}
 use Rattle.basis_steps.specs.States.{Product, vectors}
-use Rattle.basis_core.specs.Members.{Shared, Tracked, members_of}
+use Rattle.basis_core.specs.Members.{Shared, Tracked, members_of, setting_of}
 use Rattle.basis_core.specs.Outcomes.{product_of}
 use Rattle.basis_core.specs.RowDivision.{IsTracked}
 use Rattle.basis_core.specs.Rows.{vectors_in}
 use Rattle.basis_core.proofs.MemberKeys.{in_occurs, key_occurs, member_vector, vector_at}
+use Rattle.basis_core.proofs.Tracking.{ring_lawful}
 
 -- the step of a quotient is the key of its cofactor's term
 step_there :
@@ -51,10 +52,10 @@ module _ (shared : Shared) (ms : List Tracked) (members : Each (IsTracked shared
   met_reached :
       (earlier : List Quotient) (k : Key n)
       → IsMet n (sum_of n v) vs (map step_of earlier) k → IsReached p G (sum_of n v) (cofactors_of n earlier) k
-  met_reached earlier k (inl there) = inl (key_occurs shared v k iv there)
+  met_reached earlier k (inl there) = inl (key_occurs (setting_of n shared) (ring_lawful shared) v k iv there)
   met_reached earlier k (inr (s, there, h)) =
       let t = step_there n earlier s there in
-      inr (t.0, t.1, subst (λ (z : Product n). Occurs p (product_vector G z) k) (sym t.2) (in_occurs shared vs G s k (vector_at n ms s.0) (member_vector shared ms s.0 members) h))
+      inr (t.0, t.1, subst (λ (z : Product n). Occurs p (product_vector G z) k) (sym t.2) (in_occurs (setting_of n shared) (ring_lawful shared) vs G s k (vector_at n ms s.0) (member_vector shared ms s.0 members) h))
 
   reached_from :
       (earlier qs : List Quotient)

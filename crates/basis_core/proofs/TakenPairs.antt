@@ -15,7 +15,7 @@ use Rattle.basis_steps.specs.Criteria.{IsPair, NoCriterionApplies, Skips, waitin
 use Rattle.basis_steps.specs.Pairs.{Pair, count, is_same_pair}
 use Rattle.basis_steps.specs.Queues.{IsSorted, share}
 use Rattle.basis_steps.specs.States as plain
-use Rattle.basis_steps.specs.States.{pairs_out, pairs_taken, vectors}
+use Rattle.basis_steps.specs.States.{pairs_out, vectors}
 use Rattle.basis_steps.specs.Steps as steps
 use Rattle.basis_steps.specs.Steps.{out_with}
 use Rattle.basis_core.specs.declared.event.Event.{Event}

@@ -14,17 +14,18 @@ use Rattle.basis_steps.proofs.Counting.{is_same_pair-refl, is_same_pair-true}
 use Rattle.basis_steps.specs.Criteria.{lcm_of}
 use Rattle.basis_steps.specs.Outcomes as plain
 use Rattle.basis_steps.specs.Divisions.{Occurs}
-use Rattle.basis_steps.specs.Outcomes.{AreJobProducts, IsMadeOf, IsOutcome, OccursBefore, product_at, product_vector}
+use Rattle.basis_steps.specs.Outcomes.{IsMadeOf, IsOutcome, OccursBefore, product_at, product_vector}
 use Rattle.basis_steps.specs.Pairs.{Pair, count, is_same_pair}
 use Rattle.basis_steps.specs.States.{Member, Product, vectors}
 use Rattle.basis_core.specs.Chains.{AreTraced, IsLcmOf, IsStep, step_at}
 use Rattle.basis_core.specs.Jobs.{HasLcm, pair_of, pairs_of}
-use Rattle.basis_core.specs.Members.{Shared, Tracked, member_of, members_of}
+use Rattle.basis_core.specs.Members.{Shared, Tracked, member_of, members_of, setting_of}
 use Rattle.basis_core.specs.Outcomes.{product_of, products_of, work_of}
 use Rattle.basis_core.specs.RowDivision.{IsTracked}
 use Rattle.basis_core.specs.Rows.{IsRowTrail, vectors_in}
 use Rattle.basis_core.proofs.AfterPut.{members_length}
 use Rattle.basis_core.proofs.MemberKeys.{key_occurs, occurs_in, vector_at}
+use Rattle.basis_core.proofs.Tracking.{ring_lawful}
 
 -- ---- lists
 pub step_front : (xs ys : List Step) (i : ℕ) → i < length xs → step_at (xs ++ ys) i ≡ step_at xs i
@@ -206,7 +207,7 @@ module _ (shared : Shared) (ms base rows : List Tracked) (pairs : List CodePair)
   row_key k there =
       let v = (contained_each (IsTracked shared) rows row h.rows_tracked h.there).vector.vector in
       let made = each_member (λ m. IsMadeOf p G (products_of n products) m.vector) rows row (h.outcome).vectors_made h.there in
-      let r = product_met (length (products_of n products)) k (made k (key_occurs shared row.vector k v there)) in
+      let r = product_met (length (products_of n products)) k (made k (key_occurs (setting_of n shared) (ring_lawful shared) row.vector k v there)) in
       (r.0, r.2, r.3)
 
   -- a step's lead

@@ -10,7 +10,7 @@ use Rattle.bases.specs.Representations.{key_lcm}
 use Rattle.module_vectors.specs.Rings.{ring_comparison, variables}
 use Rattle.module_vectors.specs.Stops.{HasMonomial}
 use Rattle.module_vectors.specs.Trails.{AreMet, HasKey, IsChain, IsInProduct, IsOfStep, Step, last_step, product_lead}
-use Rattle.module_vectors.specs.Vectors.{IsTerm, IsVector, key_of, sum_of}
+use Rattle.module_vectors.specs.Vectors.{IsVector, key_of, sum_of}
 use Rattle.module_vectors.specs.declared.key.Key.{Key as CodeKey}
 use Rattle.module_vectors.specs.declared.trail.KeptTrail.{KeptTrail}
 use Rattle.module_vectors.specs.declared.trail.TrailStart.TheVariants as starts
@@ -20,7 +20,7 @@ use Rattle.basis_steps.proofs.Growing.{each_at}
 use Rattle.basis_core.proofs.AfterPut.{members_length}
 use Rattle.basis_steps.specs.Criteria.{IsPair, lcm_of}
 use Rattle.basis_steps.specs.Outcomes as plain
-use Rattle.basis_steps.specs.Outcomes.{AreJobProducts, IsOutcome, OccursBefore, product_at, product_vector}
+use Rattle.basis_steps.specs.Outcomes.{AreJobProducts, IsOutcome, product_at, product_vector}
 use Rattle.basis_steps.specs.Pairs.{count, is_same_pair}
 use Rattle.basis_steps.specs.States.{Product, Trail, cofactor_lists, vectors}
 use Rattle.basis_core.specs.Chains.{IsLinked, IsStep, IsTracedTo, step_at}
@@ -90,7 +90,7 @@ monomial_occurs :
     → (i : ℕ) × Occurs shared.ring.modulus.value (sum_of (variables shared.ring) v) (i, exponents_of (variables shared.ring) m)
 monomial_occurs shared v m h (t, there, e) =
     let n : ℕ = variables shared.ring in
-    (t.0.position, subst (λ x. Occurs shared.ring.modulus.value (sum_of n v) (t.0.position, exponents_of n x)) e (key_occurs shared v (key_of n t.0) h (term_key n v t there)))
+    (t.0.position, subst (λ x. Occurs shared.ring.modulus.value (sum_of n v) (t.0.position, exponents_of n x)) e (key_occurs (setting_of n shared) (ring_lawful shared) v (key_of n t.0) h (term_key n v t there)))
 
 degree_of_list : (n : ℕ) (xs : List ℕ) → length xs ≡ n → degree (exponents_of n xs) ≡ sum xs
 degree_of_list n xs e = subst (λ k. degree (exponents_of k xs) ≡ sum xs) e (degree-exponents_of xs)
@@ -203,7 +203,7 @@ module _ (shared : Shared) (ms : List Tracked) (o : OutcomeShown) (row : Tracked
 
       occurs : Occurs p (product_vector G (product_at (products_of n (first ∷ later)) k)) (plain.product_lead G (product_at (products_of n (first ∷ later)) (suc k)))
       occurs = subst (λ (z : Product n × Key n). Occurs p (product_vector G z.0) z.1) (λ t. (sym before t, sym (ap (plain.product_lead G) is ∙ lead_here (step_at later k)) t))
-          (in_occurs shared vs G (step_at (first ∷ later) k) (product_lead n vs (step_at later k)) (vector_at n ms (step_at (first ∷ later) k).0) (member_vector shared ms (step_at (first ∷ later) k).0 h.tracked) (linked_at n vs first later (c.chain_is).linked k short))
+          (in_occurs (setting_of n shared) (ring_lawful shared) vs G (step_at (first ∷ later) k) (product_lead n vs (step_at later k)) (vector_at n ms (step_at (first ∷ later) k).0) (member_vector shared ms (step_at (first ∷ later) k).0 h.tracked) (linked_at n vs first later (c.chain_is).linked k short))
 
   of_last : IsOfStep vs (Some (cofactors_in ms)) (last_step first later) last
   of_last = subst (λ s. IsOfStep vs (Some (cofactors_in ms)) s last) (sym same_last) (h.trail).monomial

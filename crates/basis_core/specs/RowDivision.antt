@@ -16,8 +16,7 @@ use Rattle.vector_division.specs.Reductions.{AreMetFrom, HaveLeadsUpTo, IsQuotie
 use Rattle.vector_division.specs.declared.reduction.Quotient.{Quotient}
 use Rattle.cofactor_track.specs.Members.{IsCombined}
 use Rattle.cofactor_track.specs.declared.member.Member.{Member as CodeMember}
-use Rattle.basis_steps.specs.Divisions.{AreReached, LeavesMember, LeavesNothing, difference}
-use Rattle.basis_steps.specs.States.{vectors}
+use Rattle.basis_steps.specs.Divisions.{LeavesMember, LeavesNothing, difference}
 use Rattle.basis_core.specs.Members.{IsOver, Shared, Tracked, member_of, members_of, setting_of, tracked_of}
 use Rattle.basis_core.specs.Rows.{cofactors_in, vectors_in}
 
@@ -25,11 +24,10 @@ use Rattle.basis_core.specs.Rows.{cofactors_in, vectors_in}
 abbrev pub IsTracked : Shared → Tracked → Type 0
 IsTracked shared m = IsCombined shared.ring shared.rank shared.generators m.vector m.cof
 
--- the quotients of the row's vector by the members: products that fit, with leads at most the row's; each lead is a key, and a monomial, of the row or of an earlier product
+-- the quotients of the row's vector by the members: products that fit, with leads at most the row's; each lead is a key of the row or of an earlier product
 pub record AreRowQuotients (shared : Shared) (ms : List Tracked) (row : Tracked) (qs : List Quotient) : Type 0 where
   pub each : Each (IsQuotient (variables shared.ring) shared.ring.modulus.value (vectors_in ms)) qs
   pub met : AreMetFrom (variables shared.ring) (sum_of (variables shared.ring) row.vector) (vectors_in ms) [] qs
-  pub reached : AreReached shared.ring.modulus.value (vectors (members_of (variables shared.ring) ms)) (sum_of (variables shared.ring) row.vector) [] (cofactors_of (variables shared.ring) qs)
   pub bounded : HaveLeadsUpTo (variables shared.ring) (ring_comparison shared.ring (variables shared.ring)) (vectors_in ms) (head_key (sum_of (variables shared.ring) row.vector)) qs
 
 -- the products and the rest are the row's vector, and no lead divides the rest's lead

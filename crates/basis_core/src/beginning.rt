@@ -8,11 +8,11 @@ ghost use Rattle.basis_core.specs.Beginning.{HaveMade};
 ghost use Rattle.basis_core.specs.Members.{tracked_of};
 ghost use Rattle.basis_core.specs.Rows.{IsRowTrail, vectors_in};
 
-use crate::copies::{copy_cofactors, copy_list};
+use crate::copies::copy_cofactors;
 use crate::members::Members;
 use crate::row_division::{RowStop, RowTrail, make_member};
 use cofactor_track::Member;
-use module_vectors::{KeptTrail, NoMemory, TrailStart, Vectors, WorkStop};
+use module_vectors::{KeptTrail, NoMemory, TrailStart, VectList, Vectors, WorkStop};
 use std::alloc::{AllocError, Global};
 use vector_division::{Mark, mark_of};
 
@@ -58,11 +58,11 @@ fn beginning_trail(
     Ok(KeptTrail {
         ring: shared.ring.try_copy(alloc)?,
         rank: shared.rank,
-        generators: copy_list(alloc, &shared.generators)?,
+        generators: VectList::copy_of(alloc, &shared.generators)?,
         below: Vec::new(alloc),
         start: TrailStart::Term,
         vector: row.vector.try_copy(alloc)?,
-        members: copy_list(alloc, members)?,
+        members: VectList::copy_of(alloc, members)?,
         cofs: Some(copy_cofactors(alloc, members)?),
         steps: trail.steps,
         last: trail.last,

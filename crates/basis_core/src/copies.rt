@@ -3,19 +3,8 @@ ghost use Rattle.std.specs.Prelude.{◌≡◌, IfOk};
 ghost use Rattle.basis_core.specs.Rows.{cofactors_in};
 
 use crate::members::Members;
-use module_vectors::{NoMemory, VectList, Vectors};
+use module_vectors::{NoMemory, VectList};
 use std::alloc::Global;
-
-/// The vectors of the list again.
-pub(crate) fn copy_list<L: Vectors>(alloc: Global, list: &L) -> Result<VectList, NoMemory>
-    ensures { IfOk result (λ copy. copy ≡ L.listed list.now) }
-{
-    let mut copy = VectList::new(alloc);
-    for i in 0..list.count() {
-        copy.push(list.at(i).try_copy(alloc)?)?;
-    }
-    Ok(copy)
-}
 
 /// The cofactors of the members again.
 pub(crate) fn copy_cofactors(alloc: Global, members: &Members) -> Result<VectList, NoMemory>

@@ -1,5 +1,5 @@
 // The flags and the pairs of new members.
-ghost use Rattle.std.specs.Prelude.{ℕ, ◌≡◌, ◌<◌, ◌≤◌, ◌+◌, ◌&&◌, cond, false, get_or, length, map, nat_eq, IfOk, OnOk};
+ghost use Rattle.std.specs.Prelude.{◌≡◌, ◌<◌, ◌≤◌, ◌+◌, ◌&&◌, cond, false, get_or, length, map, nat_eq, IfOk, OnOk};
 ghost use Rattle.formal_sums.specs.FormalSums.{Each};
 ghost use Rattle.bases.specs.Leads.{leads};
 ghost use Rattle.module_vectors.specs.Rings.{variables};

@@ -1,5 +1,5 @@
 // What a Put does to the fields of a state.
-ghost use Rattle.std.specs.Prelude.{ℕ, ◌≡◌, ◌<◌, ◌≤◌, ◌+◌, ◌*◌, ◌-◌, ◌++◌, ◌∷◌, [], List, OnOk, OnErr, IfErr, length, map, take, get_or};
+ghost use Rattle.std.specs.Prelude.{ℕ, ◌≡◌, ◌<◌, ◌≤◌, ◌+◌, ◌*◌, ◌-◌, ◌++◌, List, OnOk, OnErr, IfErr, length, map, take};
 ghost use Rattle.std.specs.Vec.{vec_capacity};
 ghost use Rattle.formal_sums.specs.FormalSums.{Each};
 ghost use Rattle.module_vectors.specs.Rings.{variables};

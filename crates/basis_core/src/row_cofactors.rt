@@ -1,9 +1,7 @@
 // The cofactors of a row, less those of the products that division takes away.
-ghost use Rattle.std.specs.Prelude.{◌≡◌, ◌<◌, ◌++◌, ◌∷◌, [], List, length, IfOk, IfErr, OnOk, OnErr};
+ghost use Rattle.std.specs.Prelude.{IfOk, IfErr};
 ghost use Rattle.formal_sums.specs.FormalSums.{Each};
 ghost use Rattle.module_vectors.specs.Rings.{variables};
-ghost use Rattle.module_vectors.specs.Vectors.{StandsFor, sum_of};
-ghost use Rattle.cofactor_track.specs.Members.{IsVectorOf};
 ghost use Rattle.vector_division.specs.Reductions.{IsQuotient};
 ghost use Rattle.basis_core.specs.Members.{IsOver, tracked_of};
 ghost use Rattle.basis_core.specs.RowDivision.{AreQuotientProducts, AreRowCofactors, AreRowQuotients, CofactorsStop};
@@ -13,8 +11,7 @@ use crate::members::Members;
 use crate::row_division::{RowStop, RowTrail};
 use crate::row_trails::failing_steps;
 use cofactor_track::Member;
-use module_vectors::{NoMemory, Product, Ring, Vect, VectStop};
-use monomial_orders::Mono;
+use module_vectors::{NoMemory, Product, Vect, VectStop};
 use std::alloc::Global;
 use vector_division::Quotient;
 
@@ -40,47 +37,6 @@ fn quotient_products<'a>(
     Ok(products)
 }
 
-// Adds v by one merge. A monomial above the degree of every product stops it, and then u is as before.
-fn merge_vector(alloc: Global, ring: &Ring, u: &mut Vect, v: &Vect) -> Result<(), VectStop>
-    requires left { IsVectorOf ring.now u.old }
-    requires right { IsVectorOf ring.now v.now }
-    ensures vector { OnOk result (IsVectorOf ring.now u.new) }
-    ensures sum { let n = variables ring.now in OnOk result (StandsFor ring.now u.new (sum_of n u.old ++ sum_of n v.now)) }
-    ensures err { OnErr result (u.new ≡ u.old) }
-{
-    ring.modulus.domain();
-    let one = Mono::unit(alloc, ring.vars.len())?;
-    u.add_scaled(alloc, ring, 1, &one, v)
-}
-
-// u + v, by a sort of their terms, which may have any degree.
-fn sort_together(alloc: Global, ring: &Ring, u: Vect, v: &Vect) -> Result<Vect, NoMemory>
-    requires left { IsVectorOf ring.now u }
-    requires right { IsVectorOf ring.now v.now }
-    ensures vector { IfOk result (IsVectorOf ring.now) }
-    ensures sum { let n = variables ring.now in IfOk result (λ w. StandsFor ring.now w (sum_of n u ++ sum_of n v.now)) }
-{
-    let mut terms = u.into_terms();
-    let mut more = v.try_copy(alloc)?.into_terms();
-    terms.append(&mut more)?;
-    Vect::from_terms(alloc, ring, terms)
-}
-
-// u + v.
-fn add_vector(alloc: Global, ring: &Ring, u: Vect, v: &Vect) -> Result<Vect, NoMemory>
-    requires left { IsVectorOf ring.now u }
-    requires right { IsVectorOf ring.now v.now }
-    ensures vector { IfOk result (IsVectorOf ring.now) }
-    ensures sum { let n = variables ring.now in IfOk result (λ w. StandsFor ring.now w (sum_of n u ++ sum_of n v.now)) }
-{
-    let mut sum = u;
-    match merge_vector(alloc, ring, &mut sum, v) {
-        Ok(()) => Ok(sum),
-        Err(VectStop::Memory) => Err(NoMemory),
-        Err(VectStop::Degree(_, _)) => sort_together(alloc, ring, sum, v),
-    }
-}
-
 // All products are summed at once: one after another they would move each term of a long list again and again.
 fn less_cofactors(
     alloc: Global,
@@ -95,9 +51,16 @@ fn less_cofactors(
 {
     members.kept();
     let ring = &members.shared().ring;
+    let cof = row.cof.try_copy(alloc)?;
+    if quotients.is_empty() {
+        return Ok(cof);
+    }
     let products = quotient_products(alloc, members, quotients)?;
     match Vect::sum_of_products(alloc, ring, &products) {
-        Ok(taken) => Ok(add_vector(alloc, ring, taken, &row.cof)?),
+        Ok(mut less) => {
+            less.add(alloc, ring, cof)?;
+            Ok(less)
+        }
         Err(stop) => Err(stop),
     }
 }

@@ -76,7 +76,7 @@ fn invert_lead(modulus: &Modulus, v: &Vect) -> u32
 {
     match modulus.invert(v.terms()[0].1) {
         Some(inverse) => inverse,
-        None => 1,
+        None => unreachable!(),
     }
 }
 
@@ -117,6 +117,7 @@ fn divide_row(alloc: Global, members: &Members, row: &Member) -> Result<Option<M
     ensures left { IfOk result (IsLeft members.now.shared members.now.list (tracked_of row.now)) }
     ensures stop { let n = variables members.now.shared.ring in IfErr result (RowStops n members.now.list (tracked_of row.now)) }
 {
+    members.kept();
     let reduction = match divide_vector(alloc, members, row) {
         Ok(reduction) => reduction,
         Err(stop) => return Err(stop),

@@ -1,7 +1,7 @@
 // The steps of a division of which a product with a cofactor has too great a degree.
-ghost use Rattle.std.specs.Prelude.{◌≡◌, ◌<◌, ◌↔◌, Contains, [], get_or, length, IfOk, IsTrue};
+ghost use Rattle.std.specs.Prelude.{◌<◌, ◌↔◌, Contains, length, IfOk, IsTrue};
 ghost use Rattle.formal_sums.specs.FormalSums.{Each};
-ghost use Rattle.module_vectors.specs.Stops.{HasMonomial, IsTooGreat};
+ghost use Rattle.module_vectors.specs.Stops.{HasMonomial};
 ghost use Rattle.basis_core.specs.RowDivision.{AreStepsTo, IsFailing};
 ghost use Rattle.basis_core.specs.Rows.{cofactors_in};
 ghost use Rattle.vector_division.specs.declared.reduction.Quotient.{Quotient as QuotientValue};

@@ -13,11 +13,11 @@ ghost use Rattle.basis_core.specs.Makings.{IsTrailAt, StopsAt, StopsOne};
 ghost use Rattle.basis_core.specs.Members.{members_of, setting_of};
 ghost use Rattle.basis_core.specs.Rows.{vectors_in};
 
-use crate::copies::{copy_cofactors, copy_list};
+use crate::copies::copy_cofactors;
 use crate::members::Members;
 use crate::outcome::Outcome;
 use crate::row_division::{RowStop, RowTrail};
-use module_vectors::{KeptTrail, Key, NoMemory, TrailStart, Vect, Vectors, WorkStop};
+use module_vectors::{KeptTrail, Key, NoMemory, TrailStart, Vect, VectList, Vectors, WorkStop};
 use monomial_orders::Mono;
 use pair_criteria::Pair;
 use std::alloc::Global;
@@ -184,11 +184,11 @@ fn put_trail(
     Ok(KeptTrail {
         ring: shared.ring.try_copy(alloc)?,
         rank: shared.rank,
-        generators: copy_list(alloc, &shared.generators)?,
+        generators: VectList::copy_of(alloc, &shared.generators)?,
         below: Vec::new(alloc),
         start: TrailStart::Pair(i, j),
         vector: Vect::zero(alloc),
-        members: copy_list(alloc, members)?,
+        members: VectList::copy_of(alloc, members)?,
         cofs: Some(copy_cofactors(alloc, members)?),
         steps,
         last: trail.last,

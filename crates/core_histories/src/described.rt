@@ -3,7 +3,8 @@ ghost use Rattle.std.specs.Prelude.{◌≡◌};
 
 use basis_core::{BasisState, Ending, Event, Outcome, StopReason};
 use cofactor_track::Member;
-use module_vectors::NoMemory;
+use module_vectors::{NoMemory, WorkStop};
+use monomial_orders::Mono;
 use poly_text::{push_entries, push_vect};
 use std::alloc::Global;
 
@@ -153,6 +154,27 @@ pub fn push_outcome(alloc: Global, out: &mut Vec<u8>, outcome: &Outcome) -> Resu
     for row in outcome.rows() {
         push_text(out, " ")?;
         push_member(alloc, out, row)?;
+    }
+    Ok(())
+}
+
+fn degree_of(monomial: &Mono) -> u64 {
+    u64::try_from(monomial.degree()).unwrap_or(u64::MAX)
+}
+
+/// Why work stopped: of a trail, how many members and steps it has, and the two degrees whose sum is too great.
+pub fn push_stop(alloc: Global, out: &mut Vec<u8>, stop: &WorkStop) -> Result<(), NoMemory> {
+    let trail = match stop {
+        WorkStop::Memory => return push_text(out, "memory"),
+        WorkStop::Degree(trail) => trail,
+    };
+    push_count(alloc, out, "degree by ", trail.members.len() as u64)?;
+    push_count(alloc, out, " members in ", trail.steps.len() as u64)?;
+    push_text(out, " steps")?;
+    if let Some((index, monomial)) = trail.steps.last() {
+        push_count(alloc, out, ", the last by member ", *index)?;
+        push_count(alloc, out, " with degrees ", degree_of(monomial))?;
+        push_count(alloc, out, " and ", degree_of(&trail.last))?;
     }
     Ok(())
 }

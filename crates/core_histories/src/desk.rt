@@ -1,8 +1,8 @@
 // What the lines of the input do.
-use crate::described::{push_outcome, push_state};
+use crate::described::{push_outcome, push_state, push_stop};
 use crate::driving::drive;
 use core_plays::{Play, Turn, begin};
-use module_vectors::{NoMemory, WorkStop};
+use module_vectors::NoMemory;
 use std::alloc::Global;
 
 /// What is kept from line to line: the texts of the ring and of the generators, the rank, and a state.
@@ -26,13 +26,6 @@ fn numbers(text: &str) -> (u64, u64) {
     (next(), next())
 }
 
-fn stop_text(stop: &WorkStop) -> &'static str {
-    match stop {
-        WorkStop::Memory => "memory",
-        WorkStop::Degree(_) => "degree",
-    }
-}
-
 // The answer to an event of this worker.
 fn push_turn(
     alloc: Global,
@@ -44,7 +37,7 @@ fn push_turn(
     let text = match turn {
         Turn::Illegal => "may not be",
         Turn::Job => "job",
-        Turn::Unsolved(stop) | Turn::Refused(stop) => stop_text(stop),
+        Turn::Unsolved(_) | Turn::Refused(_) => "",
         Turn::Empty => "empty",
         Turn::Stopped => "stopped",
         Turn::Done => "done",
@@ -52,8 +45,14 @@ fn push_turn(
         Turn::MoreWork => "more work",
     };
     out.extend_from_slice(text.as_bytes())?;
-    if let (Turn::Job, Some(outcome)) = (turn, play.outcome(worker)) {
-        push_outcome(alloc, out, outcome)?;
+    match turn {
+        Turn::Job => {
+            if let Some(outcome) = play.outcome(worker) {
+                push_outcome(alloc, out, outcome)?;
+            }
+        }
+        Turn::Unsolved(stop) | Turn::Refused(stop) => push_stop(alloc, out, stop)?,
+        _ => {}
     }
     out.push(b'\n')?;
     push_state(alloc, out, play.state())
@@ -91,7 +90,7 @@ impl Desk {
             }
             Ok(None) => out.extend_from_slice(b"no run\n")?,
             Err(stop) => {
-                out.extend_from_slice(stop_text(&stop).as_bytes())?;
+                push_stop(alloc, out, &stop)?;
                 out.push(b'\n')?;
             }
         }
@@ -126,7 +125,7 @@ impl Desk {
         match drive(alloc, out, &self.ring, self.rank, &self.generators) {
             Ok(()) => Ok(()),
             Err(stop) => {
-                out.extend_from_slice(stop_text(&stop).as_bytes())?;
+                push_stop(alloc, out, &stop)?;
                 out.push(b'\n')?;
                 Ok(())
             }

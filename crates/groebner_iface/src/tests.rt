@@ -2,7 +2,7 @@
 ghost use Rattle.std.specs.Prelude.{◌≡◌, IfOk};
 ghost use Rattle.formal_sums.specs.FormalSums.{Each};
 ghost use Rattle.module_vectors.specs.Rings.{ring_comparison, variables};
-ghost use Rattle.module_vectors.specs.Vectors.{AreVectorsOver, HasPositions, HasVariables, IsVectorOver};
+ghost use Rattle.module_vectors.specs.Vectors.{AreVectorsOver, HasPositions};
 ghost use Rattle.groebner_iface.specs.Runs.{IsReducedBasisOf};
 
 use crate::{Groebner, OpStop, Stop, one_basis};
@@ -22,16 +22,6 @@ struct KeptRun {
     answer: Stop,
 }
 
-fn copy_list(alloc: Global, list: &VectList) -> Result<VectList, NoMemory>
-    ensures { IfOk result (λ copy. copy ≡ list.now) }
-{
-    let mut copy = VectList::new(alloc);
-    for v in list.as_slice() {
-        copy.push(v.try_copy(alloc)?)?;
-    }
-    Ok(copy)
-}
-
 fn keep_run(
     alloc: Global,
     ring: &Ring,
@@ -44,7 +34,7 @@ fn keep_run(
     Ok(KeptRun {
         ring: ring.try_copy(alloc)?,
         rank,
-        list: copy_list(alloc, list)?,
+        list: VectList::copy_of(alloc, list)?,
         answer,
     })
 }

@@ -86,7 +86,7 @@ first_key n (t ∷ w) s lt h e = (ap (λ x. key_of n x.0) (sym e), subst (HasVar
 -- the first term of a member has its lead
 pub lead_key :
     (n : ℕ) (list : List Terms) (i : ℕ) (v : Terms) (s : CodeKey × ℕ)
-    → HaveLeads list → HaveVariables n list → i < length list → v ≡ get_or list i v → s ≡ get_or v 0 s
+    → HaveLeads list → HaveVariables n list → i < length list → v ≡ get_or list i [] → s ≡ get_or v 0 s
     → (lead_at n list i ≡ key_of n s.0) × (length s.0.monomial ≡ n)
 lead_key n [] i v s leads vars lt ev es = absurd (omega arith)
 lead_key n (w ∷ list) zero v s leads vars lt ev es = first_key n w s leads.0 vars.0 (es ∙ ap (λ x. get_or x 0 s) ev)

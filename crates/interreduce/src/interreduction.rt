@@ -10,22 +10,22 @@ ghost use Rattle.interreduce.specs.Trails.{InterreductionStops};
 
 use crate::leads::needed_members;
 use crate::member::reduced_member;
-use module_vectors::{Frame, Vect, VectList, WorkStop, lawful_setting};
+use module_vectors::{Frame, Vect, VectList, Vectors, WorkStop, lawful_setting};
 use std::alloc::Global;
 use std::thread::Threads;
 
 // The members with these indices, each with its tail reduced, in the same order.
-fn reduced_members<F: Frame>(
+fn reduced_members<F: Frame, L: Vectors>(
     alloc: Global,
     frame: &F,
-    list: &VectList,
+    list: &L,
     indices: &[usize],
 ) -> Result<Vec<Vect>, WorkStop>
-    requires indices { Each (λ i. i < length list.now) indices.now }
-    requires vectors { AreVectorsOver (F.over frame.now) (F.compare frame.now) list.now }
-    requires leads { HaveLeads list.now }
-    ensures reduced { IfOk result (λ members. AreReducedMembers (F.over frame.now) (F.compare frame.now) list.now indices.now members.items) }
-    ensures stop { IfErr result (InterreductionStops (F.over frame.now) list.now) }
+    requires indices { Each (λ i. i < length (L.listed list.now)) indices.now }
+    requires vectors { AreVectorsOver (F.over frame.now) (F.compare frame.now) (L.listed list.now) }
+    requires leads { HaveLeads (L.listed list.now) }
+    ensures reduced { IfOk result (λ members. AreReducedMembers (F.over frame.now) (F.compare frame.now) (L.listed list.now) indices.now members.items) }
+    ensures stop { IfErr result (InterreductionStops (F.over frame.now) (L.listed list.now)) }
 {
     let mut members = Vec::with_capacity(alloc, indices.len())?;
     for index in indices {
@@ -39,20 +39,20 @@ fn reduced_members<F: Frame>(
 ///
 /// `Degree` comes with a trail of the division of a member by the list, to a product of total degree above 65,535;
 /// `Memory` where a growth was refused.
-pub fn interreduce<R: Threads + Sync, F: Frame>(
+pub fn interreduce<R: Threads + Sync, F: Frame, L: Vectors>(
     _rt: &R,
     alloc: Global,
     frame: &F,
-    list: &VectList,
+    list: &L,
 ) -> Result<VectList, WorkStop>
-    requires vectors { AreVectorsOver (F.over frame.now) (F.compare frame.now) list.now }
-    requires nonzero { HaveLeads list.now }
+    requires vectors { AreVectorsOver (F.over frame.now) (F.compare frame.now) (L.listed list.now) }
+    requires nonzero { HaveLeads (L.listed list.now) }
     ensures vectors { IfOk result (AreVectorsOver (F.over frame.now) (F.compare frame.now)) }
     ensures reduced { let n = variables (F.over frame.now) in IfOk result (λ answer. (rank : ℕ) (G : List (FormalSum n))
-        → IsGroebnerBasis (setting (F.over frame.now) n (F.compare frame.now n) rank) G (sums_of n list.now)
+        → IsGroebnerBasis (setting (F.over frame.now) n (F.compare frame.now n) rank) G (sums_of n (L.listed list.now))
         → IsReducedBasis (setting (F.over frame.now) n (F.compare frame.now n) rank) G (sums_of n answer)) }
-    ensures positions { IfOk result (λ answer. (rank : ℕ) → Each (HasPositions rank) list.now → Each (HasPositions rank) answer) }
-    ensures stop { IfErr result (InterreductionStops (F.over frame.now) list.now) }
+    ensures positions { IfOk result (λ answer. (rank : ℕ) → Each (HasPositions rank) (L.listed list.now) → Each (HasPositions rank) answer) }
+    ensures stop { IfErr result (InterreductionStops (F.over frame.now) (L.listed list.now)) }
 {
     lawful_setting(frame);
     let kept = needed_members(alloc, frame, list)?;

@@ -8,24 +8,24 @@ ghost use Rattle.module_vectors.specs.Vectors.{AreVectorsOver, key_of};
 ghost use Rattle.vector_division.specs.Progress.{HaveVariables};
 ghost use Rattle.interreduce.specs.Leads.{AreNeeded, HaveLeads, IsCoveredBy, Rises, by_lead};
 
-use module_vectors::{Frame, Key, LeadTerm, NoMemory, VectList};
+use module_vectors::{Frame, Key, LeadTerm, NoMemory, Vectors};
 use std::alloc::Global;
 use std::cmp::Ordering;
 
 // The lead of a member, or `None` where it is zero or is not in the list.
-fn lead_of(list: &VectList, index: usize) -> Option<LeadTerm<'_>>
-    ensures { MatchOption result (get_or list.now index [] ≡ []) (λ lead. (rest : List (_ × ℕ)) × (get_or list.now index [] ≡ (lead.key.now, lead.residue) ∷ rest)) }
+fn lead_of<L: Vectors>(list: &L, index: usize) -> Option<LeadTerm<'_>>
+    ensures { MatchOption result (get_or (L.listed list.now) index [] ≡ []) (λ lead. (rest : List (_ × ℕ)) × (get_or (L.listed list.now) index [] ≡ (lead.key.now, lead.residue) ∷ rest)) }
 {
-    match list.get(index) {
-        Some(v) => v.lead(),
-        None => None,
+    if index >= list.count() {
+        return None;
     }
+    list.at(index).lead()
 }
 
 // Compares two members for a sort with the least lead first. Those without a lead, of which there are none, come last.
-fn ascending<F: Frame>(frame: &F, list: &VectList, i: usize, j: usize) -> Ordering
-    requires { AreVectorsOver (F.over frame.now) (F.compare frame.now) list.now }
-    ensures { let n = variables (F.over frame.now) in result ≡ by_lead n (F.compare frame.now n) list.now i j }
+fn ascending<F: Frame, L: Vectors>(frame: &F, list: &L, i: usize, j: usize) -> Ordering
+    requires { AreVectorsOver (F.over frame.now) (F.compare frame.now) (L.listed list.now) }
+    ensures { let n = variables (F.over frame.now) in result ≡ by_lead n (F.compare frame.now n) (L.listed list.now) i j }
 {
     match lead_of(list, i) {
         Some(left) => match lead_of(list, j) {
@@ -40,19 +40,19 @@ fn ascending<F: Frame>(frame: &F, list: &VectList, i: usize, j: usize) -> Orderi
 }
 
 // The members by ascending leads.
-fn by_ascending_lead<F: Frame>(
+fn by_ascending_lead<F: Frame, L: Vectors>(
     alloc: Global,
     frame: &F,
-    list: &VectList,
+    list: &L,
 ) -> Result<Vec<usize>, NoMemory>
-    requires vectors { AreVectorsOver (F.over frame.now) (F.compare frame.now) list.now }
-    requires leads { HaveLeads list.now }
-    ensures within { IfOk result (λ order. Each (λ i. i < length list.now) order.items) }
-    ensures all { IfOk result (λ order. (i : ℕ) → i < length list.now → Contains order.items i) }
-    ensures rises { let n = variables (F.over frame.now) in IfOk result (λ order. Rises n (F.compare frame.now n) list.now order.items) }
+    requires vectors { AreVectorsOver (F.over frame.now) (F.compare frame.now) (L.listed list.now) }
+    requires leads { HaveLeads (L.listed list.now) }
+    ensures within { IfOk result (λ order. Each (λ i. i < length (L.listed list.now)) order.items) }
+    ensures all { IfOk result (λ order. (i : ℕ) → i < length (L.listed list.now) → Contains order.items i) }
+    ensures rises { let n = variables (F.over frame.now) in IfOk result (λ order. Rises n (F.compare frame.now n) (L.listed list.now) order.items) }
 {
-    let mut order = Vec::with_capacity(alloc, list.len())?;
-    for i in 0..list.len() {
+    let mut order = Vec::with_capacity(alloc, list.count())?;
+    for i in 0..list.count() {
         order.push_reserved(i);
     }
     order.sort_unstable_by(|i, j| ascending(frame, list, *i, *j));
@@ -71,21 +71,21 @@ fn key_divides(divisor: &Key, multiple: &Key) -> bool
 }
 
 // The key of a member's lead.
-fn lead_key(list: &VectList, index: usize) -> &Key
-    requires index { index < length list.now }
-    requires leads { HaveLeads list.now }
-    ensures { (n : ℕ) → HaveVariables n list.now → (lead_at n list.now index ≡ key_of n result.now) × (length result.now.monomial ≡ n) }
+fn lead_key<L: Vectors>(list: &L, index: usize) -> &Key
+    requires index { index < length (L.listed list.now) }
+    requires leads { HaveLeads (L.listed list.now) }
+    ensures { (n : ℕ) → HaveVariables n (L.listed list.now) → (lead_at n (L.listed list.now) index ≡ key_of n result.now) × (length result.now.monomial ≡ n) }
 {
-    &list.as_slice()[index].terms()[0].0
+    &list.at(index).terms()[0].0
 }
 
 // Does the lead of one of these members divide that of member j?
-fn is_covered(list: &VectList, kept: &[usize], j: usize) -> bool
-    requires divisors { Each (λ i. i < length list.now) kept.now }
-    requires multiple { j < length list.now }
-    requires leads { HaveLeads list.now }
-    requires variables { (n : ℕ) × HaveVariables n list.now }
-    ensures { (n : ℕ) → HaveVariables n list.now → IsTrue result ↔ IsCoveredBy n list.now kept.now j }
+fn is_covered<L: Vectors>(list: &L, kept: &[usize], j: usize) -> bool
+    requires divisors { Each (λ i. i < length (L.listed list.now)) kept.now }
+    requires multiple { j < length (L.listed list.now) }
+    requires leads { HaveLeads (L.listed list.now) }
+    requires variables { (n : ℕ) × HaveVariables n (L.listed list.now) }
+    ensures { (n : ℕ) → HaveVariables n (L.listed list.now) → IsTrue result ↔ IsCoveredBy n (L.listed list.now) kept.now j }
 {
     let multiple = lead_key(list, j);
     for i in kept {
@@ -99,14 +99,14 @@ fn is_covered(list: &VectList, kept: &[usize], j: usize) -> bool
 
 /// The members that are needed, by ascending leads: each one whose lead is divisible by none that was taken before it,
 /// so that of members with one lead one stays.
-pub(crate) fn needed_members<F: Frame>(
+pub(crate) fn needed_members<F: Frame, L: Vectors>(
     alloc: Global,
     frame: &F,
-    list: &VectList,
+    list: &L,
 ) -> Result<Vec<usize>, NoMemory>
-    requires vectors { AreVectorsOver (F.over frame.now) (F.compare frame.now) list.now }
-    requires leads { HaveLeads list.now }
-    ensures { let n = variables (F.over frame.now) in IfOk result (λ kept. AreNeeded n (F.compare frame.now n) list.now kept.items) }
+    requires vectors { AreVectorsOver (F.over frame.now) (F.compare frame.now) (L.listed list.now) }
+    requires leads { HaveLeads (L.listed list.now) }
+    ensures { let n = variables (F.over frame.now) in IfOk result (λ kept. AreNeeded n (F.compare frame.now n) (L.listed list.now) kept.items) }
 {
     let order = by_ascending_lead(alloc, frame, list)?;
     let mut kept = Vec::new(alloc);

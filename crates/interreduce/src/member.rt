@@ -10,7 +10,7 @@ ghost use Rattle.interreduce.specs.Leads.{HaveLeads};
 ghost use Rattle.interreduce.specs.Members.{IsReducedMember};
 ghost use Rattle.interreduce.specs.Trails.{InterreductionStops};
 
-use module_vectors::{Frame, KeptTrail, NoMemory, Vect, VectList, WorkStop, lawful_setting};
+use module_vectors::{Frame, KeptTrail, NoMemory, Vect, Vectors, WorkStop, lawful_setting};
 use std::alloc::Global;
 use vector_division::reduce;
 
@@ -58,20 +58,20 @@ fn trail_of_member(
 /// Member `index`, monic and with its tail divided by the whole list. What the division leaves stands below the lead.
 ///
 /// `Degree` comes with a trail of the division of a member by the list, `Memory` where a growth was refused.
-pub(crate) fn reduced_member<F: Frame>(
+pub(crate) fn reduced_member<F: Frame, L: Vectors>(
     alloc: Global,
     frame: &F,
-    list: &VectList,
+    list: &L,
     index: usize,
 ) -> Result<Vect, WorkStop>
-    requires index { index < length list.now }
-    requires vectors { AreVectorsOver (F.over frame.now) (F.compare frame.now) list.now }
-    requires leads { HaveLeads list.now }
-    ensures reduced { IfOk result (IsReducedMember (F.over frame.now) (F.compare frame.now) list.now index) }
-    ensures stop { IfErr result (InterreductionStops (F.over frame.now) list.now) }
+    requires index { index < length (L.listed list.now) }
+    requires vectors { AreVectorsOver (F.over frame.now) (F.compare frame.now) (L.listed list.now) }
+    requires leads { HaveLeads (L.listed list.now) }
+    ensures reduced { IfOk result (IsReducedMember (F.over frame.now) (F.compare frame.now) (L.listed list.now) index) }
+    ensures stop { IfErr result (InterreductionStops (F.over frame.now) (L.listed list.now)) }
 {
     lawful_setting(frame);
-    let member = &list.as_slice()[index];
+    let member = list.at(index);
     let tail = tail_of(alloc, frame, member)?;
     match reduce(alloc, frame, &tail, list) {
         Ok(reduction) => {

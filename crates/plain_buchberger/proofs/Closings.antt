@@ -1,29 +1,27 @@
 -- The members of a closed run are a Gröbner basis of its generators, with leads
-use Rattle.std.proofs.Common.{List, [], ap, arith, get_or, length, refl, subst, suc, sym, take, zero, ℕ, ◌++◌, ◌+◌, ◌<◌, ◌∙◌, ◌∷◌, ◌≡◌}
-use Rattle.std.proofs.lemmas.List.{take_more}
+use Rattle.std.proofs.Common.{List, [], ap, arith, length, refl, subst, suc, sym, zero, ℕ, ◌<◌, ◌∷◌, ◌≡◌}
 use Rattle.residues.proofs.Congruences.{IsCongruent_equal}
-use Rattle.formal_sums.proofs.WeightedSums.{Each_append}
 use Rattle.formal_sums.specs.FormalSums.{Each, FormalSum}
 use Rattle.bases.specs.Bases.{IsGroebnerBasis, IsReducedBasis}
 use Rattle.bases.specs.Settings.{IsLawful, Setting}
 use Rattle.module_vectors.specs.Rings.{ring_comparison, setting, variables}
-use Rattle.module_vectors.specs.Vectors.{AreVectorsOver, HasPositions, IsVectorOver, sum_of, sums_of}
+use Rattle.module_vectors.specs.Vectors.{AreVectorsOver, HasPositions, sum_of, sums_of}
 use Rattle.module_vectors.specs.declared.key.Key.{Key as CodeKey}
 use Rattle.module_vectors.specs.declared.ring.Ring.{Ring}
-use Rattle.cofactor_track.specs.Members.{AreGenerators, IsRanked}
-use Rattle.cofactor_track.specs.declared.member.Member.{Member as CodeMember}
+use Rattle.cofactor_track.specs.Members.{AreGenerators}
 use Rattle.basis_steps.specs.Divisions.{IsMonicMember}
 use Rattle.basis_steps.specs.Invariant.{HaveAllEnded, HoldsInvariant}
 use Rattle.basis_steps.specs.States.{IsLawfulRun, vectors}
 use Rattle.basis_steps.proofs.Closing.{members_basis}
-use Rattle.basis_core.specs.Members.{IsOver, Shared, Tracked, members_of, tracked_of}
+use Rattle.basis_core.specs.Members.{Shared, Tracked, members_of}
+use Rattle.basis_core.specs.RowDivision.{IsTracked}
+use Rattle.basis_core.specs.Rows.{vectors_in}
 use Rattle.basis_core.specs.Shown.{Shown}
 use Rattle.basis_core.specs.Stops.{stop_of}
 use Rattle.basis_core.specs.Views.{run_of, state_of, variables_of}
 use Rattle.groebner_iface.specs.Runs.{IsReducedBasisOf}
 use Rattle.interreduce.specs.Leads.{HaveLeads}
 use Rattle.plain_buchberger.specs.Rounds.{IsClosed}
-use Rattle.basis_core.specs.Rows.{vectors_in}
 
 -- the vectors of the members
 sums_of_vectors : (n : ℕ) (ms : List Tracked) → sums_of n (vectors_in ms) ≡ vectors (members_of n ms)
@@ -61,30 +59,10 @@ pub are_generators :
 are_generators ring rank [] v p = tt
 are_generators ring rank (x ∷ list) v p = (record { vector = v.0; positions = p.0 }, are_generators ring rank list v.1 p.1)
 
-map_long : (ms : List Tracked) → length (vectors_in ms) ≡ length ms
-map_long [] = refl
-map_long (m ∷ ms) = ap suc (map_long ms)
-
-vector_at : (ms : List Tracked) (i : ℕ) (d : Tracked) → i < length ms → get_or (vectors_in ms) i [] ≡ (get_or ms i d).vector
-vector_at [] i d h = absurd (omega arith)
-vector_at (m ∷ ms) zero d h = refl
-vector_at (m ∷ ms) (suc i) d h = vector_at ms i d (omega arith)
-
--- one more member's vector
-pub copy_step :
-    (shared : Shared) (ms : List Tracked) (i : ℕ) (m : CodeMember) (old new : List (List (CodeKey × ℕ))) → i < length ms
-    → IsOver shared m → tracked_of m ≡ get_or ms i (tracked_of m)
-    → new ≡ old ++ (m.vector ∷ [])
-    → old ≡ take i (vectors_in ms) → AreVectorsOver shared.ring (ring_comparison shared.ring) old → Each (HasPositions shared.rank) old
-    → (new ≡ take (i + 1) (vectors_in ms)) × AreVectorsOver shared.ring (ring_comparison shared.ring) new × Each (HasPositions shared.rank) new
-copy_step shared ms i m old new lt over terms push copy made positions =
-    let ranked : IsRanked shared.ring shared.rank m.vector = subst (λ (sh : Shared). IsRanked sh.ring sh.rank m.vector) over m.combined.vector in
-    let long : i < length (vectors_in ms) = let e = map_long ms in omega (arith, e, lt) in
-    let at : get_or (vectors_in ms) i [] ≡ m.vector = vector_at ms i (tracked_of m) lt ∙ ap (λ (t : Tracked). t.vector) (sym terms) in (
-      push ∙ ap (λ xs. xs ++ (m.vector ∷ [])) copy ∙ ap (λ v. take i (vectors_in ms) ++ (v ∷ [])) (sym at) ∙ sym (take_more (vectors_in ms) i [] long),
-      subst (AreVectorsOver shared.ring (ring_comparison shared.ring)) (sym push) (Each_append (λ v. IsVectorOver shared.ring (ring_comparison shared.ring) v) old (m.vector ∷ []) made (ranked.vector, tt)),
-      subst (Each (HasPositions shared.rank)) (sym push) (Each_append (HasPositions shared.rank) old (m.vector ∷ []) positions (ranked.positions, tt)),
-    )
+-- vectors of members are of the rank
+pub members_positions : (shared : Shared) (ms : List Tracked) → Each (IsTracked shared) ms → Each (HasPositions shared.rank) (vectors_in ms)
+members_positions shared [] h = tt
+members_positions shared (m ∷ ms) h = (h.0.vector.positions, members_positions shared ms h.1)
 
 -- the interreduced members of a closed run
 pub members_reduced :

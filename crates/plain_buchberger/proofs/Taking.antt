@@ -9,7 +9,7 @@ use Rattle.basis_steps.specs.Criteria.{NoCriterionApplies, waiting}
 use Rattle.basis_steps.specs.Pairs.{Pair, count}
 use Rattle.basis_steps.specs.States as plain
 use Rattle.basis_steps.specs.States.{Member, Run, job_of, pairs_taken, vectors}
-use Rattle.basis_steps.specs.Steps.{Begins, Ends, HasStopped, MayEnd, MayTake, Puts, Stops, Takes, none_ended, out_with, stop_of_take, took_since}
+use Rattle.basis_steps.specs.Steps.{Begins, Ends, HasStopped, MayEnd, Puts, Stops, Takes, none_ended, out_with, stop_of_take, took_since}
 use Rattle.basis_steps.specs.Steps as steps
 use Rattle.basis_steps.proofs.Counting.{count-append}
 use Rattle.basis_steps.proofs.Taking.{budget_met}

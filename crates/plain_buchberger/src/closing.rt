@@ -1,33 +1,16 @@
 // From the members of a run to the reduced basis.
-ghost use Rattle.std.specs.Prelude.{◌≡◌, IfOk, IfErr};
-ghost use Rattle.formal_sums.specs.FormalSums.{Each};
-ghost use Rattle.module_vectors.specs.Rings.{ring_comparison};
-ghost use Rattle.module_vectors.specs.Vectors.{AreVectorsOver, HasPositions};
+ghost use Rattle.std.specs.Prelude.{IfOk, IfErr};
 ghost use Rattle.basis_core.specs.Rows.{vectors_in};
 ghost use Rattle.groebner_iface.specs.Runs.{IsReducedBasisOf};
 ghost use Rattle.interreduce.specs.Trails.{IsInterreductionTrail};
 ghost use Rattle.plain_buchberger.specs.Rounds.{IsClosed};
 ghost use Rattle.plain_buchberger.specs.Stops.{ClosingStops, IsInterreductionStop};
 
-use crate::copies::copy_list;
-use basis_core::{BasisState, Members};
+use basis_core::BasisState;
 use interreduce::interreduce;
 use module_vectors::{KeptTrail, NoMemory, VectList, WorkStop};
 use std::alloc::Global;
 use std::thread::Threads;
-
-// The members' vectors again.
-fn copy_vectors(alloc: Global, members: &Members) -> Result<VectList, NoMemory>
-    ensures copy { IfOk result (λ copy. copy ≡ vectors_in members.now.list) }
-    ensures vectors { IfOk result (AreVectorsOver members.now.shared.ring (ring_comparison members.now.shared.ring)) }
-    ensures positions { IfOk result (Each (HasPositions members.now.shared.rank)) }
-{
-    let mut copy = VectList::new(alloc);
-    for i in 0..members.len() {
-        copy.push(members.get(i).vector.try_copy(alloc)?)?;
-    }
-    Ok(copy)
-}
 
 // The trail of an interreduction, as one of the run.
 fn trail_of_run(alloc: Global, state: &BasisState, trail: KeptTrail) -> Result<KeptTrail, NoMemory>
@@ -37,7 +20,7 @@ fn trail_of_run(alloc: Global, state: &BasisState, trail: KeptTrail) -> Result<K
 {
     Ok(KeptTrail {
         rank: state.shared().rank,
-        generators: copy_list(alloc, state.generators())?,
+        generators: VectList::copy_of(alloc, state.generators())?,
         ..trail
     })
 }
@@ -53,8 +36,9 @@ pub(crate) fn reduce_members<R: Threads + Sync>(
     ensures stop { IfErr result (ClosingStops state.now) }
 {
     state.kept();
-    let vectors = copy_vectors(alloc, state.members())?;
-    match interreduce(rt, alloc, &state.shared().ring, &vectors) {
+    let members = state.members();
+    members.kept();
+    match interreduce(rt, alloc, &state.shared().ring, members) {
         Ok(basis) => Ok(basis),
         Err(WorkStop::Memory) => Err(WorkStop::Memory),
         Err(WorkStop::Degree(trail)) => Err(WorkStop::Degree(trail_of_run(alloc, state, trail)?)),

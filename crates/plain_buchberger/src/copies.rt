@@ -1,4 +1,4 @@
-// Copies of lists and of trails.
+// Copies of trails.
 ghost use Rattle.std.specs.Prelude.{◌≡◌, IfOk};
 ghost use Rattle.plain_buchberger.specs.Copies.{IsSameTrail};
 
@@ -6,24 +6,13 @@ use module_vectors::{KeptTrail, NoMemory, VectList};
 use monomial_orders::Mono;
 use std::alloc::Global;
 
-/// The same list again.
-pub(crate) fn copy_list(alloc: Global, list: &VectList) -> Result<VectList, NoMemory>
-    ensures { IfOk result (λ copy. copy ≡ list.now) }
-{
-    let mut copy = VectList::new(alloc);
-    for v in list.as_slice() {
-        copy.push(v.try_copy(alloc)?)?;
-    }
-    Ok(copy)
-}
-
 // The same lists again.
 fn copy_lists(alloc: Global, lists: &[VectList]) -> Result<Vec<VectList>, NoMemory>
     ensures { IfOk result (λ copy. copy.items ≡ lists.now) }
 {
     let mut copy = Vec::new(alloc);
     for list in lists {
-        copy.push(copy_list(alloc, list)?)?;
+        copy.push(VectList::copy_of(alloc, list)?)?;
     }
     Ok(copy)
 }
@@ -33,7 +22,7 @@ fn copy_kept(alloc: Global, list: &Option<VectList>) -> Result<Option<VectList>,
     ensures { IfOk result (λ copy. copy ≡ list.now) }
 {
     match list {
-        Some(list) => Ok(Some(copy_list(alloc, list)?)),
+        Some(list) => Ok(Some(VectList::copy_of(alloc, list)?)),
         None => Ok(None),
     }
 }
@@ -56,11 +45,11 @@ pub(crate) fn copy_trail(alloc: Global, trail: &KeptTrail) -> Result<KeptTrail, 
     Ok(KeptTrail {
         ring: trail.ring.try_copy(alloc)?,
         rank: trail.rank,
-        generators: copy_list(alloc, &trail.generators)?,
+        generators: VectList::copy_of(alloc, &trail.generators)?,
         below: copy_lists(alloc, &trail.below)?,
         start: trail.start,
         vector: trail.vector.try_copy(alloc)?,
-        members: copy_list(alloc, &trail.members)?,
+        members: VectList::copy_of(alloc, &trail.members)?,
         cofs: copy_kept(alloc, &trail.cofs)?,
         steps: copy_steps(alloc, &trail.steps)?,
         last: trail.last.try_copy(alloc)?,

@@ -1,5 +1,5 @@
 // Runs in Z/101[x, y, z], lexicographic, that a product of too great a degree stops after 64 others.
-ghost use Rattle.std.specs.Prelude.{◌≡◌, IfOk};
+ghost use Rattle.std.specs.Prelude.{◌≡◌};
 ghost use Rattle.module_vectors.specs.Rings.{variables};
 
 use crate::PlainEngine;

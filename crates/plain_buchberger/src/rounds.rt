@@ -1,6 +1,6 @@
 // Rounds: a pair is taken, solved, and what is left handed in.
-ghost use Rattle.std.specs.Prelude.{◌≡◌, ◌<◌, ◌≤◌, IfOk, IfErr, OnOk, OnErr};
-ghost use Rattle.basis_core.specs.Views.{IsSameRun, variables_of};
+ghost use Rattle.std.specs.Prelude.{◌≡◌, ◌<◌, IfOk, IfErr, OnOk};
+ghost use Rattle.basis_core.specs.Views.{IsSameRun};
 ghost use Rattle.plain_buchberger.specs.Rounds.{IsClosed, IsFree, IsOut, IsRunning, KeepsDegree, RoundEnds, RoundStops, WorkFails, WorkStops};
 
 use crate::copies::copy_trail;

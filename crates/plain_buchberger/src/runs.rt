@@ -1,5 +1,5 @@
 // A run of the engine.
-ghost use Rattle.std.specs.Prelude.{◌≡◌, IfOk, IfErr};
+ghost use Rattle.std.specs.Prelude.{IfOk, IfErr};
 ghost use Rattle.formal_sums.specs.FormalSums.{Each};
 ghost use Rattle.module_vectors.specs.Rings.{ring_comparison, variables};
 ghost use Rattle.module_vectors.specs.Vectors.{AreVectorsOver, HasPositions};
@@ -10,7 +10,6 @@ ghost use Rattle.plain_buchberger.specs.Runs.{RunStops};
 ghost use Rattle.plain_buchberger.specs.Stops.{shared_on};
 
 use crate::closing::reduce_members;
-use crate::copies::copy_list;
 use crate::rounds::look_at_pairs;
 use basis_core::{BasisState, StopReason};
 use module_vectors::{KeptTrail, Ring, VectList, WorkStop};
@@ -45,7 +44,7 @@ fn begin(
     ensures stop { IfErr result (BeginningStops (variables ring.now) (shared_on ring.now rank list.now)) }
 {
     let ring = ring.try_copy(alloc)?;
-    let generators = copy_list(alloc, list)?;
+    let generators = VectList::copy_of(alloc, list)?;
     BasisState::begin(alloc, ring, rank, generators, pairs, 1)
 }
 

@@ -7,7 +7,7 @@ use Rattle.formal_sums.specs.Combinations.{combination}
 use Rattle.formal_sums.specs.FormalSums.{Each, FormalSum, HasRank, IsOfRank, IsSame, scale}
 use Rattle.module_vectors.proofs.NormalVectors.{vector_positions}
 use Rattle.module_vectors.specs.Rings.{ring_comparison, variables}
-use Rattle.module_vectors.specs.Vectors.{AreVectorsOver, HasPositions, IsVectorOver, StandsFor, sum_of, sums_of}
+use Rattle.module_vectors.specs.Vectors.{HasPositions, IsVectorOver, StandsFor, sum_of, sums_of}
 use Rattle.module_vectors.specs.declared.key.Key.{Key as CodeKey}
 use Rattle.cofactor_track.specs.Members.{IsCombined, IsRanked}
 use Rattle.basis_core.specs.Members.{Shared, Tracked}
@@ -19,14 +19,6 @@ abbrev pub AreCombined : Shared → List Tracked → Type 0
 AreCombined shared ms = Each (λ m. IsCombined shared.ring shared.rank shared.generators m.vector m.cof) ms
 
 module _ (shared : Shared) where
-  pub vectors_over : (ms : List Tracked) → AreCombined shared ms → AreVectorsOver shared.ring (ring_comparison shared.ring) (vectors_in ms)
-  vectors_over [] h = tt
-  vectors_over (m ∷ ms) h = (h.0.vector.vector, vectors_over ms h.1)
-
-  pub cofactors_over : (ms : List Tracked) → AreCombined shared ms → AreVectorsOver shared.ring (ring_comparison shared.ring) (cofactors_in ms)
-  cofactors_over [] h = tt
-  cofactors_over (m ∷ ms) h = (h.0.cof.vector, cofactors_over ms h.1)
-
   vectors_ranked : (ms : List Tracked) → AreCombined shared ms → Each (IsRanked shared.ring shared.rank) (vectors_in ms)
   vectors_ranked [] h = tt
   vectors_ranked (m ∷ ms) h = (h.0.vector, vectors_ranked ms h.1)

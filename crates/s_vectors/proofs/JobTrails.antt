@@ -24,12 +24,13 @@ use Rattle.basis_steps.specs.Outcomes.{AreJobProducts}
 use Rattle.basis_steps.specs.Pairs.{Pair, count}
 use Rattle.basis_steps.specs.States.{cofactor_lists, vectors}
 use Rattle.basis_steps.specs.Trails.{IsTrail}
+use Rattle.basis_core.proofs.Tracking.{cofactors_over, vectors_over}
 use Rattle.basis_core.specs.Jobs.{HasLcm, IsJob, JobShown, pair_of, pairs_of}
 use Rattle.basis_core.specs.Members.{MembersShown, Tracked, members_of, setting_of}
 use Rattle.basis_core.specs.Outcomes.{product_of, products_of, work_of}
 use Rattle.basis_core.specs.Rows.{cofactors_in, vectors_in}
 use Rattle.basis_core.specs.Stops.{IsPairTrail, cofactors_kept, earlier_steps, joined, start_pair, trail_by, trail_members, trail_of, trail_over}
-use Rattle.s_vectors.proofs.Combined.{AreCombined, cofactors_over, vectors_over}
+use Rattle.s_vectors.proofs.Combined.{AreCombined}
 use Rattle.s_vectors.proofs.Lists.{cofactors_are, length-cofactors_in, length-vectors_in, vectors_are}
 use Rattle.s_vectors.proofs.Making.{job_steps, vector_occurs}
 use Rattle.s_vectors.proofs.TopParts.{lead_is, left_within, right_within, same_position, shared_lawful}

@@ -1,20 +1,17 @@
 -- Keys that occur in the products of steps
-use Rattle.std.proofs.Common.{List, [], ap, append_assoc, arith, cond, get_or, inl, inr, length, length-append, map, refl, subst, subst₂, suc, sym, zero, ℕ, ◌*◌, ◌++◌, ◌+◌, ◌<◌, ◌∙◌, ◌∷◌, ◌≡◌, ◌⊎◌}
+use Rattle.std.proofs.Common.{List, [], ap, append_assoc, arith, get_or, inl, inr, length, length-append, map, refl, subst, subst₂, suc, sym, zero, ℕ, ◌++◌, ◌+◌, ◌<◌, ◌∙◌, ◌∷◌, ◌≡◌, ◌⊎◌}
 use Rattle.std.proofs.lemmas.List.{get_or-map, get_or_append_left, length-map}
 use Rattle.residues.proofs.Congruences.{IsCongruent_of, IsCongruent_trans}
-use Rattle.residues.specs.Residues.{IsCongruent}
-use Rattle.monomials.specs.Exponents.{Exponents, exponents_of, unit}
-use Rattle.formal_sums.proofs.WeightedSums.{same_key-shift, weighted_sum-scale, weighted_sum_ext}
+use Rattle.monomials.specs.Exponents.{exponents_of, unit}
 use Rattle.formal_sums.specs.Combinations.{combination}
-use Rattle.formal_sums.specs.FormalSums.{Each, FormalSum, IsSame, Key, coefficient, indicator, scale, shift}
+use Rattle.formal_sums.specs.FormalSums.{Each, FormalSum, IsSame, Key, coefficient, shift}
 use Rattle.bases.specs.Leads.{head_key}
 use Rattle.bases.specs.Settings.{IsLawful, Setting}
-use Rattle.module_vectors.proofs.NormalVectors.{residues_of}
 use Rattle.module_vectors.specs.Trails.{AreMet, HasKey, IsInProduct, IsMet, Step, product_lead}
 use Rattle.module_vectors.specs.Vectors.{IsVector, sum_of, sums_of}
 use Rattle.module_vectors.specs.declared.key.Key.{Key as CodeKey}
 use Rattle.vector_division.proofs.Members.{sums_at}
-use Rattle.vector_division.proofs.Occurring.{at_key, nonzeros, occurs}
+use Rattle.vector_division.proofs.Occurring.{occurs}
 use Rattle.vector_division.specs.Reductions.{cofactors_of, step_of}
 use Rattle.vector_division.specs.declared.reduction.Quotient.{Quotient}
 use Rattle.basis_steps.proofs.Counting.{is_same_pair-refl}
@@ -23,14 +20,10 @@ use Rattle.basis_steps.specs.Outcomes as plain
 use Rattle.basis_steps.specs.Divisions.{Occurs}
 use Rattle.basis_steps.specs.Outcomes.{AreJobProducts, IsMadeOf, OccursBefore, product_at, product_vector}
 use Rattle.basis_steps.specs.Pairs.{Pair, count}
+use Rattle.basis_core.proofs.MemberKeys.{in_occurs, key_occurs}
 use Rattle.basis_core.specs.Outcomes.{product_of, products_of}
 use Rattle.s_vectors.proofs.Linking.{key_of_parts}
 use Rattle.s_vectors.specs.Steps.{ArePairSteps}
-
-coefficient-shifted : {n : ℕ} (c : ℕ) (m : Exponents n) (v : FormalSum n) (k : Key n) → coefficient (scale c m v) (shift m k) ≡ c * coefficient v k
-coefficient-shifted c m v k =
-    weighted_sum-scale (indicator (shift m k)) c m v
-    ∙ ap (λ x. c * x) (weighted_sum_ext _ (indicator k) (λ l. ap (λ b. cond b 1 0) (same_key-shift m k l)) v)
 
 pub count_here : (x : Pair) → 0 < count x (x ∷ [])
 count_here x = rw (is_same_pair-refl x) (omega arith)
@@ -44,21 +37,12 @@ pub product_is : (n : ℕ) (steps : List Step) (i : ℕ) (s : Step) → i < leng
 product_is n steps i s lt e = get_or-map (λ t. product_of n t) steps i s (0, unit n) lt ∙ ap (λ t. product_of n t) e
 
 module _ {n : ℕ} (S : Setting n) (lawful : IsLawful S) (list : List (List (CodeKey × ℕ))) (over : Each (IsVector n S.modulus S.compare) list) where
+  vector_here : (i : ℕ) → IsVector n S.modulus S.compare (get_or list i [])
+  vector_here i = item_of (IsVector n S.modulus S.compare) list i (record { each = tt; descends = tt }) over
+
   -- a key of a vector of the list has a coefficient
   pub vector_occurs : (i : ℕ) (l : Key n) → HasKey (sum_of n (get_or list i [])) l → Occurs S.modulus (get_or (sums_of n list) i []) l
-  vector_occurs i l h =
-      let v = get_or list i [] in
-      let iv : IsVector n S.modulus S.compare v = item_of (IsVector n S.modulus S.compare) list i (record { each = tt; descends = tt }) over in
-      subst (λ w. Occurs S.modulus w l) (sym (sums_at n list i))
-      (at_key (λ z. IsCongruent S.modulus (coefficient (sum_of n v) z) 0 → ⊥) (sum_of n v) l (nonzeros S lawful (sum_of n v) iv.descends (residues_of n S.modulus v iv.each)) h)
-
-  -- and so has a key of a product
-  product_occurs : (s : Step) (k : Key n) → IsInProduct n list k s → Occurs S.modulus (product_vector (sums_of n list) (product_of n s)) k
-  product_occurs s k (l, h, e) =
-      let m = exponents_of n s.1 in
-      let v : FormalSum n = get_or (sums_of n list) s.0 [] in
-      λ z. vector_occurs s.0 l h (IsCongruent_trans (IsCongruent_of S.modulus (coefficient v l) (1 * coefficient v l) (omega arith))
-      (IsCongruent_trans (IsCongruent_of S.modulus _ _ (sym (coefficient-shifted 1 m v l))) (subst (λ y. IsCongruent S.modulus (coefficient (scale 1 m v) y) 0) e z)))
+  vector_occurs i l h = subst (λ w. Occurs S.modulus w l) (sym (sums_at n list i)) (key_occurs S lawful (get_or list i []) l (vector_here i) h)
 
   occurs_before :
       (steps : List Step) (count : ℕ) (s : Step) (i : ℕ) (k : Key n)
@@ -68,7 +52,7 @@ module _ {n : ℕ} (S : Setting n) (lawful : IsLawful S) (list : List (List (Cod
     i,
     low,
     subst (λ z. i < z) (sym (length-map steps (λ t. product_of n t))) lt,
-    subst (λ t. Occurs S.modulus (product_vector (sums_of n list) t) k) (sym (product_is n steps i s lt e)) (product_occurs s k h),
+    subst (λ t. Occurs S.modulus (product_vector (sums_of n list) t) k) (sym (product_is n steps i s lt e)) (in_occurs S lawful list (sums_of n list) s k (sums_at n list s.0) (vector_here s.0) h),
   )
 
   -- what stands for the sum of the parts is made of their products

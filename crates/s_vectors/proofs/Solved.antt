@@ -17,11 +17,12 @@ use Rattle.basis_steps.proofs.Answering.{rest_represents}
 use Rattle.basis_steps.specs.Criteria.{IsPair, IsRepresented, lcm_of}
 use Rattle.basis_steps.specs.Outcomes.{AreJobProducts, IsMadeOf}
 use Rattle.basis_steps.specs.States.{vectors}
+use Rattle.basis_core.proofs.Tracking.{cofactors_over, vectors_over}
 use Rattle.basis_core.specs.Jobs.{pair_of}
 use Rattle.basis_core.specs.Members.{MembersShown, member_of, members_of, setting_of}
 use Rattle.basis_core.specs.Outcomes.{products_of, work_of}
 use Rattle.basis_core.specs.Rows.{cofactors_in, vectors_in}
-use Rattle.s_vectors.proofs.Combined.{AreCombined, cofactors_over, row_combined, vectors_over}
+use Rattle.s_vectors.proofs.Combined.{AreCombined, row_combined}
 use Rattle.s_vectors.proofs.Lists.{cofactors_are, vectors_are}
 use Rattle.s_vectors.proofs.Making.{count_here, job_steps, made_of_parts}
 use Rattle.s_vectors.proofs.TopParts.{shared_lawful}

@@ -9,19 +9,8 @@ ghost use Rattle.s_vectors.specs.Trails.{IsJobTrail};
 use crate::cofactors::Cofactors;
 use crate::stops::Chain;
 use basis_core::Job;
-use module_vectors::{KeptTrail, NoMemory, TrailStart, Vect, VectList, Vectors};
+use module_vectors::{KeptTrail, NoMemory, TrailStart, Vect, VectList};
 use std::alloc::Global;
-
-// The vectors of the list again.
-fn copy_list<L: Vectors>(alloc: Global, list: &L) -> Result<VectList, NoMemory>
-    ensures { IfOk result (λ copy. copy ≡ L.listed list.now) }
-{
-    let mut copy = VectList::new(alloc);
-    for i in 0..list.count() {
-        copy.push(list.at(i).try_copy(alloc)?)?;
-    }
-    Ok(copy)
-}
 
 /// The trail of the job's pair with this number, by these products.
 pub(crate) fn keep_trail(
@@ -42,12 +31,12 @@ pub(crate) fn keep_trail(
     Ok(KeptTrail {
         ring: shared.ring.try_copy(alloc)?,
         rank: shared.rank,
-        generators: copy_list(alloc, &shared.generators)?,
+        generators: VectList::copy_of(alloc, &shared.generators)?,
         below: Vec::new(alloc),
         start: TrailStart::Pair(pair.i, pair.j),
         vector: Vect::zero(alloc),
-        members: copy_list(alloc, members)?,
-        cofs: Some(copy_list(alloc, &Cofactors { members })?),
+        members: VectList::copy_of(alloc, members)?,
+        cofs: Some(VectList::copy_of(alloc, &Cofactors { members })?),
         steps: chain.steps,
         last: chain.last,
     })

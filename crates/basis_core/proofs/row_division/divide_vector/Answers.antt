@@ -8,7 +8,6 @@ use Rattle.vector_division.specs.Divisions.{HasReducedLead}
 use Rattle.vector_division.specs.Reductions.{AreMetFrom, HaveLeadsUpTo, IsQuotient, cofactors_of}
 use Rattle.cofactor_track.specs.Members.{IsVectorOf}
 use Rattle.basis_core.proofs.Failing.{vector_trail}
-use Rattle.basis_core.proofs.Reaching.{quotients_reached}
 use Rattle.basis_core.proofs.Tracking.{member_tracked, vectors_over}
 use Rattle.basis_core.specs.Members.{Shared, shared_of, tracked_of}
 use Rattle.basis_core.specs.Rows.{IsRowTrail, vectors_in}
@@ -31,11 +30,9 @@ returns-in-Ok-clause-quotients c =
     let v = c.args.row.now.vector in
     let qs = c.in-Ok.reduction.quotients.items in
     let e : shared_of c.deref.result.now ≡ shared = ap shared_of c.deref.ensures ∙ c.shared.ensures in
-    let met = subst (λ (x : Shared). AreMetFrom (variables x.ring) (sum_of (variables x.ring) v) (vectors_in ms) [] qs) e c.in-Ok.ensures.met in
     record {
       each = subst (λ (x : Shared). Each (IsQuotient (variables x.ring) x.ring.modulus.value (vectors_in ms)) qs) e c.in-Ok.ensures.quotients;
-      met = met;
-      reached = quotients_reached shared ms c.kept.ensures v (member_tracked shared c.args.row.now c.requires.over).vector.vector qs met;
+      met = subst (λ (x : Shared). AreMetFrom (variables x.ring) (sum_of (variables x.ring) v) (vectors_in ms) [] qs) e c.in-Ok.ensures.met;
       bounded = subst (λ (x : Shared). HaveLeadsUpTo (variables x.ring) (ring_comparison x.ring (variables x.ring)) (vectors_in ms) (head_key (sum_of (variables x.ring) v)) qs) e c.in-Ok.ensures.bounded;
     }
 

@@ -66,11 +66,11 @@ returns c =
     let t : KeptTrail = record {
       ring = c.in_ok-try_copy.field-0;
       rank = c.deref-4.result.now.rank;
-      generators = c.in_ok-copy_list.field-0;
+      generators = c.in_ok-copy_of.field-0;
       below = c.new.result;
       start = starts.Pair c.in_ok-steps.i c.in_ok-steps.j;
       vector = c.zero.result;
-      members = c.in_ok-copy_list-2.field-0;
+      members = c.in_ok-copy_of-2.field-0;
       cofs = Some c.in_ok-copy_cofactors.field-0;
       steps = c.in_ok-steps.steps;
       last = c.args.trail.last;
@@ -80,8 +80,8 @@ returns c =
     (λ i. record t {
       ring = (c.in_ok-try_copy.ensures ∙ ap (λ (z : CodeShared). z.ring) c.deref-3.ensures ∙ ap (λ (z : Shared). z.ring) c.shared-shared.ensures) i;
       rank = (ap (λ (z : CodeShared). z.rank) c.deref-4.ensures ∙ ap (λ (z : Shared). z.rank) c.shared-shared.ensures) i;
-      generators = (c.in_ok-copy_list.ensures ∙ ap (λ (z : CodeShared). z.generators) c.deref-5.ensures ∙ ap (λ (z : Shared). z.generators) c.shared-shared.ensures) i;
+      generators = (c.in_ok-copy_of.ensures ∙ ap (λ (z : CodeShared). z.generators) c.deref-5.ensures ∙ ap (λ (z : Shared). z.generators) c.shared-shared.ensures) i;
       vector = c.zero.ensures i;
-      members = c.in_ok-copy_list-2.ensures i;
+      members = c.in_ok-copy_of-2.ensures i;
       cofs = Some (c.in_ok-copy_cofactors.ensures i);
     })

@@ -13,14 +13,14 @@ returns-clause-vectors g c =
     let compare = g.F.Frame.compare c.args.frame.now in
     let members = c.in_ok-members.members.items in
     let e : c.from_vec.result ≡ reverse members = c.from_vec.ensures ∙ c.reverse.ensures.items in
-    subst (AreVectorsOver ring compare) (sym e) (reduced_vectors ring compare c.lawful_setting.ensures c.args.list.now c.deref.result.now members c.in_ok-members.ensures.reduced)
+    subst (AreVectorsOver ring compare) (sym e) (reduced_vectors ring compare c.lawful_setting.ensures (g.L.Vectors.listed c.args.list.now) c.deref.result.now members c.in_ok-members.ensures.reduced)
 
 pub returns-clause-reduced : goal.returns-clause-reduced
 returns-clause-reduced g c = λ rank G basis.
     let ring = g.F.Frame.over c.args.frame.now in
     let compare = g.F.Frame.compare c.args.frame.now in
     let n = variables ring in
-    let list = c.args.list.now in
+    let list = g.L.Vectors.listed c.args.list.now in
     let members = c.in_ok-members.members.items in
     let e : c.from_vec.result ≡ reverse members = c.from_vec.ensures ∙ c.reverse.ensures.items in
     let needed : AreNeeded n (compare n) list c.deref.result.now = subst (AreNeeded n (compare n) list) (sym c.deref.ensures.value) c.in_ok-kept.ensures in
@@ -33,4 +33,4 @@ returns-clause-positions g c = λ rank h.
     let compare = g.F.Frame.compare c.args.frame.now in
     let members = c.in_ok-members.members.items in
     let e : c.from_vec.result ≡ reverse members = c.from_vec.ensures ∙ c.reverse.ensures.items in
-    subst (Each (HasPositions rank)) (sym e) (reduced_positions ring compare c.lawful_setting.ensures c.args.list.now c.deref.result.now members c.in_ok-members.ensures.reduced rank h)
+    subst (Each (HasPositions rank)) (sym e) (reduced_positions ring compare c.lawful_setting.ensures (g.L.Vectors.listed c.args.list.now) c.deref.result.now members c.in_ok-members.ensures.reduced rank h)

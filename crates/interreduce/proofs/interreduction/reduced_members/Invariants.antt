@@ -7,5 +7,5 @@ abbrev pub invariant-loop-index : goal.invariant-loop-index
 invariant-loop-index g l = record {
   count : vec_len l.members ≡ l.index-index;
   room : length l.indices ≤ vec_capacity l.members;
-  each : (k : ℕ) → k < l.index-index → IsReducedMember (g.F.Frame.over l.frame) (g.F.Frame.compare l.frame) l.list (get_or l.indices k 0) (get_or l.members.items k []);
+  each : (k : ℕ) → k < l.index-index → IsReducedMember (g.F.Frame.over l.frame) (g.F.Frame.compare l.frame) (g.L.Vectors.listed l.list) (get_or l.indices k 0) (get_or l.members.items k []);
 }

@@ -7,7 +7,7 @@ use Rattle.interreduce.proofs.leads.by_ascending_lead.Given as goal
 abbrev pub invariant-loop-i : goal.invariant-loop-i
 invariant-loop-i g l = record {
   count : vec_len l.order ≡ l.i;
-  room : length l.list ≤ vec_capacity l.order;
-  within : Each (λ i. i < length l.list) l.order.items;
+  room : length (g.L.Vectors.listed l.list) ≤ vec_capacity l.order;
+  within : Each (λ i. i < length (g.L.Vectors.listed l.list)) l.order.items;
   all : (k : ℕ) → k < l.i → Contains l.order.items k;
 }

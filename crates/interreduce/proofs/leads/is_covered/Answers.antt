@@ -8,13 +8,13 @@ use Rattle.interreduce.proofs.Leading.{divides_at}
 use Rattle.interreduce.proofs.leads.is_covered.Goals as goal
 
 pub key_divides-requires : goal.key_divides-requires
-key_divides-requires c =
+key_divides-requires g c =
     let v = c.requires.variables in
     (c.lead_key-divisor.ensures v.0 v.1).1 ∙ sym (c.lead_key-multiple.ensures v.0 v.1).1
 
 pub returns-then-key_divides : goal.returns-then-key_divides
-returns-then-key_divides c = λ n vars.
-    let list = c.args.list.now in
+returns-then-key_divides g c = λ n vars.
+    let list = g.L.Vectors.listed c.args.list.now in
     let kept = c.args.kept.now in
     let i = c.loop-i.i-index in
     let lt : i < length kept = omega arith in
@@ -23,8 +23,8 @@ returns-then-key_divides c = λ n vars.
     found n list kept c.args.j i lt ((divides_at n (lead_at n list (get_or kept i 0)) (lead_at n list c.args.j) c.lead_key-divisor.result.now c.lead_key-multiple.result.now true a.0 a.1 b.0 c.if-key_divides.ensures).0 refl)
 
 pub loop-i-preserved : goal.loop-i-preserved
-loop-i-preserved c = λ n vars.
-    let list = c.args.list.now in
+loop-i-preserved g c = λ n vars.
+    let list = g.L.Vectors.listed c.args.list.now in
     let kept = c.args.kept.now in
     let i = c.loop-i.i-index in
     let lt : i < length kept = omega arith in
@@ -35,6 +35,6 @@ loop-i-preserved c = λ n vars.
     (λ d. let t : false ≡ true = told.1 d in cc)
 
 pub returns : goal.returns
-returns c = λ n vars.
+returns g c = λ n vars.
     let le : length c.args.kept.now ≤ c.loop-i.i-index = omega arith in
-    none_found n c.args.list.now c.args.kept.now c.args.j c.loop-i.i-index le (c.loop-i.invariant n vars)
+    none_found n (g.L.Vectors.listed c.args.list.now) c.args.kept.now c.args.j c.loop-i.i-index le (c.loop-i.invariant n vars)

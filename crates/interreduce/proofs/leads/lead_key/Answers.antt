@@ -5,10 +5,9 @@ use Rattle.interreduce.proofs.Leading.{lead_key}
 use Rattle.interreduce.proofs.leads.lead_key.Goals as goal
 
 pub returns : goal.returns
-returns c = λ n vars.
-    let list = c.args.list.now in
-    let v = c.index-as_slice-index.result in
+returns g c = λ n vars.
+    let list = g.L.Vectors.listed c.args.list.now in
+    let v = c.at.result.now in
     let s = c.index-terms-0.result in
-    let ev : v ≡ get_or list c.args.index v = c.index-as_slice-index.is ∙ ap (λ l. get_or l c.args.index v) c.as_slice.ensures in
     subst (λ y. (lead_at n list c.args.index ≡ key_of n y.0) × (length y.0.monomial ≡ n)) c.index-terms-0.is
-    (lead_key n list c.args.index v s c.requires.leads vars c.requires.index ev (c.index-terms-0.is ∙ ap (λ l. get_or l 0 s) c.terms.ensures))
+    (lead_key n list c.args.index v s c.requires.leads vars c.requires.index c.at.ensures (c.index-terms-0.is ∙ ap (λ l. get_or l 0 s) c.terms.ensures))

@@ -16,7 +16,7 @@ pub is_covered-requires-clause-variables : goal.is_covered-requires-clause-varia
 is_covered-requires-clause-variables g c =
     let ring = g.F.Frame.over c.args.frame.now in
     let n = variables ring in
-    (n, have_variables n ring.modulus.value (g.F.Frame.compare c.args.frame.now n) c.args.list.now n refl c.requires.vectors)
+    (n, have_variables n ring.modulus.value (g.F.Frame.compare c.args.frame.now n) (g.L.Vectors.listed c.args.list.now) n refl c.requires.vectors)
 
 pub loop-i-preserved : goal.loop-i-preserved
 loop-i-preserved g c =
@@ -24,7 +24,7 @@ loop-i-preserved g c =
     let n = variables ring in
     let compare = g.F.Frame.compare c.args.frame.now n in
     let laws = g.met.F.Frame.laws c.args.frame.now n 0 in
-    let list = c.args.list.now in
+    let list = g.L.Vectors.listed c.args.list.now in
     let order = c.deref-i-items.result.now in
     let i = c.loop-i.i-index in
     let lt : i < length order = omega arith in
@@ -50,7 +50,7 @@ pub returns : goal.returns
 returns g c =
     let n = variables (g.F.Frame.over c.args.frame.now) in
     let compare = g.F.Frame.compare c.args.frame.now n in
-    let list = c.args.list.now in
+    let list = g.L.Vectors.listed c.args.list.now in
     let order = c.deref-i-items.result.now in
     let i = c.loop-i.i-index in
     let le : length order ≤ i = c.loop-i-test.false in

@@ -6,4 +6,4 @@ use Rattle.interreduce.proofs.leads.needed_members.Given as goal
 abbrev pub invariant-loop-i : goal.invariant-loop-i
 invariant-loop-i g l =
     let n = variables (g.F.Frame.over l.frame) in
-    AreNeededSoFar n (g.F.Frame.compare l.frame n) l.list (take l.i-index l.i-items) (drop l.i-index l.i-items) l.kept.items
+    AreNeededSoFar n (g.F.Frame.compare l.frame n) (g.L.Vectors.listed l.list) (take l.i-index l.i-items) (drop l.i-index l.i-items) l.kept.items

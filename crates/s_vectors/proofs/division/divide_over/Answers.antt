@@ -8,11 +8,11 @@ use Rattle.vector_division.specs.Reductions.{cofactors_of}
 use Rattle.basis_steps.specs.Criteria.{IsPair}
 use Rattle.basis_steps.specs.Divisions.{IsMonicMember}
 use Rattle.basis_steps.specs.States.{vectors}
+use Rattle.basis_core.proofs.Tracking.{vectors_over}
 use Rattle.basis_core.specs.Jobs.{HasLcm, pair_of}
 use Rattle.basis_core.specs.Members.{members_of, setting_of}
 use Rattle.basis_core.specs.Outcomes.{products_of, work_of}
 use Rattle.basis_core.specs.Rows.{vectors_in}
-use Rattle.s_vectors.proofs.Combined.{vectors_over}
 use Rattle.s_vectors.proofs.Leaving.{divided_zero, first_steps}
 use Rattle.s_vectors.proofs.Lists.{empty_list}
 use Rattle.s_vectors.proofs.Solved.{solved_zero}

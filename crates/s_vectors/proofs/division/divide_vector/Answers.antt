@@ -4,12 +4,12 @@ use Rattle.formal_sums.specs.FormalSums.{Each}
 use Rattle.module_vectors.specs.Rings.{ring_comparison, variables}
 use Rattle.module_vectors.specs.Vectors.{AreVectorsOver, IsVectorOver, key_of}
 use Rattle.module_vectors.specs.declared.ring.Ring.{Ring}
+use Rattle.basis_core.proofs.Tracking.{vectors_over}
 use Rattle.basis_core.specs.Jobs.{pair_of}
 use Rattle.basis_core.specs.Members.{members_of}
 use Rattle.basis_core.specs.Outcomes.{products_of, work_of}
 use Rattle.basis_core.specs.Rows.{vectors_in}
 use Rattle.vector_division.specs.Divisions.{DivisionStops}
-use Rattle.s_vectors.proofs.Combined.{vectors_over}
 use Rattle.s_vectors.proofs.Leaving.{divided_over, first_steps, keys_met}
 use Rattle.s_vectors.proofs.Lists.{empty_list}
 use Rattle.s_vectors.proofs.Solved.{solved_zero}

@@ -6,11 +6,12 @@ use Rattle.module_vectors.specs.Vectors.{AreVectorsOver, IsVectorOver, StandsFor
 use Rattle.module_vectors.specs.declared.ring.Ring.{Ring}
 use Rattle.cofactor_track.specs.Members.{IsCombined}
 use Rattle.vector_division.specs.Reductions.{cofactors_of}
+use Rattle.basis_core.proofs.Tracking.{cofactors_over}
 use Rattle.basis_core.specs.Jobs.{pair_of}
 use Rattle.basis_core.specs.Members.{Shared, member_of, members_of, shared_of}
 use Rattle.basis_core.specs.Outcomes.{products_of, work_of}
 use Rattle.basis_core.specs.Rows.{cofactors_in}
-use Rattle.s_vectors.proofs.Combined.{cofactors_over, row_combined}
+use Rattle.s_vectors.proofs.Combined.{row_combined}
 use Rattle.s_vectors.proofs.Solved.{solved_row}
 use Rattle.s_vectors.specs.Parts.{SumStops}
 use Rattle.s_vectors.specs.Solutions.{IsSolved}

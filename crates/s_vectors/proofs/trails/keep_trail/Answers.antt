@@ -16,7 +16,7 @@ returns c =
     c.requires.known is (c.requires.chain x is)
     (c.in_ok-try_copy.ensures ∙ ap (λ (s : CodeShared). s.ring) c.deref.ensures ∙ ap (λ (s : Shared). s.ring) c.shared-shared.ensures)
     (ap (λ (s : CodeShared). s.rank) c.deref-2.ensures ∙ ap (λ (s : Shared). s.rank) c.shared-shared.ensures)
-    (c.in_ok-copy_list.ensures ∙ ap (λ (s : CodeShared). s.generators) c.deref-3.ensures ∙ ap (λ (s : Shared). s.generators) c.shared-shared.ensures)
+    (c.in_ok-copy_of.ensures ∙ ap (λ (s : CodeShared). s.generators) c.deref-3.ensures ∙ ap (λ (s : Shared). s.generators) c.shared-shared.ensures)
     c.new.ensures.items refl c.zero.ensures
-    (c.in_ok-copy_list-2.ensures ∙ ap vectors_in c.members-members.ensures.list)
-    (ap Some (c.in_ok-copy_list-3.ensures ∙ ap cofactors_in c.members-members.ensures.list))
+    (c.in_ok-copy_of-2.ensures ∙ ap vectors_in c.members-members.ensures.list)
+    (ap Some (c.in_ok-copy_of-3.ensures ∙ ap cofactors_in c.members-members.ensures.list))

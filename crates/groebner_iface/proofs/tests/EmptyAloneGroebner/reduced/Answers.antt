@@ -1,4 +1,4 @@
-use Rattle.std.proofs.Common.{arith, length, rules, ◌≡◌}
+use Rattle.std.proofs.Common.{length, rules, ◌≡◌}
 use Rattle.groebner_iface.proofs.EmptyBasis.{basis_of_none}
 use Rattle.groebner_iface.proofs.tests.EmptyAloneGroebner.reduced.Goals as goal
 
