@@ -115,6 +115,17 @@ working_on ring line all i step other old new x lt e w h advances =
     let d : drop i all ≡ step ∷ drop (i + 1) all = drop-cons all i other lt ∙ ap (λ y. y ∷ drop (suc i) all) (sym e) ∙ ap (λ k. step ∷ drop k all) s in
     working_step ring line all (drop (i + 1) all) step old new x w (subst (λ l. IsWorking ring line all l old) d h) advances
 
+-- at the end there is something on top
+pub working_has_top :
+    (ring : Ring) (line : List ℕ) (all left : List Step) (stack : List Terms) (x : FormalSum (variables ring))
+    → left ≡ [] → stack ≡ [] → worth_of_steps (polynomials_of ring line) all ≡ Some x → IsWorking ring line all left stack → ⊥
+working_has_top ring line all left stack x n s w h =
+    go h.values (subst (λ l. AreParts ring l h.values) s h.parts) (sym (ap (λ l. worths (polynomials_of ring line) l h.values >>= top) n) ∙ h.worth_is ∙ w)
+  where
+    go : (vs : List (FormalSum (variables ring))) → AreParts ring [] vs → top vs ≡ Some x → ⊥
+    go [] p e = none-some x e
+    go (v ∷ vs) p e = absurd p
+
 -- what is left on top at the end
 pub working_ends :
     (ring : Ring) (line : List ℕ) (all left : List Step) (stack rest : List Terms) (terms : Terms) (x : FormalSum (variables ring))

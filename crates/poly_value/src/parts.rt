@@ -3,7 +3,7 @@
 //! A sum is only joined; it is brought to normal form where it is multiplied. Where the formal degree of a product or power
 //! is at most 65,535, as it is in what `polynomial_value` works out, `NoMemory` comes only where a growth was refused.
 
-ghost use Rattle.std.specs.Prelude.{◌≡◌, ◌-◌, ◌<◌, ◌++◌, ℕ, IfOk};
+ghost use Rattle.std.specs.Prelude.{◌≡◌, ◌-◌, ◌<◌, ◌++◌, IfOk};
 ghost use Rattle.monomials.specs.Exponents.{unit};
 ghost use Rattle.formal_sums.specs.FormalSums.{Each, FormalSum, product, scale};
 ghost use Rattle.module_vectors.specs.Multiples.{rescaled};

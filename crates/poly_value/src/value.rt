@@ -41,7 +41,7 @@ pub fn polynomial_value<F: Frame>(
         do_step(alloc, frame, line, *step, &mut stack)?;
     }
     let Some(terms) = take_top(&mut stack) else {
-        return Err(NoMemory);
+        unreachable!()
     };
     normal(alloc, frame, terms)
 }

@@ -142,6 +142,11 @@ line_answered ring infos line form head pieces result e h f =
 pub line_polynomials : (line : List ℕ) (form : Form) (head : Head) (pieces : Vec (Vec Step Global) Global) → form ≡ forms.Line head pieces → IsFormed line (Ok form) → AllByRecursion IsPolynomial pieces.items
 line_polynomials line form head pieces e h = let g = subst (λ x. IsFormed line (Ok x)) e h in are_polynomials pieces.items (polys_of g.0) g.2.steps_are
 
+-- the head and the polynomials are those of a line
+pub line_of : (line : List ℕ) (form : Form) (head : Head) (pieces : Vec (Vec Step Global) Global) → form ≡ forms.Line head pieces → IsFormed line (Ok form)
+    → (w : Written) × IsLineOf head pieces.items w
+line_of line form head pieces e h = let g = subst (λ x. IsFormed line (Ok x)) e h in (g.0, g.2)
+
 -- the ring lines
 module _ (ring : Option Ring) (infos : List NameInfo) (line : List ℕ) (m first : Token) (more : List Token) (o : OrderName) (names : List Token) (are : names ≡ first ∷ more) where
   before_ring : (earlier : Kind) → place earlier < 3 → HoldsOf ring infos line (ring_line m first more o) earlier → ⊥

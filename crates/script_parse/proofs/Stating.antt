@@ -1,5 +1,5 @@
 -- What is worked out is what the line says
-use Rattle.std.proofs.Common.{◌≡◌, ℕ, cond, Bool, true, false, List, [], ◌∷◌, length, map, Option, Some, None, Vec, Global, refl, sym, ap, ap₂, subst, ◌∙◌}
+use Rattle.std.proofs.Common.{◌≡◌, ◌<◌, ℕ, arith, cond, Bool, true, false, List, [], ◌∷◌, length, map, Option, Some, None, Vec, Global, refl, sym, ap, ap₂, subst, ◌∙◌}
 use Rattle.std.proofs.lemmas.List.{length-map}
 use Rattle.std.specs.List.{AllByRecursion, list_all}
 use Rattle.std.specs.Prelude.{is_some, string_bytes}
@@ -113,6 +113,12 @@ vector_is ring line pieces ps u e vector positions stands = (
 )
 
 -- ---- what is said
+
+-- a shown polynomial is there
+pub is_shown : (pieces : List (Vec Step Global)) (w : Written) → IsLineOf heads.Show pieces w → 0 < length pieces
+is_shown (v ∷ pieces) w is = omega arith
+is_shown [] (show_line p) is = let e = is.steps_are in absurd cc
+is_shown [] _ is = let h = is.head_is in absurd cc
 
 pub show_says : (ring : Ring) (line : List ℕ) (pieces more : List (Vec Step Global)) (v : Vec Step Global) (u : List (Key × ℕ)) → pieces ≡ v ∷ more → AllByRecursion (IsWorkable ring line) pieces → IsWorth ring line v.items u
     → (w : Written) → IsLineOf heads.Show pieces w → Says (Some ring) line w (statements.Show u)

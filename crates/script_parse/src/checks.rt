@@ -1,9 +1,8 @@
 //! The tests of a line's names, ranks and degrees.
 
-ghost use Rattle.std.specs.Prelude.{◌≡◌, ◌&&◌, IfOk, length};
+ghost use Rattle.std.specs.Prelude.{◌≡◌, IfOk};
 ghost use Rattle.std.specs.List.{AllByRecursion, list_all};
-ghost use Rattle.poly_grammar.specs.Numerals.{text_of, value_of};
-ghost use Rattle.poly_grammar.specs.Steps.{names_of_steps};
+ghost use Rattle.poly_grammar.specs.Numerals.{text_of};
 ghost use Rattle.script_parse.specs.Forms.{IsPolynomial, given_name, is_known, is_no_value, is_no_variable, low_degree, names_pass, places, rank_fits};
 
 use crate::form::Head;

@@ -407,7 +407,7 @@ fn divides(alloc: Global, ring: Option<&Ring>, rank: u64, line: &[u8], want: &[R
 
 // The values are those of Singular 4, in its order `(c,dp)`.
 #[test]
-fn vectors(rt: HostRuntime) -> Result<(), Fail> {
+fn vectors_of_normal_forms(rt: HostRuntime) -> Result<(), Fail> {
     let alloc = rt.alloc();
     let large = ring(alloc, b"ring 101 x,y grevlex");
     let some = large.as_ref();
@@ -431,20 +431,6 @@ fn vectors(rt: HostRuntime) -> Result<(), Fail> {
             alloc,
             some,
             3,
-            b"member M [0, y-x, x*(x-3*y)]",
-            &[
-                Row(1, 100, 1, 0),
-                Row(1, 1, 0, 1),
-                Row(2, 1, 2, 0),
-                Row(2, 98, 1, 1)
-            ]
-        )
-    );
-    assert!(rt;
-        divides(
-            alloc,
-            some,
-            3,
             b"nf M [x^2*y-x,-5,x+y^3]",
             &[
                 Row(0, 1, 2, 1),
@@ -452,6 +438,28 @@ fn vectors(rt: HostRuntime) -> Result<(), Fail> {
                 Row(1, 96, 0, 0),
                 Row(2, 1, 0, 3),
                 Row(2, 1, 1, 0)
+            ]
+        )
+    );
+    Ok(())
+}
+
+// The values are those of Singular 4, in its order `(c,dp)`.
+#[test]
+fn vectors_of_memberships(rt: HostRuntime) -> Result<(), Fail> {
+    let alloc = rt.alloc();
+    let large = ring(alloc, b"ring 101 x,y grevlex");
+    assert!(rt;
+        divides(
+            alloc,
+            large.as_ref(),
+            3,
+            b"member M [0, y-x, x*(x-3*y)]",
+            &[
+                Row(1, 100, 1, 0),
+                Row(1, 1, 0, 1),
+                Row(2, 1, 2, 0),
+                Row(2, 98, 1, 1)
             ]
         )
     );

@@ -1,6 +1,6 @@
 //! Lists of polynomials. Commas and brackets stand in no polynomial, so the tokens are cut at these.
 
-ghost use Rattle.std.specs.Prelude.{◌≡◌, ◌<◌, length, map, take, drop, IfSome, IfNone};
+ghost use Rattle.std.specs.Prelude.{◌<◌, length, map, IfSome, IfNone};
 ghost use Rattle.poly_grammar.specs.Lexemes.{lexeme};
 ghost use Rattle.script_parse.specs.Forms.{AreReadAs, HasNoComma, IsAtComma, IsPushed};
 ghost use Rattle.script_parse.specs.Written.{AreEntries, ArePolys, IsOnePoly};

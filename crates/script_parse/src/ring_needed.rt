@@ -1,6 +1,6 @@
 //! What a line that needs a ring states.
 
-ghost use Rattle.std.specs.Prelude.{◌≡◌, List, Vec as VecValue, IfOk};
+ghost use Rattle.std.specs.Prelude.{◌≡◌, ◌<◌, List, Vec as VecValue, IfOk, length};
 ghost use Rattle.std.specs.Global.{Global};
 ghost use Rattle.std.specs.List.{AllByRecursion};
 ghost use Rattle.std.specs.Option.{option_copied};
@@ -71,11 +71,12 @@ fn show_statement(
     line: &[u8],
     polynomials: &[Vec<Step>],
 ) -> Result<Statement, ParseStop>
-    requires { AllByRecursion (IsWorkable ring.now line.now) polynomials.now }
+    requires some { 0 < length polynomials.now }
+    requires workable { AllByRecursion (IsWorkable ring.now line.now) polynomials.now }
     ensures { IsStated ring.now line.now heads.Show polynomials.now result }
 {
     let Some((steps, _)) = polynomials.split_first() else {
-        return Err(ParseStop::Memory);
+        unreachable!()
     };
     match polynomial_value(alloc, ring, line, steps) {
         Ok(value) => Ok(Statement::Show(value)),
@@ -167,6 +168,7 @@ fn stated(
     head: Head,
     polynomials: &[Vec<Step>],
 ) -> Result<Statement, ParseStop>
+    requires written { (w : Written) × IsLineOf head polynomials.now w }
     requires ascii { AllByRecursion (λ t. IsAscii (text_of line.now t)) (head_names head) }
     requires workable { AllByRecursion (IsWorkable ring.now line.now) polynomials.now }
     ensures { IsStated ring.now line.now head polynomials.now result }
@@ -192,6 +194,7 @@ pub fn line_statement(
     head: Head,
     polynomials: &[Vec<Step>],
 ) -> Result<Statement, ParseStop>
+    requires written { (w : Written) × IsLineOf head polynomials.now w }
     requires ascii { AllByRecursion (λ t. IsAscii (text_of line.now t)) (head_names head) }
     requires polynomials { AllByRecursion IsPolynomial polynomials.now }
     requires numerals { AllByRecursion (HaveNumerals line.now) polynomials.now }

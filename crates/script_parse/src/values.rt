@@ -1,6 +1,6 @@
 //! What the polynomials of a line are worth: a list of them, or a vector that has them for its entries.
 
-ghost use Rattle.std.specs.Prelude.{◌≡◌, ◌++◌, IfOk, length};
+ghost use Rattle.std.specs.Prelude.{◌≡◌, IfOk, length};
 ghost use Rattle.std.specs.List.{AllByRecursion};
 ghost use Rattle.module_vectors.specs.Rings.{ring_comparison};
 ghost use Rattle.module_vectors.specs.Vectors.{HasPositions, IsVectorOver};

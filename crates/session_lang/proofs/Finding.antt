@@ -11,7 +11,7 @@ use Rattle.session_lang.specs.Answers.{Asked}
 use Rattle.session_lang.specs.Asking.{IsAskedOver}
 use Rattle.session_lang.specs.Kept.{AreKept, AreSound, IsGiven, place_named, value_of, values_of}
 use Rattle.session_lang.specs.Names.{HasValue, State, after_run, value_named}
-use Rattle.session_lang.specs.Preventing.{CompareFails, Keeps, RunFails}
+use Rattle.session_lang.specs.Failures.{CompareFails, Keeps, RunFails}
 use Rattle.session_lang.specs.declared.stored.Stored.{Stored}
 
 module _ (before : State) (ring : Option Ring) (infos : List NameInfo) (stored : List Stored)

@@ -5,4 +5,4 @@ pub mod Lines
 pub mod Stops
 pub mod Kept
 pub mod Asking
-pub mod Preventing
+pub mod Failures

@@ -11,7 +11,7 @@ use Rattle.groebner_iface.specs.declared.stop.Stop.{Stop}
 use Rattle.groebner_iface.specs.declared.stop.Stop.TheVariants as runs
 use Rattle.script_parse.specs.declared.stated.Statement.{Statement}
 use Rattle.script_parse.specs.declared.stated.Statement.TheVariants as statements
-use Rattle.session_lang.specs.Lines.{Line, Needs, Refuses, RunOf, States}
+use Rattle.session_lang.specs.Lines.{Line, Needs, Refuses, States}
 use Rattle.session_lang.specs.Names.{HasValue, State, Value}
 use Rattle.session_lang.specs.declared.session.Step.{Step}
 use Rattle.session_lang.specs.declared.session.Step.TheVariants as steps
@@ -34,29 +34,21 @@ Meets before (statements.Member name v) t = IsTrailBy before (string_bytes name)
 Meets before _ t = ⊥
 
 -- a run of this statement stopped: the count rose, and the run with this answer is kept
-abbrev pub StopsAt : (old new : ℕ) → Option StoppedRun → State → Statement → Stop → Type 0
-StopsAt old new kept before statement answer =
+abbrev pub StopsAtRun : (old new : ℕ) → Option StoppedRun → State → Statement → Stop → Type 0
+StopsAtRun old new kept before statement answer =
     Rose old new × ((ring : Ring) × (rank : ℕ) × (list : List (List (Key × ℕ))) × Needs before statement ring rank list
     × (kept ≡ Some (record { ring = ring; rank = rank; list = list; answer = answer })))
 
 -- Why a statement was not done: memory was wanting, a run of it stopped, or a division by a reduced basis did. But for
 -- a run that stopped, the engine's count and its kept run are as before.
-abbrev pub Prevents : (old new : ℕ) → (kept kept' : Option StoppedRun) → State → Statement → OpStop → Type 0
-Prevents old new kept kept' before statement causes.Memory = (new ≡ old) × (kept' ≡ kept)
-Prevents old new kept kept' before statement causes.Pairs = StopsAt old new kept' before statement runs.Pairs
-Prevents old new kept kept' before statement causes.Degree = StopsAt old new kept' before statement runs.Degree
-Prevents old new kept kept' before statement (causes.Trail t) = (new ≡ old) × (kept' ≡ kept) × Meets before statement t
+abbrev pub StatementStops : (old new : ℕ) → (kept kept' : Option StoppedRun) → State → Statement → OpStop → Type 0
+StatementStops old new kept kept' before statement causes.Memory = (new ≡ old) × (kept' ≡ kept)
+StatementStops old new kept kept' before statement causes.Pairs = StopsAtRun old new kept' before statement runs.Pairs
+StatementStops old new kept kept' before statement causes.Degree = StopsAtRun old new kept' before statement runs.Degree
+StatementStops old new kept kept' before statement (causes.Trail t) = (new ≡ old) × (kept' ≡ kept) × Meets before statement t
 
--- a run of this line stopped: the count rose, and the run with this answer is kept
-abbrev pub RunStops : (old new : ℕ) → Option StoppedRun → State → List ℕ → Stop → Type 0
-RunStops old new kept before line answer =
-    Rose old new × ((ring : Ring) × (rank : ℕ) × (list : List (List (Key × ℕ))) × RunOf before line ring rank list
-    × (kept ≡ Some (record { ring = ring; rank = rank; list = list; answer = answer })))
-
--- the same of a line
+-- Why a line was not done: memory was wanting, which its reading may want already, or the statement that it states stopped.
 abbrev pub StepStops : (old new : ℕ) → (kept kept' : Option StoppedRun) → State → List ℕ → OpStop → Type 0
 StepStops old new kept kept' before line causes.Memory = (new ≡ old) × (kept' ≡ kept)
-StepStops old new kept kept' before line causes.Pairs = RunStops old new kept' before line runs.Pairs
-StepStops old new kept kept' before line causes.Degree = RunStops old new kept' before line runs.Degree
-StepStops old new kept kept' before line (causes.Trail t) =
-    (new ≡ old) × (kept' ≡ kept) × ((statement : Statement) × States before line statement × Meets before statement t)
+StepStops old new kept kept' before line cause =
+    (statement : Statement) × States before line statement × StatementStops old new kept kept' before statement cause

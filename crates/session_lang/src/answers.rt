@@ -1,12 +1,12 @@
 // The answers that the reduced bases of values give.
 ghost use Rattle.std.specs.Prelude.{◌≡◌, ◌<◌, ◌≤◌, ◌++◌, ◌⊎◌, Bool, IfErr, IsSome, List, OnErr, OnOk, get_or, length, ℕ, string_bytes};
 ghost use Rattle.groebner_iface.specs.Runs.{IsReducedBasisOf};
-ghost use Rattle.script_parse.specs.declared.named.NameInfo.{NameInfo as Info};
+ghost use Rattle.script_parse.specs.declared.named.NameInfo.{NameInfo as NameValue};
 ghost use Rattle.session_lang.specs.Answers.{Decides, IsAnswer, IsOneModule};
 ghost use Rattle.session_lang.specs.Asking.{AnswerStops, IsAskedOver, asked_of};
 ghost use Rattle.session_lang.specs.Kept.{AreSound, IsSound, value_of};
-ghost use Rattle.session_lang.specs.Preventing.{AnswerFails, Keeps, RunFails};
-ghost use Rattle.session_lang.specs.declared.stored.Stored.{Stored as Kept};
+ghost use Rattle.session_lang.specs.Failures.{AnswerFails, Keeps, RunFails};
+ghost use Rattle.session_lang.specs.declared.stored.Stored.{Stored as StoredValue};
 
 use crate::kept_bases::{forget, is_one_module, keep_basis, kept_of, normal_form};
 use crate::sizes::push_sizes;
@@ -123,17 +123,17 @@ fn compare_with<R: Threads + Sync, B: Groebner>(
 ) -> Result<(), OpStop>
     requires sound { AreSound ring.now names.now.items stored.old.items }
     requires within { (places.0 < length names.now.items) × (places.1 < length names.now.items) }
-    requires rank { (d : Info) → (get_or names.now.items places.0 d).rank ≡ (get_or names.now.items places.1 d).rank }
-    requires first { (e : Kept) → IsSome (get_or stored.old.items places.0 e).basis }
+    requires rank { (d : NameValue) → (get_or names.now.items places.0 d).rank ≡ (get_or names.now.items places.1 d).rank }
+    requires first { (e : StoredValue) → IsSome (get_or stored.old.items places.0 e).basis }
     ensures sound { OnOk result (AreSound ring.now names.now.items stored.new.items) }
     ensures kept { OnOk result (Keeps stored.old.items places.1 stored.new.items) }
     ensures as_before { OnErr result (stored.new.items ≡ stored.old.items) }
-    ensures text { OnOk result ((e : Kept) → (text : List ℕ)
+    ensures text { OnOk result ((e : StoredValue) → (text : List ℕ)
         × Decides (IsOneModule ring.now (get_or stored.old.items places.0 e).list (get_or stored.old.items places.1 e).list) text
         × (out.new.items ≡ out.old.items ++ text)) }
     ensures unwritten { OnErr result (out.new.items ≡ out.old.items) }
     ensures same { OnOk result ((B.stops engine.new ≡ B.stops engine.old) × (B.stopped engine.new ≡ B.stopped engine.old)) }
-    ensures stop { IfErr result (λ stop. (d : Info) (e : Kept) → RunFails (B.stops engine.old) (B.stops engine.new) (B.stopped engine.old) (B.stopped engine.new)
+    ensures stop { IfErr result (λ stop. (d : NameValue) (e : StoredValue) → RunFails (B.stops engine.old) (B.stops engine.new) (B.stopped engine.old) (B.stopped engine.new)
         ring.now (value_of (get_or names.now.items places.1 d) (get_or stored.old.items places.1 e)) stop) }
     ensures later { B.stops engine.old ≤ B.stops engine.new }
     ensures settings { B.settings engine.new ≡ B.settings engine.old }
@@ -168,19 +168,19 @@ pub fn compare_values<R: Threads + Sync, B: Groebner>(
 ) -> Result<(), OpStop>
     requires sound { AreSound ring.now names.now.items stored.old.items }
     requires within { (places.0 < length names.now.items) × (places.1 < length names.now.items) }
-    requires rank { (d : Info) → (get_or names.now.items places.0 d).rank ≡ (get_or names.now.items places.1 d).rank }
+    requires rank { (d : NameValue) → (get_or names.now.items places.0 d).rank ≡ (get_or names.now.items places.1 d).rank }
     ensures sound { OnOk result (AreSound ring.now names.now.items stored.new.items) }
-    ensures kept { OnOk result ((middle : List Kept) × Keeps stored.old.items places.0 middle × Keeps middle places.1 stored.new.items) }
+    ensures kept { OnOk result ((middle : List StoredValue) × Keeps stored.old.items places.0 middle × Keeps middle places.1 stored.new.items) }
     ensures as_before { OnErr result (stored.new.items ≡ stored.old.items) }
-    ensures text { OnOk result ((e : Kept) → (text : List ℕ)
+    ensures text { OnOk result ((e : StoredValue) → (text : List ℕ)
         × Decides (IsOneModule ring.now (get_or stored.old.items places.0 e).list (get_or stored.old.items places.1 e).list) text
         × (out.new.items ≡ out.old.items ++ text)) }
     ensures unwritten { OnErr result (out.new.items ≡ out.old.items) }
     ensures same { OnOk result ((B.stops engine.new ≡ B.stops engine.old) × (B.stopped engine.new ≡ B.stopped engine.old)) }
-    ensures stop { IfErr result (λ stop. (d : Info) (e : Kept)
+    ensures stop { IfErr result (λ stop. (d : NameValue) (e : StoredValue)
         → RunFails (B.stops engine.old) (B.stops engine.new) (B.stopped engine.old) (B.stopped engine.new)
         ring.now (value_of (get_or names.now.items places.0 d) (get_or stored.old.items places.0 e)) stop
-        ⊎ ((middle : List Kept) × Keeps stored.old.items places.0 middle
+        ⊎ ((middle : List StoredValue) × Keeps stored.old.items places.0 middle
         × RunFails (B.stops engine.old) (B.stops engine.new) (B.stopped engine.old) (B.stopped engine.new)
         ring.now (value_of (get_or names.now.items places.1 d) (get_or middle places.1 e)) stop)) }
     ensures later { B.stops engine.old ≤ B.stops engine.new }

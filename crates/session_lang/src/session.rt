@@ -54,8 +54,8 @@ impl Session {
     ghost use Rattle.session_lang.specs.Kept.{IsFit, IsGiven};
     ghost use Rattle.session_lang.specs.Lines.{Answers, Does};
     ghost use Rattle.session_lang.specs.Names.{HasValue, Value, after_run, no_names, with_value};
-    ghost use Rattle.session_lang.specs.Preventing.{AskFails, CompareFails, Compares, Lists};
-    ghost use Rattle.session_lang.specs.Stops.{Prevents};
+    ghost use Rattle.session_lang.specs.Failures.{AskFails, CompareFails, Compares, Lists};
+    ghost use Rattle.session_lang.specs.Stops.{StatementStops};
 
     /// A session in which no ring is stated and nothing has a name.
     pub fn new(alloc: Global) -> Session
@@ -225,7 +225,7 @@ impl Session {
         ensures same { OnErr result (self.new ≡ self.old) }
         ensures unwritten { OnErr result (out.new.items ≡ out.old.items) }
         ensures engine { OnOk result ((B.stops engine.new ≡ B.stops engine.old) × (B.stopped engine.new ≡ B.stopped engine.old)) }
-        ensures stop { IfErr result (Prevents (B.stops engine.old) (B.stops engine.new) (B.stopped engine.old) (B.stopped engine.new) self.old stated) }
+        ensures stop { IfErr result (StatementStops (B.stops engine.old) (B.stops engine.new) (B.stopped engine.old) (B.stopped engine.new) self.old stated) }
         ensures later { B.stops engine.old ≤ B.stops engine.new }
         ensures settings { B.settings engine.new ≡ B.settings engine.old }
     {
@@ -258,11 +258,13 @@ impl Session {
         }
     }
 
-    /// Does a line, and appends its text.
+    /// Does a line and appends its text, or answers the first kind of refusal that holds of it.
     ///
-    /// After a refusal and after an error session and text are as before. `Pairs` and `Degree` say that a run of the line
-    /// stopped, which the engine counted and keeps; `Trail` that a division by a reduced basis needed a product of too
-    /// great a degree.
+    /// `Memory` comes where a growth was refused, while the line was read or done; `Pairs` and `Degree` where a run that
+    /// the line needs met its budget or needed a product of total degree above 65,535; `Trail`, with the chain of products
+    /// to it, where a division by a reduced basis needed one. After a refusal and after each error session and text are as
+    /// before, so no basis is kept that was not. The engine counts and keeps a run that stopped; else its count and the
+    /// run that it keeps are as before, and its settings always are.
     pub fn step<R: Threads + Sync, B: Groebner>(
         &mut self,
         rt: &R,

@@ -19,16 +19,6 @@ struct KeptRun {
     answer: Stop,
 }
 
-fn copy_list(alloc: Global, list: &VectList) -> Result<VectList, NoMemory>
-    ensures { IfOk result (λ copy. copy ≡ list.now) }
-{
-    let mut copy = VectList::new(alloc);
-    for v in list.as_slice() {
-        copy.push(v.try_copy(alloc)?)?;
-    }
-    Ok(copy)
-}
-
 fn keep_run(
     alloc: Global,
     ring: &Ring,
@@ -41,7 +31,7 @@ fn keep_run(
     Ok(KeptRun {
         ring: ring.try_copy(alloc)?,
         rank,
-        list: copy_list(alloc, list)?,
+        list: VectList::copy_of(alloc, list)?,
         answer,
     })
 }

@@ -1,10 +1,9 @@
 // The lines that are printed of values.
 ghost use Rattle.std.specs.Prelude.{◌≡◌, ◌++◌, ◌∷◌, [], OnErr, OnOk, length, take};
-ghost use Rattle.std.specs.Fmt.{decimal};
 ghost use Rattle.formal_sums.specs.FormalSums.{Each};
 ghost use Rattle.module_vectors.specs.Rings.{variables};
 ghost use Rattle.module_vectors.specs.Vectors.{HasVariables};
-ghost use Rattle.poly_text.specs.Texts.{list_text, names_of, poly_text, vector_text};
+ghost use Rattle.poly_text.specs.Texts.{list_text, names_of, vector_text};
 ghost use Rattle.poly_text.specs.Writing.{Begins};
 ghost use Rattle.session_lang.specs.Texts.{heading, verdict};
 

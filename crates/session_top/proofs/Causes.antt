@@ -13,9 +13,10 @@ use Rattle.groebner_iface.specs.Runs.{StoppedRun}
 use Rattle.groebner_iface.specs.declared.stop.Stop.{Stop}
 use Rattle.groebner_iface.specs.declared.stop.OpStop.TheVariants as causes
 use Rattle.plain_buchberger.specs.Stops.{IsOneWorkerRun, IsStop, stopped_on, stopped_run}
-use Rattle.session_lang.specs.Lines.{RunOf}
+use Rattle.script_parse.specs.declared.stated.Statement.{Statement}
+use Rattle.session_lang.specs.Lines.{RunOf, States}
 use Rattle.session_lang.specs.Names.{State}
-use Rattle.session_lang.specs.Stops.{RunStops, StepStops}
+use Rattle.session_lang.specs.Stops.{StepStops, StopsAtRun}
 use Rattle.session_top.specs.Parts.{LineStops, StopEnds}
 use Rattle.session_top.specs.Stops.{IsRunState, StopsScript}
 use Rattle.session_top.specs.declared.early.Early.{Early}
@@ -59,15 +60,17 @@ same_budget p q same = cc
 -- a run of the line stopped, and its stop line or a front of it was written
 pub run_stopped : (a b : Option (List ℕ)) (pairs kept_pairs : ℕ) (before : State) (line : List ℕ) (number : ℕ) (old new : ℕ) (answer : Stop)
     (state : Option Shown) (trail : Option KeptTrail) (stop : Early) → kept_pairs ∷ 1 ∷ [] ≡ pairs ∷ 1 ∷ []
-    → RunStops old new (stopped_run state trail) before line answer → IsStop kept_pairs state trail → IfSome state HasReplay
+    → ((statement : Statement) × States before line statement × StopsAtRun old new (stopped_run state trail) before statement answer)
+    → IsStop kept_pairs state trail → IfSome state HasReplay
     → StopEnds a b number state trail stop → LineStops a b pairs before line number stop
-run_stopped a b pairs kept_pairs before line number old new answer state trail stop budget (rose, (ring, rank, list, here, same)) kept replays says =
+run_stopped a b pairs kept_pairs before line number old new answer state trail stop budget (statement, states, (rose, (ring, rank, list, needs, same))) kept replays says =
     let is_stop = subst (λ p. IsStop p state trail) (same_budget kept_pairs pairs budget) kept in
     stopped_stops a b pairs before line number state trail stop
-    (run_cause pairs before line state trail (record { ring = ring; rank = rank; list = list; answer = answer }) same here is_stop replays) says
+    (run_cause pairs before line state trail (record { ring = ring; rank = rank; list = list; answer = answer }) same (statement, states, needs) is_stop replays) says
 
 -- a division of the line stopped, and its stop line or a front of it was written
 pub division_stopped : (a b : Option (List ℕ)) (pairs : ℕ) (before : State) (line : List ℕ) (number : ℕ) (old new : ℕ) (kept kept' : Option StoppedRun)
     (t : KeptTrail) (stop : Early) → StepStops old new kept kept' before line (causes.Trail t)
     → StopEnds a b number None (Some t) stop → LineStops a b pairs before line number stop
-division_stopped a b pairs before line number old new kept kept' t stop (count, same, meets) says = stopped_stops a b pairs before line number None (Some t) stop (inl meets) says
+division_stopped a b pairs before line number old new kept kept' t stop (statement, states, (count, same, meets)) says =
+    stopped_stops a b pairs before line number None (Some t) stop (inl (statement, states, meets)) says

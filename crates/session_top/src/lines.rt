@@ -3,7 +3,6 @@ ghost use Rattle.std.specs.Prelude.{◌≡◌, ℕ, ◌+◌, ◌<◌, ◌≤◌,
 ghost use Rattle.std.specs.Io.KnownBytes.{Appends};
 ghost use Rattle.byte_ports.specs.Causes.{Rose, HasCause, AppendsFront};
 ghost use Rattle.session_lang.specs.Lines.{Line};
-ghost use Rattle.session_lang.specs.Names.{State};
 ghost use Rattle.session_top.specs.Lines.{lines_in, HasNoNewline};
 ghost use Rattle.session_top.specs.Meaning.{refusal_word, error_line, last_of, Done};
 ghost use Rattle.basis_core.specs.Views.{run_of, state_of, variables_of};

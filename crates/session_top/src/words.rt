@@ -1,5 +1,5 @@
 // The words of the command, read by clap.
-ghost use Rattle.std.specs.Prelude.{◌≡◌, ◌≤◌, IfOk, OnOk, Err, codes, map, string_bytes, false};
+ghost use Rattle.std.specs.Prelude.{◌≡◌, ◌≤◌, IfOk, OnOk, Err, map, string_bytes, false};
 ghost use Rattle.clap.specs.Matches.{found_of, one_text};
 ghost use Rattle.clap.specs.Kinds.{FailsBy};
 ghost use Rattle.clap.specs.Faults.{fault_of};

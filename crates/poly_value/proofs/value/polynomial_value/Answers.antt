@@ -1,12 +1,18 @@
-use Rattle.std.proofs.Common.{drop, refl, reverse}
+use Rattle.std.proofs.Common.{[], drop, refl, reverse, rules, ◌≡◌}
 use Rattle.std.proofs.lemmas.List.{drop_all}
-use Rattle.poly_value.proofs.Steps.{normal_stands, working_ends, working_on}
+use Rattle.poly_value.proofs.Steps.{normal_stands, working_ends, working_has_top, working_on}
 use Rattle.poly_value.proofs.value.polynomial_value.Goals as goal
 
 pub loop-step-preserved : goal.loop-step-preserved
 loop-step-preserved g c =
     working_on (g.F.Frame.over c.args.frame.now) c.args.line.now c.args.steps.now c.loop-step.step-index _ _ (reverse c.loop-step.stack.items) (reverse c.do_step.new.stack.items) c.requires.worth.0
     c.loop-step-test.true refl c.requires.worth.1 c.loop-step.invariant c.in_ok-do_step.ensures
+
+pub unreachable-requires : goal.unreachable-requires
+unreachable-requires g c =
+    let none : reverse c.loop-step.stack.items ≡ [] = search rules in
+    working_has_top (g.F.Frame.over c.args.frame.now) c.args.line.now c.args.steps.now (drop c.loop-step.step-index c.args.steps.now) (reverse c.loop-step.stack.items) c.requires.worth.0
+    (drop_all c.loop-step.step-index c.args.steps.now c.loop-step-test.false) none c.requires.worth.1 c.loop-step.invariant
 
 pub returns-clause-value : goal.returns-clause-value
 returns-clause-value g c = λ x w.

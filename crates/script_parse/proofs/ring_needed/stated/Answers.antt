@@ -1,6 +1,12 @@
 use Rattle.std.proofs.Common.{subst, sym}
-use Rattle.script_parse.specs.Forms.{IsStated}
+use Rattle.script_parse.proofs.Stating.{is_shown}
+use Rattle.script_parse.specs.Forms.{IsLineOf, IsStated}
 use Rattle.script_parse.proofs.ring_needed.stated.Goals as goal
+
+pub show_statement-requires-clause-some : goal.show_statement-requires-clause-some
+show_statement-requires-clause-some c =
+    let is = subst (λ h. IsLineOf h c.args.polynomials.now c.requires.written.0) c.in-Show.is c.requires.written.1 in
+    is_shown c.args.polynomials.now c.requires.written.0 is
 
 pub returns-in-Ask : goal.returns-in-Ask
 returns-in-Ask c = subst (λ h. IsStated c.args.ring.now c.args.line.now h c.args.polynomials.now c.ask_statement.result) (sym c.in-Ask.is) (c.ask_statement.ensures c.args.ring.now c.args.polynomials.now)

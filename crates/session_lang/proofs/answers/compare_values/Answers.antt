@@ -1,7 +1,7 @@
 use Rattle.std.proofs.Common.{List, ℕ, inl, inr, ◌++◌, ◌<◌, ◌≡◌, ◌∙◌, ap, arith, get_or, length, refl, rules, slice_set, subst, subst₂, sym}
 use Rattle.groebner_iface.specs.Stops.{op_stop_of_run}
 use Rattle.session_lang.specs.Kept.{IsSound, value_of}
-use Rattle.session_lang.specs.Preventing.{RunFails}
+use Rattle.session_lang.specs.Failures.{RunFails}
 use Rattle.session_lang.specs.Answers.{Decides, IsOneModule}
 use Rattle.session_lang.proofs.KeptValues.{at_place, length_written, undone, written_basis, written_lists}
 use Rattle.session_lang.proofs.Stopping.{run_fails}

@@ -2,7 +2,7 @@ use Rattle.std.proofs.Common.{◌<◌, ◌≡◌, ◌∙◌, Some, ap, arith, le
 use Rattle.std.specs.Prelude.{IsSome}
 use Rattle.groebner_iface.specs.Stops.{op_stop_of_run}
 use Rattle.session_lang.specs.Kept.{AreSound, IsSound, value_of}
-use Rattle.session_lang.specs.Preventing.{RunFails}
+use Rattle.session_lang.specs.Failures.{RunFails}
 use Rattle.session_lang.specs.Texts.{verdict}
 use Rattle.session_lang.proofs.KeptValues.{at_place, at_written, compared, decided, undone, written_lists}
 use Rattle.session_lang.proofs.Stopping.{run_fails}

@@ -2,7 +2,7 @@ use Rattle.std.proofs.Common.{None, Some, ap, arith, length, refl, rules, slice_
 use Rattle.std.proofs.lemmas.Result.{IfErr-weaker, on_ok_weaker}
 use Rattle.session_lang.specs.Kept.{AreKept, IsSound, place_named, value_of}
 use Rattle.session_lang.specs.Names.{HasValue}
-use Rattle.session_lang.specs.Preventing.{Keeps}
+use Rattle.session_lang.specs.Failures.{Keeps}
 use Rattle.session_lang.proofs.Finding.{has_value, kept_after, no_stored, place_given, sound_over}
 use Rattle.session_lang.proofs.KeptValues.{at_place}
 use Rattle.session_lang.proofs.Values.{kept_as_many, kept_sound, place_bound, sound_at}

@@ -10,9 +10,9 @@ use Rattle.session_lang.specs.Answers.{basis, member, normal_form, sizes_of_basi
 use Rattle.session_lang.specs.Kept.{IsFit, IsGiven}
 use Rattle.session_lang.specs.Lines.{Answers, Does, IsRunFor, Needs}
 use Rattle.session_lang.specs.Names.{HasValue, Value, after_run}
-use Rattle.session_lang.specs.Preventing.{Compares, Lists}
+use Rattle.session_lang.specs.Failures.{Compares, Lists}
 use Rattle.session_lang.specs.Stops.{IsTrailBy, Meets}
-use Rattle.session_lang.proofs.Stopping.{asking_prevented, comparing_prevented}
+use Rattle.session_lang.proofs.Stopping.{asking_stops, comparing_stops}
 use Rattle.session_lang.proofs.session.Session.perform.Goals as goal
 
 pub list-requires : goal.list-requires
@@ -38,7 +38,7 @@ pub returns-in-Gb-clause-stop : goal.returns-in-Gb-clause-stop
 returns-in-Gb-clause-stop g c =
     IfErr-weaker c.ask.result _ _
     (λ stop k.
-    asking_prevented (g.B.Groebner.stops c.args.engine.now) (g.B.Groebner.stops c.ask.new.engine) (g.B.Groebner.stopped c.args.engine.now) (g.B.Groebner.stopped c.ask.new.engine)
+    asking_stops (g.B.Groebner.stops c.args.engine.now) (g.B.Groebner.stops c.ask.new.engine) (g.B.Groebner.stopped c.args.engine.now) (g.B.Groebner.stopped c.ask.new.engine)
     c.args.self.now c.args.stated c.as_bytes-in-Gb.result.now basis
     (λ r m l h. subst (λ s. Needs c.args.self.now s r m l) (sym c.in-Gb.is) (subst (λ n. IsRunFor c.args.self.now n r m l) c.as_bytes-in-Gb.ensures.value h))
     (λ t r v G h b d. absurd d) stop k)
@@ -63,7 +63,7 @@ pub returns-in-Size-clause-stop : goal.returns-in-Size-clause-stop
 returns-in-Size-clause-stop g c =
     IfErr-weaker c.ask-in-Size.result _ _
     (λ stop k.
-    asking_prevented (g.B.Groebner.stops c.args.engine.now) (g.B.Groebner.stops c.ask-in-Size.new.engine) (g.B.Groebner.stopped c.args.engine.now) (g.B.Groebner.stopped c.ask-in-Size.new.engine)
+    asking_stops (g.B.Groebner.stops c.args.engine.now) (g.B.Groebner.stops c.ask-in-Size.new.engine) (g.B.Groebner.stopped c.args.engine.now) (g.B.Groebner.stopped c.ask-in-Size.new.engine)
     c.args.self.now c.args.stated c.as_bytes-in-Size.result.now sizes_of_basis
     (λ r m l h. subst (λ s. Needs c.args.self.now s r m l) (sym c.in-Size.is) (subst (λ n. IsRunFor c.args.self.now n r m l) c.as_bytes-in-Size.ensures.value h))
     (λ t r v G h b d. absurd d) stop k)
@@ -84,7 +84,7 @@ pub returns-in-NormalForm-clause-stop : goal.returns-in-NormalForm-clause-stop
 returns-in-NormalForm-clause-stop g c =
     IfErr-weaker c.ask-in-NormalForm.result _ _
     (λ stop k.
-    asking_prevented (g.B.Groebner.stops c.args.engine.now) (g.B.Groebner.stops c.ask-in-NormalForm.new.engine) (g.B.Groebner.stopped c.args.engine.now) (g.B.Groebner.stopped c.ask-in-NormalForm.new.engine)
+    asking_stops (g.B.Groebner.stops c.args.engine.now) (g.B.Groebner.stops c.ask-in-NormalForm.new.engine) (g.B.Groebner.stopped c.args.engine.now) (g.B.Groebner.stopped c.ask-in-NormalForm.new.engine)
     c.args.self.now c.args.stated c.as_bytes-in-NormalForm.result.now (normal_form c.in-NormalForm.v)
     (λ r m l h. subst (λ s. Needs c.args.self.now s r m l) (sym c.in-NormalForm.is) (subst (λ n. IsRunFor c.args.self.now n r m l) c.as_bytes-in-NormalForm.ensures.value h))
     (λ t r v G h b d. subst (λ s. Meets c.args.self.now s t) (sym c.in-NormalForm.is) (subst (λ n. IsTrailBy c.args.self.now n c.in-NormalForm.v t) c.as_bytes-in-NormalForm.ensures.value (r, v, G, h, b, d))) stop k)
@@ -105,7 +105,7 @@ pub returns-in-Member-clause-stop : goal.returns-in-Member-clause-stop
 returns-in-Member-clause-stop g c =
     IfErr-weaker c.ask-in-Member.result _ _
     (λ stop k.
-    asking_prevented (g.B.Groebner.stops c.args.engine.now) (g.B.Groebner.stops c.ask-in-Member.new.engine) (g.B.Groebner.stopped c.args.engine.now) (g.B.Groebner.stopped c.ask-in-Member.new.engine)
+    asking_stops (g.B.Groebner.stops c.args.engine.now) (g.B.Groebner.stops c.ask-in-Member.new.engine) (g.B.Groebner.stopped c.args.engine.now) (g.B.Groebner.stopped c.ask-in-Member.new.engine)
     c.args.self.now c.args.stated c.as_bytes-in-Member.result.now (member c.in-Member.v)
     (λ r m l h. subst (λ s. Needs c.args.self.now s r m l) (sym c.in-Member.is) (subst (λ n. IsRunFor c.args.self.now n r m l) c.as_bytes-in-Member.ensures.value h))
     (λ t r v G h b d. subst (λ s. Meets c.args.self.now s t) (sym c.in-Member.is) (subst (λ n. IsTrailBy c.args.self.now n c.in-Member.v t) c.as_bytes-in-Member.ensures.value (r, v, G, h, b, d))) stop k)
@@ -171,7 +171,7 @@ pub returns-in-Equal-clause-stop : goal.returns-in-Equal-clause-stop
 returns-in-Equal-clause-stop g c =
     IfErr-weaker c.compare.result _ _
     (λ stop k.
-    comparing_prevented (g.B.Groebner.stops c.args.engine.now) (g.B.Groebner.stops c.compare.new.engine) (g.B.Groebner.stopped c.args.engine.now) (g.B.Groebner.stopped c.compare.new.engine)
+    comparing_stops (g.B.Groebner.stops c.args.engine.now) (g.B.Groebner.stops c.compare.new.engine) (g.B.Groebner.stopped c.args.engine.now) (g.B.Groebner.stopped c.compare.new.engine)
     c.args.self.now c.args.stated c.as_bytes-in-Equal.result.now c.as_bytes-in-Equal-2.result.now
     (λ r m l h. subst (λ s. Needs c.args.self.now s r m l) (sym c.in-Equal.is)
     (subst₂ (λ a b. IsRunFor c.args.self.now a r m l ⊎ IsRunFor (after_run a c.args.self.now) b r m l)
