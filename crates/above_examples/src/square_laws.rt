@@ -21,7 +21,8 @@ pub fn square_resolution()
 /// That list needs no step of cancellation and is minimal; and each minimal list that presents the same module has its
 /// table: 1 in degree 0 at step 0, 3 in degree 2 at step 1, 2 in degree 3 at step 2.
 pub fn square_table()
-    ensures cancelled { IsCancelled 101 (record { positions = 0 ∷ []; maps = graded_by_leads (0 ∷ []) resolution }) (record { positions = 0 ∷ []; maps = graded_by_leads (0 ∷ []) resolution }) }
+    ensures cancelled { IsCancelled 101 (record { positions = 0 ∷ []; maps = graded_by_leads (0 ∷ []) resolution })
+        (record { positions = 0 ∷ []; maps = graded_by_leads (0 ∷ []) resolution }) }
     ensures minimal { IsMinimal 101 (record { positions = 0 ∷ []; maps = graded_by_leads (0 ∷ []) resolution })
         × Presents 101 (record { positions = 0 ∷ []; maps = graded_by_leads (0 ∷ []) resolution }) (0 ∷ []) generators }
     ensures counts { (k d : ℕ) → step_count (0 ∷ []) (graded_by_leads (0 ∷ []) resolution) k d ≡ table k d }

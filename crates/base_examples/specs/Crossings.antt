@@ -48,23 +48,63 @@ crossing_events =
 
 -- the state at the beginning: three members, and their pairs by the degrees of the lcms
 abbrev pub crossing_first : State 2
-crossing_first = record { members = old_members; queue = (0, 1) ∷ ((1, 2) ∷ ((0, 2) ∷ [])); out = []; taken = 0; ended = false ∷ (false ∷ []); stop = None; history = [] }
+crossing_first = record {
+  members = old_members;
+  queue = (0, 1) ∷ ((1, 2) ∷ ((0, 2) ∷ []));
+  out = [];
+  taken = 0;
+  ended = false ∷ (false ∷ []);
+  stop = None;
+  history = [];
+}
 
 -- one job is out
 abbrev pub crossing_1 : State 2
-crossing_1 = record { members = old_members; queue = (1, 2) ∷ []; out = ((0, 1), 0) ∷ []; taken = 1; ended = false ∷ (false ∷ []); stop = None; history = take 1 crossing_events }
+crossing_1 = record {
+  members = old_members;
+  queue = (1, 2) ∷ [];
+  out = ((0, 1), 0) ∷ [];
+  taken = 1;
+  ended = false ∷ (false ∷ []);
+  stop = None;
+  history = take 1 crossing_events;
+}
 
 -- both jobs are out
 abbrev pub crossing_2 : State 2
-crossing_2 = record { members = old_members; queue = []; out = ((0, 1), 0) ∷ (((1, 2), 1) ∷ []); taken = 2; ended = false ∷ (false ∷ []); stop = None; history = take 2 crossing_events }
+crossing_2 = record {
+  members = old_members;
+  queue = [];
+  out = ((0, 1), 0) ∷ (((1, 2), 1) ∷ []);
+  taken = 2;
+  ended = false ∷ (false ∷ []);
+  stop = None;
+  history = take 2 crossing_events;
+}
 
 -- y is a member, and its pairs are queued
 abbrev pub crossing_3 : State 2
-crossing_3 = record { members = new_members; queue = (1, 3) ∷ ((2, 3) ∷ ((0, 3) ∷ [])); out = ((0, 1), 0) ∷ []; taken = 2; ended = false ∷ (false ∷ []); stop = None; history = take 3 crossing_events }
+crossing_3 = record {
+  members = new_members;
+  queue = (1, 3) ∷ ((2, 3) ∷ ((0, 3) ∷ []));
+  out = ((0, 1), 0) ∷ [];
+  taken = 2;
+  ended = false ∷ (false ∷ []);
+  stop = None;
+  history = take 3 crossing_events;
+}
 
 -- y^2 made no member, and nothing is out
 abbrev pub crossing_last : State 2
-crossing_last = record { members = new_members; queue = (1, 3) ∷ ((2, 3) ∷ ((0, 3) ∷ [])); out = []; taken = 2; ended = false ∷ (false ∷ []); stop = None; history = crossing_events }
+crossing_last = record {
+  members = new_members;
+  queue = (1, 3) ∷ ((2, 3) ∷ ((0, 3) ∷ []));
+  out = [];
+  taken = 2;
+  ended = false ∷ (false ∷ []);
+  stop = None;
+  history = crossing_events;
+}
 
 -- the run on (x^2 + y, xy) with a budget of one pair
 abbrev pub one_pair : Run 2
@@ -72,4 +112,12 @@ one_pair = record { setting = setting; generators = square_plus ∷ (xy ∷ []);
 
 -- the budget is met while the pair (1, 2) is queued
 abbrev pub budget_met : State 2
-budget_met = record { members = three_members; queue = (1, 2) ∷ []; out = []; taken = 1; ended = false ∷ (true ∷ []); stop = Some Pairs; history = take 4 events ++ (Take 0 ((0, 2) ∷ []) [] ∷ []) }
+budget_met = record {
+  members = three_members;
+  queue = (1, 2) ∷ [];
+  out = [];
+  taken = 1;
+  ended = false ∷ (true ∷ []);
+  stop = Some Pairs;
+  history = take 4 events ++ (Take 0 ((0, 2) ∷ []) [] ∷ []);
+}

@@ -27,7 +27,8 @@ two_members = member_0 ∷ (member_1 ∷ [])
 abbrev pub three_members : List (Member 2)
 three_members = member_0 ∷ (member_1 ∷ (member_2 ∷ []))
 
--- the eight events: worker 0 takes the pair (0, 1); worker 1 finds nothing and ends; worker 0 hands in y^2, takes (1, 2) while (0, 2) is skipped by the product criterion, hands in no row, finds nothing and ends
+-- the eight events: worker 0 takes the pair (0, 1); worker 1 finds nothing and ends; worker 0 hands in y^2, takes (1,
+-- 2) while (0, 2) is skipped by the product criterion, hands in no row, finds nothing and ends
 abbrev pub events : List (Event 2)
 events =
     Take 0 [] ((0, 1) ∷ [])
@@ -58,7 +59,15 @@ state_3 = record { members = two_members; queue = []; out = ((0, 1), 0) ∷ []; 
 
 -- y^2 is a member, and its pairs are queued by the degrees of their lcms
 abbrev pub state_4 : State 2
-state_4 = record { members = three_members; queue = (1, 2) ∷ ((0, 2) ∷ []); out = []; taken = 1; ended = false ∷ (true ∷ []); stop = None; history = take 4 events }
+state_4 = record {
+  members = three_members;
+  queue = (1, 2) ∷ ((0, 2) ∷ []);
+  out = [];
+  taken = 1;
+  ended = false ∷ (true ∷ []);
+  stop = None;
+  history = take 4 events;
+}
 
 -- the pair (0, 2) was skipped, and (1, 2) is out with worker 0
 abbrev pub state_5 : State 2
@@ -78,8 +87,24 @@ last_state = record { members = three_members; queue = []; out = []; taken = 2; 
 
 -- worker 1 found nothing, and then worker 0 handed in y^2
 abbrev pub after_put : State 2
-after_put = record { members = three_members; queue = (1, 2) ∷ ((0, 2) ∷ []); out = []; taken = 1; ended = false ∷ (false ∷ []); stop = None; history = take 2 events ++ (Put 0 (member_2 ∷ []) ∷ []) }
+after_put = record {
+  members = three_members;
+  queue = (1, 2) ∷ ((0, 2) ∷ []);
+  out = [];
+  taken = 1;
+  ended = false ∷ (false ∷ []);
+  stop = None;
+  history = take 2 events ++ (Put 0 (member_2 ∷ []) ∷ []);
+}
 
 -- so worker 1, which would end, is told that there is more work
 abbrev pub more_work : State 2
-more_work = record { members = three_members; queue = (1, 2) ∷ ((0, 2) ∷ []); out = []; taken = 1; ended = false ∷ (false ∷ []); stop = None; history = take 2 events ++ (Put 0 (member_2 ∷ []) ∷ (End 1 MoreWork ∷ [])) }
+more_work = record {
+  members = three_members;
+  queue = (1, 2) ∷ ((0, 2) ∷ []);
+  out = [];
+  taken = 1;
+  ended = false ∷ (false ∷ []);
+  stop = None;
+  history = take 2 events ++ (Put 0 (member_2 ∷ []) ∷ (End 1 MoreWork ∷ []));
+}

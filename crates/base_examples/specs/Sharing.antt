@@ -42,7 +42,15 @@ sharing_events =
 
 -- the state after the first k events, with these pairs queued and out, so many taken, and who has ended
 abbrev pub sharing_state : ℕ → List (ℕ × ℕ) → List ((ℕ × ℕ) × ℕ) → ℕ → List Bool → State 2
-sharing_state k queue out taken ended = record { members = monomial_members; queue = queue; out = out; taken = taken; ended = ended; stop = None; history = take k sharing_events }
+sharing_state k queue out taken ended = record {
+  members = monomial_members;
+  queue = queue;
+  out = out;
+  taken = taken;
+  ended = ended;
+  stop = None;
+  history = take k sharing_events;
+}
 
 -- nobody has ended
 abbrev pub none : List Bool

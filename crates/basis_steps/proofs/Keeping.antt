@@ -113,7 +113,7 @@ first_rows_more r G H taken more rows longer same le (inr h) = inr (record {
 })
 
 -- a trail stays one as members are added and pairs taken
-trail_more :
+pub trail_more :
     {n : ℕ} (r : Run n) (G N : List (Member n)) (taken more : List Pair) (way : Trail n)
     → ((x : Pair) → count x taken ≤ count x more) → IsTrail r G taken way → IsTrail r (G ++ N) more way
 trail_more r G N taken more way le h =

@@ -8,7 +8,7 @@ use Rattle.monomials.specs.Exponents.{Exponents, degree, quotient}
 use Rattle.monomial_counts.proofs.Counting.{standard_count_below}
 use Rattle.monomial_counts.specs.Counts.{standard_count}
 use Rattle.hilbert_laws.proofs.Recurrence.{IsNumerator_one, IsNumerator_position, count_split, partial_sums_ext, series-plus, series-shift, series-shift_zero, series_nothing}
-use Rattle.hilbert_laws.specs.Numerators.{IsNumerator, at_position, module_count, partial_sums, plus, series}
+use Rattle.hilbert_laws.specs.Numerators.{IsNumerator, leads_at, module_count, partial_sums, plus, series}
 use Rattle.hilbert_laws.specs.Shifting.{minus, shifted}
 
 partial_sums-turned : (f : ℕ → ℤ) (d : ℕ) → partial_sums (λ e. pos 0 -ℤ f e) d ≡ pos 0 -ℤ partial_sums f d
@@ -77,5 +77,5 @@ pub module_numerator_exists : {n : ℕ} (m : ℕ) (ks : List (ℕ × Exponents n
 module_numerator_exists {n} zero ks = ([], λ d. series_nothing n d)
 module_numerator_exists {n} (suc m) ks =
     let a = module_numerator_exists m ks in
-    let b = numerator_exists (at_position m ks) in
+    let b = numerator_exists (leads_at m ks) in
     (plus a.0 b.0, IsNumerator_position n m ks a.0 b.0 a.1 b.1)

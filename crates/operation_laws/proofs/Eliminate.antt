@@ -1,23 +1,22 @@
 -- The kept members of a basis generate the combinations of kept members of the module
 use Rattle.std.proofs.Common.{Bool, List, [], ap, arith, cond, false, get_or, length, refl, subst, suc, sym, true, true≢false, zero, ℕ, ◌*◌, ◌+◌, ◌<◌, ◌∙◌, ◌∷◌, ◌≡◌}
 use Rattle.std.specs.Prelude.{IsTrue}
-use Rattle.std.specs.declared.cmp.Ordering.TheVariants.{Greater}
-use Rattle.std.specs.Cmp.Derive.{both_true}
 use Rattle.residues.proofs.Congruences.{IsCongruent_of}
 use Rattle.monomials.proofs.Monomials.{and_left, and_right}
 use Rattle.formal_sums.proofs.Combining.{Each_map, IsMember_append, IsMember_same, IsMember_scale, IsMember_zero}
 use Rattle.formal_sums.proofs.WeightedSums.{indicator_other}
 use Rattle.formal_sums.specs.Combinations.{IsMember, combination}
 use Rattle.formal_sums.specs.FormalSums.{Each, FormalSum, Key, coefficient, indicator, scale}
-use Rattle.orders.proofs.KeyOrdering.{less_of_greater}
 use Rattle.bases.proofs.Leading.{positive}
 use Rattle.bases.specs.Bases.{IsGroebnerBasis}
-use Rattle.bases.specs.Leads.{IsLead, IsMonicList, IsNormal, head_key, leads}
+use Rattle.bases.specs.Leads.{IsLead, IsMonicList, IsNormal, leads}
 use Rattle.bases.specs.Settings.{IsLawful, Setting}
 use Rattle.division_laws.proofs.Keeping.{IsGroebnerBasis_kept}
 use Rattle.division_laws.specs.Elimination.{IsDownClosed, IsKeptCombination}
+use Rattle.syzygy_laws.proofs.KernelParts.{all_kept_normal}
 use Rattle.operation_laws.proofs.Linear.{Each_both, Each_tabulate, IsMember_by, IsMember_each}
-use Rattle.operation_laws.specs.Operations.{IsCombinationOfKept, IsKept, all_kept, kept_list}
+use Rattle.syzygy_laws.specs.Kernels.{all_kept, kept_list}
+use Rattle.operation_laws.specs.Operations.{IsCombinationOfKept, HasKeptKeys}
 
 -- what holds of each member holds of the kept ones, which are kept
 pub Each_kept :
@@ -46,7 +45,7 @@ kept_at P keep (g ∷ G) h (suc i) lt e = kept_at P keep G (go (all_kept keep g)
     go false q = q
 
 pub IsKept_of :
-    {n : ℕ} (p : ℕ) (keep : Key n → Bool) (v : FormalSum n) → all_kept keep v ≡ true → IsKept p keep v
+    {n : ℕ} (p : ℕ) (keep : Key n → Bool) (v : FormalSum n) → all_kept keep v ≡ true → HasKeptKeys p keep v
 IsKept_of {n} p keep v e = λ k off. IsCongruent_of p _ _ (none v e k off)
   where
     none : (v : FormalSum n) → all_kept keep v ≡ true → (k : Key n) → keep k ≡ false → coefficient v k ≡ 0
@@ -57,22 +56,9 @@ IsKept_of {n} p keep v e = λ k off. IsCongruent_of p _ _ (none v e k off)
         let zero_is : t.1 * 0 + 0 ≡ 0 = omega arith in
         rw (z, y) zero_is
 
--- a normal form whose first key is kept
-all_kept_below :
-    {n : ℕ} (S : Setting n) (keep : Key n → Bool) → IsLawful S → IsDownClosed S keep → (k : Key n) (v : FormalSum n)
-    → IsTrue (keep k) → Each (λ u. S.compare k u.0 ≡ Greater) v → all_kept keep v ≡ true
-all_kept_below S keep lawful closed k [] h e = refl
-all_kept_below S keep lawful closed k (t ∷ v) h e = both_true (closed k t.0 (less_of_greater lawful.order k t.0 e.0) h) (all_kept_below S keep lawful closed k v h e.1)
-
-pub all_kept_normal :
-    {n : ℕ} (S : Setting n) (keep : Key n → Bool) → IsLawful S → IsDownClosed S keep → (g : FormalSum n) → IsNormal S g
-    → IsTrue (keep (head_key g)) → all_kept keep g ≡ true
-all_kept_normal S keep lawful closed [] normal h = refl
-all_kept_normal S keep lawful closed (t ∷ v) normal h = both_true h (all_kept_below S keep lawful closed t.0 v h normal.descends.0)
-
 -- a vector with kept keys alone has its lead kept
 lead_kept :
-    {n : ℕ} (S : Setting n) (keep : Key n → Bool) (v : FormalSum n) → IsKept S.modulus keep v → (k : Key n) → IsLead S v k
+    {n : ℕ} (S : Setting n) (keep : Key n → Bool) (v : FormalSum n) → HasKeptKeys S.modulus keep v → (k : Key n) → IsLead S v k
     → IsTrue (keep k)
 lead_kept S keep v h k lead = go (keep k) refl
   where
@@ -83,7 +69,7 @@ lead_kept S keep v h k lead = go (keep k) refl
 module _ {n : ℕ} (S : Setting n) (lawful : IsLawful S) (F G : List (FormalSum n)) (list : IsMonicList S G)
     (normal : (i : ℕ) → i < length G → IsNormal S (get_or G i [])) (basis : IsGroebnerBasis S F G) (keep : Key n → Bool) (closed : IsDownClosed S keep) where
   -- a kept member of the module is a combination of kept members of the basis
-  pub kept_generates : (v : FormalSum n) → IsMember S.modulus F v → IsKept S.modulus keep v → IsMember S.modulus (kept_list keep G) v
+  pub kept_generates : (v : FormalSum n) → IsMember S.modulus F v → HasKeptKeys S.modulus keep v → IsMember S.modulus (kept_list keep G) v
   kept_generates v member kept = IsMember_same (kept_list keep G) (combination G r.cofactors) v r.sums (go r.cofactors r.kept)
     where
       r : IsKeptCombination S G keep v
@@ -110,9 +96,9 @@ module _ {n : ℕ} (S : Setting n) (lawful : IsLawful S) (F G : List (FormalSum 
   eliminate_to v a = record {
     vectors = kept_list keep G;
     inside = Each_map _ (IsMember S.modulus F) (kept_list keep G) (λ g h. h.0) kept_members;
-    kept = Each_map _ (IsKept S.modulus keep) (kept_list keep G) (λ g h. IsKept_of S.modulus keep g h.1) kept_members;
+    kept = Each_map _ (HasKeptKeys S.modulus keep) (kept_list keep G) (λ g h. IsKept_of S.modulus keep g h.1) kept_members;
     sums = a;
   }
 
   pub eliminate_from : (v : FormalSum n) → IsCombinationOfKept S.modulus keep F v → IsMember S.modulus (kept_list keep G) v
-  eliminate_from v a = IsMember_by (positive S lawful) (kept_list keep G) a.vectors (Each_both (IsMember S.modulus F) (IsKept S.modulus keep) (IsMember S.modulus (kept_list keep G)) a.vectors kept_generates a.inside a.kept) v a.sums
+  eliminate_from v a = IsMember_by (positive S lawful) (kept_list keep G) a.vectors (Each_both (IsMember S.modulus F) (HasKeptKeys S.modulus keep) (IsMember S.modulus (kept_list keep G)) a.vectors kept_generates a.inside a.kept) v a.sums

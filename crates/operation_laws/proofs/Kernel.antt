@@ -24,7 +24,7 @@ use Rattle.operation_laws.proofs.Colon.{IsLinear_lowered, lowered-scale, lowered
 use Rattle.operation_laws.proofs.Eliminate.{Each_kept, IsKept_of, kept_generates}
 use Rattle.operation_laws.proofs.Linear.{Each_both, Each_of_map, Each_tabulate, Each_to_map, IsMember_each, IsMember_linear, IsSame_linear}
 use Rattle.operation_laws.proofs.Quotient.{IsLinear_combination}
-use Rattle.operation_laws.specs.Operations.{all_kept, kept_list, lowered}
+use Rattle.syzygy_laws.specs.Kernels.{all_kept, kept_list, lowered}
 
 all_kept_raised : {n : ℕ} (q : ℕ) (a : FormalSum n) → all_kept (is_from_position q) (raised q a) ≡ true
 all_kept_raised q [] = refl

@@ -12,7 +12,6 @@ pub mod More
 pub mod RunFacts
 pub mod Plain
 pub mod RankFacts
-pub mod Choosing
 pub mod Parts
 pub mod Dividing
 pub mod Lifting

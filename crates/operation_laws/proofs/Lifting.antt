@@ -29,7 +29,7 @@ use Rattle.operation_laws.proofs.Dividing.{remainder_exists}
 use Rattle.operation_laws.proofs.Plain.{marked_run}
 use Rattle.operation_laws.proofs.Running.{lawful_position, run_generates}
 use Rattle.operation_laws.specs.Lifts.{IsLift}
-use Rattle.operation_laws.specs.Operations.{kernel_of, lowered, position_setting}
+use Rattle.syzygy_laws.specs.Kernels.{kernel_of, lowered, pot_setting}
 
 -- the difference of two lifts is a syzygy that no key of the basis covers
 pub lift_one :
@@ -74,7 +74,7 @@ minus_zero : (p x y : ℕ) → IsCongruent p y 0 → IsCongruent p (x + (p - 1) 
 minus_zero p x y h = IsCongruent_trans (IsCongruent_add (IsCongruent_refl p x) (IsCongruent_multiply (IsCongruent_refl p (p - 1)) h)) (IsCongruent_of p (x + (p - 1) * 0) x (omega arith))
 
 module _ {n : ℕ} (S : Setting n) (monomials : Exponents n → Exponents n → Ordering) (q : ℕ) (F G : List (FormalSum n)) (v w : FormalSum n) (lawful : IsLawful S) (o : IsMonomialOrder monomials) (f_ranks : Each (HasRank q) F) (v_rank : IsOfRank S.modulus q v)
-    (reduced : IsReducedBasis (position_setting monomials (q + length F) S) (marked q 0 F) G)
+    (reduced : IsReducedBasis (pot_setting S.modulus (q + length F) monomials) (marked q 0 F) G)
     (member : IsMember S.modulus (marked q 0 F) (v ++ scale (S.modulus - 1) (unit n) w))
     (free : (k : Key n) → IsCovered G k → IsCongruent S.modulus (coefficient w k) 0) where
   -- the cofactors of v - w
@@ -116,7 +116,7 @@ module _ {n : ℕ} (S : Setting n) (monomials : Exponents n → Exponents n → 
   lift_vanishes m k lt = go (has_lead T (lawful_position monomials (q + length F) S o lawful) u)
     where
       T : Setting n
-      T = position_setting monomials (q + length F) S
+      T = pot_setting S.modulus (q + length F) monomials
 
       b : FormalSum n
       b = m.cofactors
@@ -180,9 +180,9 @@ module _ {n : ℕ} (S : Setting n) (monomials : Exponents n → Exponents n → 
 -- each member of the module has a lift
 pub lift_exists :
     {n : ℕ} (S : Setting n) (monomials : Exponents n → Exponents n → Ordering) (q : ℕ) (F G : List (FormalSum n)) (v : FormalSum n) → IsLawful S → IsMonomialOrder monomials → Each (HasRank q) F
-    → IsReducedBasis (position_setting monomials (q + length F) S) (marked q 0 F) G → IsMember S.modulus F v → (a : FormalSum n) × IsLift S.modulus F (kernel_of q G) v a
+    → IsReducedBasis (pot_setting S.modulus (q + length F) monomials) (marked q 0 F) G → IsMember S.modulus F v → (a : FormalSum n) × IsLift S.modulus F (kernel_of q G) v a
 lift_exists {n} S monomials q F G v lawful o r reduced m =
-    let T = position_setting monomials (q + length F) S in
+    let T = pot_setting S.modulus (q + length F) monomials in
     let l = lawful_position monomials (q + length F) S o lawful in
     let run = marked_run S monomials q F G lawful o r reduced in
     let v_rank = IsOfRank_member q F (λ i lt. IsOfRank_of S.modulus q (get_or F i []) (Each_at (HasRank q) [] F r i lt)) v m in

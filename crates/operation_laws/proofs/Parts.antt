@@ -6,7 +6,6 @@ use Rattle.std.specs.Ordering.{nat_cmp, ordering_then}
 use Rattle.std.specs.Prelude.{nat_le, nat_lt, ◌↔◌}
 use Rattle.residues.proofs.Congruences.{IsCongruent_of, IsCongruent_sym, IsCongruent_trans}
 use Rattle.residues.specs.Residues.{IsCongruent}
-use Rattle.monomials.proofs.Monomials.{and_left, and_right}
 use Rattle.monomials.specs.Exponents.{Exponents, unit}
 use Rattle.formal_sums.proofs.Combining.{Each_map, IsMember_itself, IsMember_same, IsMember_scale}
 use Rattle.formal_sums.proofs.OfRank.{IsMember_of, IsOfRank_member, IsOfRank_of, IsSyzygy_member, coefficient_past}
@@ -25,15 +24,16 @@ use Rattle.division_laws.proofs.Keeping.{IsDownClosed_position}
 use Rattle.division_laws.specs.Elimination.{is_from_position}
 use Rattle.syzygy_laws.proofs.Marking.{IsMember_raised, coefficient-raised, combination-marked, raised_none}
 use Rattle.syzygy_laws.specs.Syzygies.{marked, raised}
-use Rattle.operation_laws.proofs.Choosing.{Choice, choice, get_or-map, length-map}
-use Rattle.operation_laws.proofs.Eliminate.{all_kept_normal}
+use Rattle.syzygy_laws.proofs.Choosing.{Choice, choice, get_or-map, length-map}
+use Rattle.syzygy_laws.proofs.KernelParts.{all_kept_normal, raised_lowered}
 use Rattle.operation_laws.proofs.Linear.{Each_at, Each_to_map, IsMember_each, IsMember_linear}
 use Rattle.operation_laws.proofs.More.{picked_rank}
 use Rattle.operation_laws.proofs.Plain.{marked_run}
 use Rattle.operation_laws.proofs.Quotient.{IsLinear_picked, lt_false, lt_true, picked-append, picked-scale, picked_all, picked_none}
 use Rattle.operation_laws.proofs.Running.{lawful_position, syzygy_run}
 use Rattle.operation_laws.specs.Lifts.{first_parts_of, led_before}
-use Rattle.operation_laws.specs.Operations.{all_kept, first_components, kernel_of, kept_list, lowered, picked, position_setting}
+use Rattle.syzygy_laws.specs.Kernels.{all_kept, kept_list, kernel_of, lowered, pot_setting}
+use Rattle.operation_laws.specs.Operations.{first_components, picked}
 
 le_true : (a b : ℕ) → a ≤ b → nat_le a b ≡ true
 le_true a b h = grind (arith, nat_tests)
@@ -54,13 +54,6 @@ place_apart f m rising i j h k ne e = go (cases i j)
     go (inr (inr d)) = ne d
 
 -- ---- raised vectors
-raised_lowered : {n : ℕ} (q : ℕ) (v : FormalSum n) → all_kept (is_from_position q) v ≡ true → raised q (lowered q v) ≡ v
-raised_lowered q [] e = refl
-raised_lowered q (t ∷ v) e = ap₂ (λ i r. ((i, t.0.1), t.1) ∷ r) (back q t.0.0 (and_left _ _ e)) (raised_lowered q v (and_right _ _ e))
-  where
-    back : (q a : ℕ) → nat_le q a ≡ true → q + (a - q) ≡ a
-    back q a e = grind (arith, nat_tests)
-
 raised_head : {n : ℕ} (q : ℕ) (h : FormalSum n) → (h ≡ [] → ⊥) → head_key (raised q h) ≡ (q + (head_key h).0, (head_key h).1)
 raised_head q [] ne = absurd (ne refl)
 raised_head q (t ∷ v) ne = refl
@@ -80,19 +73,19 @@ module _ {n : ℕ} (monomials : Exponents n → Exponents n → Ordering) (q : �
   )
 
   module _ (S : Setting n) (r m : ℕ) where
-    normal_raised : (h : FormalSum n) → IsNormal (position_setting monomials r S) (raised q h) → IsNormal (position_setting monomials m S) h
+    normal_raised : (h : FormalSum n) → IsNormal (pot_setting S.modulus r monomials) (raised q h) → IsNormal (pot_setting S.modulus m monomials) h
     normal_raised h a = record {
       descends = descends_raised h a.descends;
       residues = Each_to_map (λ t. (0 < t.1) × (t.1 < S.modulus)) (λ u. ((q + u.0.0, u.0.1), u.1)) h a.residues;
     }
 
-    monic_raised : (h : FormalSum n) (k : Key n) → IsMonicLead (position_setting monomials r S) (raised q h) (q + k.0, k.1) → IsMonicLead (position_setting monomials m S) h k
+    monic_raised : (h : FormalSum n) (k : Key n) → IsMonicLead (pot_setting S.modulus r monomials) (raised q h) (q + k.0, k.1) → IsMonicLead (pot_setting S.modulus m monomials) h k
     monic_raised h k a = record {
       one = IsCongruent_trans (IsCongruent_of S.modulus _ _ (sym (coefficient-raised q h k))) a.one;
       above = λ l lt. IsCongruent_trans (IsCongruent_of S.modulus _ _ (sym (coefficient-raised q h l))) (a.above (q + l.0, l.1) (compare_raised k l ∙ lt));
     }
 
-    lead_raised : (a : FormalSum n) (k : Key n) → IsLead (position_setting monomials m S) a k → IsLead (position_setting monomials r S) (raised q a) (q + k.0, k.1)
+    lead_raised : (a : FormalSum n) (k : Key n) → IsLead (pot_setting S.modulus m monomials) a k → IsLead (pot_setting S.modulus r monomials) (raised q a) (q + k.0, k.1)
     lead_raised a k lead = record {
       nonzero = λ z. lead.nonzero (IsCongruent_trans (IsCongruent_of S.modulus _ _ (sym (coefficient-raised q a k))) z);
       above = λ l lt. over l lt (cases_lt l.0 q);
@@ -161,7 +154,7 @@ marked_each {n} {p} pos q i F (h ∷ H) r m = (
         ∙ append-nil h
 
 module _ {n : ℕ} (S : Setting n) (monomials : Exponents n → Exponents n → Ordering) (q : ℕ) (F G : List (FormalSum n)) (lawful : IsLawful S) (o : IsMonomialOrder monomials) (f_ranks : Each (HasRank q) F)
-    (reduced : IsReducedBasis (position_setting monomials (q + length F) S) (marked q 0 F) G) where
+    (reduced : IsReducedBasis (pot_setting S.modulus (q + length F) monomials) (marked q 0 F) G) where
   -- the kernel part has exactly the syzygies
   pub kernel_exact : (a : FormalSum n) → IsMember S.modulus (kernel_of q G) a ↔ IsSyzygy S.modulus F a
   kernel_exact a =
@@ -192,7 +185,7 @@ module _ {n : ℕ} (S : Setting n) (monomials : Exponents n → Exponents n → 
           one_not_zero S lawful (IsCongruent_sym (subst (λ g. IsCongruent S.modulus (coefficient g (leads G j)) 1) empty (reduced.reduced.monic j lt).one))
 
   -- the kernel part is the reduced basis of the syzygies
-  pub kernel_reduced : IsReducedBasis (position_setting monomials (length F) S) (kernel_of q G) (kernel_of q G)
+  pub kernel_reduced : IsReducedBasis (pot_setting S.modulus (length F) monomials) (kernel_of q G) (kernel_of q G)
   kernel_reduced = record {
     reduced = record {
       basis = record { members = IsMember_itself S.modulus (kernel_of q G); covers = covers };
@@ -208,7 +201,7 @@ module _ {n : ℕ} (S : Setting n) (monomials : Exponents n → Exponents n → 
   }
     where
       T : Setting n
-      T = position_setting monomials (q + length F) S
+      T = pot_setting S.modulus (q + length F) monomials
 
       head : (i : ℕ) → i < length (kernel_of q G) → leads G (chosen.place i) ≡ (q + (leads (kernel_of q G) i).0, (leads (kernel_of q G) i).1)
       head i lt = lead_at i (chosen.place i) (place_in i lt) (raised_at i lt)
@@ -220,14 +213,14 @@ module _ {n : ℕ} (S : Setting n) (monomials : Exponents n → Exponents n → 
           (place_apart chosen.place (length (kept_list (is_from_position q) G)) chosen.rising i j (in_kept i hi) (in_kept j hj) ne)
           (d.0, ap (shift d.0) (head j hj) ∙ ap (λ x. (q + x.0, x.1)) d.1))
 
-      covers : (a : FormalSum n) (k : Key n) → IsMember S.modulus (kernel_of q G) a → IsLead (position_setting monomials (length F) S) a k → IsCovered (kernel_of q G) k
+      covers : (a : FormalSum n) (k : Key n) → IsMember S.modulus (kernel_of q G) a → IsLead (pot_setting S.modulus (length F) monomials) a k → IsCovered (kernel_of q G) k
       covers a k m lead = found (reduced.reduced.basis.covers (raised q a) (q + k.0, k.1) (IsMember_raised q F a ((kernel_exact a).0 m)) (lead_raised monomials q S (q + length F) (length F) a k lead))
         where
           found : IsCovered G (q + k.0, k.1) → IsCovered (kernel_of q G) k
           found (j, lt, d) =
               let z : (leads G j).0 ≡ q + k.0 = ap (λ x. x.0) d.1 in
               let passes : all_kept (is_from_position q) (get_or G j []) ≡ true =
-              all_kept_normal (position_setting monomials (q + length F) S) (is_from_position q) (lawful_position monomials (q + length F) S o lawful) (IsDownClosed_position (position_setting monomials (q + length F) S) monomials q refl) (get_or G j []) (reduced.reduced.normal j lt)
+              all_kept_normal (pot_setting S.modulus (q + length F) monomials) (is_from_position q) (lawful_position monomials (q + length F) S o lawful) (IsDownClosed_position (pot_setting S.modulus (q + length F) monomials) monomials q refl) (get_or G j []) (reduced.reduced.normal j lt)
               (le_true q (leads G j).0 (omega (arith, z))) in
               let c = chosen.all j lt passes in
               let h = lead_at c.0 j lt (at_place c.0 j c.2 passes) in (
@@ -254,12 +247,12 @@ module _ {n : ℕ} (S : Setting n) (monomials : Exponents n → Exponents n → 
   first_at i j e = get_or-map (first_components q) [] (led_before q G) i ∙ ap (first_components q) e
 
   -- the first components are the reduced basis of the list
-  pub first_reduced : IsReducedBasis (position_setting monomials q S) F (first_parts_of q G)
+  pub first_reduced : IsReducedBasis (pot_setting S.modulus q monomials) F (first_parts_of q G)
   first_reduced = record {
     reduced = record {
       basis = record { members = members; covers = covers };
       normal = λ i lt. let g = reduced.reduced.normal (first_chosen.place i) (place i lt) in
-          subst (IsNormal (position_setting monomials q S)) (sym (at i lt))
+          subst (IsNormal (pot_setting S.modulus q monomials)) (sym (at i lt))
           (record { descends = Descends_picked (pot monomials) (λ j. nat_lt j q) (get_or G (first_chosen.place i) []) g.descends; residues = Each_picked (λ t. (0 < t.1) × (t.1 < S.modulus)) (λ j. nat_lt j q) (get_or G (first_chosen.place i) []) g.residues });
       monic = monic;
       apart = apart;
@@ -298,10 +291,10 @@ module _ {n : ℕ} (S : Setting n) (monomials : Exponents n → Exponents n → 
       zero_is : IsCongruent S.modulus 0 0
       zero_is = IsCongruent_of S.modulus 0 0 refl
 
-      monic : (i : ℕ) → i < length (first_parts_of q G) → IsMonicLead (position_setting monomials q S) (get_or (first_parts_of q G) i []) (leads (first_parts_of q G) i)
+      monic : (i : ℕ) → i < length (first_parts_of q G) → IsMonicLead (pot_setting S.modulus q monomials) (get_or (first_parts_of q G) i []) (leads (first_parts_of q G) i)
       monic i lt =
           let m = reduced.reduced.monic (first_chosen.place i) (place i lt) in
-          subst (IsMonicLead (position_setting monomials q S) (get_or (first_parts_of q G) i [])) (sym (head i lt)) (record {
+          subst (IsMonicLead (pot_setting S.modulus q monomials) (get_or (first_parts_of q G) i [])) (sym (head i lt)) (record {
             one = IsCongruent_trans (IsCongruent_of S.modulus _ _ (ap (λ g. coefficient g (leads G (first_chosen.place i))) (at i lt) ∙ coefficient_first q (get_or G (first_chosen.place i) []) (leads G (first_chosen.place i)) (below i lt))) m.one;
             above = λ l less. value (λ x. IsCongruent S.modulus x 0) zero_is i lt l (m.above l less);
           })
@@ -313,7 +306,7 @@ module _ {n : ℕ} (S : Setting n) (monomials : Exponents n → Exponents n → 
           (place_apart first_chosen.place (length (led_before q G)) first_chosen.rising i j (in_led i hi) (in_led j hj) ne)
           (subst (λ x. KeyDivides x k) (head j hj) d))
 
-      covers : (v : FormalSum n) (k : Key n) → IsMember S.modulus F v → IsLead (position_setting monomials q S) v k → IsCovered (first_parts_of q G) k
+      covers : (v : FormalSum n) (k : Key n) → IsMember S.modulus F v → IsLead (pot_setting S.modulus q monomials) v k → IsCovered (first_parts_of q G) k
       covers v k m lead = found (reduced.reduced.basis.covers w k (IsMember_of (marked q 0 F) m.cofactors w (IsSame_refl S.modulus w)) w_lead)
         where
           w : FormalSum n
@@ -332,7 +325,7 @@ module _ {n : ℕ} (S : Setting n) (monomials : Exponents n → Exponents n → 
               IsCongruent_trans ((combination-marked S.modulus q F m.cofactors m.positions).by_key l)
               (IsCongruent_trans (IsCongruent_of S.modulus (coefficient (combination F m.cofactors ++ raised q m.cofactors) l) (coefficient (combination F m.cofactors) l) (let e = coefficient-append (combination F m.cofactors) (raised q m.cofactors) l in omega (arith, e, z))) (m.sums.by_key l))
 
-          w_lead : IsLead (position_setting monomials (q + length F) S) w k
+          w_lead : IsLead (pot_setting S.modulus (q + length F) monomials) w k
           w_lead = record {
             nonzero = λ z. lead.nonzero (IsCongruent_trans (IsCongruent_sym (same_at k low)) z);
             above = λ l less. IsCongruent_trans (same_at l (before l (then_less (nat_cmp l.0 k.0) (monomials k.1 l.1) less))) (lead.above l less);

@@ -23,7 +23,8 @@ use Rattle.operation_laws.proofs.Saturate.{HasRank_product, IsLinear_power_times
 use Rattle.operation_laws.proofs.RankFacts.{back_rank, eliminated_rank, intersection_rank, kernel_rank, marked_rank, saturation_rank}
 use Rattle.operation_laws.proofs.RunFacts.{run_of}
 use Rattle.operation_laws.proofs.Running.{blocks_rank, colon_run, eliminate_run, intersect_run, kernel_run, lawful_elimination, lawful_position, multiples_rank, quotient_run, run_generates, saturate_run, stacked_rank}
-use Rattle.operation_laws.specs.Operations.{IsCombinationOfKept, IsInSaturation, IsRun, IsSumOfMembers, back, blocks, eliminated, elimination_setting, first_components, intersection_list, kernel_of, multiples_of, position_setting, power_times, products_of, saturation_list, stacked}
+use Rattle.syzygy_laws.specs.Kernels.{kernel_of, pot_setting}
+use Rattle.operation_laws.specs.Operations.{IsCombinationOfKept, IsInSaturation, IsRun, IsSumOfMembers, back, blocks, eliminated, elimination_setting, first_components, intersection_list, multiples_of, power_times, products_of, saturation_list, stacked}
 
 back_of : {n : ℕ} (S : Setting n) → IsLawful S → (L G : List (FormalSum (suc n))) (R : List (FormalSum n)) → IsRun (elimination_setting (suc n) 1 S) L G → IsReducedBasis S (back G) R → IsRun S (back G) R
 back_of S lawful L G R run b = run_of S lawful (back G) R (back_rank S.rank G run.ranks) b
@@ -40,8 +41,8 @@ intersect_plain {n} S F H G R v lawful f h a b =
 -- the list of a syzygy run is a run
 pub marked_run :
     {n : ℕ} (S : Setting n) (monomials : Exponents n → Exponents n → Ordering) (q : ℕ) (F G : List (FormalSum n)) → IsLawful S → IsMonomialOrder monomials → Each (HasRank q) F
-    → IsReducedBasis (position_setting monomials (q + length F) S) (marked q 0 F) G → IsRun (position_setting monomials (q + length F) S) (marked q 0 F) G
-marked_run S monomials q F G lawful o r a = run_of (position_setting monomials (q + length F) S) (lawful_position monomials (q + length F) S o lawful) (marked q 0 F) G (marked_rank q F r) a
+    → IsReducedBasis (pot_setting S.modulus (q + length F) monomials) (marked q 0 F) G → IsRun (pot_setting S.modulus (q + length F) monomials) (marked q 0 F) G
+marked_run S monomials q F G lawful o r a = run_of (pot_setting S.modulus (q + length F) monomials) (lawful_position monomials (q + length F) S o lawful) (marked q 0 F) G (marked_rank q F r) a
 
 pub eliminate_plain :
     {n : ℕ} (S : Setting n) (k : ℕ) (F G R : List (FormalSum n)) (v : FormalSum n) → IsLawful S → Each (HasRank S.rank) F
@@ -54,7 +55,7 @@ eliminate_plain {n} S k F G R v lawful r a b =
 pub kernel_plain :
     {n : ℕ} (S K : Setting n) (monomials : Exponents n → Exponents n → Ordering) (q : ℕ) (F G R : List (FormalSum n)) (a : FormalSum n)
     → IsLawful S → IsLawful K → K.modulus ≡ S.modulus → K.rank ≡ length F → IsMonomialOrder monomials → Each (HasRank q) F
-    → IsReducedBasis (position_setting monomials (q + length F) S) (marked q 0 F) G → IsReducedBasis K (kernel_of q G) R
+    → IsReducedBasis (pot_setting S.modulus (q + length F) monomials) (marked q 0 F) G → IsReducedBasis K (kernel_of q G) R
     → IsMember S.modulus R a ↔ IsSyzygy S.modulus F a
 kernel_plain S K monomials q F G R a lawful k_lawful same ranks o r x y =
     let run = marked_run S monomials q F G lawful o r x in
@@ -77,7 +78,7 @@ of_rank p m R P v r same h =
 pub quotient_plain :
     {n : ℕ} (S : Setting n) (monomials : Exponents n → Exponents n → Ordering) (f : FormalSum n) (F G R : List (FormalSum n)) (v : FormalSum n) → IsLawful S → IsMonomialOrder monomials
     → Each (HasRank S.rank) F → IsOfRank S.modulus S.rank v
-    → IsReducedBasis (position_setting monomials (S.rank + length (multiples_of S.rank f ++ F)) S) (marked S.rank 0 (multiples_of S.rank f ++ F)) G
+    → IsReducedBasis (pot_setting S.modulus (S.rank + length (multiples_of S.rank f ++ F)) monomials) (marked S.rank 0 (multiples_of S.rank f ++ F)) G
     → IsReducedBasis S (map (first_components S.rank) (kernel_of S.rank G)) R
     → IsMember S.modulus R v ↔ IsMember S.modulus F (product f v)
 quotient_plain {n} S monomials f F G R v lawful o r vr a b =
@@ -91,7 +92,7 @@ pub colon_plain :
     {n : ℕ} (S U : Setting n) (monomials : Exponents n → Exponents n → Ordering) (F C G R : List (FormalSum n)) (v : FormalSum n)
     → IsLawful S → IsLawful U → U.modulus ≡ S.modulus → U.rank ≡ 1 → IsMonomialOrder monomials
     → Each (HasRank S.rank) F → Each (HasRank S.rank) C → IsOfRank S.modulus 1 v
-    → IsReducedBasis (position_setting monomials (S.rank * length C + length (stacked S.rank 0 C ∷ blocks S.rank 0 (length C) F)) S) (marked (S.rank * length C) 0 (stacked S.rank 0 C ∷ blocks S.rank 0 (length C) F)) G
+    → IsReducedBasis (pot_setting S.modulus (S.rank * length C + length (stacked S.rank 0 C ∷ blocks S.rank 0 (length C) F)) monomials) (marked (S.rank * length C) 0 (stacked S.rank 0 C ∷ blocks S.rank 0 (length C) F)) G
     → IsReducedBasis U (map (first_components 1) (kernel_of (S.rank * length C) G)) R
     → IsMember S.modulus R v ↔ Each (λ c. IsMember S.modulus F (product v c)) C
 colon_plain {n} S U monomials F C G R v lawful u_lawful same one o r cr vr a b =

@@ -26,12 +26,13 @@ use Rattle.operation_laws.proofs.Kernel.{kernel_all, kernel_syzygies}
 use Rattle.operation_laws.proofs.Linear.{Each_at, Each_of_map}
 use Rattle.operation_laws.proofs.Quotient.{quotient_from, quotient_to}
 use Rattle.operation_laws.proofs.Saturate.{HasRank_product, saturation_from, saturation_to}
-use Rattle.operation_laws.specs.Operations.{IsCombinationOfKept, IsInSaturation, IsRun, back, basis_vector, blocks, eliminated, elimination_setting, first_components, intersection_list, kernel_of, listed, multiples_of, position_setting, saturation_list, stacked, with_first}
+use Rattle.syzygy_laws.specs.Kernels.{kernel_of, pot_setting}
+use Rattle.operation_laws.specs.Operations.{IsCombinationOfKept, IsInSaturation, IsRun, back, basis_vector, blocks, eliminated, elimination_setting, first_components, intersection_list, listed, multiples_of, saturation_list, stacked, with_first}
 
 pub lawful_elimination : {n : ℕ} (l k : ℕ) (S : Setting n) → IsLawful S → IsLawful (elimination_setting l k S)
 lawful_elimination l k S lawful = record { domain = lawful.domain; order = top_order S.rank (elimination k) (elimination_order l k) }
 
-pub lawful_position : {n : ℕ} (monomials : Exponents n → Exponents n → Ordering) (r : ℕ) (S : Setting n) → IsMonomialOrder monomials → IsLawful S → IsLawful (position_setting monomials r S)
+pub lawful_position : {n : ℕ} (monomials : Exponents n → Exponents n → Ordering) (r : ℕ) (S : Setting n) → IsMonomialOrder monomials → IsLawful S → IsLawful (pot_setting S.modulus r monomials)
 lawful_position monomials r S o lawful = record { domain = lawful.domain; order = pot_order r monomials o }
 
 -- a run generates the module of its list
@@ -96,10 +97,10 @@ saturate_run S f F G R v lawful r run last =
 -- what a syzygy run gives
 pub syzygy_run :
     {n : ℕ} (S : Setting n) (monomials : Exponents n → Exponents n → Ordering) (q : ℕ) (F G : List (FormalSum n)) → IsLawful S → IsMonomialOrder monomials → Each (HasRank q) F
-    → IsRun (position_setting monomials (q + length F) S) (marked q 0 F) G
+    → IsRun (pot_setting S.modulus (q + length F) monomials) (marked q 0 F) G
     → Each (IsSyzygy S.modulus F) (kernel_of q G) × ((a : FormalSum n) → IsSyzygy S.modulus F a → IsMember S.modulus (kernel_of q G) a)
 syzygy_run S monomials q F G lawful o r run =
-    let T = position_setting monomials (q + length F) S in
+    let T = pot_setting S.modulus (q + length F) monomials in
     let l = lawful_position monomials (q + length F) S o lawful in
     let f = Each_at (HasRank q) [] F r in
     (kernel_syzygies T l monomials refl q F G f run.list run.reduced.reduced.normal run.ranks run.reduced.reduced.basis, kernel_all T l monomials refl q F G f run.list run.reduced.reduced.normal run.ranks run.reduced.reduced.basis)
@@ -131,7 +132,7 @@ blocks_rank m i (suc s) F q le h =
 -- the run on the kernel: the syzygies of F
 pub kernel_run :
     {n : ℕ} (S K : Setting n) (monomials : Exponents n → Exponents n → Ordering) (q : ℕ) (F G R : List (FormalSum n)) (a : FormalSum n) → IsLawful S → IsLawful K → K.modulus ≡ S.modulus → IsMonomialOrder monomials → Each (HasRank q) F
-    → IsRun (position_setting monomials (q + length F) S) (marked q 0 F) G → IsRun K (kernel_of q G) R
+    → IsRun (pot_setting S.modulus (q + length F) monomials) (marked q 0 F) G → IsRun K (kernel_of q G) R
     → IsMember S.modulus R a ↔ IsSyzygy S.modulus F a
 kernel_run S K monomials q F G R a lawful k_lawful same o r run last =
     let s = syzygy_run S monomials q F G lawful o r run in
@@ -141,7 +142,7 @@ kernel_run S K monomials q F G R a lawful k_lawful same o r run last =
 pub quotient_run :
     {n : ℕ} (S : Setting n) (monomials : Exponents n → Exponents n → Ordering) (f : FormalSum n) (F G R : List (FormalSum n)) (v : FormalSum n) → IsLawful S → IsMonomialOrder monomials
     → Each (HasRank S.rank) F → HasRank S.rank v
-    → IsRun (position_setting monomials (S.rank + length (multiples_of S.rank f ++ F)) S) (marked S.rank 0 (multiples_of S.rank f ++ F)) G
+    → IsRun (pot_setting S.modulus (S.rank + length (multiples_of S.rank f ++ F)) monomials) (marked S.rank 0 (multiples_of S.rank f ++ F)) G
     → IsRun S (map (first_components S.rank) (kernel_of S.rank G)) R
     → IsMember S.modulus R v ↔ IsMember S.modulus F (product f v)
 quotient_run S monomials f F G R v lawful o r vr run last =
@@ -153,7 +154,7 @@ quotient_run S monomials f F G R v lawful o r vr run last =
 pub colon_run :
     {n : ℕ} (S U : Setting n) (monomials : Exponents n → Exponents n → Ordering) (F C G R : List (FormalSum n)) (v : FormalSum n) → IsLawful S → IsLawful U → U.modulus ≡ S.modulus → IsMonomialOrder monomials
     → Each (HasRank S.rank) F → Each (HasRank S.rank) C → HasRank 1 v
-    → IsRun (position_setting monomials (S.rank * length C + length (stacked S.rank 0 C ∷ blocks S.rank 0 (length C) F)) S) (marked (S.rank * length C) 0 (stacked S.rank 0 C ∷ blocks S.rank 0 (length C) F)) G
+    → IsRun (pot_setting S.modulus (S.rank * length C + length (stacked S.rank 0 C ∷ blocks S.rank 0 (length C) F)) monomials) (marked (S.rank * length C) 0 (stacked S.rank 0 C ∷ blocks S.rank 0 (length C) F)) G
     → IsRun U (map (first_components 1) (kernel_of (S.rank * length C) G)) R
     → IsMember S.modulus R v ↔ Each (λ c. IsMember S.modulus F (product v c)) C
 colon_run S U monomials F C G R v lawful u_lawful same o r cr vr run last =

@@ -1,41 +1,31 @@
 -- Operations on modules (IVA chapter 4, sections 3 and 4; UAG chapter 5, section 3)
-use Rattle.std.specs.List.{filter}
-use Rattle.std.specs.Prelude.{Bool, List, [], cond, false, flat_map, map, nat_lt, suc, true, zero, ℕ, ◌&&◌, ◌++◌, ◌+◌, ◌-◌, ◌<◌, ◌∷◌, ◌≡◌}
+use Rattle.std.specs.Prelude.{Bool, List, [], cond, false, flat_map, map, nat_lt, suc, zero, ℕ, ◌++◌, ◌+◌, ◌-◌, ◌<◌, ◌∷◌, ◌≡◌}
 use Rattle.residues.specs.Residues.{IsCongruent}
 use Rattle.monomials.specs.Exponents.{Exponents, cons, tail, unit}
 use Rattle.formal_sums.specs.Combinations.{IsMember}
 use Rattle.formal_sums.specs.FormalSums.{Each, FormalSum, HasRank, IsSame, Key, coefficient, product, scale}
-use Rattle.std.specs.declared.cmp.Ordering.{Ordering}
-use Rattle.orders.specs.KeyOrders.{pot, top}
+use Rattle.orders.specs.KeyOrders.{top}
 use Rattle.orders.specs.MonomialOrders.{elimination}
 use Rattle.bases.specs.Bases.{IsReducedBasis}
 use Rattle.bases.specs.Leads.{IsMonicList}
 use Rattle.bases.specs.Settings.{Setting}
-use Rattle.division_laws.specs.Elimination.{has_none_of_first, is_from_position}
+use Rattle.division_laws.specs.Elimination.{has_none_of_first}
+use Rattle.syzygy_laws.specs.Kernels.{kept_list}
 use Rattle.syzygy_laws.specs.Syzygies.{raised}
 
 -- the products of the members of F and H
 abbrev pub products_of : {n : ℕ} → List (FormalSum n) → List (FormalSum n) → List (FormalSum n)
 products_of F H = flat_map (λ f. map (product f) H) F
 
--- each key of v is kept
-abbrev pub all_kept : {n : ℕ} → (Key n → Bool) → FormalSum n → Bool
-all_kept keep [] = true
-all_kept keep (t ∷ v) = keep t.0 && all_kept keep v
-
--- the members of which each key is kept
-abbrev pub kept_list : {n : ℕ} → (Key n → Bool) → List (FormalSum n) → List (FormalSum n)
-kept_list keep G = filter (all_kept keep) G
-
 -- modulo p, v has kept keys alone
-abbrev pub IsKept : {n : ℕ} → ℕ → (Key n → Bool) → FormalSum n → Type 0
-IsKept {n} p keep v = (k : Key n) → keep k ≡ false → IsCongruent p (coefficient v k) 0
+abbrev pub HasKeptKeys : {n : ℕ} → ℕ → (Key n → Bool) → FormalSum n → Type 0
+HasKeptKeys {n} p keep v = (k : Key n) → keep k ≡ false → IsCongruent p (coefficient v k) 0
 
 -- v is a combination of kept members of the module of F
 pub record IsCombinationOfKept {n : ℕ} (p : ℕ) (keep : Key n → Bool) (F : List (FormalSum n)) (v : FormalSum n) : Type 0 where
   pub vectors : List (FormalSum n)
   pub inside : Each (IsMember p F) vectors
-  pub kept : Each (IsKept p keep) vectors
+  pub kept : Each (HasKeptKeys p keep) vectors
   pub sums : IsMember p vectors v
 
 -- v with one more variable in front
@@ -107,17 +97,9 @@ abbrev pub blocks : {n : ℕ} → ℕ → ℕ → ℕ → List (FormalSum n) →
 blocks m i zero F = []
 blocks m i (suc s) F = map (raised i) F ++ blocks m (m + i) s F
 
--- v, with its positions lowered by i
-abbrev pub lowered : {n : ℕ} → ℕ → FormalSum n → FormalSum n
-lowered i v = map (λ t. ((t.0.0 - i, t.0.1), t.1)) v
-
 -- the setting of S in l variables, by an order that eliminates the first k of them, term over position
 abbrev pub elimination_setting : {n : ℕ} (l k : ℕ) → Setting n → Setting l
 elimination_setting l k S = record { modulus = S.modulus; rank = S.rank; compare = top (elimination k) }
-
--- the setting of S at another rank, position over term
-abbrev pub position_setting : {n : ℕ} → (Exponents n → Exponents n → Ordering) → ℕ → Setting n → Setting n
-position_setting monomials r S = record { modulus = S.modulus; rank = r; compare = pot monomials }
 
 -- G is what a run on F gives: the reduced basis of the module of F, in vectors of the rank
 pub record IsRun {n : ℕ} (S : Setting n) (F G : List (FormalSum n)) : Type 0 where
@@ -132,10 +114,6 @@ eliminated k G = kept_list (has_none_of_first k) G
 -- the members of G without the first variable, in the other variables
 abbrev pub back : {n : ℕ} → List (FormalSum (suc n)) → List (FormalSum n)
 back G = map without_first (eliminated 1 G)
-
--- the syzygies of a run on F with marks from position q on
-abbrev pub kernel_of : {n : ℕ} → ℕ → List (FormalSum n) → List (FormalSum n)
-kernel_of q G = map (lowered q) (kept_list (is_from_position q) G)
 
 -- some power of f takes v into the module of F
 pub record IsInSaturation {n : ℕ} (p : ℕ) (f : FormalSum n) (F : List (FormalSum n)) (v : FormalSum n) : Type 0 where

@@ -11,7 +11,7 @@ ghost use Rattle.bases.specs.Bases.{IsCovered, IsGroebnerBasis, IsReducedBasis};
 ghost use Rattle.bases.specs.Leads.{IsMonicList};
 ghost use Rattle.bases.specs.Settings.{Setting, IsLawful};
 ghost use Rattle.syzygy_laws.specs.Syzygies.{marked};
-ghost use Rattle.operation_laws.specs.Operations.{kernel_of, lowered, position_setting};
+ghost use Rattle.syzygy_laws.specs.Kernels.{kernel_of, lowered, pot_setting};
 ghost use Rattle.operation_laws.specs.Lifts.{IsLift, IsRemainder, first_parts_of};
 
 /// Position over term, the members of a reduced basis of the marked list that are led before its marks are, cut to the
@@ -19,19 +19,20 @@ ghost use Rattle.operation_laws.specs.Lifts.{IsLift, IsRemainder, first_parts_of
 pub fn marked_parts()
     ensures first { (n q : ℕ) (S : Setting n) (monomials : Exponents n → Exponents n → Ordering) (F G : List (FormalSum n))
         → IsLawful S → IsMonomialOrder monomials → Each (HasRank q) F
-        → IsReducedBasis (position_setting monomials (q + length F) S) (marked q 0 F) G
-        → IsReducedBasis (position_setting monomials q S) F (first_parts_of q G) }
+        → IsReducedBasis (pot_setting S.modulus (q + length F) monomials) (marked q 0 F) G
+        → IsReducedBasis (pot_setting S.modulus q monomials) F (first_parts_of q G) }
     ensures kernel { (n q : ℕ) (S : Setting n) (monomials : Exponents n → Exponents n → Ordering) (F G : List (FormalSum n))
         → IsLawful S → IsMonomialOrder monomials → Each (HasRank q) F
-        → IsReducedBasis (position_setting monomials (q + length F) S) (marked q 0 F) G
-        → IsReducedBasis (position_setting monomials (length F) S) (kernel_of q G) (kernel_of q G) }
+        → IsReducedBasis (pot_setting S.modulus (q + length F) monomials) (marked q 0 F) G
+        → IsReducedBasis (pot_setting S.modulus (length F) monomials) (kernel_of q G) (kernel_of q G) }
     ensures syzygies { (n q : ℕ) (S : Setting n) (monomials : Exponents n → Exponents n → Ordering) (F G : List (FormalSum n)) (a : FormalSum n)
         → IsLawful S → IsMonomialOrder monomials → Each (HasRank q) F
-        → IsReducedBasis (position_setting monomials (q + length F) S) (marked q 0 F) G
+        → IsReducedBasis (pot_setting S.modulus (q + length F) monomials) (marked q 0 F) G
         → IsMember S.modulus (kernel_of q G) a ↔ IsSyzygy S.modulus F a }
 {}
 
-/// Lifts. A vector has one lift at most, and each member of the module has one. Where w is the remainder of v by a reduced basis of the marked list, v is in the
+/// Lifts. A vector has one lift at most, and each member of the module has one. Where w is the remainder of v by a
+/// reduced basis of the marked list, v is in the
 /// module exactly where w vanishes before the marks, and then minus what stands behind there is the lift
 /// (UAG chapter 5, section 3).
 pub fn lifts()
@@ -40,20 +41,20 @@ pub fn lifts()
         → IsLift S.modulus F K v a → IsLift S.modulus F K v b → IsSame S.modulus a b }
     ensures member { (n q : ℕ) (S : Setting n) (monomials : Exponents n → Exponents n → Ordering) (F G : List (FormalSum n)) (v w : FormalSum n)
         → IsLawful S → IsMonomialOrder monomials → Each (HasRank q) F → IsOfRank S.modulus q v
-        → IsReducedBasis (position_setting monomials (q + length F) S) (marked q 0 F) G
+        → IsReducedBasis (pot_setting S.modulus (q + length F) monomials) (marked q 0 F) G
         → IsMember S.modulus (marked q 0 F) (v ++ scale (S.modulus - 1) (unit n) w)
         → ((k : Key n) → IsCovered G k → IsCongruent S.modulus (coefficient w k) 0)
         → IsMember S.modulus F v ↔ ((k : Key n) → k.0 < q → IsCongruent S.modulus (coefficient w k) 0) }
     ensures found { (n q : ℕ) (S : Setting n) (monomials : Exponents n → Exponents n → Ordering) (F G : List (FormalSum n)) (v w : FormalSum n)
         → IsLawful S → IsMonomialOrder monomials → Each (HasRank q) F → IsOfRank S.modulus q v
-        → IsReducedBasis (position_setting monomials (q + length F) S) (marked q 0 F) G
+        → IsReducedBasis (pot_setting S.modulus (q + length F) monomials) (marked q 0 F) G
         → IsMember S.modulus (marked q 0 F) (v ++ scale (S.modulus - 1) (unit n) w)
         → ((k : Key n) → IsCovered G k → IsCongruent S.modulus (coefficient w k) 0)
         → ((k : Key n) → k.0 < q → IsCongruent S.modulus (coefficient w k) 0)
         → IsLift S.modulus F (kernel_of q G) v (scale (S.modulus - 1) (unit n) (lowered q w)) }
     ensures exists { (n q : ℕ) (S : Setting n) (monomials : Exponents n → Exponents n → Ordering) (F G : List (FormalSum n)) (v : FormalSum n)
         → IsLawful S → IsMonomialOrder monomials → Each (HasRank q) F
-        → IsReducedBasis (position_setting monomials (q + length F) S) (marked q 0 F) G
+        → IsReducedBasis (pot_setting S.modulus (q + length F) monomials) (marked q 0 F) G
         → IsMember S.modulus F v → (a : FormalSum n) × IsLift S.modulus F (kernel_of q G) v a }
 {}
 

@@ -10,7 +10,9 @@ ghost use Rattle.bases.specs.Bases.{IsReducedBasis};
 ghost use Rattle.bases.specs.Settings.{Setting, IsLawful};
 ghost use Rattle.division_laws.specs.Elimination.{has_none_of_first};
 ghost use Rattle.syzygy_laws.specs.Syzygies.{marked};
-ghost use Rattle.operation_laws.specs.Operations.{IsRun, IsSumOfMembers, IsCombinationOfKept, IsInSaturation, products_of, eliminated, back, elimination_setting, position_setting, intersection_list, saturation_list, multiples_of, kernel_of, first_components, stacked, blocks, power_times, basis_vector};
+ghost use Rattle.syzygy_laws.specs.Kernels.{kernel_of, pot_setting};
+ghost use Rattle.operation_laws.specs.Operations.{IsRun, IsSumOfMembers, IsCombinationOfKept, IsInSaturation, products_of, eliminated, back, elimination_setting};
+ghost use Rattle.operation_laws.specs.Operations.{intersection_list, saturation_list, multiples_of, first_components, stacked, blocks, power_times, basis_vector};
 
 /// A run generates the module of its list.
 pub fn runs()
@@ -80,24 +82,28 @@ pub fn saturations()
 pub fn kernels()
     ensures reduced { (n q : ℕ) (S K : Setting n) (monomials : Exponents n → Exponents n → Ordering) (F G R : List (FormalSum n)) (a : FormalSum n)
         → IsLawful S → IsLawful K → K.modulus ≡ S.modulus → K.rank ≡ length F → IsMonomialOrder monomials → Each (HasRank q) F
-        → IsReducedBasis (position_setting monomials (q + length F) S) (marked q 0 F) G → IsReducedBasis K (kernel_of q G) R
+        → IsReducedBasis (pot_setting S.modulus (q + length F) monomials) (marked q 0 F) G → IsReducedBasis K (kernel_of q G) R
         → IsMember S.modulus R a ↔ IsSyzygy S.modulus F a }
     ensures members { (n q : ℕ) (S K : Setting n) (monomials : Exponents n → Exponents n → Ordering) (F G R : List (FormalSum n)) (a : FormalSum n)
         → IsLawful S → IsLawful K → K.modulus ≡ S.modulus → IsMonomialOrder monomials → Each (HasRank q) F
-        → IsRun (position_setting monomials (q + length F) S) (marked q 0 F) G → IsRun K (kernel_of q G) R
+        → IsRun (pot_setting S.modulus (q + length F) monomials) (marked q 0 F) G → IsRun K (kernel_of q G) R
         → IsMember S.modulus R a ↔ IsSyzygy S.modulus F a }
 {}
 
 /// The quotient of a module by a polynomial.
 pub fn quotients()
-    ensures reduced { (n : ℕ) (S : Setting n) (monomials : Exponents n → Exponents n → Ordering) (f : FormalSum n) (F G R : List (FormalSum n)) (v : FormalSum n)
+    ensures reduced { (n : ℕ) (S : Setting n) (monomials : Exponents n → Exponents n → Ordering) (f : FormalSum n)
+        (F G R : List (FormalSum n)) (v : FormalSum n)
         → IsLawful S → IsMonomialOrder monomials → Each (HasRank S.rank) F → IsOfRank S.modulus S.rank v
-        → IsReducedBasis (position_setting monomials (S.rank + length (multiples_of S.rank f ++ F)) S) (marked S.rank 0 (multiples_of S.rank f ++ F)) G
+        → IsReducedBasis (pot_setting S.modulus (S.rank + length (multiples_of S.rank f ++ F)) monomials)
+        (marked S.rank 0 (multiples_of S.rank f ++ F)) G
         → IsReducedBasis S (map (first_components S.rank) (kernel_of S.rank G)) R
         → IsMember S.modulus R v ↔ IsMember S.modulus F (product f v) }
-    ensures members { (n : ℕ) (S : Setting n) (monomials : Exponents n → Exponents n → Ordering) (f : FormalSum n) (F G R : List (FormalSum n)) (v : FormalSum n)
+    ensures members { (n : ℕ) (S : Setting n) (monomials : Exponents n → Exponents n → Ordering) (f : FormalSum n)
+        (F G R : List (FormalSum n)) (v : FormalSum n)
         → IsLawful S → IsMonomialOrder monomials → Each (HasRank S.rank) F → HasRank S.rank v
-        → IsRun (position_setting monomials (S.rank + length (multiples_of S.rank f ++ F)) S) (marked S.rank 0 (multiples_of S.rank f ++ F)) G
+        → IsRun (pot_setting S.modulus (S.rank + length (multiples_of S.rank f ++ F)) monomials)
+        (marked S.rank 0 (multiples_of S.rank f ++ F)) G
         → IsRun S (map (first_components S.rank) (kernel_of S.rank G)) R
         → IsMember S.modulus R v ↔ IsMember S.modulus F (product f v) }
 {}
@@ -107,13 +113,17 @@ pub fn colons()
     ensures reduced { (n : ℕ) (S U : Setting n) (monomials : Exponents n → Exponents n → Ordering) (F C G R : List (FormalSum n)) (v : FormalSum n)
         → IsLawful S → IsLawful U → U.modulus ≡ S.modulus → U.rank ≡ 1 → IsMonomialOrder monomials
         → Each (HasRank S.rank) F → Each (HasRank S.rank) C → IsOfRank S.modulus 1 v
-        → IsReducedBasis (position_setting monomials (S.rank * length C + length (stacked S.rank 0 C ∷ blocks S.rank 0 (length C) F)) S) (marked (S.rank * length C) 0 (stacked S.rank 0 C ∷ blocks S.rank 0 (length C) F)) G
+        → IsReducedBasis
+        (pot_setting S.modulus (S.rank * length C + length (stacked S.rank 0 C ∷ blocks S.rank 0 (length C) F)) monomials)
+        (marked (S.rank * length C) 0 (stacked S.rank 0 C ∷ blocks S.rank 0 (length C) F)) G
         → IsReducedBasis U (map (first_components 1) (kernel_of (S.rank * length C) G)) R
         → IsMember S.modulus R v ↔ Each (λ c. IsMember S.modulus F (product v c)) C }
     ensures members { (n : ℕ) (S U : Setting n) (monomials : Exponents n → Exponents n → Ordering) (F C G R : List (FormalSum n)) (v : FormalSum n)
         → IsLawful S → IsLawful U → U.modulus ≡ S.modulus → IsMonomialOrder monomials
         → Each (HasRank S.rank) F → Each (HasRank S.rank) C → HasRank 1 v
-        → IsRun (position_setting monomials (S.rank * length C + length (stacked S.rank 0 C ∷ blocks S.rank 0 (length C) F)) S) (marked (S.rank * length C) 0 (stacked S.rank 0 C ∷ blocks S.rank 0 (length C) F)) G
+        → IsRun
+        (pot_setting S.modulus (S.rank * length C + length (stacked S.rank 0 C ∷ blocks S.rank 0 (length C) F)) monomials)
+        (marked (S.rank * length C) 0 (stacked S.rank 0 C ∷ blocks S.rank 0 (length C) F)) G
         → IsRun U (map (first_components 1) (kernel_of (S.rank * length C) G)) R
         → IsMember S.modulus R v ↔ Each (λ c. IsMember S.modulus F (product v c)) C }
     ensures empty { (n p : ℕ) (v : FormalSum n) → IsOfRank p 1 v → IsMember p (basis_vector 0 ∷ []) v }

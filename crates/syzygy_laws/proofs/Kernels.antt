@@ -17,7 +17,8 @@ use Rattle.bases.specs.Bases.{IsCovered, IsGroebnerBasis}
 use Rattle.bases.specs.Leads.{IsLead, IsMonicLead, IsMonicList, head_key, leads}
 use Rattle.division_laws.proofs.Generating.{generated}
 use Rattle.syzygy_laws.proofs.Marking.{IsMember_raised, IsSyzygy_of_marked, coefficient-raised, raised_none}
-use Rattle.syzygy_laws.specs.Kernels.{IsKernelPart, pot_setting}
+use Rattle.syzygy_laws.proofs.KernelParts.{HasAllBehind, LiesInside}
+use Rattle.syzygy_laws.specs.Kernels.{pot_setting}
 use Rattle.syzygy_laws.specs.Syzygies.{marked, raised}
 
 -- k, m positions behind
@@ -79,7 +80,7 @@ head_key-raised p m r monomials [] big lead = absurd (IsCongruent_nonzero p 1 (o
 head_key-raised p m r monomials (t ∷ h) big lead = refl
 
 module _ {n : ℕ} (p m : ℕ) (monomials : Exponents n → Exponents n → Ordering) (F G H : List (FormalSum n)) (domain : IsDomain p)
-    (list : IsMonicList (pot_setting p (m + length F) monomials) G) (part : IsKernelPart m G H) where
+    (list : IsMonicList (pot_setting p (m + length F) monomials) G) where
   -- the leads of lowered members, raised
   pub leads_lowered :
       (i j : ℕ) → j < length G → raised m (get_or H i []) ≡ get_or G j [] → leads G j ≡ raised_key m (leads H i)
@@ -88,15 +89,15 @@ module _ {n : ℕ} (p m : ℕ) (monomials : Exponents n → Exponents n → Orde
       ∙ head_key-raised p m (m + length F) monomials (get_or H i []) domain.above_one (subst (λ v. IsMonicLead (pot_setting p (m + length F) monomials) v (head_key v)) (sym e) (list.monic j hj))
 
   -- what leads of H divide, leads of G divide once it is raised
-  pub IsCovered_raised : (k : Key n) → IsCovered H k → IsCovered G (raised_key m k)
-  IsCovered_raised k (i, hi, (x, q)) = go (part.inside i hi)
+  pub IsCovered_raised : LiesInside m G H → (k : Key n) → IsCovered H k → IsCovered G (raised_key m k)
+  IsCovered_raised inside k (i, hi, (x, q)) = go (inside i hi)
     where
       go : (j : ℕ) × (j < length G) × (raised m (get_or H i []) ≡ get_or G j []) → IsCovered G (raised_key m k)
       go (j, hj, e) = (j, hj, (x, ap (shift x) (leads_lowered i j hj e) ∙ ap (raised_key m) q))
 
   -- and back
-  pub IsCovered_lowered : (k : Key n) → IsCovered G (raised_key m k) → IsCovered H k
-  IsCovered_lowered k (j, hj, (x, q)) = go (part.all j hj (let d : (leads G j).0 ≡ m + k.0 = ap (λ y. y.0) q in omega arith))
+  pub IsCovered_lowered : HasAllBehind m G H → (k : Key n) → IsCovered G (raised_key m k) → IsCovered H k
+  IsCovered_lowered all k (j, hj, (x, q)) = go (all j hj (let d : (leads G j).0 ≡ m + k.0 = ap (λ y. y.0) q in omega arith))
     where
       go : (i : ℕ) × (i < length H) × (raised m (get_or H i []) ≡ get_or G j []) → IsCovered H k
       go (i, hi, e) =
@@ -109,15 +110,15 @@ module _ {n : ℕ} (p m : ℕ) (monomials : Exponents n → Exponents n → Orde
           cancel a b e = omega arith
 
 module _ {n : ℕ} (p m : ℕ) (monomials : Exponents n → Exponents n → Ordering) (F G H : List (FormalSum n)) (domain : IsDomain p)
-    (basis : IsGroebnerBasis (pot_setting p (m + length F) monomials) (marked m 0 F) G) (part : IsKernelPart m G H) where
+    (basis : IsGroebnerBasis (pot_setting p (m + length F) monomials) (marked m 0 F) G) where
   pos : 0 < p
   pos = let h : 1 < p = domain.above_one in omega arith
 
   -- the lowered members are syzygies
   pub IsSyzygy_lowered :
-      ((i : ℕ) → i < length F → HasRank m (get_or F i [])) → (i : ℕ) → i < length H
+      LiesInside m G H → ((i : ℕ) → i < length F → HasRank m (get_or F i [])) → (i : ℕ) → i < length H
       → IsSyzygy p F (get_or H i [])
-  IsSyzygy_lowered ranks i hi = go (part.inside i hi)
+  IsSyzygy_lowered inside ranks i hi = go (inside i hi)
     where
       h : FormalSum n
       h = get_or H i []
@@ -128,30 +129,30 @@ module _ {n : ℕ} (p m : ℕ) (monomials : Exponents n → Exponents n → Orde
           by : (a : FormalSum n) × IsSyzygy p F a × IsSame p (raised m a) (raised m h) → IsSyzygy p F h
           by (a, s, q) = IsSyzygy_same pos F a h (IsSame_lowered m a h q) s
 
-  module _ (list : IsMonicList (pot_setting p (m + length F) monomials) G) where
+  module _ (list : IsMonicList (pot_setting p (m + length F) monomials) G) (all : HasAllBehind m G H) where
     -- the lead of a syzygy is divisible by a lead of H
     pub syzygy_covered :
         (a : FormalSum n) (k : Key n)
         → IsSyzygy p F a → IsLead (pot_setting p (length F) monomials) a k → IsCovered H k
     syzygy_covered a k s lead =
-        IsCovered_lowered p m monomials F G H domain list part k (basis.covers (raised m a) (raised_key m k) (IsMember_raised m F a s) (IsLead_raised p m (length F) (m + length F) monomials a k lead))
+        IsCovered_lowered p m monomials F G H domain list all k (basis.covers (raised m a) (raised_key m k) (IsMember_raised m F a s) (IsLead_raised p m (length F) (m + length F) monomials a k lead))
 
-    module _ (ranks : (i : ℕ) → i < length F → HasRank m (get_or F i [])) where
+    module _ (inside : LiesInside m G H) (ranks : (i : ℕ) → i < length F → HasRank m (get_or F i [])) where
       pub IsGroebnerBasis_lowered : IsGroebnerBasis (pot_setting p (length F) monomials) H H
       IsGroebnerBasis_lowered = record {
         members = λ i h. IsMember_itself p H i h;
-        covers = λ v k a lead. syzygy_covered v k (IsSyzygy_member pos F H (IsSyzygy_lowered ranks) v a) lead;
+        covers = λ v k a lead. syzygy_covered v k (IsSyzygy_member pos F H (IsSyzygy_lowered inside ranks) v a) lead;
       }
 
       monic_lowered : IsMonicList (pot_setting p (length F) monomials) H
-      monic_lowered = record { monic = λ i h. (both i h (part.inside i h)).0; ranked = λ i h. (both i h (part.inside i h)).1 }
+      monic_lowered = record { monic = λ i h. (both i h (inside i h)).0; ranked = λ i h. (both i h (inside i h)).1 }
         where
           both :
               (i : ℕ)
               → i < length H → (j : ℕ) × (j < length G) × (raised m (get_or H i []) ≡ get_or G j [])
               → IsMonicLead (pot_setting p (length F) monomials) (get_or H i []) (leads H i) × ((leads H i).0 < length F)
           both i hi (j, hj, e) =
-              let d : leads G j ≡ raised_key m (leads H i) = leads_lowered p m monomials F G H domain list part i j hj e in
+              let d : leads G j ≡ raised_key m (leads H i) = leads_lowered p m monomials F G H domain list i j hj e in
               let low : (leads G j).0 < m + length F = list.ranked j hj in
               let q : (leads G j).0 ≡ m + (leads H i).0 = ap (λ y. y.0) d in (
                 IsMonicLead_lowered p m (m + length F) (length F) monomials (get_or H i []) (leads H i)
@@ -167,5 +168,5 @@ module _ {n : ℕ} (p m : ℕ) (monomials : Exponents n → Exponents n → Orde
       pub syzygy_generated : IsMonomialOrder monomials → (a : FormalSum n) → IsSyzygy p F a → IsMember p H a
       syzygy_generated order =
           generated (pot_setting p (length F) monomials) (record { domain = domain; order = pot_order (length F) monomials order }) H monic_lowered (IsSyzygy p F)
-          (λ v c e i h s. IsSyzygy_append F v (scale c e (get_or H i [])) s (IsSyzygy_scale pos F c e (get_or H i []) (IsSyzygy_lowered ranks i h)))
+          (λ v c e i h s. IsSyzygy_append F v (scale c e (get_or H i [])) s (IsSyzygy_scale pos F c e (get_or H i []) (IsSyzygy_lowered inside ranks i h)))
           (λ v k s lead. syzygy_covered v k s lead)

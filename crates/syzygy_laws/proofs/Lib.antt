@@ -1,3 +1,5 @@
+pub mod Choosing
+pub mod KernelParts
 pub mod Kernels
 pub mod LiftingByMarks
 pub mod Lifting

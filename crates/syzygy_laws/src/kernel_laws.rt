@@ -10,32 +10,36 @@ ghost use Rattle.orders.specs.MonomialOrders.{IsMonomialOrder};
 ghost use Rattle.bases.specs.Leads.{IsLead, IsMonicList, IsNormal};
 ghost use Rattle.bases.specs.Bases.{IsCovered, IsGroebnerBasis};
 ghost use Rattle.division_laws.specs.Remainders.{HasFreeTerms};
-ghost use Rattle.syzygy_laws.specs.Kernels.{pot_setting, IsKernelPart};
+ghost use Rattle.syzygy_laws.specs.Kernels.{kernel_of, pot_setting};
 ghost use Rattle.syzygy_laws.specs.Syzygies.{marked, raised};
 
-/// By position first, the members of a Gröbner basis of the marked list that stand behind the first m positions are a
-/// Gröbner basis of the syzygies, and generate these (UAG chapter 5, section 3).
+/// By position first, the members of a Gröbner basis of the marked list that vanish at the first m positions are syzygies;
+/// where the basis is of normal vectors, they are a Gröbner basis of the syzygies, and generate these (UAG chapter 5,
+/// section 3).
 pub fn marked_basis()
-    ensures syzygies { (n p m : ℕ) (monomials : Exponents n → Exponents n → Ordering) (F G H : List (FormalSum n)) (i : ℕ)
+    ensures syzygies { (n p m : ℕ) (monomials : Exponents n → Exponents n → Ordering) (F G : List (FormalSum n)) (i : ℕ)
         → ((i : ℕ) → i < length F → HasRank m (get_or F i []))
-        → IsGroebnerBasis (pot_setting p (m + length F) monomials) (marked m 0 F) G → IsKernelPart m G H
-        → IsDomain p → i < length H → IsSyzygy p F (get_or H i []) }
-    ensures covers { (n p m : ℕ) (monomials : Exponents n → Exponents n → Ordering) (F G H : List (FormalSum n))
+        → IsGroebnerBasis (pot_setting p (m + length F) monomials) (marked m 0 F) G
+        → IsDomain p → i < length (kernel_of m G) → IsSyzygy p F (get_or (kernel_of m G) i []) }
+    ensures covers { (n p m : ℕ) (monomials : Exponents n → Exponents n → Ordering) (F G : List (FormalSum n))
         (a : FormalSum n) (k : Key n)
-        → IsDomain p → IsMonicList (pot_setting p (m + length F) monomials) G
-        → IsGroebnerBasis (pot_setting p (m + length F) monomials) (marked m 0 F) G → IsKernelPart m G H
-        → IsSyzygy p F a → IsLead (pot_setting p (length F) monomials) a k → IsCovered H k }
-    ensures basis { (n p m : ℕ) (monomials : Exponents n → Exponents n → Ordering) (F G H : List (FormalSum n))
-        → IsDomain p → ((i : ℕ) → i < length F → HasRank m (get_or F i []))
+        → IsDomain p → IsMonomialOrder monomials → IsMonicList (pot_setting p (m + length F) monomials) G
+        → ((i : ℕ) → i < length G → IsNormal (pot_setting p (m + length F) monomials) (get_or G i []))
+        → IsGroebnerBasis (pot_setting p (m + length F) monomials) (marked m 0 F) G
+        → IsSyzygy p F a → IsLead (pot_setting p (length F) monomials) a k → IsCovered (kernel_of m G) k }
+    ensures basis { (n p m : ℕ) (monomials : Exponents n → Exponents n → Ordering) (F G : List (FormalSum n))
+        → IsDomain p → IsMonomialOrder monomials → ((i : ℕ) → i < length F → HasRank m (get_or F i []))
         → IsMonicList (pot_setting p (m + length F) monomials) G
-        → IsGroebnerBasis (pot_setting p (m + length F) monomials) (marked m 0 F) G → IsKernelPart m G H
-        → IsGroebnerBasis (pot_setting p (length F) monomials) H H }
-    ensures generate { (n p m : ℕ) (monomials : Exponents n → Exponents n → Ordering) (F G H : List (FormalSum n))
+        → ((i : ℕ) → i < length G → IsNormal (pot_setting p (m + length F) monomials) (get_or G i []))
+        → IsGroebnerBasis (pot_setting p (m + length F) monomials) (marked m 0 F) G
+        → IsGroebnerBasis (pot_setting p (length F) monomials) (kernel_of m G) (kernel_of m G) }
+    ensures generate { (n p m : ℕ) (monomials : Exponents n → Exponents n → Ordering) (F G : List (FormalSum n))
         (a : FormalSum n)
         → IsDomain p → IsMonomialOrder monomials → ((i : ℕ) → i < length F → HasRank m (get_or F i []))
         → IsMonicList (pot_setting p (m + length F) monomials) G
-        → IsGroebnerBasis (pot_setting p (m + length F) monomials) (marked m 0 F) G → IsKernelPart m G H
-        → IsSyzygy p F a → IsMember p H a }
+        → ((i : ℕ) → i < length G → IsNormal (pot_setting p (m + length F) monomials) (get_or G i []))
+        → IsGroebnerBasis (pot_setting p (m + length F) monomials) (marked m 0 F) G
+        → IsSyzygy p F a → IsMember p (kernel_of m G) a }
 {}
 
 /// The normal form w of a vector v of the first m positions by such a basis. Where v is a member of the module of F, w
@@ -56,8 +60,8 @@ pub fn lifts_by_marks()
         × IsOfRank p (length F) (scale (p - 1) (unit n) b) }
     ensures normal { (n p m r s : ℕ) (monomials : Exponents n → Exponents n → Ordering) (b : FormalSum n)
         → IsNormal (pot_setting p r monomials) (raised m b) → IsNormal (pot_setting p s monomials) b }
-    ensures free { (n p m : ℕ) (monomials : Exponents n → Exponents n → Ordering) (F G H : List (FormalSum n))
+    ensures free { (n p m : ℕ) (monomials : Exponents n → Exponents n → Ordering) (F G : List (FormalSum n))
         (b : FormalSum n)
-        → IsDomain p → IsMonicList (pot_setting p (m + length F) monomials) G → IsKernelPart m G H
-        → HasFreeTerms G (raised m b) → HasFreeTerms H b }
+        → IsDomain p → IsMonicList (pot_setting p (m + length F) monomials) G
+        → HasFreeTerms G (raised m b) → HasFreeTerms (kernel_of m G) b }
 {}
