@@ -1,3 +1,4 @@
+-- what public clauses cite
 pub mod Members
 pub mod Changes
 pub mod Propositions

@@ -7,6 +7,3 @@ mod shared;
 
 pub use member::Member;
 pub use shared::Shared;
-
-#[cfg(test)]
-mod tests;

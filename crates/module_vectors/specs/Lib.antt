@@ -1,8 +1,10 @@
+-- what public clauses cite
 pub mod Rings
 pub mod Vectors
 pub mod Products
 pub mod Stops
-pub mod Merging
 pub mod Multiples
 pub mod Trails
+-- invariants of loops
+pub mod Merging
 pub mod Gathering

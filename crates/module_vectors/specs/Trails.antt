@@ -54,10 +54,10 @@ pub record IsPairStart (n : ℕ) (members : List (List (CodeKey × ℕ))) (i j :
   pub lcm : product_lead n members first ≡ key_lcm (lead_at n members i) (lead_at n members j)
 
 -- how the first product is met, and that nothing stands behind it where the trail is of one product
-abbrev pub Begins : (n : ℕ) → TrailStart → List (CodeKey × ℕ) → List (List (CodeKey × ℕ)) → Step → List Step → Type 0
-Begins n (Pair i j) vector members first later = IsPairStart n members i j first × (vector ≡ [])
-Begins n Term vector members first later = HasKey (sum_of n vector) (product_lead n members first)
-Begins n Product vector members first later = HasMonomial vector first.1 × (later ≡ [])
+abbrev pub IsStart : (n : ℕ) → TrailStart → List (CodeKey × ℕ) → List (List (CodeKey × ℕ)) → Step → List Step → Type 0
+IsStart n (Pair i j) vector members first later = IsPairStart n members i j first × (vector ≡ [])
+IsStart n Term vector members first later = HasKey (sum_of n vector) (product_lead n members first)
+IsStart n Product vector members first later = HasMonomial vector first.1 × (later ≡ [])
 
 -- the last of a list that is not empty
 abbrev pub last_step : Step → List Step → Step
@@ -74,7 +74,7 @@ pub record IsChain (n : ℕ) (t : KeptTrail) (first : Step) (later : List Step) 
   pub steps : t.steps.items ≡ first ∷ later
   pub known : Each (λ s. s.0 < length t.members) (first ∷ later)
   pub variables : Each (λ s. length s.1 ≡ n) (first ∷ later)
-  pub begins : Begins n t.start t.vector t.members first later
+  pub begins : IsStart n t.start t.vector t.members first later
   pub met : AreMet n (sum_of n t.vector) t.members (first ∷ []) later
   pub last : IsOfStep t.members t.cofs (last_step first later) t.last
   pub last_variables : length t.last ≡ n

@@ -57,7 +57,8 @@ pub(crate) fn scaled_terms<F: Frame>(
     requires variables { length m.now ≡ variables (F.over frame.now) }
     requires vector { IsVectorOver (F.over frame.now) (F.compare frame.now) v.now }
     ensures vector { IfOk result (λ u. IsVectorOver (F.over frame.now) (F.compare frame.now) u.items) }
-    ensures sum { let n = variables (F.over frame.now) in IfOk result (λ u. StandsFor (F.over frame.now) u.items (scale c (exponents_of n m.now) (sum_of n v.now))) }
+    ensures sum { let n = variables (F.over frame.now) in
+        IfOk result (λ u. StandsFor (F.over frame.now) u.items (scale c (exponents_of n m.now) (sum_of n v.now))) }
     ensures fits { OnOk result (Fits m.now v.now) }
     ensures stop { IfErr result (ScaledStops c m.now v.now) }
 {

@@ -128,7 +128,8 @@ impl Vect {
         requires left { IsVectorOver (F.over frame.now) (F.compare frame.now) self.old }
         requires right { IsVectorOver (F.over frame.now) (F.compare frame.now) v.now }
         ensures vector { OnOk result (IsVectorOver (F.over frame.now) (F.compare frame.now) self.new) }
-        ensures sum { let n = variables (F.over frame.now) in OnOk result (StandsFor (F.over frame.now) self.new (sum_of n self.old ++ scale c (exponents_of n t.now) (sum_of n v.now))) }
+        ensures sum { let n = variables (F.over frame.now) in
+            OnOk result (StandsFor (F.over frame.now) self.new (sum_of n self.old ++ scale c (exponents_of n t.now) (sum_of n v.now))) }
         ensures fits { OnOk result (0 < c → Fits t.now v.now) }
         ensures stop { IfErr result (ScaledStops c t.now v.now) }
         ensures err { OnErr result (self.new ≡ self.old) }
@@ -160,7 +161,8 @@ impl Vect {
         requires vector { IsVectorOver (F.over frame.now) (F.compare frame.now) v.now }
         requires some { 0 < length v.now }
         ensures vector { IfOk result (λ u. IsVectorOver (F.over frame.now) (F.compare frame.now) u) }
-        ensures sum { let n = variables (F.over frame.now) in IfOk result (λ u. StandsFor (F.over frame.now) u (scale c (exponents_of n t.now) (sum_of n (drop 1 v.now)))) }
+        ensures sum { let n = variables (F.over frame.now) in
+            IfOk result (λ u. StandsFor (F.over frame.now) u (scale c (exponents_of n t.now) (sum_of n (drop 1 v.now)))) }
         ensures fits { OnOk result (Fits t.now (drop 1 v.now)) }
         ensures stop { IfErr result (ScaledStops c t.now (drop 1 v.now)) }
     {
@@ -205,7 +207,8 @@ impl Vect {
         requires positions { HasPositions (length list.now) cofactors.now }
         requires list { AreVectorsOver (F.over frame.now) (F.compare frame.now) list.now }
         ensures vector { IfOk result (λ v. IsVectorOver (F.over frame.now) (F.compare frame.now) v) }
-        ensures sum { let n = variables (F.over frame.now) in IfOk result (λ v. StandsFor (F.over frame.now) v (combination (sums_of n list.now) (sum_of n cofactors.now))) }
+        ensures sum { let n = variables (F.over frame.now) in
+            IfOk result (λ v. StandsFor (F.over frame.now) v (combination (sums_of n list.now) (sum_of n cofactors.now))) }
         ensures fits { OnOk result (CombinationFits cofactors.now list.now) }
         ensures stop { IfErr result (CombinationStops cofactors.now list.now) }
     {

@@ -1,3 +1,4 @@
+-- what public clauses cite
 pub mod Monomials
 pub mod Comparisons
 pub mod Laws

@@ -5,7 +5,7 @@ use Rattle.monomial_orders.specs.declared.stop.MonoStop.{MonoStop}
 use Rattle.monomial_orders.specs.declared.stop.MonoStop.TheVariants.{Memory, Degree}
 
 -- what is kept of a monomial: its degree beside its exponents, which are 16-bit numbers
-pub record IsKept (degree : ℕ) (c : List ℕ) : Type 0 where
+pub record HasItsDegree (degree : ℕ) (c : List ℕ) : Type 0 where
   pub total : degree ≡ sum c
   pub bounded : (k : ℕ) → slice_index c k < 65536
 

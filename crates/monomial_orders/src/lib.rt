@@ -15,6 +15,3 @@ pub use mono::Mono;
 pub use order::{ModOrder, MonomialOrder, Order};
 pub use order_laws::key_orders;
 pub use stop::{MonoStop, NoMemory};
-
-#[cfg(test)]
-mod tests;

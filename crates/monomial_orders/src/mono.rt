@@ -23,13 +23,13 @@ pub struct Mono {
 
 impl Model for Mono {
     ghost use Rattle.std.specs.Prelude.{ℕ, List};
-    ghost use Rattle.monomial_orders.specs.Monomials.{IsKept};
+    ghost use Rattle.monomial_orders.specs.Monomials.{HasItsDegree};
 
     ghost Value = { List ℕ };
 
     ghost view = { λ m. m.exponents.items };
 
-    ghost invariant = { λ m. IsKept m.degree m.exponents.items };
+    ghost invariant = { λ m. HasItsDegree m.degree m.exponents.items };
 }
 
 impl Mono {

@@ -9,6 +9,3 @@ mod pairing;
 pub use criteria::{chain_applies, product_applies};
 pub use pair::Pair;
 pub use pairing::pair_of;
-
-#[cfg(test)]
-mod tests;

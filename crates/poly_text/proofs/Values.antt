@@ -16,7 +16,7 @@ use Rattle.module_vectors.specs.Vectors.{HasPositions, key_of, sum_of}
 use Rattle.module_vectors.specs.declared.key.Key.{Key}
 use Rattle.poly_text.specs.Names.{AreNames}
 use Rattle.poly_text.specs.Printable.{IsPrintable, IsPrintableNumber, IsPrintableVector}
-use Rattle.poly_text.specs.Texts.{at_position, entries_text, entry_texts, factor_texts, joined, list_text, poly_text, powers_texts, term_text, vector_text}
+use Rattle.poly_text.specs.Texts.{terms_at, entries_text, entry_texts, factor_texts, joined, list_text, poly_text, powers_texts, term_text, vector_text}
 use Rattle.poly_text.proofs.Decimals.{AreDigits, decimal_digits_wide, decimal_same}
 use Rattle.poly_text.proofs.Splitting.{Free, cut, each_append, each_joined, each_map, joined_same}
 use Rattle.poly_text.proofs.Terms.{IsTermByte, powers_are, powers_injective, product_bytes, product_injective}
@@ -115,10 +115,10 @@ each_filtered P test (x ∷ xs) h = go (test x) (each_filtered P test xs h.1) wh
   go true rest = (h.0, rest)
   go false rest = rest
 
-at_position_at : (i : ℕ) (v : List (Key × ℕ)) → AreAt i (at_position i v)
+at_position_at : (i : ℕ) (v : List (Key × ℕ)) → AreAt i (terms_at i v)
 at_position_at i [] = tt
 at_position_at i (t ∷ v) = go (t.0.position == i) refl (at_position_at i v) where
-  go : (b : Bool) → (t.0.position == i) ≡ b → AreAt i (at_position i v) → AreAt i (cond b (t ∷ at_position i v) (at_position i v))
+  go : (b : Bool) → (t.0.position == i) ≡ b → AreAt i (terms_at i v) → AreAt i (cond b (t ∷ terms_at i v) (terms_at i v))
   go true e rest = (grind (arith, nat_tests), rest)
   go false e rest = rest
 
@@ -126,21 +126,21 @@ each_entry : (P : List ℕ → Type 0) (f : ℕ → List ℕ) (a n : ℕ) → ((
 each_entry P f a zero h = tt
 each_entry P f a (suc n) h = (h a, each_entry P f (a + 1) n h)
 
-entry_bytes : (names : List (List ℕ)) (v : List (Key × ℕ)) (i : ℕ) → AreNames names → Each (IsPrintable (length names)) v → Each IsPolyByte (poly_text names (at_position i v))
-entry_bytes names v i hn hv = poly_bytes names (at_position i v) hn (each_filtered (IsPrintable (length names)) (λ t. t.0.position == i) v hv)
+entry_bytes : (names : List (List ℕ)) (v : List (Key × ℕ)) (i : ℕ) → AreNames names → Each (IsPrintable (length names)) v → Each IsPolyByte (poly_text names (terms_at i v))
+entry_bytes names v i hn hv = poly_bytes names (terms_at i v) hn (each_filtered (IsPrintable (length names)) (λ t. t.0.position == i) v hv)
 
 entries_free : (names : List (List ℕ)) (rank : ℕ) (v : List (Key × ℕ)) → AreNames names → Each (IsPrintable (length names)) v → Each (Free 44) (entry_texts names rank v)
 entries_free names rank v hn hv =
-    each_entry (Free 44) (λ i. poly_text names (at_position i v)) 0 rank
-    (λ i. each_map IsPolyByte (λ c. c ≢ 44) (poly_text names (at_position i v)) (λ c l. l.1) (entry_bytes names v i hn hv))
+    each_entry (Free 44) (λ i. poly_text names (terms_at i v)) 0 rank
+    (λ i. each_map IsPolyByte (λ c. c ≢ 44) (poly_text names (terms_at i v)) (λ c l. l.1) (entry_bytes names v i hn hv))
 
 -- the texts of the entries say what stands at each position
 entries_injective : (names : List (List ℕ)) (rank : ℕ) (v w : List (Key × ℕ)) → AreNames names → Each (IsPrintable (length names)) v → Each (IsPrintable (length names)) w
-    → entries_text names rank v ≡ entries_text names rank w → (i : ℕ) → i < rank → at_position i v ≡ at_position i w
+    → entries_text names rank v ≡ entries_text names rank w → (i : ℕ) → i < rank → terms_at i v ≡ terms_at i w
 entries_injective names zero v w hn hv hw e i below = absurd (omega arith)
 entries_injective names (suc k) v w hn hv hw e i below =
-    let f : ℕ → List ℕ = λ j. poly_text names (at_position j v) in
-    let g : ℕ → List ℕ = λ j. poly_text names (at_position j w) in
+    let f : ℕ → List ℕ = λ j. poly_text names (terms_at j v) in
+    let g : ℕ → List ℕ = λ j. poly_text names (terms_at j w) in
     let inner : joined 44 (entry_texts names (suc k) v) ++ 93 ∷ [] ≡ joined 44 (entry_texts names (suc k) w) ++ 93 ∷ [] = cc in
     let same : joined 44 (entry_texts names (suc k) v) ≡ joined 44 (entry_texts names (suc k) w) = append_cancel_right _ _ (93 ∷ []) inner in
     let all : entry_texts names (suc k) v ≡ entry_texts names (suc k) w
@@ -149,19 +149,19 @@ entries_injective names (suc k) v w hn hv hw e i below =
     let here : f i ≡ g i
     = sym (get_or-map-range_with_len f 0 (suc k) i i [] below (omega arith)) ∙ ap (λ xs. get_or xs i []) all
     ∙ get_or-map-range_with_len g 0 (suc k) i i [] below (omega arith) in
-    poly_injective names i (at_position i v) (at_position i w) hn
+    poly_injective names i (terms_at i v) (terms_at i w) hn
     (each_filtered (IsPrintable (length names)) (λ t. t.0.position == i) v hv) (each_filtered (IsPrintable (length names)) (λ t. t.0.position == i) w hw)
     (at_position_at i v) (at_position_at i w) here
 
 -- nothing stands at the positions past the rank
-past_rank : (rank p : ℕ) (v : List (Key × ℕ)) → rank ≤ p → HasPositions rank v → at_position p v ≡ []
+past_rank : (rank p : ℕ) (v : List (Key × ℕ)) → rank ≤ p → HasPositions rank v → terms_at p v ≡ []
 past_rank rank p [] past h = refl
 past_rank rank p (t ∷ v) past h =
     let other : (t.0.position == p) ≡ false = grind (arith, nat_tests) in
     rw other (past_rank rank p v past h.1)
 
-everywhere : (rank : ℕ) (v w : List (Key × ℕ)) → HasPositions rank v → HasPositions rank w → ((i : ℕ) → i < rank → at_position i v ≡ at_position i w)
-    → (p : ℕ) → at_position p v ≡ at_position p w
+everywhere : (rank : ℕ) (v w : List (Key × ℕ)) → HasPositions rank v → HasPositions rank w → ((i : ℕ) → i < rank → terms_at i v ≡ terms_at i w)
+    → (p : ℕ) → terms_at p v ≡ terms_at p w
 everywhere rank v w hv hw known p =
     elim (cases_lt p rank) [ inl below ↦ known p below | inr past ↦ past_rank rank p v past hv ∙ sym (past_rank rank p w past hw) ]
 
@@ -170,10 +170,10 @@ abbrev Among : Key × ℕ → List (Key × ℕ) → Type 0
 Among t [] = ⊥
 Among t (u ∷ us) = (t ≡ u) ⊎ Among t us
 
-among_from_position : (p : ℕ) (t : Key × ℕ) (rest us : List (Key × ℕ)) → t ∷ rest ≡ at_position p us → Among t us
+among_from_position : (p : ℕ) (t : Key × ℕ) (rest us : List (Key × ℕ)) → t ∷ rest ≡ terms_at p us → Among t us
 among_from_position p t rest [] e = absurd cc
 among_from_position p t rest (u ∷ us) e = go (u.0.position == p) (λ k. among_from_position p t rest us k) e where
-  go : (b : Bool) → (t ∷ rest ≡ at_position p us → Among t us) → t ∷ rest ≡ cond b (u ∷ at_position p us) (at_position p us) → Among t (u ∷ us)
+  go : (b : Bool) → (t ∷ rest ≡ terms_at p us → Among t us) → t ∷ rest ≡ cond b (u ∷ terms_at p us) (terms_at p us) → Among t (u ∷ us)
   go true more k = let same : t ≡ u = cc in inl same
   go false more k = inr (more k)
 
@@ -187,22 +187,22 @@ same_tail : (b : Bool) (t : Key × ℕ) (xs ys : List (Key × ℕ)) → cond b (
 same_tail true t xs ys e = cc
 same_tail false t xs ys e = e
 
-first_here : (t : Key × ℕ) (v : List (Key × ℕ)) → at_position t.0.position (t ∷ v) ≡ t ∷ at_position t.0.position v
+first_here : (t : Key × ℕ) (v : List (Key × ℕ)) → terms_at t.0.position (t ∷ v) ≡ t ∷ terms_at t.0.position v
 first_here t v = let same : (t.0.position == t.0.position) ≡ true = grind (arith, nat_tests) in rw same refl
 
 -- two lists that descend and have the same terms at each position are the same
 sorted_same : {n : ℕ} (compare : KeyOf n → KeyOf n → Ordering) → ((k l : KeyOf n) → compare k l ≡ Greater → compare l k ≡ Greater → ⊥) → (v w : List (Key × ℕ))
-    → Descends compare (sum_of n v) → Descends compare (sum_of n w) → ((p : ℕ) → at_position p v ≡ at_position p w) → v ≡ w
+    → Descends compare (sum_of n v) → Descends compare (sum_of n w) → ((p : ℕ) → terms_at p v ≡ terms_at p w) → v ≡ w
 sorted_same compare apart [] [] dv dw e = refl
 sorted_same compare apart [] (u ∷ w) dv dw e = let k = e u.0.position ∙ first_here u w in absurd cc
 sorted_same compare apart (t ∷ v) [] dv dw e = let k = sym (first_here t v) ∙ e t.0.position in absurd cc
 sorted_same {n} compare apart (t ∷ v) (u ∷ w) dv dw e =
     first
-    (among_from_position t.0.position t (at_position t.0.position v) (u ∷ w) (sym (first_here t v) ∙ e t.0.position))
-    (among_from_position u.0.position u (at_position u.0.position w) (t ∷ v) (sym (first_here u w) ∙ sym (e u.0.position)))
+    (among_from_position t.0.position t (terms_at t.0.position v) (u ∷ w) (sym (first_here t v) ∙ e t.0.position))
+    (among_from_position u.0.position u (terms_at u.0.position w) (t ∷ v) (sym (first_here u w) ∙ sym (e u.0.position)))
     (λ same. sorted_same compare apart v w dv.1 dw.1
-    (λ p. same_tail (t.0.position == p) t (at_position p v) (at_position p w)
-    (e p ∙ ap (λ x. cond (x.0.position == p) (x ∷ at_position p w) (at_position p w)) (sym same)))) where
+    (λ p. same_tail (t.0.position == p) t (terms_at p v) (terms_at p w)
+    (e p ∙ ap (λ x. cond (x.0.position == p) (x ∷ terms_at p w) (terms_at p w)) (sym same)))) where
       first : Among t (u ∷ w) → Among u (t ∷ v) → (t ≡ u → v ≡ w) → t ∷ v ≡ u ∷ w
       first (inl same) b more = let rest = more same in cc
       first (inr a) (inl same) more = let back : t ≡ u = sym same in let rest = more back in cc
@@ -236,7 +236,7 @@ vector_free names rank v hn hv = go (rank == 1) where
     (λ e. absurd (omega arith)),
     each_append (λ c. c ≢ 10) (joined 44 (entry_texts names rank v)) (93 ∷ [])
         (each_joined (λ c. c ≢ 10) 44 (entry_texts names rank v) (λ e. absurd (omega arith))
-        (each_entry (Free 10) (λ i. poly_text names (at_position i v)) 0 rank (λ i. far (poly_text names (at_position i v)) (entry_bytes names v i hn hv))))
+        (each_entry (Free 10) (λ i. poly_text names (terms_at i v)) 0 rank (λ i. far (poly_text names (terms_at i v)) (entry_bytes names v i hn hv))))
         ((λ e. absurd (omega arith)), tt),
   )
 

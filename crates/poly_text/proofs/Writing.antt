@@ -6,7 +6,7 @@ use Rattle.std.proofs.lemmas.Fmt.{decimal_digit}
 use Rattle.std.proofs.lemmas.Bool.Decides.{nat_tests}
 use Rattle.module_vectors.specs.declared.key.Key.{Key}
 use Rattle.poly_text.specs.Texts.{factor_texts, joined, poly_text, power_texts, powers_texts, term_text}
-use Rattle.poly_text.specs.Writing.{Begins, factor_start, power_text, powers_rest, tails}
+use Rattle.poly_text.specs.Writing.{IsFront, factor_start, power_text, powers_rest, tails}
 
 -- the first text, and each other behind the byte
 pub joined_cons : (b : ℕ) (x : List ℕ) (xs : List (List ℕ)) → joined b (x ∷ xs) ≡ x ++ tails b xs
@@ -14,7 +14,7 @@ joined_cons b x [] = sym (append-nil x)
 joined_cons b x (y ∷ ys) = ap (λ r. x ++ b ∷ r) (joined_cons b y ys)
 
 -- more behind more
-pub begins_more : (old mid new more : List ℕ) → Begins old mid → new ≡ mid ++ more → Begins old new
+pub begins_more : (old mid new more : List ℕ) → IsFront old mid → new ≡ mid ++ more → IsFront old new
 begins_more old mid new more b e = (b.0 ++ more, e ∙ ap (λ r. r ++ more) b.1 ∙ append_assoc old b.0 more)
 
 -- the powers from variable i on

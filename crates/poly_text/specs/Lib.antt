@@ -1,4 +1,6 @@
+-- what public clauses cite
 pub mod Texts
-pub mod Writing
 pub mod Names
 pub mod Printable
+-- invariants of loops
+pub mod Writing

@@ -42,12 +42,12 @@ abbrev pub names_of : Ring → List (List ℕ)
 names_of ring = ring.vars
 
 -- the terms at a position, in the order in which they stand
-abbrev pub at_position : ℕ → List (Key × ℕ) → List (Key × ℕ)
-at_position i terms = filter (λ t. t.0.position == i) terms
+abbrev pub terms_at : ℕ → List (Key × ℕ) → List (Key × ℕ)
+terms_at i terms = filter (λ t. t.0.position == i) terms
 
 -- the entries of a vector: for each position below the rank the polynomial that stands there
 abbrev pub entry_texts : List (List ℕ) → ℕ → List (Key × ℕ) → List (List ℕ)
-entry_texts names rank terms = map (λ i. poly_text names (at_position i terms)) (range_with_len 0 rank)
+entry_texts names rank terms = map (λ i. poly_text names (terms_at i terms)) (range_with_len 0 rank)
 
 -- the entries in brackets, joined by commas
 abbrev pub entries_text : List (List ℕ) → ℕ → List (Key × ℕ) → List ℕ

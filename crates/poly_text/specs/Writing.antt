@@ -4,8 +4,8 @@ use Rattle.std.specs.Fmt.{decimal}
 use Rattle.module_vectors.specs.declared.key.Key.{Key}
 
 -- new is old with more behind it
-abbrev pub Begins : List ℕ → List ℕ → Type 0
-Begins old new = (more : List ℕ) × (new ≡ old ++ more)
+abbrev pub IsFront : List ℕ → List ℕ → Type 0
+IsFront old new = (more : List ℕ) × (new ≡ old ++ more)
 
 -- each text with the byte before it
 abbrev pub tails : ℕ → List (List ℕ) → List ℕ
@@ -42,7 +42,7 @@ AscendsFrom low [] = ⊤
 AscendsFrom low (t ∷ ts) = (low ≤ t.0.position) × AscendsFrom t.0.position ts
 
 -- exactly so many terms at the front stand at the position
-abbrev pub IsRunOf : ℕ → List (Key × ℕ) → ℕ → Type 0
-IsRunOf p [] k = k ≡ 0
-IsRunOf p (t ∷ ts) zero = t.0.position ≢ p
-IsRunOf p (t ∷ ts) (suc k) = (t.0.position ≡ p) × IsRunOf p ts k
+abbrev pub IsStretch : ℕ → List (Key × ℕ) → ℕ → Type 0
+IsStretch p [] k = k ≡ 0
+IsStretch p (t ∷ ts) zero = t.0.position ≢ p
+IsStretch p (t ∷ ts) (suc k) = (t.0.position ≡ p) × IsStretch p ts k

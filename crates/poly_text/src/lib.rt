@@ -19,8 +19,6 @@ use vector::append_entries;
 mod list;
 mod polynomial;
 mod stop;
-#[cfg(test)]
-mod tests;
 mod text_laws;
 mod undo;
 mod vector;

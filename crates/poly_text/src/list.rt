@@ -4,7 +4,7 @@ ghost use Rattle.formal_sums.specs.FormalSums.{Each};
 ghost use Rattle.module_vectors.specs.Rings.{variables};
 ghost use Rattle.module_vectors.specs.Vectors.{HasVariables};
 ghost use Rattle.poly_text.specs.Texts.{list_text, names_of};
-ghost use Rattle.poly_text.specs.Writing.{Begins};
+ghost use Rattle.poly_text.specs.Writing.{IsFront};
 
 use crate::{NoMemory, push_vect};
 use module_vectors::{Ring, Vect};
@@ -20,7 +20,7 @@ pub fn append_list(
 ) -> Result<(), NoMemory>
     requires { Each (λ v. Each (HasVariables (variables ring.now)) v) vectors.now }
     ensures ok { OnOk result (out.new.items ≡ out.old.items ++ list_text (names_of ring.now) rank vectors.now) }
-    ensures err { OnErr result (Begins out.old.items out.new.items) }
+    ensures err { OnErr result (IsFront out.old.items out.new.items) }
 {
     for v in vectors {
         match push_vect(alloc, out, ring, rank, v) {

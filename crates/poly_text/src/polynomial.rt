@@ -4,7 +4,7 @@ ghost use Rattle.std.specs.Fmt.{decimal};
 ghost use Rattle.formal_sums.specs.FormalSums.{Each};
 ghost use Rattle.module_vectors.specs.Vectors.{HasVariables};
 ghost use Rattle.poly_text.specs.Texts.{poly_text, powers_texts, term_text};
-ghost use Rattle.poly_text.specs.Writing.{Begins, factor_start, power_text, powers_rest};
+ghost use Rattle.poly_text.specs.Writing.{IsFront, factor_start, power_text, powers_rest};
 
 use crate::NoMemory;
 use itoa::Buffer;
@@ -28,7 +28,7 @@ fn append_power(
     exponent: u16,
 ) -> Result<(), NoMemory>
     ensures ok { OnOk result (out.new.items ≡ out.old.items ++ (factor_start started ++ power_text name.now exponent)) }
-    ensures err { OnErr result (Begins out.old.items out.new.items) }
+    ensures err { OnErr result (IsFront out.old.items out.new.items) }
 {
     if started {
         out.push(b'*')?;
@@ -50,7 +50,7 @@ fn append_powers(
 ) -> Result<(), NoMemory>
     requires { length exponents.now ≡ length vars.now }
     ensures ok { OnOk result (out.new.items ≡ out.old.items ++ powers_rest started (powers_texts (map string_bytes vars.now) exponents.now)) }
-    ensures err { OnErr result (Begins out.old.items out.new.items) }
+    ensures err { OnErr result (IsFront out.old.items out.new.items) }
 {
     let mut begun = started;
     for (i, name) in vars.iter().enumerate() {
@@ -74,7 +74,7 @@ fn append_powers(
 pub fn append_term(out: &mut Vec<u8>, vars: &[String], term: &(Key, u32)) -> Result<(), NoMemory>
     requires { HasVariables (length vars.now) term.now }
     ensures ok { OnOk result (out.new.items ≡ out.old.items ++ term_text (map string_bytes vars.now) term.now) }
-    ensures err { OnErr result (Begins out.old.items out.new.items) }
+    ensures err { OnErr result (IsFront out.old.items out.new.items) }
 {
     let residue = term.1;
     let exponents = term.0.monomial.exponents();
@@ -94,7 +94,7 @@ pub fn append_terms(
 ) -> Result<(), NoMemory>
     requires { Each (HasVariables (length vars.now)) terms.now }
     ensures ok { OnOk result (out.new.items ≡ out.old.items ++ poly_text (map string_bytes vars.now) terms.now) }
-    ensures err { OnErr result (Begins out.old.items out.new.items) }
+    ensures err { OnErr result (IsFront out.old.items out.new.items) }
 {
     let Some((first, rest)) = terms.split_first() else {
         out.push(b'0')?;

@@ -2,8 +2,8 @@
 ghost use Rattle.std.specs.Prelude.{◌≡◌, ◌++◌, ◌<◌, ◌≤◌, ◌==◌, [], ◌∷◌, IsTrue, OnOk, OnErr, drop, if◌then◌else◌, length, map, string_bytes, take, ℕ};
 ghost use Rattle.formal_sums.specs.FormalSums.{Each};
 ghost use Rattle.module_vectors.specs.Vectors.{HasVariables};
-ghost use Rattle.poly_text.specs.Texts.{at_position, entries_text, entry_texts, joined, poly_text, term_text};
-ghost use Rattle.poly_text.specs.Writing.{Begins, AscendsFrom, IsRunOf, term_start};
+ghost use Rattle.poly_text.specs.Texts.{terms_at, entries_text, entry_texts, joined, poly_text, term_text};
+ghost use Rattle.poly_text.specs.Writing.{IsFront, AscendsFrom, IsStretch, term_start};
 
 use crate::NoMemory;
 use crate::polynomial::{append_term, append_terms};
@@ -18,7 +18,7 @@ fn append_next_term(
 ) -> Result<(), NoMemory>
     requires { HasVariables (length vars.now) term.now }
     ensures ok { OnOk result (out.new.items ≡ out.old.items ++ (term_start begun ++ term_text (map string_bytes vars.now) term.now)) }
-    ensures err { OnErr result (Begins out.old.items out.new.items) }
+    ensures err { OnErr result (IsFront out.old.items out.new.items) }
 {
     if begun {
         out.push(b'+')?;
@@ -34,8 +34,8 @@ fn append_entry(
     terms: &[(Key, u32)],
 ) -> Result<(), NoMemory>
     requires { Each (HasVariables (length vars.now)) terms.now }
-    ensures ok { OnOk result (out.new.items ≡ out.old.items ++ poly_text (map string_bytes vars.now) (at_position position terms.now)) }
-    ensures err { OnErr result (Begins out.old.items out.new.items) }
+    ensures ok { OnOk result (out.new.items ≡ out.old.items ++ poly_text (map string_bytes vars.now) (terms_at position terms.now)) }
+    ensures err { OnErr result (IsFront out.old.items out.new.items) }
 {
     let mut begun = false;
     for term in terms {
@@ -75,7 +75,7 @@ fn append_scattered(
 ) -> Result<(), NoMemory>
     requires { Each (HasVariables (length vars.now)) terms.now }
     ensures ok { OnOk result (out.new.items ≡ out.old.items ++ joined 44 (entry_texts (map string_bytes vars.now) rank terms.now)) }
-    ensures err { OnErr result (Begins out.old.items out.new.items) }
+    ensures err { OnErr result (IsFront out.old.items out.new.items) }
 {
     for position in 0..rank {
         match append_comma(out, position) {
@@ -107,7 +107,7 @@ fn ascends(terms: &[(Key, u32)]) -> bool
 
 /// How many terms at the front stand at a position.
 fn run_length(terms: &[(Key, u32)], position: u128) -> usize
-    ensures { IsRunOf position terms.now result }
+    ensures { IsStretch position terms.now result }
 {
     for (i, term) in terms.iter().enumerate() {
         if term.0.position != position {
@@ -127,7 +127,7 @@ fn append_runs(
     requires variables { Each (HasVariables (length vars.now)) terms.now }
     requires ascending { AscendsFrom 0 terms.now }
     ensures ok { OnOk result (out.new.items ≡ out.old.items ++ joined 44 (entry_texts (map string_bytes vars.now) rank terms.now)) }
-    ensures err { OnErr result (Begins out.old.items out.new.items) }
+    ensures err { OnErr result (IsFront out.old.items out.new.items) }
 {
     let mut rest = terms;
     for position in 0..rank {
@@ -154,7 +154,7 @@ fn append_each(
 ) -> Result<(), NoMemory>
     requires { Each (HasVariables (length vars.now)) terms.now }
     ensures ok { OnOk result (out.new.items ≡ out.old.items ++ joined 44 (entry_texts (map string_bytes vars.now) rank terms.now)) }
-    ensures err { OnErr result (Begins out.old.items out.new.items) }
+    ensures err { OnErr result (IsFront out.old.items out.new.items) }
 {
     if ascends(terms) {
         return append_runs(out, vars, rank, terms);
@@ -171,7 +171,7 @@ pub fn append_entries(
 ) -> Result<(), NoMemory>
     requires { Each (HasVariables (length vars.now)) terms.now }
     ensures ok { OnOk result (out.new.items ≡ out.old.items ++ entries_text (map string_bytes vars.now) rank terms.now) }
-    ensures err { OnErr result (Begins out.old.items out.new.items) }
+    ensures err { OnErr result (IsFront out.old.items out.new.items) }
 {
     out.push(b'[')?;
     append_each(out, vars, rank, terms)?;

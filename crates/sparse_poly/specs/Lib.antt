@@ -1,4 +1,6 @@
+-- what public clauses cite
 pub mod Degrees
-pub mod Multiples
 pub mod Powers
 pub mod Stops
+-- invariants of loops
+pub mod Multiples

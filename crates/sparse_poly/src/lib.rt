@@ -5,8 +5,6 @@ mod constant;
 mod multiply;
 mod power;
 mod power_laws;
-#[cfg(test)]
-mod tests;
 
 pub use constant::formal_constant;
 pub use multiply::mul;

@@ -1,10 +1,10 @@
 use Rattle.std.proofs.Common.{◌≡◌, ◌++◌, drop, map, string_bytes}
 use Rattle.poly_text.specs.Texts.{powers_texts}
-use Rattle.poly_text.specs.Writing.{Begins, powers_rest}
+use Rattle.poly_text.specs.Writing.{IsFront, powers_rest}
 use Rattle.poly_text.proofs.polynomial.append_powers.Given as goal
 
 abbrev pub invariant-loop-i : goal.invariant-loop-i
 invariant-loop-i l =
-    Begins l.initial.out.items l.out.items
+    IsFront l.initial.out.items l.out.items
     × (l.out.items ++ powers_rest l.begun (powers_texts (map string_bytes (drop l.i l.vars)) (drop l.i l.exponents))
     ≡ l.initial.out.items ++ powers_rest l.initial.begun (powers_texts (map string_bytes l.vars) l.exponents))

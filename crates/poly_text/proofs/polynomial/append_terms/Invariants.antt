@@ -1,10 +1,10 @@
 use Rattle.std.proofs.Common.{◌≡◌, ◌++◌, drop, map, string_bytes}
 use Rattle.poly_text.specs.Texts.{term_text}
-use Rattle.poly_text.specs.Writing.{Begins, tails}
+use Rattle.poly_text.specs.Writing.{IsFront, tails}
 use Rattle.poly_text.proofs.polynomial.append_terms.Given as goal
 
 abbrev pub invariant-loop-term : goal.invariant-loop-term
 invariant-loop-term l =
-    Begins l.initial.out.items l.out.items
+    IsFront l.initial.out.items l.out.items
     × (l.out.items ++ tails 43 (map (term_text (map string_bytes l.vars)) (drop l.term-index l.rest))
     ≡ l.initial.out.items ++ tails 43 (map (term_text (map string_bytes l.vars)) l.rest))

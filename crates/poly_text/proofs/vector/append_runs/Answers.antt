@@ -1,5 +1,5 @@
 use Rattle.std.proofs.Common.{◌∙◌, ap, sym, arith}
-use Rattle.poly_text.specs.Texts.{at_position, poly_text}
+use Rattle.poly_text.specs.Texts.{terms_at, poly_text}
 use Rattle.poly_text.proofs.Entries.{cuts, each_dropped, entries_step, run_within}
 use Rattle.poly_text.proofs.vector.append_runs.Goals as goal
 
@@ -14,5 +14,5 @@ loop-position-preserved c =
           (ap (poly_text _) (c.split_at.ensures.front ∙ sym cut.here ∙ sym (c.loop-position.invariant.3 c.loop-position.position (omega arith)))),
       (rw c.split_at.ensures.back (each_dropped _ c.loop-position.rest.now c.run_length.result c.loop-position.invariant.1)),
       (rw c.split_at.ensures.back cut.above),
-      (λ q later. c.loop-position.invariant.3 q (omega arith) ∙ cut.others q later ∙ ap (at_position q) (sym c.split_at.ensures.back)),
+      (λ q later. c.loop-position.invariant.3 q (omega arith) ∙ cut.others q later ∙ ap (terms_at q) (sym c.split_at.ensures.back)),
     )
