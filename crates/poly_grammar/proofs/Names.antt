@@ -1,10 +1,9 @@
 -- A tree's steps have the names of its tokens.
 use Rattle.std.proofs.Common.{◌≡◌, List, [], ◌∷◌, ◌++◌, refl, sym, ap, ap₂, ◌∙◌}
 use Rattle.std.proofs.lemmas.List.{append-nil}
-use Rattle.script_tokens.specs.declared.token.Token.{Token}
 use Rattle.poly_grammar.specs.declared.step.Step.{Step}
 use Rattle.poly_grammar.specs.declared.step.Step.TheVariants as acts
-use Rattle.poly_grammar.specs.Lexemes.{Lexeme, name, plus, minus, star, caret, number, opened, closed, names_in}
+use Rattle.poly_grammar.specs.Lexemes.{Lexeme, name, caret, number, closed, names_in}
 use Rattle.poly_grammar.specs.Steps.{steps, lead_steps, terms_steps, term_steps, factors_steps, factor_steps, atom_steps, names_of_steps}
 use Rattle.poly_grammar.specs.Trees.{Lead, bare, positive, negative, Poly, poly, Terms, last, plus_term, minus_term, Term, term, Factors, alone, times, Factor, plain, power, Atom, numeral, letter, group, lead, spelling, terms_spelling, term_spelling, factors_spelling, factor_spelling, atom_spelling}
 

@@ -4,7 +4,8 @@ use Rattle.poly_grammar.specs.declared.step.Step.{Step}
 use Rattle.poly_grammar.specs.declared.stop.ReadStop.{ReadStop}
 use Rattle.poly_grammar.specs.declared.stop.ReadStop.TheVariants.{Memory, Syntax}
 use Rattle.poly_grammar.specs.Lexemes.{Lexeme}
-use Rattle.poly_grammar.specs.Machine.{Gives, IsPolyOf}
+use Rattle.poly_grammar.specs.Answers.{IsPolyOf}
+use Rattle.poly_grammar.specs.Machine.{Gives}
 use Rattle.poly_grammar.specs.Reading.{begun, nests, outcome}
 use Rattle.poly_grammar.specs.Trees.{Poly, Reads}
 use Rattle.poly_grammar.proofs.Complete.{spelling_is_read}

@@ -1,8 +1,11 @@
+-- what public clauses cite
 pub mod Algebras
+pub mod Answers
 pub mod Degrees
 pub mod Lexemes
-pub mod Machine
 pub mod Numerals
-pub mod Reading
 pub mod Steps
 pub mod Trees
+-- invariants of loops
+pub mod Machine
+pub mod Reading

@@ -1,12 +1,7 @@
 -- What the reader's calls give
-use Rattle.std.specs.Prelude.{Bool, Err, List, None, Ok, Option, Result, Some, Vec, false, max, reverse, true, ℕ, ◌∷◌, ◌≡◌}
-use Rattle.std.specs.Global.{Global}
-use Rattle.poly_grammar.specs.Lexemes.{Lexeme}
+use Rattle.std.specs.Prelude.{Bool, Err, List, None, Ok, Option, Result, Some, false, max, reverse, true, ℕ, ◌∷◌, ◌≡◌}
 use Rattle.poly_grammar.specs.Reading.{State}
-use Rattle.poly_grammar.specs.Steps.{steps}
-use Rattle.poly_grammar.specs.Trees.{Poly, Reads}
 use Rattle.poly_grammar.specs.declared.reader.Reader.{Reader}
-use Rattle.poly_grammar.specs.declared.step.Step.{Step}
 use Rattle.poly_grammar.specs.declared.stop.ReadStop.{ReadStop}
 use Rattle.poly_grammar.specs.declared.stop.ReadStop.TheVariants.{Memory, Syntax}
 
@@ -19,12 +14,6 @@ abbrev pub Gives : {X Y : Type 0} → (X → Y) → Result X ReadStop → Option
 Gives view (Ok x) answer = answer ≡ Some (view x)
 Gives view (Err Memory) answer = Unit {0}
 Gives view (Err Syntax) answer = answer ≡ None
-
--- what is read is a POLY, by its steps, and what is refused is none
-abbrev pub IsPolyOf : List Lexeme → Result (Vec Step Global) ReadStop → Type 0
-IsPolyOf xs (Ok found) = (p : Poly) × Reads xs p × (found.items ≡ steps p)
-IsPolyOf xs (Err Memory) = Unit {0}
-IsPolyOf xs (Err Syntax) = (p : Poly) → Reads xs p → ⊥
 
 -- what a step left on a stack, the top last, if it was done
 abbrev pub left_by : Bool → List ℕ → Option (List ℕ)

@@ -3,7 +3,8 @@
 ghost use Rattle.std.specs.Prelude.{◌≡◌, ◌++◌, ℕ, List, map, OnOk, IfOk, Some};
 ghost use Rattle.poly_grammar.specs.Lexemes.{lexeme};
 ghost use Rattle.poly_grammar.specs.Reading.{nests, after_sum, after_product, next, ended, begun, at_operand, at_start, closing, after_factor, outcome};
-ghost use Rattle.poly_grammar.specs.Machine.{state_of, Gives, IsPolyOf};
+ghost use Rattle.poly_grammar.specs.Answers.{IsPolyOf};
+ghost use Rattle.poly_grammar.specs.Machine.{state_of, Gives};
 
 use crate::step::Step;
 use crate::stop::ReadStop;

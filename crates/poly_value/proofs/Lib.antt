@@ -1,3 +1,4 @@
-pub mod Sums
+pub mod Degrees
 pub mod Places
 pub mod Steps
+pub mod Sums

@@ -1,20 +1,28 @@
 -- Steps on a stack of sums
-use Rattle.std.proofs.Common.{◌≡◌, ℕ, ◌+◌, ◌-◌, ◌<◌, ◌++◌, List, [], ◌∷◌, Option, Some, None, Result, Ok, Err, IfOk, OnOk, Vec, arith, drop, get_or, length, refl, subst, suc, sym, ap, ◌∙◌}
+use Rattle.std.proofs.Common.{◌≡◌, ℕ, ◌*◌, ◌+◌, ◌-◌, ◌<◌, ◌^◌, ◌≤◌, ◌++◌, List, [], ◌∷◌, Option, Some, None, Result, Ok, Err, IfOk, OnOk, Vec, arith, drop, get_or, length, refl, subst, suc, sym, ap, ◌∙◌}
 use Rattle.std.proofs.Math.Seq.{drop-cons}
 use Rattle.std.proofs.lemmas.Option.{none-some, same_Some}
 use Rattle.std.specs.Global.{Global}
+use Rattle.std.specs.List.{AllByRecursion}
+use Rattle.script_tokens.specs.declared.token.Token.{Token}
 use Rattle.monomials.specs.Exponents.{unit}
-use Rattle.formal_sums.proofs.Sameness.{IsSame_trans}
+use Rattle.formal_sums.proofs.Sameness.{IsSame_sym, IsSame_trans}
 use Rattle.formal_sums.specs.FormalSums.{FormalSum, scale}
-use Rattle.poly_grammar.specs.Algebras.{◌>>=◌, top, worth_of_steps, worth_step, worths}
+use Rattle.poly_grammar.specs.Algebras.{Algebra, ◌>>=◌, top, worth_of_steps, worth_step, worths}
+use Rattle.poly_grammar.specs.Degrees.{degrees}
+use Rattle.poly_grammar.specs.Numerals.{value_of}
+use Rattle.poly_grammar.specs.Steps.{numbers_of_steps}
 use Rattle.poly_grammar.specs.declared.step.Step.{Step}
-use Rattle.poly_grammar.specs.declared.step.Step.TheVariants.{Add, Subtract, Negate}
+use Rattle.poly_grammar.specs.declared.step.Step.TheVariants.{Add, Multiply, Name, Negate, Number, Power, Subtract}
 use Rattle.module_vectors.specs.Rings.{variables}
 use Rattle.module_vectors.specs.Vectors.{StandsFor, sum_of}
 use Rattle.module_vectors.specs.declared.key.Key.{Key}
 use Rattle.module_vectors.specs.declared.ring.Ring.{Ring}
+use Rattle.sparse_poly.proofs.Bounding.{HasDegreeWithin_same}
+use Rattle.sparse_poly.specs.Degrees.{HasDegreeWithin}
+use Rattle.poly_value.proofs.Degrees.{allowed, within_step}
 use Rattle.poly_value.proofs.Sums.{joined_part}
-use Rattle.poly_value.specs.Parts.{Advances, AreParts, IsPart}
+use Rattle.poly_value.specs.Parts.{Advances, AreParts, AreWithin, IsPart, IsReady, PowerFits, ProductFits}
 use Rattle.poly_value.specs.Values.{polynomials_of}
 
 -- the terms of a sum, and a stack of them, the top first
@@ -86,34 +94,121 @@ pub negated :
     → OnOk r (Advances ring line Negate old new)
 negated ring line old rest new terms opposite r e o n = moved_one ring line Negate old rest new terms opposite r e (negate_advances ring line rest terms opposite o) n
 
--- the stack stands for values from which the steps that are left give what all of them give
+-- the numbers among the first of steps and among the others
+first_numerals : (P : Token → Type 0) (step : Step) (more : List Step) → AllByRecursion P (numbers_of_steps (step ∷ more)) → AllByRecursion P (numbers_of_steps (step ∷ []))
+first_numerals P (Number t) more h = (h.0, tt)
+first_numerals P (Power t) more h = (h.0, tt)
+first_numerals P (Name t) more h = tt
+first_numerals P Multiply more h = tt
+first_numerals P Add more h = tt
+first_numerals P Subtract more h = tt
+first_numerals P Negate more h = tt
+
+other_numerals : (P : Token → Type 0) (step : Step) (more : List Step) → AllByRecursion P (numbers_of_steps (step ∷ more)) → AllByRecursion P (numbers_of_steps more)
+other_numerals P (Number t) more h = h.1
+other_numerals P (Power t) more h = h.1
+other_numerals P (Name t) more h = h
+other_numerals P Multiply more h = h
+other_numerals P Add more h = h
+other_numerals P Subtract more h = h
+other_numerals P Negate more h = h
+
+-- where all steps have a worth, the first of them has one
+has_worth : {A : Type 0} (g : Algebra A) (step : Step) (more : List Step) (stack : List A) (all : Option A) (x : A) → all ≡ Some x
+    → (worths g (step ∷ more) stack >>= top) ≡ all → (left : List A) × (worth_step g step stack ≡ Some left) × ((worths g more left >>= top) ≡ all)
+has_worth {A} g step more stack all x w h = go (worth_step g step stack) refl h
+  where
+    go : (o : Option (List A)) → worth_step g step stack ≡ o → ((o >>= worths g more) >>= top) ≡ all
+        → (left : List A) × (worth_step g step stack ≡ Some left) × ((worths g more left >>= top) ≡ all)
+    go None e r = absurd (none-some x (r ∙ w))
+    go (Some left) e r = (left, e, r)
+
+-- The stack stands for values from which the steps that are left give what all of them give, and so it is with the degrees.
 pub record IsWorking (ring : Ring) (line : List ℕ) (all left : List Step) (stack : List Terms) : Type 0 where
   pub values : List (FormalSum (variables ring))
   pub parts : AreParts ring stack values
   pub worth_is : (worths (polynomials_of ring line) left values >>= top) ≡ worth_of_steps (polynomials_of ring line) all
+  pub bounds : List ℕ
+  pub within : AreWithin ring.modulus.value values bounds
+  pub degree_is : (worths (degrees (value_of line)) left bounds >>= top) ≡ worth_of_steps (degrees (value_of line)) all
+  pub numerals : AllByRecursion (λ t. value_of line t < 2 ^ 128) (numbers_of_steps left)
 
-working_step :
-    (ring : Ring) (line : List ℕ) (all more : List Step) (step : Step) (old new : List Terms) (x : FormalSum (variables ring))
-    → worth_of_steps (polynomials_of ring line) all ≡ Some x → IsWorking ring line all (step ∷ more) old → Advances ring line step old new
-    → IsWorking ring line all more new
-working_step ring line all more step old new x w h advances = go (worth_step (polynomials_of ring line) step h.values) refl h.worth_is
+module _ (ring : Ring) (line : List ℕ) (all : List Step) (x : FormalSum (variables ring)) (d : ℕ)
+    (w : worth_of_steps (polynomials_of ring line) all ≡ Some x) (low : worth_of_steps (degrees (value_of line)) all ≡ Some d) where
+  pub starts : AllByRecursion (λ t. value_of line t < 2 ^ 128) (numbers_of_steps all) → IsWorking ring line all all []
+  starts h = record { values = []; parts = tt; worth_is = refl; bounds = []; within = tt; degree_is = refl; numerals = h }
+
+  ready : (more : List Step) (step : Step) (old : List Terms) → IsWorking ring line all (step ∷ more) old → IsReady ring line step old
+  ready more step old h =
+      let one = has_worth (polynomials_of ring line) step more h.values _ x w h.worth_is in
+      let other = has_worth (degrees (value_of line)) step more h.bounds _ d low h.degree_is in
+      record { values = h.values; parts = h.parts; worth = (one.0, one.1); bounds = h.bounds; within = h.within; degree = (other.0, other.1); numerals = first_numerals _ step more h.numerals }
+
+  working_step : (more : List Step) (step : Step) (old new : List Terms) → IsWorking ring line all (step ∷ more) old → Advances ring line step old new → IsWorking ring line all more new
+  working_step more step old new h advances =
+      let one = has_worth (polynomials_of ring line) step more h.values _ x w h.worth_is in
+      let other = has_worth (degrees (value_of line)) step more h.bounds _ d low h.degree_is in
+      record {
+        values = one.0;
+        parts = advances h.values one.0 h.parts one.1;
+        worth_is = one.2;
+        bounds = other.0;
+        within = within_step ring line step h.values one.0 h.bounds other.0 one.1 other.1 h.within;
+        degree_is = other.2;
+        numerals = other_numerals _ step more h.numerals;
+      }
+
+  module _ (i : ℕ) (step other : Step) (old : List Terms) (lt : i < length all) (e : step ≡ get_or all i other) (h : IsWorking ring line all (drop i all) old) where
+    here : IsWorking ring line all (step ∷ drop (i + 1) all) old
+    here =
+        let s : suc i ≡ i + 1 = omega arith in
+        let first : drop i all ≡ step ∷ drop (i + 1) all = drop-cons all i other lt ∙ ap (λ y. y ∷ drop (suc i) all) (sym e) ∙ ap (λ k. step ∷ drop k all) s in
+        subst (λ l. IsWorking ring line all l old) first h
+
+    -- one step of the loop can be done
+    pub is_ready : IsReady ring line step old
+    is_ready = ready (drop (i + 1) all) step old here
+
+    -- and leads on
+    pub working_on : (new : List Terms) → Advances ring line step old new → IsWorking ring line all (drop (i + 1) all) new
+    working_on new advances = working_step (drop (i + 1) all) step old new here advances
+
+sum_within : (ring : Ring) (d : ℕ) (v : FormalSum (variables ring)) (terms : List (Key × ℕ)) → IsPart ring v terms → HasDegreeWithin ring.modulus.value d v
+    → HasDegreeWithin ring.modulus.value d (sum_of (variables ring) terms)
+sum_within ring d v terms h g = HasDegreeWithin_same (IsSame_sym h.stands) g
+
+-- the degrees of a product and a power that can be worked out
+pub product_fits :
+    (ring : Ring) (line : List ℕ) (stack mid rest : List Terms) (right left : Terms)
+    → IsReady ring line Multiply stack → stack ≡ right ∷ mid → mid ≡ left ∷ rest → ProductFits ring left.items right.items
+product_fits ring line stack mid rest right left h e f = go h.values h.bounds (subst (λ l. AreParts ring l h.values) (e ∙ ap (λ l. right ∷ l) f) h.parts) h.within h.degree.1
   where
     go :
-        (o : Option (List (FormalSum (variables ring)))) → worth_step (polynomials_of ring line) step h.values ≡ o
-        → ((o >>= worths (polynomials_of ring line) more) >>= top) ≡ worth_of_steps (polynomials_of ring line) all
-        → IsWorking ring line all more new
-    go None e r = absurd (none-some x (r ∙ w))
-    go (Some left) e r = record { values = left; parts = advances h.values left h.parts e; worth_is = r }
+        (vs : List (FormalSum (variables ring))) (ds : List ℕ) → AreParts ring (right ∷ left ∷ rest) vs → AreWithin ring.modulus.value vs ds
+        → worth_step (degrees (value_of line)) Multiply ds ≡ Some h.degree.0 → ProductFits ring left.items right.items
+    go [] ds p q r = absurd p
+    go (b ∷ []) ds p q r = absurd p.1
+    go (b ∷ a ∷ vs) [] p q r = absurd q
+    go (b ∷ a ∷ vs) (d ∷ []) p q r = absurd q.1
+    go (b ∷ a ∷ vs) (d ∷ c ∷ ds) p q r =
+        let le = (allowed (c + d) ds h.degree.0 r).0 in
+        (c, d, sum_within ring c a left.items p.1.0 q.1.0, sum_within ring d b right.items p.0 q.0, omega arith)
 
--- one step of the loop
-pub working_on :
-    (ring : Ring) (line : List ℕ) (all : List Step) (i : ℕ) (step other : Step) (old new : List Terms) (x : FormalSum (variables ring))
-    → i < length all → step ≡ get_or all i other → worth_of_steps (polynomials_of ring line) all ≡ Some x
-    → IsWorking ring line all (drop i all) old → Advances ring line step old new → IsWorking ring line all (drop (i + 1) all) new
-working_on ring line all i step other old new x lt e w h advances =
-    let s : suc i ≡ i + 1 = omega arith in
-    let d : drop i all ≡ step ∷ drop (i + 1) all = drop-cons all i other lt ∙ ap (λ y. y ∷ drop (suc i) all) (sym e) ∙ ap (λ k. step ∷ drop k all) s in
-    working_step ring line all (drop (i + 1) all) step old new x w (subst (λ l. IsWorking ring line all l old) d h) advances
+pub power_fits :
+    (ring : Ring) (line : List ℕ) (token : Token) (stack rest : List Terms) (base : Terms) (n : ℕ)
+    → IsReady ring line (Power token) stack → stack ≡ base ∷ rest → n ≡ value_of line token → PowerFits ring base.items n
+power_fits ring line token stack rest base n h e is = go h.values h.bounds (subst (λ l. AreParts ring l h.values) e h.parts) h.within h.degree.1
+  where
+    go :
+        (vs : List (FormalSum (variables ring))) (ds : List ℕ) → AreParts ring (base ∷ rest) vs → AreWithin ring.modulus.value vs ds
+        → worth_step (degrees (value_of line)) (Power token) ds ≡ Some h.degree.0 → PowerFits ring base.items n
+    go [] ds p q r = absurd p
+    go (v ∷ vs) [] p q r = absurd q
+    go (v ∷ vs) (d ∷ ds) p q r =
+        let k : ℕ = value_of line token in
+        let le : d * k ≤ 1000 = (allowed (d * k) ds h.degree.0 r).0 in
+        let fits : k * d ≤ 65535 = omega arith in
+        (d, sum_within ring d v base.items p.0 q.0, subst (λ m. m * d ≤ 65535) (sym is) fits)
 
 -- at the end there is something on top
 pub working_has_top :

@@ -2,7 +2,7 @@
 use Rattle.std.proofs.Common.{◌≡◌, ℕ, ◌*◌, ◌<◌, ◌++◌, List, [], ◌∷◌, sym, ap, ap₂, ◌∙◌, subst, arith, mod-lt}
 use Rattle.std.specs.declared.cmp.Ordering.{Ordering}
 use Rattle.monomials.specs.Exponents.{unit}
-use Rattle.formal_sums.proofs.Sameness.{IsSame_append, IsSame_of, IsSame_scale, IsSame_trans}
+use Rattle.formal_sums.proofs.Sameness.{IsSame_append, IsSame_of, IsSame_scale, IsSame_sym, IsSame_trans}
 use Rattle.formal_sums.proofs.WeightedSums.{Each_append}
 use Rattle.formal_sums.specs.FormalSums.{Each, FormalSum, IsSame, Key as KeyOf, product, scale}
 use Rattle.orders.specs.KeyOrders.{IsKeyOrder}
@@ -15,7 +15,9 @@ use Rattle.module_vectors.specs.Vectors.{AreTermsOver, HasPositions, HasVariable
 use Rattle.module_vectors.specs.declared.key.Key.{Key}
 use Rattle.module_vectors.specs.declared.ring.Ring.{Ring}
 use Rattle.sparse_poly.proofs.Powering.{IsSame_power, IsSame_product_both}
-use Rattle.sparse_poly.proofs.Terms.{HasPositions_of, IsPolynomial_of}
+use Rattle.sparse_poly.proofs.Bounding.{HasDegreeWithin_same}
+use Rattle.sparse_poly.proofs.Terms.{HasPositions_of, IsPolynomial_of, IsWithinDegree_of}
+use Rattle.sparse_poly.specs.Degrees.{HasDegreeWithin, IsWithinDegree}
 use Rattle.sparse_poly.specs.Powers.{power}
 use Rattle.poly_value.specs.Parts.{IsPart, IsSum}
 use Rattle.poly_value.specs.Values.{variable_sum}
@@ -35,6 +37,12 @@ pub normal_positions :
     {n r : ℕ} {compare : KeyOf n → KeyOf n → Ordering} (order : IsKeyOrder r compare) (p : ℕ) (terms v : List (Key × ℕ))
     → HasPositions 1 terms → IsVector n p compare v → IsSame p (sum_of n v) (sum_of n terms) → HasPositions 1 v
 normal_positions {n = n} order p terms v positions h same = HasPositions_of order p v (sum_of n terms) h same (IsPolynomial_of n terms positions)
+
+-- and it is within a degree of the sum
+pub normal_within :
+    {n r : ℕ} {compare : KeyOf n → KeyOf n → Ordering} (order : IsKeyOrder r compare) (p : ℕ) (terms v : List (Key × ℕ)) (d : ℕ)
+    → IsVector n p compare v → IsSame p (sum_of n v) (sum_of n terms) → HasDegreeWithin p d (sum_of n terms) → IsWithinDegree d v
+normal_within order p terms v d h same g = IsWithinDegree_of order p v d h (HasDegreeWithin_same (IsSame_sym same) g)
 
 positive : (p : ℕ) → 1 < p → 0 < p
 positive p h = omega arith

@@ -1,2 +1,4 @@
-pub mod Parts
+-- what public clauses cite
 pub mod Values
+-- invariants of loops
+pub mod Parts

@@ -1,13 +1,18 @@
 -- Sums of terms that stand on the stack while a polynomial is worked out
-use Rattle.std.specs.Prelude.{List, Some, Vec, [], ◌∷◌, ◌≡◌, ℕ}
+use Rattle.std.specs.Prelude.{List, Some, Vec, [], ◌*◌, ◌+◌, ◌<◌, ◌^◌, ◌∷◌, ◌≡◌, ◌≤◌, ℕ}
 use Rattle.std.specs.Global.{Global}
+use Rattle.std.specs.List.{AllByRecursion}
 use Rattle.poly_grammar.specs.Algebras.{worth_step}
+use Rattle.poly_grammar.specs.Degrees.{degrees}
+use Rattle.poly_grammar.specs.Numerals.{value_of}
+use Rattle.poly_grammar.specs.Steps.{numbers_of_steps}
 use Rattle.poly_grammar.specs.declared.step.Step.{Step}
 use Rattle.formal_sums.specs.FormalSums.{FormalSum}
 use Rattle.module_vectors.specs.Rings.{variables}
-use Rattle.module_vectors.specs.Vectors.{AreTermsOver, HasPositions, StandsFor}
+use Rattle.module_vectors.specs.Vectors.{AreTermsOver, HasPositions, StandsFor, sum_of}
 use Rattle.module_vectors.specs.declared.key.Key.{Key}
 use Rattle.module_vectors.specs.declared.ring.Ring.{Ring}
+use Rattle.sparse_poly.specs.Degrees.{HasDegreeWithin}
 use Rattle.poly_value.specs.Values.{polynomials_of}
 
 -- terms of the ring at position 0, in any order and with repeats
@@ -20,16 +25,37 @@ pub record IsPart (ring : Ring) (v : FormalSum (variables ring)) (terms : List (
   pub sum : IsSum ring terms
   pub stands : StandsFor ring terms v
 
+-- the product of the sums has a degree of at most 65,535, by bounds on theirs
+abbrev pub ProductFits : Ring → List (Key × ℕ) → List (Key × ℕ) → Type 0
+ProductFits ring left right = (d e : ℕ) × HasDegreeWithin ring.modulus.value d (sum_of (variables ring) left)
+    × HasDegreeWithin ring.modulus.value e (sum_of (variables ring) right) × (d + e ≤ 65535)
+
+-- the power of the sum has a degree of at most 65,535, by a bound on that of the sum
+abbrev pub PowerFits : Ring → List (Key × ℕ) → ℕ → Type 0
+PowerFits ring base n = (d : ℕ) × HasDegreeWithin ring.modulus.value d (sum_of (variables ring) base) × (n * d ≤ 65535)
+
 -- the sums of a stack, the top first, are parts of these values
 abbrev pub AreParts : (ring : Ring) → List (Vec (Key × ℕ) Global) → List (FormalSum (variables ring)) → Type 0
 AreParts ring [] [] = Unit {0}
 AreParts ring (terms ∷ stack) (v ∷ vs) = IsPart ring v terms.items × AreParts ring stack vs
 AreParts ring _ _ = ⊥
 
--- the sums of a stack, the top first, are parts of some values
-pub record IsStack (ring : Ring) (stack : List (Vec (Key × ℕ) Global)) : Type 0 where
+-- the values have degrees of at most these
+abbrev pub AreWithin : {n : ℕ} → ℕ → List (FormalSum n) → List ℕ → Type 0
+AreWithin p [] [] = Unit {0}
+AreWithin p (v ∷ vs) (d ∷ ds) = HasDegreeWithin p d v × AreWithin p vs ds
+AreWithin p _ _ = ⊥
+
+-- the step can be done on a stack of sums, the top first: it has a worth for their values, a formal degree for theirs, and
+-- its number is below 2^128
+pub record IsReady (ring : Ring) (line : List ℕ) (step : Step) (stack : List (Vec (Key × ℕ) Global)) : Type 0 where
   pub values : List (FormalSum (variables ring))
   pub parts : AreParts ring stack values
+  pub worth : (left : List (FormalSum (variables ring))) × (worth_step (polynomials_of ring line) step values ≡ Some left)
+  pub bounds : List ℕ
+  pub within : AreWithin ring.modulus.value values bounds
+  pub degree : (left : List ℕ) × (worth_step (degrees (value_of line)) step bounds ≡ Some left)
+  pub numerals : AllByRecursion (λ t. value_of line t < 2 ^ 128) (numbers_of_steps (step ∷ []))
 
 -- the step leads from one stack of sums, the top first, to the other
 abbrev pub Advances : Ring → List ℕ → Step → List (Vec (Key × ℕ) Global) → List (Vec (Key × ℕ) Global) → Type 0

@@ -1,7 +1,7 @@
 //! Sums of terms at position 0, in any order and with repeats, and what polynomials are made of them.
 //!
-//! A sum is only joined; it is brought to normal form where it is multiplied. Where the formal degree of a product or power
-//! is at most 65,535, as it is in what `polynomial_value` works out, `NoMemory` comes only where a growth was refused.
+//! A sum is only joined; it is brought to normal form where it is multiplied. Products and powers are those of a degree of
+//! at most 65,535.
 
 ghost use Rattle.std.specs.Prelude.{◌≡◌, ◌-◌, ◌<◌, ◌++◌, IfOk};
 ghost use Rattle.monomials.specs.Exponents.{unit};
@@ -9,11 +9,12 @@ ghost use Rattle.formal_sums.specs.FormalSums.{Each, FormalSum, product, scale};
 ghost use Rattle.module_vectors.specs.Multiples.{rescaled};
 ghost use Rattle.module_vectors.specs.Rings.{variables};
 ghost use Rattle.module_vectors.specs.Vectors.{HasPositions, IsVectorOver, StandsFor, sum_of};
+ghost use Rattle.module_vectors.specs.declared.stop.VectStop.TheVariants.{Memory};
 ghost use Rattle.sparse_poly.specs.Powers.{constant, power};
-ghost use Rattle.poly_value.specs.Parts.{IsPart, IsSum};
+ghost use Rattle.poly_value.specs.Parts.{IsPart, IsSum, PowerFits, ProductFits};
 ghost use Rattle.poly_value.specs.Values.{variable_sum};
 
-use module_vectors::{Frame, Key, NoMemory, Vect};
+use module_vectors::{Frame, Key, NoMemory, Vect, VectStop};
 use monomial_orders::Mono;
 use sparse_poly::{formal_constant, mul, pow};
 use std::alloc::Global;
@@ -63,6 +64,16 @@ pub fn joined(left: Vec<(Key, u32)>, right: Vec<(Key, u32)>) -> Result<Vec<(Key,
     Ok(terms)
 }
 
+/// The answer to a stop that is want of memory.
+fn no_memory(stop: VectStop) -> NoMemory
+    requires { stop ≡ Memory }
+{
+    match stop {
+        VectStop::Memory => NoMemory,
+        VectStop::Degree(_, _) => unreachable!(),
+    }
+}
+
 /// The terms of a constant.
 pub fn constant_part<F: Frame>(
     alloc: Global,
@@ -73,7 +84,7 @@ pub fn constant_part<F: Frame>(
 {
     match formal_constant(alloc, frame, n) {
         Ok(v) => Ok(v.into_terms()),
-        Err(_) => Err(NoMemory),
+        Err(stop) => Err(no_memory(stop)),
     }
 }
 
@@ -109,6 +120,7 @@ pub fn product_part<F: Frame>(
 ) -> Result<Vec<(Key, u32)>, NoMemory>
     requires left { IsSum (F.over frame.now) left.items }
     requires right { IsSum (F.over frame.now) right.items }
+    requires fits { ProductFits (F.over frame.now) left.items right.items }
     ensures { (v w : FormalSum (variables (F.over frame.now))) → IsPart (F.over frame.now) v left.items → IsPart (F.over frame.now) w right.items
         → IfOk result (λ terms. IsPart (F.over frame.now) (product v w) terms.items) }
 {
@@ -117,7 +129,7 @@ pub fn product_part<F: Frame>(
     let right = normal(alloc, frame, right)?;
     match mul(alloc, frame, &left, &right) {
         Ok(v) => Ok(v.into_terms()),
-        Err(_) => Err(NoMemory),
+        Err(stop) => Err(no_memory(stop)),
     }
 }
 
@@ -128,7 +140,8 @@ pub fn power_part<F: Frame>(
     base: Vec<(Key, u32)>,
     n: u128,
 ) -> Result<Vec<(Key, u32)>, NoMemory>
-    requires { IsSum (F.over frame.now) base.items }
+    requires base { IsSum (F.over frame.now) base.items }
+    requires fits { PowerFits (F.over frame.now) base.items n }
     ensures { (v : FormalSum (variables (F.over frame.now))) → IsPart (F.over frame.now) v base.items
         → IfOk result (λ terms. IsPart (F.over frame.now) (power v n) terms.items) }
 {
@@ -136,6 +149,6 @@ pub fn power_part<F: Frame>(
     let base = normal(alloc, frame, base)?;
     match pow(alloc, frame, &base, n) {
         Ok(v) => Ok(v.into_terms()),
-        Err(_) => Err(NoMemory),
+        Err(stop) => Err(no_memory(stop)),
     }
 }

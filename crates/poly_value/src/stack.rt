@@ -1,11 +1,11 @@
 //! One step of working out, on a stack of sums of terms with the last operand on top.
 //!
-//! Steps that have a worth find their operands there, numbers below 2^128 and names of variables; a step that does not
-//! answers `NoMemory`, and leaves the stack to be dropped.
+//! Each step that is done has a worth and a formal degree, so that it finds its operands there, numbers below 2^128 and names
+//! of variables. Answers `NoMemory` where a growth was refused, and leaves the stack to be dropped.
 
 ghost use Rattle.std.specs.Prelude.{◌≡◌, ◌∷◌, [], reverse, MatchOption, OnOk};
 ghost use Rattle.poly_grammar.specs.declared.step.Step.TheVariants as steps;
-ghost use Rattle.poly_value.specs.Parts.{Advances, IsStack};
+ghost use Rattle.poly_value.specs.Parts.{Advances, IsReady};
 
 use crate::names::place;
 use crate::parts::{constant_part, joined, oppose, power_part, product_part, variable_part};
@@ -37,10 +37,11 @@ fn put_number<F: Frame>(
     token: Token,
     stack: &mut Vec<Vec<(Key, u32)>>,
 ) -> Result<(), NoMemory>
+    requires { IsReady (F.over frame.now) line.now (steps.Number token) (reverse stack.old.items) }
     ensures { OnOk result (Advances (F.over frame.now) line.now (steps.Number token) (reverse stack.old.items) (reverse stack.new.items)) }
 {
     let Some(n) = number(text(line, token)) else {
-        return Err(NoMemory);
+        unreachable!()
     };
     let terms = constant_part(alloc, frame, n)?;
     put_top(stack, terms)
@@ -54,10 +55,11 @@ fn put_name<F: Frame>(
     token: Token,
     stack: &mut Vec<Vec<(Key, u32)>>,
 ) -> Result<(), NoMemory>
+    requires { IsReady (F.over frame.now) line.now (steps.Name token) (reverse stack.old.items) }
     ensures { OnOk result (Advances (F.over frame.now) line.now (steps.Name token) (reverse stack.old.items) (reverse stack.new.items)) }
 {
     let Some(i) = place(&frame.ring().vars, text(line, token)) else {
-        return Err(NoMemory);
+        unreachable!()
     };
     let terms = variable_part(alloc, frame, i)?;
     put_top(stack, terms)
@@ -71,14 +73,14 @@ fn raise_top<F: Frame>(
     token: Token,
     stack: &mut Vec<Vec<(Key, u32)>>,
 ) -> Result<(), NoMemory>
-    requires { IsStack (F.over frame.now) (reverse stack.old.items) }
+    requires { IsReady (F.over frame.now) line.now (steps.Power token) (reverse stack.old.items) }
     ensures { OnOk result (Advances (F.over frame.now) line.now (steps.Power token) (reverse stack.old.items) (reverse stack.new.items)) }
 {
     let Some(base) = take_top(stack) else {
-        return Err(NoMemory);
+        unreachable!()
     };
     let Some(n) = number(text(line, token)) else {
-        return Err(NoMemory);
+        unreachable!()
     };
     let terms = power_part(alloc, frame, base, n)?;
     put_top(stack, terms)
@@ -91,14 +93,14 @@ fn multiply_top<F: Frame>(
     line: &[u8],
     stack: &mut Vec<Vec<(Key, u32)>>,
 ) -> Result<(), NoMemory>
-    requires { IsStack (F.over frame.now) (reverse stack.old.items) }
+    requires { IsReady (F.over frame.now) line.now steps.Multiply (reverse stack.old.items) }
     ensures { OnOk result (Advances (F.over frame.now) line.now steps.Multiply (reverse stack.old.items) (reverse stack.new.items)) }
 {
     let Some(right) = take_top(stack) else {
-        return Err(NoMemory);
+        unreachable!()
     };
     let Some(left) = take_top(stack) else {
-        return Err(NoMemory);
+        unreachable!()
     };
     let terms = product_part(alloc, frame, left, right)?;
     put_top(stack, terms)
@@ -110,15 +112,16 @@ fn add_top<F: Frame>(
     line: &[u8],
     stack: &mut Vec<Vec<(Key, u32)>>,
 ) -> Result<(), NoMemory>
+    requires { IsReady (F.over frame.now) line.now steps.Add (reverse stack.old.items) }
     ensures { OnOk result (Advances (F.over frame.now) line.now steps.Add (reverse stack.old.items) (reverse stack.new.items)) }
 {
     let _ring = frame.ring();
     let _line = line;
     let Some(right) = take_top(stack) else {
-        return Err(NoMemory);
+        unreachable!()
     };
     let Some(left) = take_top(stack) else {
-        return Err(NoMemory);
+        unreachable!()
     };
     let terms = joined(left, right)?;
     put_top(stack, terms)
@@ -130,15 +133,15 @@ fn subtract_top<F: Frame>(
     line: &[u8],
     stack: &mut Vec<Vec<(Key, u32)>>,
 ) -> Result<(), NoMemory>
-    requires { IsStack (F.over frame.now) (reverse stack.old.items) }
+    requires { IsReady (F.over frame.now) line.now steps.Subtract (reverse stack.old.items) }
     ensures { OnOk result (Advances (F.over frame.now) line.now steps.Subtract (reverse stack.old.items) (reverse stack.new.items)) }
 {
     let _line = line;
     let Some(mut right) = take_top(stack) else {
-        return Err(NoMemory);
+        unreachable!()
     };
     let Some(left) = take_top(stack) else {
-        return Err(NoMemory);
+        unreachable!()
     };
     oppose(frame, &mut right);
     let terms = joined(left, right)?;
@@ -151,12 +154,12 @@ fn negate_top<F: Frame>(
     line: &[u8],
     stack: &mut Vec<Vec<(Key, u32)>>,
 ) -> Result<(), NoMemory>
-    requires { IsStack (F.over frame.now) (reverse stack.old.items) }
+    requires { IsReady (F.over frame.now) line.now steps.Negate (reverse stack.old.items) }
     ensures { OnOk result (Advances (F.over frame.now) line.now steps.Negate (reverse stack.old.items) (reverse stack.new.items)) }
 {
     let _line = line;
     let Some(mut terms) = take_top(stack) else {
-        return Err(NoMemory);
+        unreachable!()
     };
     oppose(frame, &mut terms);
     put_top(stack, terms)
@@ -170,7 +173,7 @@ pub fn do_step<F: Frame>(
     step: Step,
     stack: &mut Vec<Vec<(Key, u32)>>,
 ) -> Result<(), NoMemory>
-    requires { IsStack (F.over frame.now) (reverse stack.old.items) }
+    requires { IsReady (F.over frame.now) line.now step (reverse stack.old.items) }
     ensures { OnOk result (Advances (F.over frame.now) line.now step (reverse stack.old.items) (reverse stack.new.items)) }
 {
     match step {

@@ -14,7 +14,8 @@ use Rattle.poly_grammar.specs.Steps.{steps}
 use Rattle.poly_grammar.specs.Trees.{Poly}
 use Rattle.poly_grammar.specs.declared.step.Step.{Step}
 use Rattle.poly_grammar.proofs.Unique.{one_tree}
-use Rattle.script_parse.specs.Forms.{AreReadAs, Gives, IsRead, IsReadBehind, head_of, names_behind, names_of, with_name}
+use Rattle.poly_grammar.specs.Machine.{Gives}
+use Rattle.script_parse.specs.Forms.{AreReadAs, IsRead, IsReadBehind, head_of, names_behind, names_of, with_name}
 use Rattle.script_parse.specs.Written.{AreEntries, ArePolys, IsOnePoly, Written, ask_line, divide_line, equal_line, ideal_line, nothing, ring_line, show_line, Word, division_word, equal_word, ideal_word, question_word, ring_word, show_word, polys_of, word_text, word_of, IsBehind, IsLine, IsWritten, IsWrittenAs, comma_names, order_word}
 use Rattle.script_parse.specs.declared.form.Division.{Division}
 use Rattle.script_parse.specs.declared.form.Division.TheVariants.{Member, NormalForm}
@@ -27,6 +28,7 @@ use Rattle.script_parse.specs.declared.form.Form.TheVariants as forms
 use Rattle.script_parse.specs.declared.form.OrderName.{OrderName}
 use Rattle.script_parse.specs.declared.form.OrderName.TheVariants.{Lex, Grevlex}
 use Rattle.script_parse.proofs.Pieces.{one_list, one_vector}
+use Rattle.script_tokens.proofs.Cuts.{one_cut}
 
 named : (k : TokenKind) (t : Token) → k ≡ kinds.Name → lexeme_as k t ≡ name t
 named k t e = rw e refl
@@ -277,5 +279,5 @@ same_written line (t ∷ ts) v w h k =
 -- a line is written in one way
 pub one_line : (line : List ℕ) (v w : Written) → IsLine line v → IsLine line w → v ≡ w
 one_line line v w h k =
-    let same : k.found ≡ h.found = cc (h.cut, k.cut) in
+    let same : k.found ≡ h.found = one_cut line k.found h.found k.cut h.cut in
     same_written line h.found v w h.written (subst (λ l. IsWritten line (map lexeme l) w) same k.written)

@@ -11,8 +11,9 @@ use Rattle.std.specs.Cmp.Lexicographic.{pointwise, same_text, other_text}
 use Rattle.script_tokens.specs.declared.token.Token.{Token}
 use Rattle.script_tokens.specs.declared.token.TokenKind.{TokenKind}
 use Rattle.script_tokens.specs.declared.token.TokenKind.TheVariants as kinds
-use Rattle.script_tokens.specs.Tokens.{is_name_byte, tokens_of}
-use Rattle.script_tokens.specs.Cuts.{HaveTexts, IsToken, Passes}
+use Rattle.script_tokens.specs.Tokens.{is_name_byte}
+use Rattle.script_tokens.specs.Cuts.{HasTokens, HaveTexts, IsToken, Passes}
+use Rattle.script_tokens.proofs.Cuts.{one_cut}
 use Rattle.script_tokens.proofs.Texts.{have_texts}
 use Rattle.poly_grammar.specs.Lexemes.{Lexeme, close_bracket, comma, lexeme, lexeme_as, name, names_in, number, numbers_in}
 use Rattle.poly_grammar.specs.Numerals.{FitsAs, NumeralFits, number_of, text_of, value_of}
@@ -20,7 +21,7 @@ use Rattle.poly_grammar.specs.Steps.{numbers_of_steps, steps}
 use Rattle.poly_grammar.specs.Trees.{Poly, Reads, spelling}
 use Rattle.poly_grammar.specs.declared.step.Step.{Step}
 use Rattle.poly_grammar.proofs.NumbersOfSteps.{steps_have_numbers}
-use Rattle.script_parse.specs.Forms.{IsFormOf, IsPolynomial, IsSound, head_names, head_of, repeats, stands_among}
+use Rattle.script_parse.specs.Forms.{IsFormOf, IsPolynomial, IsWellFormed, head_names, head_of, repeats, stands_among}
 use Rattle.script_parse.specs.Refusals.{HasGreatNumeral, HasRepeat}
 use Rattle.script_parse.specs.Written.{AreEntries, ArePolys, IsWritten, Written, ask_line, comma_names, divide_line, equal_line, ideal_line, nothing, polys_of, ring_line, show_line}
 use Rattle.script_parse.specs.declared.form.Form.{Form}
@@ -147,14 +148,14 @@ are_polynomials (v ∷ pieces) (p ∷ ps) e =
     let tail : map (λ v. v.items) pieces ≡ map steps ps = cc in
     ((p, head), are_polynomials pieces ps tail)
 
-sound_ring : (line : List ℕ) (found : List Token) (w : Written) (modulus : Token) (names : Vec Token Global) (order : OrderName) → tokens_of line ≡ Ok found → IsWritten line (map lexeme found) w → IsFormOf (forms.Ring modulus names order) w → AllByRecursion (λ u. IsAscii (text_of line u)) names.items
+sound_ring : (line : List ℕ) (found : List Token) (w : Written) (modulus : Token) (names : Vec Token Global) (order : OrderName) → HasTokens line found → IsWritten line (map lexeme found) w → IsFormOf (forms.Ring modulus names order) w → AllByRecursion (λ u. IsAscii (text_of line u)) names.items
 sound_ring line found (ring_line m first more o) modulus names order cut h is =
     let all = subst (λ l. AllByRecursion (λ u. IsAscii (text_of line u)) (names_in l)) (h.1.2 ∙ ap (λ l. name h.1.0 ∷ l) h.2.2) (names_ascii line found (have_texts line found cut)) in
     let behind = subst (λ l. AllByRecursion (λ u. IsAscii (text_of line u)) l) (names_behind_commas more (name h.2.0 ∷ [])) all.1.1 in
     subst (λ l. AllByRecursion (λ u. IsAscii (text_of line u)) l) (sym is.1) (all.1.0, all_front (λ u. IsAscii (text_of line u)) more (h.2.0 ∷ []) behind)
 sound_ring line found _ modulus names order cut h is = absurd is
 
-pub sound : (line : List ℕ) (found : List Token) (w : Written) (form : Form) → tokens_of line ≡ Ok found → IsWritten line (map lexeme found) w → IsFormOf form w → AllByRecursion (NumeralFits line) found → IsSound line form
+pub sound : (line : List ℕ) (found : List Token) (w : Written) (form : Form) → HasTokens line found → IsWritten line (map lexeme found) w → IsFormOf form w → AllByRecursion (NumeralFits line) found → IsWellFormed line form
 sound line found w forms.Nothing cut h is fits = tt
 sound line found w (forms.Ring modulus names order) cut h is fits = sound_ring line found w modulus names order cut h is
 sound line found w (forms.Line head pieces) cut h is fits = (
@@ -182,7 +183,7 @@ some_great line (t ∷ ts) none = by_cases (great_as t.kind (text_of line t)) (�
     by_cases (inl f) later = let g = later f in (g.0, (suc g.1.0, (let lt = g.1.1 in omega arith), g.1.2), g.2, g.3)
     by_cases (inr h) later = (t, (0, omega arith, refl), h.0, h.1)
 
-pub great_numeral : (line : List ℕ) (found : List Token) → tokens_of line ≡ Ok found → (AllByRecursion (NumeralFits line) found → ⊥) → HasGreatNumeral line
+pub great_numeral : (line : List ℕ) (found : List Token) → HasTokens line found → (AllByRecursion (NumeralFits line) found → ⊥) → HasGreatNumeral line
 great_numeral line found cut none =
     let g = some_great line found none in record { found = found; cut = cut; numeral = g.0; stands = g.1; is_number = g.2; great = g.3 }
 
@@ -197,9 +198,9 @@ fits_number k text e h = subst (λ x. FitsAs x text) e h
 not_both : (a b : ℕ) → a < b → b ≤ a → ⊥
 not_both a b h k = omega arith
 
-pub no_great : (line : List ℕ) (found : List Token) → tokens_of line ≡ Ok found → AllByRecursion (NumeralFits line) found → HasGreatNumeral line → ⊥
+pub no_great : (line : List ℕ) (found : List Token) → HasTokens line found → AllByRecursion (NumeralFits line) found → HasGreatNumeral line → ⊥
 no_great line found cut fits g =
-    let same : found ≡ g.found = cc (cut, g.cut) in
+    let same : found ≡ g.found = one_cut line found g.found cut g.cut in
     let all = subst (λ l. AllByRecursion (NumeralFits line) l) same fits in
     let one = all_at (NumeralFits line) g.found g.numeral g.stands.0 g.stands.1 g.stands.2 all in
     not_both (value_of line g.numeral) (2 ^ 128) (fits_number g.numeral.kind (text_of line g.numeral) g.is_number one) g.great

@@ -30,7 +30,7 @@ use Rattle.module_vectors.proofs.Merges.{sum_of-append}
 use Rattle.module_vectors.proofs.NormalVectors.{vector_positions}
 use Rattle.module_vectors.proofs.Scaling.{take_item}
 use Rattle.poly_value.specs.Values.{place_of, polynomials, polynomials_of}
-use Rattle.script_parse.specs.Forms.{AreWorths, HasEntryTerms, IsWorkable, IsWorth, at_position, knows, low_degree}
+use Rattle.script_parse.specs.Forms.{AreWorths, HasEntryTerms, IsWorkable, IsWorth, moved_to, knows, low_degree}
 use Rattle.script_parse.specs.Statements.{entries_from}
 
 -- where the degrees can be worked out and the names are known, so can the polynomials
@@ -140,36 +140,36 @@ worths_go ring line pieces i v old new u lt e f h w =
 abbrev moved : ℕ → Key × ℕ → Key × ℕ
 moved i t = (record { position = i; monomial = t.0.monomial }, t.1)
 
-move_get : (p : ℕ) (xs : List (Key × ℕ)) (i : ℕ) (d : Key × ℕ) → i < length xs → get_or (at_position p (take i xs) ++ drop i xs) i d ≡ get_or xs i d
+move_get : (p : ℕ) (xs : List (Key × ℕ)) (i : ℕ) (d : Key × ℕ) → i < length xs → get_or (moved_to p (take i xs) ++ drop i xs) i d ≡ get_or xs i d
 move_get p [] i d lt = absurd (omega (arith, lt))
 move_get p (x ∷ xs) zero d lt = refl
 move_get p (x ∷ xs) (suc i) d lt = move_get p xs i d (omega (arith, lt))
 
-move_set : (p : ℕ) (xs : List (Key × ℕ)) (i : ℕ) (t : Key × ℕ) → i < length xs → t ≡ get_or xs i t → set (at_position p (take i xs) ++ drop i xs) i (moved p t) ≡ at_position p (take (suc i) xs) ++ drop (suc i) xs
+move_set : (p : ℕ) (xs : List (Key × ℕ)) (i : ℕ) (t : Key × ℕ) → i < length xs → t ≡ get_or xs i t → set (moved_to p (take i xs) ++ drop i xs) i (moved p t) ≡ moved_to p (take (suc i) xs) ++ drop (suc i) xs
 move_set p [] i t lt e = absurd (omega (arith, lt))
 move_set p (x ∷ xs) zero t lt e = ap (λ y. moved p y ∷ xs) e
 move_set p (x ∷ xs) (suc i) t lt e = ap (λ r. moved p x ∷ r) (move_set p xs i t (omega (arith, lt)) e)
 
 pub move_step :
-    (p : ℕ) (xs ys : List (Key × ℕ)) (i : ℕ) (y : Key × ℕ) → i < length xs → ys ≡ at_position p (take i xs) ++ drop i xs → y ≡ get_or ys i y
-    → set ys i (moved p y) ≡ at_position p (take (i + 1) xs) ++ drop (i + 1) xs
+    (p : ℕ) (xs ys : List (Key × ℕ)) (i : ℕ) (y : Key × ℕ) → i < length xs → ys ≡ moved_to p (take i xs) ++ drop i xs → y ≡ get_or ys i y
+    → set ys i (moved p y) ≡ moved_to p (take (i + 1) xs) ++ drop (i + 1) xs
 move_step p xs ys i y lt e hy =
     let ey : y ≡ get_or xs i y = hy ∙ ap (λ z. get_or z i y) e ∙ move_get p xs i y lt in
-    ap (λ z. set z i (moved p y)) e ∙ move_set p xs i y lt ey ∙ ap₂ (λ j k. at_position p (take j xs) ++ drop k xs) (sym (add-one i)) (sym (add-one i))
+    ap (λ z. set z i (moved p y)) e ∙ move_set p xs i y lt ey ∙ ap₂ (λ j k. moved_to p (take j xs) ++ drop k xs) (sym (add-one i)) (sym (add-one i))
 
 -- they stand for the polynomial times the unit vector there
-moved_sum : (n i : ℕ) (terms : List (Key × ℕ)) → sum_of n (at_position i terms) ≡ product (sum_of n terms) (((i, unit n), 1) ∷ [])
+moved_sum : (n i : ℕ) (terms : List (Key × ℕ)) → sum_of n (moved_to i terms) ≡ product (sum_of n terms) (((i, unit n), 1) ∷ [])
 moved_sum n i [] = refl
 moved_sum n i (t ∷ terms) =
     let m : exponents_of n t.0.monomial ≡ times (exponents_of n t.0.monomial) (unit n) = sym (times-unit (exponents_of n t.0.monomial)) ∙ times_comm (unit n) (exponents_of n t.0.monomial) in
     let c : t.1 ≡ t.1 * 1 = omega arith in
     ap₂ ◌∷◌ (ap₂ (λ x y. ((i, x), y)) m c) (moved_sum n i terms)
 
-moved_over : (ring : Ring) (i : ℕ) (terms : List (Key × ℕ)) → Each (IsTerm (variables ring) ring.modulus.value) terms → AreTermsOver ring (at_position i terms)
+moved_over : (ring : Ring) (i : ℕ) (terms : List (Key × ℕ)) → Each (IsTerm (variables ring) ring.modulus.value) terms → AreTermsOver ring (moved_to i terms)
 moved_over ring i [] h = tt
 moved_over ring i (t ∷ terms) h = ((h.0.variables, h.0.reduced), moved_over ring i terms h.1)
 
-moved_positions : (i : ℕ) (terms : List (Key × ℕ)) → HasPositions (i + 1) (at_position i terms)
+moved_positions : (i : ℕ) (terms : List (Key × ℕ)) → HasPositions (i + 1) (moved_to i terms)
 moved_positions i [] = tt
 moved_positions i (t ∷ terms) = (omega arith, moved_positions i terms)
 
@@ -192,10 +192,10 @@ positive ring = let d = is_modulus-domain ring.modulus.value ring.modulus.table 
 -- one more entry
 pub entries_go :
     (ring : Ring) (line : List ℕ) (pieces : List (Vec Step Global)) (i : ℕ) (v : Vec Step Global) (old new u : List (Key × ℕ))
-    → i < length pieces → v ≡ get_or pieces i v → new ≡ old ++ at_position i u → HasEntryTerms ring line (take i pieces) old → IsWorkable ring line v → IsWorth ring line v.items u
+    → i < length pieces → v ≡ get_or pieces i v → new ≡ old ++ moved_to i u → HasEntryTerms ring line (take i pieces) old → IsWorkable ring line v → IsWorth ring line v.items u
     → HasEntryTerms ring line (take (i + 1) pieces) new
 entries_go ring line pieces i v old new u lt e f h able w =
-    subst (λ l. HasEntryTerms ring line (take (i + 1) pieces) l) (sym f) (subst (λ l. HasEntryTerms ring line l (old ++ at_position i u)) (sym (take_item pieces i v lt e)) more)
+    subst (λ l. HasEntryTerms ring line (take (i + 1) pieces) l) (sym f) (subst (λ l. HasEntryTerms ring line l (old ++ moved_to i u)) (sym (take_item pieces i v lt e)) more)
   where
     n : ℕ
     n = variables ring
@@ -212,23 +212,23 @@ entries_go ring line pieces i v old new u lt e f h able w =
     many : length h.stands.entries ≡ i
     many = sym (length-map h.stands.entries Some) ∙ ap length (sym h.stands.worths_are) ∙ length-map (take i pieces) (λ y. worth_of_steps (polynomials_of ring line) y.items) ∙ count
 
-    last : IsSame ring.modulus.value (sum_of (variables ring) (at_position i u)) (product able.worth.0 (((0 + length h.stands.entries, unit (variables ring)), 1) ∷ []))
+    last : IsSame ring.modulus.value (sum_of (variables ring) (moved_to i u)) (product able.worth.0 (((0 + length h.stands.entries, unit (variables ring)), 1) ∷ []))
     last =
         let place : i ≡ 0 + length h.stands.entries = omega (arith, many) in
         IsSame_trans (IsSame_of ring.modulus.value _ _ (moved_sum (variables ring) i u ∙ ap (λ k. product (sum_of (variables ring) u) (((k, unit (variables ring)), 1) ∷ [])) place))
         (IsSame_product (positive ring) (sum_of (variables ring) u) able.worth.0 (((0 + length h.stands.entries, unit (variables ring)), 1) ∷ []) (w.value able.worth.0 able.worth.1))
 
-    more : HasEntryTerms ring line (take i pieces ++ v ∷ []) (old ++ at_position i u)
+    more : HasEntryTerms ring line (take i pieces ++ v ∷ []) (old ++ moved_to i u)
     more = record {
-      over = Each_append _ old (at_position i u) h.over (moved_over ring i u w.vector.each);
+      over = Each_append _ old (moved_to i u) h.over (moved_over ring i u w.vector.each);
       positions =
           let size : length (take i pieces ++ v ∷ []) ≡ i + 1 = length-append (take i pieces) (v ∷ []) ∙ ap (λ k. k + 1) count in
           let low : HasPositions i old = subst (λ k. HasPositions k old) count h.positions in
-          subst (λ k. HasPositions k (old ++ at_position i u)) (sym size) (Each_append _ old (at_position i u) (more_positions i (i + 1) old (omega arith) low) (moved_positions i u));
+          subst (λ k. HasPositions k (old ++ moved_to i u)) (sym size) (Each_append _ old (moved_to i u) (more_positions i (i + 1) old (omega arith) low) (moved_positions i u));
       stands = record {
         entries = h.stands.entries ++ able.worth.0 ∷ [];
         worths_are = map-append (λ y. worth_of_steps (polynomials_of ring line) y.items) (take i pieces) (v ∷ []) ∙ ap₂ (λ l o. l ++ o ∷ []) h.stands.worths_are able.worth.1 ∙ sym (map-append Some h.stands.entries (able.worth.0 ∷ []));
-        stands = IsSame_trans (IsSame_of ring.modulus.value _ _ (sum_of-append (variables ring) old (at_position i u)))
+        stands = IsSame_trans (IsSame_of ring.modulus.value _ _ (sum_of-append (variables ring) old (moved_to i u)))
             (IsSame_trans (IsSame_append h.stands.stands last) (IsSame_of ring.modulus.value _ _ (sym (entries_push 0 h.stands.entries able.worth.0))));
       };
     }

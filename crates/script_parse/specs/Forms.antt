@@ -56,12 +56,6 @@ IsFormOf (forms.Ring modulus names order) (ring_line m first more o) = (modulus 
 IsFormOf (forms.Line head pieces) w = IsLineOf head pieces.items w
 IsFormOf _ _ = ⊥
 
--- what a call returned is the answer, seen by view, unless memory ran out
-abbrev pub Gives : {X Y : Type 0} → (X → Y) → Result X ReadStop → Option Y → Type 0
-Gives view (Ok x) answer = answer ≡ Some (view x)
-Gives view (Err Memory) answer = Unit {0}
-Gives view (Err Syntax) answer = answer ≡ None
-
 -- a name before other names, if these are names
 abbrev pub with_name : Token → Option (List Token) → Option (List Token)
 with_name t None = None
@@ -138,15 +132,15 @@ abbrev pub HaveNumerals : List ℕ → Vec Step Global → Type 0
 HaveNumerals line v = AllByRecursion (λ t. value_of line t < 2 ^ 128) (numbers_of_steps v.items)
 
 -- the names of a form are ASCII, and its numbers are below 2^128
-abbrev pub IsSound : List ℕ → Form → Type 0
-IsSound line forms.Nothing = Unit {0}
-IsSound line (forms.Ring modulus names order) = AllByRecursion (λ t. IsAscii (text_of line t)) names.items
-IsSound line (forms.Line head pieces) =
+abbrev pub IsWellFormed : List ℕ → Form → Type 0
+IsWellFormed line forms.Nothing = Unit {0}
+IsWellFormed line (forms.Ring modulus names order) = AllByRecursion (λ t. IsAscii (text_of line t)) names.items
+IsWellFormed line (forms.Line head pieces) =
     AllByRecursion (λ t. IsAscii (text_of line t)) (head_names head) × AllByRecursion (HaveNumerals line) pieces.items
 
 -- the form of a line whose numbers are below 2^128, or the kind of these two that holds first
 abbrev pub IsFormed : List ℕ → Result Form ParseStop → Type 0
-IsFormed line (Ok form) = (w : Written) × IsLine line w × IsFormOf form w × IsSound line form × (HasGreatNumeral line → ⊥)
+IsFormed line (Ok form) = (w : Written) × IsLine line w × IsFormOf form w × IsWellFormed line form × (HasGreatNumeral line → ⊥)
 IsFormed line (Err stops.Memory) = Unit {0}
 IsFormed line (Err (stops.Refused kinds.Syntax)) = (w : Written) → IsLine line w → ⊥
 IsFormed line (Err (stops.Refused kinds.Numeral)) = HasGreatNumeral line × ((w : Written) × IsLine line w)
@@ -232,8 +226,8 @@ AreWorths ring line (v ∷ pieces) (u ∷ us) = IsWorth ring line v.items u × A
 AreWorths ring line _ _ = ⊥
 
 -- the terms, at this position
-abbrev pub at_position : ℕ → List (Key × ℕ) → List (Key × ℕ)
-at_position i terms = map (λ t. (record { position = i; monomial = t.0.monomial }, t.1)) terms
+abbrev pub moved_to : ℕ → List (Key × ℕ) → List (Key × ℕ)
+moved_to i terms = map (λ t. (record { position = i; monomial = t.0.monomial }, t.1)) terms
 
 -- terms stand for the vector that has what the steps are worth for its entries
 pub record StandsForEntries (ring : Ring) (line : List ℕ) (pieces : List (Vec Step Global)) (terms : List (Key × ℕ)) : Type 0 where

@@ -1,7 +1,7 @@
 -- Why a line is refused: each kind by its own sentence, and the first kind that holds
-use Rattle.std.specs.Prelude.{Contains, List, None, Ok, Option, Some, [], false, if◌then◌else◌, length, map, nat_eq, string_bytes, ℕ, ◌<◌, ◌^◌, ◌∷◌, ◌≡◌, ◌≤◌, ◌⊎◌}
+use Rattle.std.specs.Prelude.{Contains, List, None, Option, Some, [], false, if◌then◌else◌, length, map, nat_eq, string_bytes, ℕ, ◌<◌, ◌^◌, ◌∷◌, ◌≡◌, ◌≤◌, ◌⊎◌}
 use Rattle.std.specs.Cmp.Lexicographic.{pointwise}
-use Rattle.script_tokens.specs.Tokens.{tokens_of}
+use Rattle.script_tokens.specs.Cuts.{HasTokens}
 use Rattle.script_tokens.specs.declared.token.Token.{Token}
 use Rattle.script_tokens.specs.declared.token.TokenKind.TheVariants.{Number}
 use Rattle.poly_grammar.specs.Degrees.{formal_degree}
@@ -18,7 +18,7 @@ use Rattle.script_parse.specs.declared.named.NameInfo.{NameInfo}
 -- a NUM of the line has a value of 2^128 or more
 pub record HasGreatNumeral (line : List ℕ) : Type 0 where
   pub found : List Token
-  pub cut : tokens_of line ≡ Ok found
+  pub cut : HasTokens line found
   pub numeral : Token
   pub stands : Contains found numeral
   pub is_number : numeral.kind ≡ Number

@@ -2,8 +2,8 @@
 -- line := nothing | ring NUM NAME {, NAME} order | show POLY | ideal NAME = POLY {, POLY}
 --       | gens NAME | gb NAME | size NAME | nf NAME VEC | member NAME VEC | equal NAME NAME
 -- VEC := POLY | [ POLY {, POLY} ]
-use Rattle.std.specs.Prelude.{List, None, Ok, Option, Some, [], codes, map, ℕ, ◌++◌, ◌∷◌, ◌≡◌, ◌⊎◌}
-use Rattle.script_tokens.specs.Tokens.{tokens_of}
+use Rattle.std.specs.Prelude.{List, None, Option, Some, [], codes, map, ℕ, ◌++◌, ◌∷◌, ◌≡◌, ◌⊎◌}
+use Rattle.script_tokens.specs.Cuts.{HasTokens}
 use Rattle.script_tokens.specs.declared.token.Token.{Token}
 use Rattle.poly_grammar.specs.Lexemes.{Lexeme, close_bracket, comma, equals, lexeme, name, number, open_bracket}
 use Rattle.poly_grammar.specs.Numerals.{text_of}
@@ -131,5 +131,5 @@ IsWritten line xs w = IsWrittenAs (word_of w) line xs w
 -- the line has tokens, and they are written as w says
 pub record IsLine (line : List ℕ) (w : Written) : Type 0 where
   pub found : List Token
-  pub cut : tokens_of line ≡ Ok found
+  pub cut : HasTokens line found
   pub written : IsWritten line (map lexeme found) w

@@ -5,8 +5,6 @@
 
 mod checks;
 mod form;
-#[cfg(test)]
-mod ideal_tests;
 mod kind;
 mod line_laws;
 mod named;

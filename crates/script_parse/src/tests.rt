@@ -1,208 +1,136 @@
+// What no script reaches: values of a rank above 1, and a name that is both a variable and a value.
 use super::*;
-use module_vectors::{Ring, Vect};
-use std::alloc::Global;
+use module_vectors::{Key, Vect};
+use std::alloc::{AllocError, Global};
 use std::test::Fail;
 
+const GREVLEX: &[u8] = b"ring 101 x,y grevlex";
+
+const LEX: &[u8] = b"ring 5 x,y lex";
+
+const BOTH: &[u8] = b"ring 101 x,A lex";
+
+/// A position, a coefficient, and the exponents of x and y.
+#[derive(Clone, Copy)]
+struct Row(u128, u32, u16, u16);
+
+/// Values `A`, `B` and `C` of ranks 1, 2 and 3.
+fn values(alloc: Global) -> Result<Vec<NameInfo>, AllocError> {
+    let mut names = Vec::new(alloc);
+    for (name, rank) in [("A", 1), ("B", 2), ("C", 3)] {
+        names.push(NameInfo {
+            name: String::from_str(alloc, name)?,
+            rank,
+            length: 0,
+        })?;
+    }
+    Ok(names)
+}
+
+/// What is answered to a line, where a line before states the ring.
+fn answered(alloc: Global, ring: &[u8], line: &[u8]) -> Result<Statement, ParseStop> {
+    let Ok(names) = values(alloc) else {
+        return Err(ParseStop::Memory);
+    };
+    match statement(alloc, ring, None, &[]) {
+        Ok(Statement::Ring(ring)) => statement(alloc, line, Some(&ring), &names),
+        other => other,
+    }
+}
+
 /// The kind for which a line is refused, if it is.
-fn kind(alloc: Global, line: &[u8], ring: Option<&Ring>) -> Option<Kind> {
-    match statement(alloc, line, ring, &[]) {
+fn kind(alloc: Global, ring: &[u8], line: &[u8]) -> Option<Kind> {
+    match answered(alloc, ring, line) {
         Err(ParseStop::Refused(kind)) => Some(kind),
         _ => None,
     }
 }
 
-/// The ring that a line states.
-fn ring(alloc: Global, line: &[u8]) -> Option<Ring> {
-    match statement(alloc, line, None, &[]) {
-        Ok(Statement::Ring(ring)) => Some(ring),
-        _ => None,
-    }
+/// Whether the term is that of the row.
+fn is_term(term: &(Key, u32), row: &Row) -> bool {
+    let exponents = [row.2, row.3];
+    let is_key = term.0.position == row.0 && term.0.monomial.exponents() == exponents.as_slice();
+    is_key && term.1 == row.1
 }
-
-#[test]
-fn ring_limits(rt: HostRuntime) -> Result<(), Fail> {
-    let alloc = rt.alloc();
-    let none = None;
-    assert_eq!(rt;
-        kind(alloc, b"ring 007 a,b,c,d,e,f,g,h,i,j,k,l,m,n,o lex", none),
-        None
-    );
-    assert_eq!(rt;
-        kind(alloc, b"ring 7 a,b,c,d,e,f,g,h,i,j,k,l,m,n,o,p lex", none),
-        Some(Kind::Ring)
-    );
-    assert_eq!(rt; kind(alloc, b"ring 4 x,y,x lex", none), Some(Kind::Ring));
-    assert_eq!(rt; kind(alloc, b"ring 4 x lex", none), Some(Kind::Modulus));
-    assert_eq!(rt;
-        kind(alloc, b"ring 2147483647 x lex", none),
-        Some(Kind::Modulus)
-    );
-    assert_eq!(rt;
-        kind(alloc, b"ring 18446744073709551618 x lex", none),
-        Some(Kind::Modulus)
-    );
-    assert_eq!(rt;
-        kind(
-            alloc,
-            b"ring 340282366920938463463374607431768211456 x,x lex",
-            none
-        ),
-        Some(Kind::Numeral)
-    );
-    Ok(())
-}
-
-#[test]
-fn ring_lines(rt: HostRuntime) -> Result<(), Fail> {
-    let alloc = rt.alloc();
-    for line in [
-        "ring 7 x elim 1",
-        "ring 7 x, lex",
-        "ring 7 lex",
-        "ring x lex",
-        "ring 7 x lex top",
-        "ring 7 x deglex",
-        "rings 7 x lex",
-    ] {
-        assert_eq!(rt; kind(alloc, line.as_bytes(), None), Some(Kind::Syntax));
-    }
-    assert!(rt;
-        matches!(ring(alloc, b"\tring 32003 ring,show grevlex # !"), Some(made) if made.vars.len() == 2 && made.modulus.value == 32003)
-    );
-    Ok(())
-}
-
-#[test]
-fn kinds(rt: HostRuntime) -> Result<(), Fail> {
-    let alloc = rt.alloc();
-    let Some(made) = ring(alloc, b"ring 7 x,y grevlex") else {
-        assert!(rt; false);
-        return Ok(());
-    };
-    let some = Some(&made);
-    assert!(rt; matches!(statement(alloc, b"", None, &[]), Ok(Statement::Nothing)));
-    assert!(rt;
-        matches!(
-            statement(alloc, b" \r# \xff", None, &[]),
-            Ok(Statement::Nothing)
-        )
-    );
-    assert_eq!(rt; kind(alloc, b"show x", None), Some(Kind::Ring));
-    assert_eq!(rt; kind(alloc, b"show x!", None), Some(Kind::Syntax));
-    assert_eq!(rt; kind(alloc, b"show 2x", some), Some(Kind::Syntax));
-    assert_eq!(rt; kind(alloc, b"show", some), Some(Kind::Syntax));
-    assert_eq!(rt;
-        kind(
-            alloc,
-            b"show 340282366920938463463374607431768211456*z",
-            some
-        ),
-        Some(Kind::Numeral)
-    );
-    assert_eq!(rt; kind(alloc, b"show z^1001", some), Some(Kind::Name));
-    assert_eq!(rt; kind(alloc, b"show (x^1001)^0", some), Some(Kind::Degree));
-    assert_eq!(rt;
-        kind(
-            alloc,
-            b"show (x^1000)^0*340282366920938463463374607431768211455",
-            some
-        ),
-        None
-    );
-    Ok(())
-}
-
-/// A coefficient, and the exponents of x and y.
-#[derive(Clone, Copy)]
-struct Row(u32, u16, u16);
 
 /// Whether the vector's terms are these.
-fn has_terms(v: &Vect, want: &[Row]) -> bool {
-    let got = v.terms();
-    if got.len() != want.len() {
-        return false;
-    }
-    for (term, row) in got.iter().zip(want) {
-        let exponents = [row.1, row.2];
-        if term.1 != row.0 || term.0.monomial.exponents() != exponents.as_slice() {
+fn has_terms(v: &Vect, wanted: &[Row]) -> bool {
+    for (term, row) in v.terms().iter().zip(wanted) {
+        if !is_term(term, row) {
             return false;
         }
     }
-    true
+    v.terms().len() == wanted.len()
 }
 
-/// Whether the line shows the polynomial with these terms.
-fn shows(alloc: Global, ring: &Ring, line: &[u8], want: &[Row]) -> bool {
-    match statement(alloc, line, Some(ring), &[]) {
-        Ok(Statement::Show(v)) => has_terms(&v, want),
+/// Whether a line divides the vector with these terms.
+fn divides(alloc: Global, ring: &[u8], line: &[u8], wanted: &[Row]) -> bool {
+    match answered(alloc, ring, line) {
+        Ok(Statement::NormalForm(_, v)) => line.starts_with(b"nf") && has_terms(&v, wanted),
+        Ok(Statement::Member(_, v)) => line.starts_with(b"member") && has_terms(&v, wanted),
         _ => false,
     }
 }
 
-// The values are those of Singular 4.
+const KINDS: [(&[u8], &[u8], Kind); 9] = [
+    (GREVLEX, b"nf B x", Kind::Rank),
+    (GREVLEX, b"nf B [x,y,x]", Kind::Rank),
+    (GREVLEX, b"equal A B", Kind::Rank),
+    (GREVLEX, b"equal B A", Kind::Rank),
+    (GREVLEX, b"member B x^1001", Kind::Rank),
+    (GREVLEX, b"member B [x,x^500*y^501]", Kind::Degree),
+    (BOTH, b"gens A", Kind::OfKind),
+    (BOTH, b"show A", Kind::OfKind),
+    (BOTH, b"ideal A = B*z", Kind::Name),
+];
+
+// The values are those of Singular 4, in its orders `(c,dp)` and `(c,lp)`.
+const VECTORS: [(&[u8], &[u8], &[Row]); 3] = [
+    (
+        GREVLEX,
+        b"nf C [x^2*y-x,-5,x+y^3]",
+        &[
+            Row(0, 1, 2, 1),
+            Row(0, 100, 1, 0),
+            Row(1, 96, 0, 0),
+            Row(2, 1, 0, 3),
+            Row(2, 1, 1, 0),
+        ],
+    ),
+    (
+        GREVLEX,
+        b"member C [0, y-x, x*(x-3*y)]",
+        &[
+            Row(1, 100, 1, 0),
+            Row(1, 1, 0, 1),
+            Row(2, 1, 2, 0),
+            Row(2, 98, 1, 1),
+        ],
+    ),
+    (
+        LEX,
+        b"member B [y^3-x,2*x*y-(x+y)^2]",
+        &[
+            Row(0, 4, 1, 0),
+            Row(0, 1, 0, 3),
+            Row(1, 4, 2, 0),
+            Row(1, 4, 0, 2),
+        ],
+    ),
+];
+
 #[test]
-fn products_and_powers(rt: HostRuntime) -> Result<(), Fail> {
-    let alloc = rt.alloc();
-    let (Some(large), Some(small)) = (
-        ring(alloc, b"ring 101 x,y grevlex"),
-        ring(alloc, b"ring 5 x,y grevlex"),
-    ) else {
-        assert!(rt; false);
-        return Ok(());
-    };
-    assert!(rt;
-        shows(
-            alloc,
-            &large,
-            b"show (x+y)^2-1",
-            &[Row(1, 2, 0), Row(2, 1, 1), Row(1, 0, 2), Row(100, 0, 0)]
-        )
-    );
-    assert!(rt;
-        shows(
-            alloc,
-            &small,
-            b"show x*(x+y)^3-y^2*2+7",
-            &[
-                Row(1, 4, 0),
-                Row(3, 3, 1),
-                Row(3, 2, 2),
-                Row(1, 1, 3),
-                Row(3, 0, 2),
-                Row(2, 0, 0)
-            ]
-        )
-    );
+fn kinds(rt: HostRuntime) -> Result<(), Fail> {
+    for (ring, line, wanted) in KINDS {
+        assert_eq!(rt; kind(rt.alloc(), ring, line), Some(wanted));
+    }
     Ok(())
 }
 
-// The values are those of Singular 4, and of Python for the power of 2 with an exponent that Singular does not take.
 #[test]
-fn signs_and_numbers(rt: HostRuntime) -> Result<(), Fail> {
-    let alloc = rt.alloc();
-    let Some(small) = ring(alloc, b"ring 5 x,y grevlex") else {
-        assert!(rt; false);
-        return Ok(());
-    };
-    assert!(rt;
-        shows(
-            alloc,
-            &small,
-            b"show -(x-1)*(x+1)",
-            &[Row(4, 2, 0), Row(1, 0, 0)]
-        )
-    );
-    assert!(rt; shows(alloc, &small, b"show x-y-x", &[Row(4, 0, 1)]));
-    assert!(rt; shows(alloc, &small, b"show -x^2", &[Row(4, 2, 0)]));
-    assert!(rt; shows(alloc, &small, b"show 5*x", &[]));
-    assert!(rt; shows(alloc, &small, b"show 0^0", &[Row(1, 0, 0)]));
-    assert!(rt;
-        shows(
-            alloc,
-            &small,
-            b"show 2^340282366920938463463374607431768211455",
-            &[Row(3, 0, 0)]
-        )
-    );
+fn vectors(rt: HostRuntime) -> Result<(), Fail> {
+    for (ring, line, wanted) in VECTORS {
+        assert!(rt; divides(rt.alloc(), ring, line, wanted));
+    }
     Ok(())
 }

@@ -4,7 +4,7 @@ ghost use Rattle.std.specs.Prelude.{◌≡◌, IfOk, length};
 ghost use Rattle.std.specs.List.{AllByRecursion};
 ghost use Rattle.module_vectors.specs.Rings.{ring_comparison};
 ghost use Rattle.module_vectors.specs.Vectors.{HasPositions, IsVectorOver};
-ghost use Rattle.script_parse.specs.Forms.{AreWorths, HasEntryTerms, IsWorkable, StandsForEntries, at_position};
+ghost use Rattle.script_parse.specs.Forms.{AreWorths, HasEntryTerms, IsWorkable, StandsForEntries, moved_to};
 
 use module_vectors::{Key, NoMemory, Ring, Vect, VectList};
 use poly_grammar::Step;
@@ -31,7 +31,7 @@ pub fn list_value(
 
 /// Moves terms to a position.
 fn move_terms(position: u128, terms: &mut Vec<(Key, u32)>)
-    ensures { terms.new.items ≡ at_position position terms.old.items }
+    ensures { terms.new.items ≡ moved_to position terms.old.items }
 {
     for i in 0..terms.len() {
         terms[i].0.position = position;

@@ -1,11 +1,14 @@
 -- The answer of tokens_of is the one cut of the line.
-use Rattle.std.proofs.Common.{◌≡◌, ◌↔◌, ℕ, zero, suc, ◌+◌, ◌≤◌, eqb, cond, Bool, true, false, Option, Some, None, List, [], ◌∷◌, ◌++◌, length, take, drop, Result, Ok, Err, IfSome, refl, sym, ap, ◌∙◌, subst, arith, ne_eqb}
+use Rattle.std.proofs.Common.{◌≡◌, ◌↔◌, ℕ, zero, suc, ◌+◌, ◌≤◌, eqb, cond, Bool, true, false, Option, Some, None, List, [], ◌∷◌, ◌++◌, length, take, drop, Result, Ok, Err, IfSome, Vec, Global, ◌⊎◌, inl, inr, refl, sym, ap, ◌∙◌, subst, arith, ne_eqb}
 use Rattle.std.proofs.lemmas.Bool.{eqb-true}
 use Rattle.std.proofs.lemmas.List.{append-nil}
 use Rattle.script_tokens.specs.declared.token.Token.{Token}
 use Rattle.script_tokens.specs.declared.token.TokenKind.{TokenKind}
-use Rattle.script_tokens.specs.Tokens.{is_blank, token_at, tokens_from, tokens_of, with_front, begun}
-use Rattle.script_tokens.specs.Cuts.{Passes, IsToken, IsLongest, IsNext, IsCut, IsComment, BeginsNothing, HasTokens, HasStrayByte}
+use Rattle.script_tokens.specs.declared.token.TokenStop.{TokenStop}
+use Rattle.script_tokens.specs.declared.token.TokenStop.TheVariants.{At, Memory}
+use Rattle.script_tokens.specs.Scans.{GivesOrStops, token_at, tokens_from, tokens_of, with_front, begun}
+use Rattle.script_tokens.specs.Tokens.{is_blank}
+use Rattle.script_tokens.specs.Cuts.{Passes, IsToken, IsLongest, IsNext, IsCut, IsComment, BeginsNothing, HasTokens, HasStrayByte, IsCutInto}
 use Rattle.script_tokens.proofs.Longest.{found_is_longest, none_begins, token_apart, longest_is_found}
 use Rattle.script_tokens.proofs.Cutting.{inside_is_dropped}
 use Rattle.script_tokens.proofs.Order.{token_within}
@@ -138,14 +141,46 @@ stray_stops i place (b ∷ bs) h =
     none_found None q = q
     none_found (Some t) q = absurd (h.1.2 t.0 (take t.1 bs) (found_is_longest b bs t q).0)
 
-pub are_tokens : (line : List ℕ) (ts : List Token) → (tokens_of line ≡ Ok ts) ↔ HasTokens line ts
+are_tokens : (line : List ℕ) (ts : List Token) → (tokens_of line ≡ Ok ts) ↔ HasTokens line ts
 are_tokens line ts = (
   λ e. subst (Tells 0 line) e (tells 0 0 line (omega arith)),
   λ h. is_answer (λ place rest. IsComment rest) (Ok []) comment_ends 0 line ts h ∙ ap Ok (append-nil ts),
 )
 
-pub is_stray : (line : List ℕ) (i : ℕ) → (tokens_of line ≡ Err i) ↔ HasStrayByte line i
+is_stray : (line : List ℕ) (i : ℕ) → (tokens_of line ≡ Err i) ↔ HasStrayByte line i
 is_stray line i = (
   λ e. subst (Tells 0 line) e (tells 0 0 line (omega arith)),
   λ h. is_answer (λ place rest. (place ≡ i) × BeginsNothing rest) (Err i) (stray_stops i) 0 line h.0 h.1,
 )
+
+-- what the scan answers is the cut
+pub cut_exact : (line : List ℕ) (r : Result (Vec Token Global) TokenStop) → GivesOrStops (λ found. found.items) r (tokens_of line) → IsCutInto line r
+cut_exact line (Ok found) h = (are_tokens line found.items).0 h
+cut_exact line (Err Memory) h = tt
+cut_exact line (Err (At i)) h = (is_stray line i).0 h
+
+same_ok : {A E : Type 0} (a b : A) (r : Result A E) → r ≡ Ok a → r ≡ Ok b → a ≡ b
+same_ok a b r p q = cc
+
+same_err : {A E : Type 0} (a b : E) (r : Result A E) → r ≡ Err a → r ≡ Err b → a ≡ b
+same_err a b r p q = cc
+
+not_both : {A E : Type 0} (a : A) (b : E) (r : Result A E) → r ≡ Ok a → r ≡ Err b → ⊥
+not_both a b r p q = absurd cc
+
+-- there is one cut of a line, and one place at most at which it stops
+pub one_cut : (line : List ℕ) (ts us : List Token) → HasTokens line ts → HasTokens line us → ts ≡ us
+one_cut line ts us h k = same_ok ts us (tokens_of line) ((are_tokens line ts).1 h) ((are_tokens line us).1 k)
+
+pub one_stop : (line : List ℕ) (i j : ℕ) → HasStrayByte line i → HasStrayByte line j → i ≡ j
+one_stop line i j h k = same_err i j (tokens_of line) ((is_stray line i).1 h) ((is_stray line j).1 k)
+
+pub cut_or_stop : (line : List ℕ) (ts : List Token) (i : ℕ) → HasTokens line ts → HasStrayByte line i → ⊥
+cut_or_stop line ts i h k = not_both ts i (tokens_of line) ((are_tokens line ts).1 h) ((is_stray line i).1 k)
+
+pub some_cut : (line : List ℕ) → ((ts : List Token) × HasTokens line ts) ⊎ ((i : ℕ) × HasStrayByte line i)
+some_cut line = go (tokens_of line) refl
+  where
+    go : (r : Result (List Token) ℕ) → tokens_of line ≡ r → ((ts : List Token) × HasTokens line ts) ⊎ ((i : ℕ) × HasStrayByte line i)
+    go (Ok ts) e = inl (ts, (are_tokens line ts).0 e)
+    go (Err i) e = inr (i, (is_stray line i).0 e)

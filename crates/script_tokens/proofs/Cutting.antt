@@ -3,7 +3,8 @@ use Rattle.std.proofs.Common.{◌≡◌, ◌≢◌, ℕ, zero, suc, ◌+◌, tru
 use Rattle.std.proofs.lemmas.List.{append-nil}
 use Rattle.script_tokens.specs.declared.token.Token.{Token}
 use Rattle.script_tokens.specs.declared.token.TokenKind.{TokenKind}
-use Rattle.script_tokens.specs.Tokens.{is_blank, token_at, tokens_from, with_front, begun}
+use Rattle.script_tokens.specs.Scans.{token_at, tokens_from, with_front, begun}
+use Rattle.script_tokens.specs.Tokens.{is_blank}
 
 -- bytes inside a token are passed over
 pub inside_is_dropped : (inside at : ℕ) (bs : List ℕ) → tokens_from inside at bs ≡ tokens_from 0 (at + inside) (drop inside bs)

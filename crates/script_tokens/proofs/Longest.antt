@@ -5,7 +5,8 @@ use Rattle.std.specs.List.{prefix_len}
 use Rattle.std.specs.Char.{is_ascii_digit, is_ascii_alphabetic}
 use Rattle.script_tokens.specs.declared.token.TokenKind.{TokenKind}
 use Rattle.script_tokens.specs.declared.token.TokenKind.TheVariants.{Name, Number, Plus, Minus, Star, Caret, Open, Close, OpenBracket, CloseBracket, Comma, Equals}
-use Rattle.script_tokens.specs.Tokens.{is_blank, is_name_byte, sign_of, alone, token_at}
+use Rattle.script_tokens.specs.Scans.{alone, token_at}
+use Rattle.script_tokens.specs.Tokens.{is_blank, is_name_byte, sign_of}
 use Rattle.script_tokens.specs.Cuts.{Passes, IsToken, IsLongest}
 
 one_more : (n : ℕ) → 1 + n ≡ suc n

@@ -6,7 +6,8 @@ use Rattle.std.specs.Char.{is_ascii_digit, is_ascii_alphabetic}
 use Rattle.script_tokens.specs.declared.token.Token.{Token}
 use Rattle.script_tokens.specs.declared.token.TokenKind.{TokenKind}
 use Rattle.script_tokens.specs.declared.token.TokenStop.{TokenStop}
-use Rattle.script_tokens.specs.Tokens.{is_blank, is_name_byte, sign_of, alone, token_at, tokens_from, tokens_of, with_front, begun, Gives, IsInOrder}
+use Rattle.script_tokens.specs.Scans.{alone, token_at, tokens_from, tokens_of, with_front, begun, GivesOrStops}
+use Rattle.script_tokens.specs.Tokens.{is_blank, is_name_byte, sign_of, IsInOrder}
 
 abbrev Ordered : ℕ → ℕ → Result (List Token) ℕ → Type 0
 Ordered from limit (Ok ts) = IsInOrder from limit ts
@@ -55,6 +56,6 @@ in_order zero at (b ∷ bs) h =
     moved at (at + 1 + length bs) (at + 0) (at + suc (length bs)) _ (omega arith) (omega arith)
     (chosen (eqb b 35) (is_blank b) (token_at b bs) at (length bs) (at + 1 + length bs) (λ more. tokens_from more (at + 1) bs) (token_within b bs) (omega arith) (λ more le. in_order more (at + 1) bs le))
 
-pub are_in_order : (line : List ℕ) (r : Result (Vec Token Global) TokenStop) → Gives (λ found. found.items) r (tokens_of line) → IfOk r (λ found. IsInOrder 0 (length line) found.items)
+pub are_in_order : (line : List ℕ) (r : Result (Vec Token Global) TokenStop) → GivesOrStops (λ found. found.items) r (tokens_of line) → IfOk r (λ found. IsInOrder 0 (length line) found.items)
 are_in_order line (Ok found) h = subst (λ o. Ordered 0 (length line) o) h (moved (0 + 0) (0 + length line) 0 (length line) (tokens_of line) (omega arith) (omega arith) (in_order 0 0 line (omega arith)))
 are_in_order line (Err e) h = tt

@@ -1,11 +1,9 @@
 -- The bytes of each token of a cut
-use Rattle.std.proofs.Common.{◌≡◌, ℕ, ◌+◌, List, [], ◌∷◌, ◌++◌, length, Ok, sym, ap, ◌∙◌, subst, arith, append_assoc, length-append}
+use Rattle.std.proofs.Common.{◌≡◌, ℕ, ◌+◌, List, [], ◌∷◌, ◌++◌, length, sym, ap, ◌∙◌, subst, arith, append_assoc, length-append}
 use Rattle.std.specs.List.{slice_range}
 use Rattle.script_tokens.specs.declared.token.Token.{Token}
-use Rattle.script_tokens.specs.Tokens.{tokens_of}
-use Rattle.script_tokens.specs.Cuts.{HaveTexts, IsComment, IsCut, IsToken}
-use Rattle.script_tokens.proofs.Cuts.{are_tokens}
-use Rattle.std.proofs.Common.{take, drop, ◌-◌, zero, suc, refl}
+use Rattle.script_tokens.specs.Cuts.{HasTokens, HaveTexts, IsComment, IsCut, IsToken}
+use Rattle.std.proofs.Common.{take, drop, ◌-◌, refl}
 
 drop_front : (front bs : List ℕ) → drop (length front) (front ++ bs) ≡ bs
 drop_front [] bs = refl
@@ -32,5 +30,5 @@ cut_texts Rest line front at bytes (t ∷ ts) is place h =
     let stops : t.end ≡ length (before ++ n.text) = omega (arith, n.ends, starts, length-append before n.text) in
     (subst (IsToken t.kind) (sym text) n.token, cut_texts Rest line (before ++ n.text) t.end h.0 ts next stops h.2)
 
-pub have_texts : (line : List ℕ) (ts : List Token) → tokens_of line ≡ Ok ts → HaveTexts line ts
-have_texts line ts e = cut_texts (λ place rest. IsComment rest) line [] 0 line ts refl refl ((are_tokens line ts).0 e)
+pub have_texts : (line : List ℕ) (ts : List Token) → HasTokens line ts → HaveTexts line ts
+have_texts line ts h = cut_texts (λ place rest. IsComment rest) line [] 0 line ts refl refl h

@@ -1,10 +1,13 @@
 -- A line cut into its tokens, with no word on how the cut is found
-use Rattle.std.specs.Prelude.{Bool, IsTrue, List, Some, [], false, length, slice_range, ℕ, ◌+◌, ◌++◌, ◌∷◌, ◌≡◌, ◌≢◌}
+use Rattle.std.specs.Prelude.{Bool, Err, IsTrue, List, Ok, Result, Some, Vec, [], false, length, slice_range, ℕ, ◌+◌, ◌++◌, ◌∷◌, ◌≡◌, ◌≢◌}
+use Rattle.std.specs.Global.{Global}
 use Rattle.std.specs.Char.{is_ascii_alphabetic, is_ascii_digit}
 use Rattle.std.specs.List.{AllByRecursion}
 use Rattle.script_tokens.specs.declared.token.Token.{Token}
 use Rattle.script_tokens.specs.declared.token.TokenKind.{TokenKind}
 use Rattle.script_tokens.specs.declared.token.TokenKind.TheVariants.{Name, Number}
+use Rattle.script_tokens.specs.declared.token.TokenStop.{TokenStop}
+use Rattle.script_tokens.specs.declared.token.TokenStop.TheVariants.{At, Memory}
 use Rattle.script_tokens.specs.Tokens.{is_blank, is_name_byte, sign_of}
 
 -- each byte passes the test
@@ -59,3 +62,9 @@ HasStrayByte line i = (ts : List Token) × IsCut (λ place rest. (place ≡ i) �
 -- the bytes of each token in the line are a token of its kind
 abbrev pub HaveTexts : List ℕ → List Token → Type 0
 HaveTexts line ts = AllByRecursion (λ t. IsToken t.kind (slice_range line t.start t.end)) ts
+
+-- the tokens are those of the line, the stop is at its stray byte, and memory may be wanting
+abbrev pub IsCutInto : List ℕ → Result (Vec Token Global) TokenStop → Type 0
+IsCutInto line (Ok found) = HasTokens line found.items
+IsCutInto line (Err Memory) = Unit {0}
+IsCutInto line (Err (At i)) = HasStrayByte line i

@@ -3,11 +3,12 @@
 //! A line is cut into the longest tokens from left to right; blanks stand between them, and a `#` begins a comment.
 #![tactic(auto)]
 
-ghost use Rattle.std.specs.Prelude.{◌≡◌, ◌≤◌, ◌↔◌, ℕ, List, length, Ok, Err, IfSome, IfOk};
+ghost use Rattle.std.specs.Prelude.{◌≡◌, ◌≤◌, ◌⊎◌, ℕ, List, length, IfSome, IfOk};
 ghost use Rattle.std.specs.List.{prefix_len};
 ghost use Rattle.std.specs.Char.{is_ascii_digit};
-ghost use Rattle.script_tokens.specs.Tokens.{is_blank, is_name_byte, sign_of, token_at, tokens_of, Gives, IsInOrder};
-ghost use Rattle.script_tokens.specs.Cuts.{HasTokens, HasStrayByte, HaveTexts};
+ghost use Rattle.script_tokens.specs.Cuts.{HasTokens, HasStrayByte, HaveTexts, IsCutInto};
+ghost use Rattle.script_tokens.specs.Scans.{token_at, tokens_of, GivesOrStops};
+ghost use Rattle.script_tokens.specs.Tokens.{is_blank, is_name_byte, sign_of, IsInOrder};
 ghost use Rattle.script_tokens.specs.declared.token.Token.{Token};
 
 #[cfg(test)]
@@ -70,7 +71,7 @@ fn digit_run(bytes: &[u8]) -> usize
 }
 
 /// The token that begins with a byte, and how many of the bytes after it belong to it.
-#[tactic(auto, unfolding(crate::specs::Tokens::token_at))]
+#[tactic(auto, unfolding(crate::specs::Scans::token_at))]
 fn token_at(byte: u8, after: &[u8]) -> Option<(TokenKind, usize)>
     ensures token { result ≡ token_at byte after.now }
     ensures within { IfSome result (λ found. found.1 ≤ length after.now) }
@@ -87,7 +88,7 @@ fn token_at(byte: u8, after: &[u8]) -> Option<(TokenKind, usize)>
 
 /// Cuts a line from left to right.
 fn cut(alloc: Global, line: &[u8]) -> Result<Vec<Token>, TokenStop>
-    ensures { Gives (λ found. found.items) result (tokens_of line.now) }
+    ensures { GivesOrStops (λ found. found.items) result (tokens_of line.now) }
 {
     let mut found = Vec::new(alloc);
     let mut at = 0;
@@ -125,17 +126,18 @@ fn cut(alloc: Global, line: &[u8]) -> Result<Vec<Token>, TokenStop>
 /// Answers `At(i)` exactly where byte i, before the comment, is the first that begins no token, and `Memory` where a
 /// growth was refused. Both leave the line as it was.
 pub fn tokens(alloc: Global, line: &[u8]) -> Result<Vec<Token>, TokenStop>
-    ensures exact { Gives (λ found. found.items) result (tokens_of line.now) }
+    ensures exact { IsCutInto line.now result }
     ensures in_order { IfOk result (λ found. IsInOrder 0 (length line.now) found.items) }
 {
     cut(alloc, line)
 }
 
-/// What `tokens` answers, said with no word on how it is found: the tokens are the one way to cut the line into
-/// longest tokens with blanks alone between them, and the stop is the one place up to which there is such a cut and
-/// where a byte stands that begins nothing. The bytes of each token are a token of its kind.
-pub fn tokens_are_cuts()
-    ensures tokens { (line : List ℕ) (ts : List Token) → (tokens_of line ≡ Ok ts) ↔ HasTokens line ts }
-    ensures texts { (line : List ℕ) (ts : List Token) → tokens_of line ≡ Ok ts → HaveTexts line ts }
-    ensures stray { (line : List ℕ) (i : ℕ) → (tokens_of line ≡ Err i) ↔ HasStrayByte line i }
+/// A line is cut in one way into longest tokens with blanks alone between them, or there is one place up to which it
+/// can be cut and where a byte stands that begins nothing, and not both. The bytes of each token are a token of its kind.
+pub fn one_cut()
+    ensures some { (line : List ℕ) → ((ts : List Token) × HasTokens line ts) ⊎ ((i : ℕ) × HasStrayByte line i) }
+    ensures tokens { (line : List ℕ) (ts us : List Token) → HasTokens line ts → HasTokens line us → ts ≡ us }
+    ensures stray { (line : List ℕ) (i j : ℕ) → HasStrayByte line i → HasStrayByte line j → i ≡ j }
+    ensures apart { (line : List ℕ) (ts : List Token) (i : ℕ) → HasTokens line ts → HasStrayByte line i → ⊥ }
+    ensures texts { (line : List ℕ) (ts : List Token) → HasTokens line ts → HaveTexts line ts }
 {}

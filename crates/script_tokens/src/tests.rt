@@ -2,25 +2,38 @@ use super::*;
 use std::alloc::Global;
 use std::test::Fail;
 
-/// The places of the tokens, as `start * 100 + end`, or the stop.
-fn places(alloc: Global, line: &[u8]) -> Result<Vec<usize>, TokenStop> {
-    let mut places = Vec::new(alloc);
-    for token in &tokens(alloc, line)? {
-        places.push(token.start.saturating_mul(100).saturating_add(token.end))?;
+/// Whether the tokens of the line stand at these places.
+fn has_places(alloc: Global, line: &[u8], wanted: &[(usize, usize)]) -> bool {
+    let Ok(found) = tokens(alloc, line) else {
+        return false;
+    };
+    if found.len() != wanted.len() {
+        return false;
     }
-    Ok(places)
+    for (token, place) in found.iter().zip(wanted) {
+        if token.start != place.0 || token.end != place.1 {
+            return false;
+        }
+    }
+    true
+}
+
+/// Where the line has a byte that begins no token.
+fn stray(alloc: Global, line: &[u8]) -> Option<usize> {
+    match tokens(alloc, line) {
+        Err(TokenStop::At(i)) => Some(i),
+        _ => None,
+    }
 }
 
 #[test]
 fn lines(rt: HostRuntime) -> Result<(), Fail> {
     let alloc = rt.alloc();
-    assert!(rt; matches!(places(alloc, b""), Ok(found) if found.is_empty()));
-    assert!(rt; matches!(places(alloc, b" \t\r# \xff?"), Ok(found) if found.is_empty()));
-    assert!(rt;
-        matches!(places(alloc, b"2x_1 ^03\r"), Ok(found) if found.as_slice() == [1, 104, 506, 608].as_slice())
-    );
-    assert!(rt; matches!(places(alloc, b"x?#"), Err(TokenStop::At(1))));
-    assert!(rt; matches!(places(alloc, b"x _y"), Err(TokenStop::At(2))));
-    assert!(rt; matches!(places(alloc, b"x\x0b"), Err(TokenStop::At(1))));
+    let places = [(0, 1), (1, 4), (5, 6), (6, 8)];
+    assert!(rt; has_places(alloc, b"2x_1 ^03\r# \xff?", &places));
+    assert!(rt; has_places(alloc, b" \t\r", &[]));
+    for (line, wanted) in [("x?#", 1), ("x _y", 2), ("x\x0b", 1)] {
+        assert_eq!(rt; stray(alloc, line.as_bytes()), Some(wanted));
+    }
     Ok(())
 }

@@ -1,7 +1,8 @@
 use Rattle.std.proofs.Common.{◌<◌, subst, sym}
 use Rattle.formal_sums.specs.FormalSums.{product}
+use Rattle.module_vectors.specs.Rings.{variables}
 use Rattle.poly_value.specs.Parts.{IsPart}
-use Rattle.poly_value.proofs.Sums.{product_stands, vector_part}
+use Rattle.poly_value.proofs.Sums.{normal_within, product_stands, vector_part}
 use Rattle.poly_value.proofs.parts.product_part.Goals as goal
 
 pub returns-in-Ok : goal.returns-in-Ok
@@ -11,3 +12,13 @@ returns-in-Ok g c = λ v w hv hw.
     subst (IsPart ring (product v w)) (sym c.into_terms.ensures)
     (vector_part ring (g.F.Frame.compare c.args.frame.now) c.in-Ok.v _ c.in-Ok.ensures.vector c.in-Ok.ensures.polynomial
     (product_stands ring c.in_ok-left.left c.in_ok-right.right c.args.left.items c.args.right.items c.in-Ok.v v w pos hv.stands hw.stands c.in_ok-left.ensures.same c.in_ok-right.ensures.same c.in-Ok.ensures.product))
+
+pub no_memory-requires : goal.no_memory-requires
+no_memory-requires g c =
+    let ring = g.F.Frame.over c.args.frame.now in
+    let order = g.met.F.Frame.laws c.args.frame.now (variables ring) 1 in
+    let fits = c.requires.fits in
+    let left = normal_within order ring.modulus.value c.args.left.items c.in_ok-left.left fits.0 c.in_ok-left.ensures.vector c.in_ok-left.ensures.same fits.2 in
+    let right = normal_within order ring.modulus.value c.args.right.items c.in_ok-right.right fits.1 c.in_ok-right.ensures.vector c.in_ok-right.ensures.same fits.3 in
+    let stop = c.in-Err.ensures.memory fits.0 fits.1 left right fits.4 in
+    cc
