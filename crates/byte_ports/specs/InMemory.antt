@@ -1,7 +1,7 @@
 -- What a source and a sink in memory do at each call.
 use Rattle.std.specs.Prelude.{ℕ, ◌-◌, ◌==◌, Bool, min, List, ◌++◌, length, take, drop}
 use Rattle.std.specs.List.{list_any}
-use Rattle.byte_ports.specs.Causes.{next_count}
+use Rattle.risen_counts.specs.Counts.{next_count}
 
 -- What a source in memory does from here on: the bytes that are left, the most of them that a call moves,
 -- the numbers of the calls that fail, counted from 1, and how many calls and faults there were.

@@ -1,2 +1,3 @@
+-- what public clauses cite
 pub mod Causes
 pub mod InMemory

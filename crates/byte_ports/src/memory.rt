@@ -3,7 +3,8 @@ ghost use Rattle.std.specs.Prelude.{◌≡◌, ◌<◌, ◌≤◌, ◌+◌, ◌=
 ghost use Rattle.std.specs.Result.{is_err};
 ghost use Rattle.std.specs.Io.{ReadsAtMost, WritesAtMost};
 ghost use Rattle.std.specs.Io.KnownBytes.{ReadConsumes, WriteAppends};
-ghost use Rattle.byte_ports.specs.Causes.{HasCause, next_count};
+ghost use Rattle.byte_ports.specs.Causes.{HasCause, IsCounted};
+ghost use Rattle.risen_counts.specs.Counts.{next_count};
 ghost use Rattle.byte_ports.specs.InMemory.{Giving, Taking, is_failing, given, not_given, taken_of, not_taken, taken_count};
 
 use crate::ports::move_front;
@@ -73,6 +74,7 @@ impl Source for MemSource {
         ensures bound { ReadsAtMost result into.new }
         ensures bytes { ReadConsumes (Some self.old.left) (Some self.new.left) result into.new }
         ensures cause { HasCause self.old.faults self.new.faults result }
+        ensures counted { IsCounted self.old.faults self.new.faults result }
 
         // It fails exactly at the calls that it was told.
         ensures fails { is_err result ≡ is_failing self.old.failing (next_count self.old.calls) }
@@ -156,6 +158,7 @@ impl Sink for MemSink {
         ensures some { IfOk result (λ count. 0 < length piece.now → 0 < count) }
         ensures bytes { WriteAppends (Some self.old.taken) (Some self.new.taken) result piece.now }
         ensures cause { HasCause self.old.faults self.new.faults result }
+        ensures counted { IsCounted self.old.faults self.new.faults result }
 
         // It fails exactly at the calls that it was told, and where it has no room for any byte of the piece.
         ensures fails { is_err result ≡ (is_failing self.old.failing (next_count self.old.calls) || (self.old.room == 0 && not (length piece.now == 0))) }

@@ -1,5 +1,8 @@
 // A source and a sink that never fail.
-ghost use Rattle.std.specs.Prelude.{◌≡◌, ◌<◌, ◌≤◌, vec_len, drop, Some, None};
+ghost use Rattle.std.specs.Prelude.{◌≡◌, ◌<◌, ◌≤◌, length, min, vec_len, drop, Ok, Some, None};
+ghost use Rattle.std.specs.Io.{ReadsAtMost};
+ghost use Rattle.std.specs.Io.KnownBytes.{ReadConsumes};
+ghost use Rattle.byte_ports.specs.Causes.{HasCause, IsCounted};
 
 use crate::ports::move_front;
 use crate::{Failed, Sink, Source};
@@ -18,7 +21,8 @@ impl SureSource {
     /// Gives these bytes, at most `piece` of them a call.
     pub fn new(bytes: Vec<u8>, piece: usize) -> SureSource
         requires { 0 < piece }
-        ensures { ⟦<SureSource as Source>⟧.left result ≡ Some bytes.items }
+        ensures left { ⟦<SureSource as Source>⟧.left result ≡ Some bytes.items }
+        ensures piece { result.piece ≡ piece }
     {
         SureSource {
             bytes,
@@ -33,7 +37,16 @@ impl Source for SureSource {
 
     ghost faults = { λ s. 0 };
 
-    fn read(&mut self, into: &mut [u8]) -> Result<usize, Failed> {
+    fn read(&mut self, into: &mut [u8]) -> Result<usize, Failed>
+        ensures bound { ReadsAtMost result into.new }
+        ensures bytes { ReadConsumes (Some (drop self.old.at self.old.bytes.items)) (Some (drop self.new.at self.new.bytes.items)) result into.new }
+        ensures cause { HasCause 0 0 result }
+        ensures counted { IsCounted 0 0 result }
+
+        // It gives what is left and finds room, but at most a piece.
+        ensures moved { result ≡ Ok (min (min (length (drop self.old.at self.old.bytes.items)) (length into.old)) self.old.piece) }
+        ensures piece { self.new.piece ≡ self.old.piece }
+    {
         let count = move_front(&self.bytes[self.at..], into, self.piece);
         self.at += count;
         Ok(count)
