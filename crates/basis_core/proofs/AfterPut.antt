@@ -33,7 +33,7 @@ use Rattle.basis_core.specs.declared.state.BasisState.TheInside.{Inside}
 use Rattle.module_vectors.specs.declared.trail.WorkStop.{WorkStop}
 use Rattle.module_vectors.specs.declared.trail.WorkStop.TheVariants.{Degree, Memory}
 use Rattle.basis_core.specs.Answers.{IsJobOut, PutStops}
-use Rattle.basis_core.specs.Inside.{IsKept, IsRead, all_left, shown}
+use Rattle.basis_core.specs.Inside.{IsCoherent, IsRead, all_left, shown}
 use Rattle.basis_core.specs.Jobs.{HasLcm, pair_of, pairs_of}
 use Rattle.basis_core.specs.Makings.{AreMade, StopsAt, StopsOne, StopsRow}
 use Rattle.basis_core.specs.Queues.{QueueShown}
@@ -155,9 +155,9 @@ pub kept_same :
     (i : Inside) (members : MembersShown) (marks : Vec Mark Global) (queue : QueueShown) (history : Vec Event Global) (waits : Vec (Vec Bool Global) Global) (loose : Vec Pair Global)
     → members ≡ i.members → marks.items ≡ i.marks.items → queue.items ≡ i.queue.items → history.items ≡ i.history.items → vec_capacity i.history ≤ vec_capacity history
     → map (λ row. row.items) waits.items ≡ map (λ row. row.items) i.waits.items → loose.items ≡ i.loose.items
-    → IsKept i → IsKept (record i { members = members; marks = marks; queue = queue; history = history; waits = waits; loose = loose })
+    → IsCoherent i → IsCoherent (record i { members = members; marks = marks; queue = queue; history = history; waits = waits; loose = loose })
 kept_same i members marks queue history waits loose m k q h c w o kept =
-    subst (λ l. IsKept (record i { members = l; marks = marks; queue = queue; history = history; waits = waits; loose = loose })) (sym m)
+    subst (λ l. IsCoherent (record i { members = l; marks = marks; queue = queue; history = history; waits = waits; loose = loose })) (sym m)
     (record {
       some = kept.some;
       replays = subst (λ (s : Shown). steps_replay s) (λ j. record (shown i) { queue = pairs_of (sym q j); history = sym h j }) kept.replays;
@@ -270,7 +270,7 @@ module _ (n : ℕ) (s : Shown) (o : OutcomeShown) (after : List Tracked) (queue 
 -- what is kept is kept
 pub put_kept :
     (i : Inside) (o : OutcomeShown) (members : MembersShown) (marks : Vec Mark Global) (queue : QueueShown) (out : Vec Out Global) (history : Vec Event Global) (waits : Vec (Vec Bool Global) Global) (loose : Vec Pair Global)
-    → IsKept i → members.shared ≡ i.members.shared
+    → IsCoherent i → members.shared ≡ i.members.shared
     → HasPut (variables_of (shown i)) (shown i) o members.list (pairs_of queue.items) (outs_of out.items) history.items
     → Each (HasLcm (variables_of (shown i)) members.list) queue.items
     → AreMarks (map (λ m. m.vector) members.list) marks.items
@@ -279,13 +279,13 @@ pub put_kept :
     → IsTested (setting_of (variables_of (shown i)) (shown i).shared) (vectors (members_of (variables_of (shown i)) members.list)) (waited (map (λ row. row.items) waits.items) loose.items) i.tested (pairs_of queue.items)
     → Each (AreIndices (length members.list)) loose.items
     → length i.history.items + (3 * i.workers + 1) ≤ vec_capacity history
-    → IsKept (record i { members = members; marks = marks; queue = queue; out = out; history = history; waits = waits; loose = loose })
+    → IsCoherent (record i { members = members; marks = marks; queue = queue; out = out; history = history; waits = waits; loose = loose })
 put_kept i o members marks queue out history waits loose kept same h lcms marked wide table tested within room =
     let n : ℕ = variables_of (shown i) in
     let t : Shown = after_put (shown i) members.list (pairs_of queue.items) (outs_of out.items) history.items in
     let step : Puts (run_of n (shown i)) (state_of n (shown i)) o.job.worker (members_of n (h.made).made) (state_of n t) =
     put_step n (shown i) o members.list (pairs_of queue.items) (outs_of out.items) history.items h in
-    subst (λ (m : MembersShown). IsKept (record i { members = m; marks = marks; queue = queue; out = out; history = history; waits = waits; loose = loose })) (λ j. record { shared = sym same j; list = members.list })
+    subst (λ (m : MembersShown). IsCoherent (record i { members = m; marks = marks; queue = queue; out = out; history = history; waits = waits; loose = loose })) (λ j. record { shared = sym same j; list = members.list })
     (record {
       some = kept.some;
       replays = replays_after (shown i) t (plain.Put o.job.worker (members_of n (h.made).made)) (record { shared = refl; budget = refl; workers = refl }) kept.replays step;

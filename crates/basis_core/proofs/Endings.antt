@@ -9,7 +9,7 @@ use Rattle.basis_core.specs.declared.ending.Ending.TheVariants.{Ended, MoreWork}
 use Rattle.basis_core.specs.declared.event.Event.{Event}
 use Rattle.basis_core.specs.declared.event.Event.TheVariants.{End}
 use Rattle.basis_core.specs.declared.state.BasisState.TheInside.{Inside}
-use Rattle.basis_core.specs.Inside.{IsKept, IsRead, all_left, shown}
+use Rattle.basis_core.specs.Inside.{IsCoherent, IsRead, all_left, shown}
 use Rattle.basis_core.specs.Jobs.{pairs_of}
 use Rattle.basis_core.specs.Shown.{Shown}
 use Rattle.basis_core.specs.Stops.{stop_of}
@@ -70,10 +70,10 @@ end_step s w e ended es end read more = record {
 -- what is kept of a state is kept
 pub end_kept :
     (i : Inside) (w : ℕ) (e : Ending) (ended : Vec Bool Global) (history : Vec Event Global)
-    → IsKept i → IsEnd w (shown i) e ended.items
+    → IsCoherent i → IsEnd w (shown i) e ended.items
     → history.items ≡ i.history.items ++ (End w e ∷ [])
     → vec_capacity history ≡ vec_capacity i.history
-    → IsKept (record i { ended = ended; history = history })
+    → IsCoherent (record i { ended = ended; history = history })
 end_kept i w e ended history kept end items capacity =
     let s : Shown = shown i in
     let n : ℕ = variables_of s in

@@ -7,7 +7,7 @@ use Rattle.formal_sums.specs.FormalSums.{Each, FormalSum, Key}
 use Rattle.module_vectors.proofs.Scaling.{take_item}
 use Rattle.module_vectors.specs.Rings.{variables}
 use Rattle.module_vectors.specs.Stops.{HasMonomial}
-use Rattle.module_vectors.specs.Trails.{AreMet, Begins, HasKey, IsChain, IsMet, IsOfStep, Step, last_step, product_lead}
+use Rattle.module_vectors.specs.Trails.{AreMet, IsStart, HasKey, IsChain, IsMet, IsOfStep, Step, last_step, product_lead}
 use Rattle.module_vectors.specs.Vectors.{sum_of}
 use Rattle.module_vectors.specs.declared.key.Key.{Key as CodeKey}
 use Rattle.module_vectors.specs.declared.ring.Ring.{Ring}
@@ -34,7 +34,7 @@ module _ (ring : Ring) (ms : List Tracked) (row : Tracked) (t : KeptTrail) where
     known = subst (λ (k : ℕ). Each (λ s. s.0 < k) (first ∷ later)) (ap length d.members ∙ length-map ms (λ m. m.vector)) c.known;
     variables = c.variables;
     begins = subst₂ (λ (v : List (CodeKey × ℕ)) (m : List (List (CodeKey × ℕ))). HasKey (sum_of (variables ring) v) (product_lead (variables ring) m first)) d.vector d.members
-        (subst (λ (s : TrailStart). Begins (variables ring) s t.vector t.members first later) d.start c.begins);
+        (subst (λ (s : TrailStart). IsStart (variables ring) s t.vector t.members first later) d.start c.begins);
     met = subst₂ (λ (v : List (CodeKey × ℕ)) (m : List (List (CodeKey × ℕ))). AreMet (variables ring) (sum_of (variables ring) v) m (first ∷ []) later) d.vector d.members c.met;
     monomial = inl (subst (λ (m : List (List (CodeKey × ℕ))). HasMonomial (get_or m (last_step first later).0 []) t.last) d.members
         (subst (λ k. IsOfStep t.members k (last_step first later) t.last) d.cofs c.last));

@@ -21,7 +21,7 @@ stays kept after e reason k = e ∙ k
 pub first_kept : (after : Option StopReason) → StaysKept None after
 first_kept after reason k = absurd cc
 
-part_front : {A : Type 0} (xs ys : List A) (first count : ℕ) → first + count ≤ length xs → take count (drop first (xs ++ ys)) ≡ take count (drop first xs)
+pub part_front : {A : Type 0} (xs ys : List A) (first count : ℕ) → first + count ≤ length xs → take count (drop first (xs ++ ys)) ≡ take count (drop first xs)
 part_front xs ys zero zero h = refl
 part_front [] ys zero (suc count) h = absurd (omega arith)
 part_front (x ∷ xs) ys zero (suc count) h = ap (λ r. x ∷ r) (part_front xs ys zero count (omega arith))

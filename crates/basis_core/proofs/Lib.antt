@@ -35,3 +35,4 @@ pub mod Tracing
 pub mod Trailing
 pub mod Owing
 pub mod Asked
+pub mod Logging

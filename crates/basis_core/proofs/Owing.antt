@@ -17,14 +17,14 @@ use Rattle.basis_core.specs.Shown.{Shown}
 use Rattle.basis_core.specs.Views.{IsSameRun, run_of, state_of, variables_of}
 
 -- two numbers that differ, by their test
-differ : (v w : ℕ) → (v ≡ w → ⊥) → (v == w) ≡ false
+pub differ : (v w : ℕ) → (v ≡ w → ⊥) → (v == w) ≡ false
 differ v w h = go (v == w) refl
   where
     go : (b : Bool) → (v == w) ≡ b → b ≡ false
     go true e = absurd (h (eqb-true v w e))
     go false e = refl
 
-job_append : (w : ℕ) (xs ys : List (Pair × ℕ)) → job_of w (xs ++ ys) ≡ job_of w xs ++ job_of w ys
+pub job_append : (w : ℕ) (xs ys : List (Pair × ℕ)) → job_of w (xs ++ ys) ≡ job_of w xs ++ job_of w ys
 job_append w [] ys = refl
 job_append w (x ∷ xs) ys = go (x.1 == w) (job_append w xs ys)
   where
@@ -35,21 +35,21 @@ job_append w (x ∷ xs) ys = go (x.1 == w) (job_append w xs ys)
     go false h = h
 
 -- the worker has all that goes out with it
-job_with : (w : ℕ) (xs : List Pair) → job_of w (out_with w xs) ≡ xs
+pub job_with : (w : ℕ) (xs : List Pair) → job_of w (out_with w xs) ≡ xs
 job_with w [] = refl
 job_with w (x ∷ xs) =
     ap (λ b. map (λ e. e.0) (cond b ((x, w) ∷ filter (λ e. e.1 == w) (out_with w xs)) (filter (λ e. e.1 == w) (out_with w xs)))) (eq-eqb w w refl)
     ∙ ap (λ l. x ∷ l) (job_with w xs)
 
 -- and nothing of what goes out with another
-job_without : (v w : ℕ) → (v ≡ w → ⊥) → (xs : List Pair) → job_of w (out_with v xs) ≡ []
+pub job_without : (v w : ℕ) → (v ≡ w → ⊥) → (xs : List Pair) → job_of w (out_with v xs) ≡ []
 job_without v w h [] = refl
 job_without v w h (x ∷ xs) =
     ap (λ b. map (λ e. e.0) (cond b ((x, v) ∷ filter (λ e. e.1 == w) (out_with v xs)) (filter (λ e. e.1 == w) (out_with v xs)))) (differ v w h)
     ∙ job_without v w h xs
 
 -- what others have out stays as one worker's job comes back
-job_others : (v w : ℕ) → (v ≡ w → ⊥) → (out : List (Pair × ℕ)) → job_of w (with_others v out) ≡ job_of w out
+pub job_others : (v w : ℕ) → (v ≡ w → ⊥) → (out : List (Pair × ℕ)) → job_of w (with_others v out) ≡ job_of w out
 job_others v w h [] = refl
 job_others v w h (e ∷ out) = go (e.1 == v) refl (e.1 == w) refl (job_others v w h out)
   where
@@ -90,9 +90,9 @@ pub owed_over_take :
     (s t : Shown) (w most : ℕ) (answer : Taken) (o : OutcomeShown)
     → IsTaken (variables_of s) s w most answer t → IsSameRun s t → t.members ≡ s.members
     → (w ≡ o.job.worker → ⊥) → MayPut s o → MayPut t o
-owed_over_take s t w most answer o (skipped, inl found) same grown other may =
+owed_over_take s t w most answer o (skipped, added, inl found) same grown other may =
     still_owed s t o same (no_more s.members t.members grown) (ap (λ z. job_of o.job.worker z.out) found.after) (ap (λ z. get_or z.ended o.job.worker true) found.after) may
-owed_over_take s t w most answer o (skipped, inr (left, takes)) same grown other may =
+owed_over_take s t w most answer o (skipped, added, inr (left, takes)) same grown other may =
     still_owed s t o same (no_more s.members t.members grown) out (ap (λ z. get_or z.ended o.job.worker true) takes.after) may
   where
     out : job_of o.job.worker t.out ≡ job_of o.job.worker s.out
@@ -154,9 +154,9 @@ owed_by_take s t w most answer o may took same answers given = go took (subst (A
     }
 
     go : IsTaken (variables_of s) s w most answer t → AnswersTake w t (taken.Job o.job) → MayPut t o
-    go (skipped, inl found) (stop, mine, shared, members) =
+    go (skipped, added, inl found) (stop, mine, shared, members) =
         owed mine shared members (ap (λ z. job_of w z.out) found.after ∙ may.free ∙ sym found.gives_none ∙ pairs) (ap (λ z. get_or z.ended w true) found.after)
-    go (skipped, inr (left, takes)) (stop, mine, shared, members) =
+    go (skipped, added, inr (left, takes)) (stop, mine, shared, members) =
         owed mine shared members
         (ap (λ z. job_of w z.out) takes.after ∙ job_append w s.out (out_with w (pairs_given answer)) ∙ ap (λ l. l ++ job_of w (out_with w (pairs_given answer))) may.free ∙ job_with w (pairs_given answer) ∙ pairs)
         (ap (λ z. get_or z.ended w true) takes.after)

@@ -11,7 +11,7 @@ use Rattle.basis_core.specs.declared.state.BasisState.TheInside.{Inside}
 use Rattle.basis_core.specs.declared.stop.StopReason.{StopReason}
 use Rattle.basis_core.specs.declared.stop.StopReason.TheVariants as reasons
 use Rattle.basis_core.specs.Answers.{IsReason}
-use Rattle.basis_core.specs.Inside.{HasReason, IsKept, IsRead, IsStopOver, all_left, shown}
+use Rattle.basis_core.specs.Inside.{HasReason, IsCoherent, IsRead, IsStopOver, all_left, shown}
 use Rattle.basis_core.specs.Shown.{Shown}
 use Rattle.basis_core.specs.Stops.{IsReasonOver, reason_of, stop_of}
 use Rattle.basis_core.specs.Views.{history_of, reason_given, run_of, state_of, variables_of}
@@ -104,10 +104,10 @@ stop_step s w reason after given es may keeps read more = record {
 -- what is kept of a state is kept
 pub stop_kept :
     (i : Inside) (w : ℕ) (reason : StopReason) (after given : Option StopReason) (history : Vec Event Global)
-    → IsKept i → MayStop w (shown i) reason → KeepsFirst i.stop after reason given
+    → IsCoherent i → MayStop w (shown i) reason → KeepsFirst i.stop after reason given
     → history.items ≡ i.history.items ++ (Stop w given ∷ [])
     → vec_capacity history ≡ vec_capacity i.history
-    → IsKept (record i { stop = after; history = history })
+    → IsCoherent (record i { stop = after; history = history })
 stop_kept i w reason after given history kept may keeps items capacity =
     let s : Shown = shown i in
     let n : ℕ = variables_of s in

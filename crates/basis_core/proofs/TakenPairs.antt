@@ -24,7 +24,7 @@ use Rattle.basis_core.specs.declared.out.Out.{Out}
 use Rattle.basis_core.specs.declared.state.BasisState.TheInside.{Inside}
 use Rattle.basis_core.specs.declared.stop.StopReason.{StopReason}
 use Rattle.basis_core.specs.declared.stop.StopReason.TheVariants as reasons
-use Rattle.basis_core.specs.Inside.{IsKept, IsRead, IsStopOver, shown}
+use Rattle.basis_core.specs.Inside.{IsCoherent, IsRead, IsStopOver, shown}
 use Rattle.basis_core.specs.Jobs.{HasLcm, IsJobOver, pair_of, pairs_of}
 use Rattle.basis_core.specs.Queues.{QueueShown}
 use Rattle.basis_core.specs.Members.{MembersShown, Tracked, members_of, setting_of}
@@ -151,7 +151,7 @@ module _ (i : Inside) (w most k : ℕ) (skipped : List Pair) (left : List CodePa
     took = (most, found.may, inr (pairs_of left, take_step))
 
     -- where it keeps no stop and gives no pair, none is left
-    pub none_left : IsDomain i.members.shared.ring.modulus.value → IsKept i → stop ≡ None → take k left ≡ [] → pairs_of queue ≡ []
+    pub none_left : IsDomain i.members.shared.ring.modulus.value → IsCoherent i → stop ≡ None → take k left ≡ [] → pairs_of queue ≡ []
     none_left domain kept unstopped empty = go left refl
       where
         go : (l : List CodePair) → left ≡ l → pairs_of queue ≡ []
@@ -173,10 +173,10 @@ module _ (i : Inside) (w most k : ℕ) (skipped : List Pair) (left : List CodePa
   -- what is kept of a state is kept
   pub take_kept :
       (queue : QueueShown) (out : Vec Out Global) (history : Vec Event Global) (waits : Vec (Vec Bool Global) Global) (tested : ℕ) (loose : Vec Pair Global)
-      → tested ≡ length i.members.list → loose.items ≡ [] → IsKept i → IsAfter i w k skipped left queue.items out.items history.items
+      → tested ≡ length i.members.list → loose.items ≡ [] → IsCoherent i → IsAfter i w k skipped left queue.items out.items history.items
       → map (λ (row : Vec Bool Global). row.items) waits.items ≡ rows
       → length i.history.items + (3 * i.workers + 1) ≤ vec_capacity history
-      → IsKept (record i { queue = queue; out = out; taken = i.taken + k; stop = stop; history = history; waits = waits; tested = tested; loose = loose })
+      → IsCoherent (record i { queue = queue; out = out; taken = i.taken + k; stop = stop; history = history; waits = waits; tested = tested; loose = loose })
   take_kept queue out history waits tested loose all none kept after rows_are room =
       let many : ℕ = length i.members.list in
       let after_state : Shown = t queue.items out.items history.items after kept.read in
@@ -201,7 +201,7 @@ module _ (i : Inside) (w most k : ℕ) (skipped : List Pair) (left : List CodePa
       }
 
   -- the pairs that go out are a job's
-  pub job_is : IsDomain i.members.shared.ring.modulus.value → IsKept i → 0 < length (take k left) → IsJobOver (record { shared = i.members.shared; worker = w; members = i.members.list; pairs = take k left })
+  pub job_is : IsDomain i.members.shared.ring.modulus.value → IsCoherent i → 0 < length (take k left) → IsJobOver (record { shared = i.members.shared; worker = w; members = i.members.list; pairs = take k left })
   job_is domain kept some =
       let reals = Each_take (IsRealPair i.members) k left found.reals in
       record {
@@ -233,10 +233,10 @@ stopped_step s w reason skipped given es stop none no_job read more = record {
 
 pub stopped_kept :
     (i : Inside) (w most : ℕ) (reason : StopReason) (skipped given : Vec Pair Global) (history : Vec Event Global)
-    → IsKept i → MayTake w most (shown i) → i.stop ≡ Some reason → skipped.items ≡ [] → given.items ≡ []
+    → IsCoherent i → MayTake w most (shown i) → i.stop ≡ Some reason → skipped.items ≡ [] → given.items ≡ []
     → history.items ≡ i.history.items ++ (Take w skipped given ∷ [])
     → length i.history.items + (3 * i.workers + 1) ≤ vec_capacity history
-    → IsKept (record i { history = history })
+    → IsCoherent (record i { history = history })
 stopped_kept i w most reason skipped given history kept may stop none no_job more room =
     let s : Shown = shown i in
     let n : ℕ = variables_of s in
@@ -295,7 +295,7 @@ cut_to k m blanks cut e l few = ap length e ∙ length-take-le k blanks (omega (
 -- what the code's steps found
 pub found_by :
     (i : Inside) (w most k : ℕ) (skipped : List Pair) (left shared_out tested : List CodePair) (rows : List (List Bool)) (stop : Option StopReason)
-    → MayTake w most (shown i) → i.stop ≡ None → IsKept i
+    → MayTake w most (shown i) → i.stop ≡ None → IsCoherent i
     → IsSorted (setting_of (variables_of (shown i)) i.members.shared) (vectors_shown i.members) (pairs_of i.queue.items)
     → ((out : List (Pair × ℕ)) → IsTable (map (λ (row : Vec Bool Global). row.items) i.waits.items) (pairs_of i.queue.items) out → AreSkipped i.members out (pairs_of i.queue.items) skipped (pairs_of left) rows)
     → NoneIsSpared i.members rows (pairs_of left) → Each (IsRealPair i.members) left → IsWide (length i.members.list) rows

@@ -9,7 +9,7 @@ use Rattle.basis_core.specs.declared.event.Event.{Event}
 use Rattle.basis_core.specs.declared.out.Out.{Out}
 use Rattle.basis_core.specs.declared.state.BasisState.TheInside.{Inside}
 use Rattle.basis_core.specs.declared.stop.StopReason.{StopReason}
-use Rattle.basis_core.specs.Inside.{IsKept, IsRead, IsStopOver, all_left, shown}
+use Rattle.basis_core.specs.Inside.{IsCoherent, IsRead, IsStopOver, all_left, shown}
 use Rattle.basis_core.specs.Jobs.{HasLcm, pairs_of}
 use Rattle.basis_core.specs.Members.{MembersShown}
 use Rattle.basis_core.specs.Shown.{Shown}
@@ -112,7 +112,7 @@ same_shown i j h = λ t. record {
 }
 
 -- and what is kept is kept
-pub unchanged_kept : (i j : Inside) → IsKept i → IsUnchanged i j → IsKept j
+pub unchanged_kept : (i j : Inside) → IsCoherent i → IsUnchanged i j → IsCoherent j
 unchanged_kept i j k h =
     let there : AreKept (vec_capacity i.history) (items_of i) = record {
       some = k.some;

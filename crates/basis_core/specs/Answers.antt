@@ -15,6 +15,7 @@ use Rattle.basis_core.specs.declared.stop.StopReason.TheVariants as reasons
 use Rattle.basis_core.specs.declared.taken.Taken.{Taken}
 use Rattle.basis_core.specs.declared.taken.Taken.TheVariants.{Job as TookJob, Empty, Stopped}
 use Rattle.basis_core.specs.Jobs.{pairs_of}
+use Rattle.basis_core.specs.Logs.{Adds, Take}
 use Rattle.basis_core.specs.Members.{Shared, members_of, setting_of}
 use Rattle.basis_core.specs.Outcomes.{OutcomeShown}
 use Rattle.basis_core.specs.Shown.{Shown}
@@ -58,12 +59,16 @@ pairs_given (TookJob job) = pairs_of job.pairs
 pairs_given Empty = []
 pairs_given Stopped = []
 
--- the Take that the answer came by: it found a stop, or skipped pairs and gave out some of those left
+-- a Take that skipped these pairs: it found a stop, or gave out some of the pairs left
+abbrev pub IsTakeOf : (n : ℕ) → Shown → ℕ → ℕ → List Pair → Taken → Shown → Type 0
+IsTakeOf n s w most skipped answer t =
+    FindsStop (state_of n s) w skipped (pairs_given answer) (state_of n t)
+    ⊎ ((left : List Pair) × Takes (run_of n s) (state_of n s) w most skipped (pairs_given answer) left (state_of n t))
+
+-- the Take that the answer came by, which is added to the log
 abbrev pub IsTaken : (n : ℕ) → Shown → ℕ → ℕ → Taken → Shown → Type 0
 IsTaken n s w most answer t =
-    (skipped : List Pair)
-    × (FindsStop (state_of n s) w skipped (pairs_given answer) (state_of n t)
-    ⊎ ((left : List Pair) × Takes (run_of n s) (state_of n s) w most skipped (pairs_given answer) left (state_of n t)))
+    (skipped : List Pair) × Adds (Take w skipped (pairs_given answer)) s t × IsTakeOf n s w most skipped answer t
 
 -- a job is of this worker and has all members; Empty comes exactly where no stop is kept and no pair is queued, Stopped exactly where a stop is kept
 abbrev pub AnswersTake : ℕ → Shown → Taken → Type 0

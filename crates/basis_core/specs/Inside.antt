@@ -69,7 +69,7 @@ IsStopOver o None = ⊤
 IsStopOver o (Some reason) = IsReasonOver o.shared reason
 
 -- the state replays its history, of which all that its events stand for is there; its pairs have their lcms and its members their marks; the table has the pairs that wait; what the last Take tested has passed, but for the pairs that ceased to wait since; and there is room for the Ends and Stops that may come
-pub record IsKept (s : Inside) : Type 0 where
+pub record IsCoherent (s : Inside) : Type 0 where
   pub some : 0 < s.workers
   pub replays : Replays (run_of (variables_of (shown s)) (shown s)) (state_of (variables_of (shown s)) (shown s))
   pub lcms : Each (HasLcm (variables_of (shown s)) s.members.list) s.queue.items

@@ -5,10 +5,12 @@ pub mod Outcomes
 pub mod Stops
 pub mod Shown
 pub mod Views
+pub mod Logs
 pub mod Answers
 pub mod Waits
 pub mod Inside
 pub mod Rows
+pub mod Copies
 pub mod Queueing
 pub mod Skipping
 pub mod Tested

@@ -8,11 +8,11 @@ ghost use Rattle.basis_core.specs.Beginning.{HaveMade};
 ghost use Rattle.basis_core.specs.Members.{tracked_of};
 ghost use Rattle.basis_core.specs.Rows.{IsRowTrail, vectors_in};
 
-use crate::copies::copy_cofactors;
+use crate::copies::trail_over;
 use crate::members::Members;
 use crate::row_division::{RowStop, RowTrail, make_member};
 use cofactor_track::Member;
-use module_vectors::{KeptTrail, NoMemory, TrailStart, VectList, Vectors, WorkStop};
+use module_vectors::{KeptTrail, NoMemory, TrailStart, Vectors, WorkStop};
 use std::alloc::{AllocError, Global};
 use vector_division::{Mark, mark_of};
 
@@ -54,19 +54,16 @@ fn beginning_trail(
 {
     let _number = number;
     members.kept();
-    let shared = members.shared();
-    Ok(KeptTrail {
-        ring: shared.ring.try_copy(alloc)?,
-        rank: shared.rank,
-        generators: VectList::copy_of(alloc, &shared.generators)?,
-        below: Vec::new(alloc),
-        start: TrailStart::Term,
-        vector: row.vector.try_copy(alloc)?,
-        members: VectList::copy_of(alloc, members)?,
-        cofs: Some(copy_cofactors(alloc, members)?),
-        steps: trail.steps,
-        last: trail.last,
-    })
+    let vector = row.vector.try_copy(alloc)?;
+    let kept = trail_over(
+        alloc,
+        members,
+        TrailStart::Term,
+        vector,
+        trail.steps,
+        trail.last,
+    )?;
+    Ok(kept)
 }
 
 // The generator with this number is divided by the members that those before it made.

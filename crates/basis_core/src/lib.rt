@@ -43,10 +43,3 @@ pub use outcome::Outcome;
 pub use state::BasisState;
 pub use stop::StopReason;
 pub use taken::Taken;
-
-#[cfg(test)]
-mod beginning_tests;
-#[cfg(test)]
-mod queue_tests;
-#[cfg(test)]
-mod tests;

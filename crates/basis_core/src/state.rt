@@ -1,5 +1,5 @@
 //! The state of a run.
-ghost use Rattle.std.specs.Prelude.{◌≡◌, ◌<◌, List, None, Some, get_or, true, IfOk, IfErr, MatchOption, OnOk, OnErr, false};
+ghost use Rattle.std.specs.Prelude.{◌≡◌, ◌<◌, List, None, Some, get_or, length, true, IfOk, IfErr, MatchOption, OnOk, OnErr, false};
 ghost use Rattle.std.specs.Arc.{arc_value};
 ghost use Rattle.formal_sums.specs.FormalSums.{Each};
 ghost use Rattle.module_vectors.specs.Rings.{variables};
@@ -10,7 +10,8 @@ ghost use Rattle.cofactor_track.specs.Members.{AreGenerators};
 ghost use Rattle.basis_core.specs.Answers.{AnswersTake, BeginningStops, IsJobOut, IsReason, IsRunOf, IsTaken, PutStops};
 ghost use Rattle.basis_core.specs.Members.{shared_of};
 ghost use Rattle.basis_core.specs.Stops.{reason_of};
-ghost use Rattle.basis_core.specs.Inside.{IsStopOver};
+ghost use Rattle.basis_core.specs.Inside.{IsRead, IsStopOver};
+ghost use Rattle.basis_core.specs.Logs.{Adds, AddsPut, End as EndNote, Stop as StopNote};
 ghost use Rattle.basis_core.specs.Jobs.{HasLcm, pairs_of};
 ghost use Rattle.basis_core.specs.Pending.{HaveGrown};
 ghost use Rattle.basis_core.specs.Views.{ending_of, outs_of, run_of, state_of, variables_of, IsSameRun};
@@ -68,11 +69,11 @@ impl Model for BasisState {
 
     ghost Value = { Shown };
 
-    ghost use Rattle.basis_core.specs.Inside.{shown, IsKept};
+    ghost use Rattle.basis_core.specs.Inside.{shown, IsCoherent};
 
     ghost view = { shown };
 
-    ghost invariant = { IsKept };
+    ghost invariant = { IsCoherent };
 }
 
 impl BasisState {
@@ -82,6 +83,7 @@ impl BasisState {
         ensures replays { let n = variables_of self.now in Replays (run_of n self.now) (state_of n self.now) }
         ensures holds { let n = variables_of self.now in HoldsInvariant (run_of n self.now) (state_of n self.now) }
         ensures stop { IsStopOver self.now self.now.stop }
+        ensures read { Each (IsRead (length self.now.members) self.now.stop) self.now.history }
     {
         self.members.domain();
     }
@@ -204,6 +206,7 @@ impl BasisState {
         requires works { get_or self.old.ended outcome.job.worker true ≡ false }
         requires out { IsJobOut self.old outcome }
         ensures step { let n = variables_of self.old in OnOk result ((made : List (PlainMember n)) × Puts (run_of n self.old) (state_of n self.old) outcome.job.worker made (state_of n self.new)) }
+        ensures event { OnOk result (AddsPut outcome.job.worker self.old self.new) }
         ensures run { IsSameRun self.old self.new }
         ensures members { OnOk result (HaveGrown self.old.members self.new.members) }
         ensures err { OnErr result (self.new ≡ self.old) }
@@ -250,6 +253,7 @@ impl BasisState {
     pub fn end(&mut self, worker: u32) -> Ending
         requires { let n = variables_of self.old in MayEnd (run_of n self.old) (state_of n self.old) worker }
         ensures step { let n = variables_of self.old in Ends (run_of n self.old) (state_of n self.old) worker (ending_of result) (state_of n self.new) }
+        ensures event { Adds (EndNote worker (ending_of result)) self.old self.new }
         ensures run { IsSameRun self.old self.new }
         ensures members { self.new.members ≡ self.old.members }
     {
@@ -266,6 +270,7 @@ impl BasisState {
         requires first { let n = variables_of self.old in HasStopped worker (state_of n self.old).history → ⊥ }
         requires reason { let n = variables_of self.old in IsReason n self.old reason }
         ensures step { let n = variables_of self.old in Stops (run_of n self.old) (state_of n self.old) worker (reason_of n reason) (state_of n self.new) }
+        ensures event { Adds (StopNote worker) self.old self.new }
         ensures run { IsSameRun self.old self.new }
         ensures members { self.new.members ≡ self.old.members }
     {

@@ -1,5 +1,5 @@
 // How a Put came to a product of too great a degree.
-ghost use Rattle.std.specs.Prelude.{ℕ, ◌≡◌, ◌<◌, ◌++◌, IfOk, IfSome, IfNone, false, length, take, true};
+ghost use Rattle.std.specs.Prelude.{ℕ, ◌≡◌, ◌<◌, ◌++◌, ◌∷◌, [], IfOk, IfSome, IfNone, OnOk, false, length, take, true};
 ghost use Rattle.monomials.specs.Exponents.{exponents_of, unit};
 ghost use Rattle.formal_sums.specs.FormalSums.{Each, shift};
 ghost use Rattle.module_vectors.specs.Rings.{variables};
@@ -13,11 +13,11 @@ ghost use Rattle.basis_core.specs.Makings.{IsTrailAt, StopsAt, StopsOne};
 ghost use Rattle.basis_core.specs.Members.{members_of, setting_of};
 ghost use Rattle.basis_core.specs.Rows.{vectors_in};
 
-use crate::copies::copy_cofactors;
+use crate::copies::trail_over;
 use crate::members::Members;
 use crate::outcome::Outcome;
 use crate::row_division::{RowStop, RowTrail};
-use module_vectors::{KeptTrail, Key, NoMemory, TrailStart, Vect, VectList, Vectors, WorkStop};
+use module_vectors::{KeptTrail, Key, NoMemory, TrailStart, Vect, Vectors, WorkStop};
 use monomial_orders::Mono;
 use pair_criteria::Pair;
 use std::alloc::Global;
@@ -113,6 +113,19 @@ fn copy_step(alloc: Global, step: &(u64, Mono)) -> Result<(u64, Mono), NoMemory>
     Ok((step.0, step.1.try_copy(alloc)?))
 }
 
+// Appends a copy of the product.
+fn push_step(
+    alloc: Global,
+    steps: &mut Vec<(u64, Mono)>,
+    step: &(u64, Mono),
+) -> Result<(), NoMemory>
+    ensures { OnOk result (steps.new.items ≡ steps.old.items ++ (step.now ∷ [])) }
+{
+    let copy = copy_step(alloc, step)?;
+    steps.push(copy)?;
+    Ok(())
+}
+
 // A chain of products that goes from a pair to the last one, backwards from there.
 fn trace_back(
     alloc: Global,
@@ -130,14 +143,14 @@ fn trace_back(
     let one = Mono::unit(alloc, all[0].1.variables())?;
     let mut at = all.len() - 1;
     let mut chain = Vec::new(alloc);
-    chain.push(copy_step(alloc, &all[at])?)?;
+    push_step(alloc, &mut chain, &all[at])?;
     loop {
         if let Some(pair) = find_pair(members, pairs, &one, &all[at]) {
             chain.reverse();
             return Ok((chain, pair.i, pair.j));
         }
         at = find_earlier(members, all, at);
-        chain.push(copy_step(alloc, &all[at])?)?;
+        push_step(alloc, &mut chain, &all[at])?;
     }
 }
 
@@ -151,10 +164,10 @@ fn gather_steps(
 {
     let mut all = Vec::new(alloc);
     for product in products {
-        all.push(copy_step(alloc, product)?)?;
+        push_step(alloc, &mut all, product)?;
     }
     for step in steps {
-        all.push(copy_step(alloc, step)?)?;
+        push_step(alloc, &mut all, step)?;
     }
     Ok(all)
 }
@@ -180,19 +193,9 @@ fn put_trail(
     job.kept();
     let all = gather_steps(alloc, outcome.products(), &trail.steps)?;
     let (steps, i, j) = trace_back(alloc, members, job.pairs(), &all)?;
-    let shared = members.shared();
-    Ok(KeptTrail {
-        ring: shared.ring.try_copy(alloc)?,
-        rank: shared.rank,
-        generators: VectList::copy_of(alloc, &shared.generators)?,
-        below: Vec::new(alloc),
-        start: TrailStart::Pair(i, j),
-        vector: Vect::zero(alloc),
-        members: VectList::copy_of(alloc, members)?,
-        cofs: Some(copy_cofactors(alloc, members)?),
-        steps,
-        last: trail.last,
-    })
+    let start = TrailStart::Pair(i, j);
+    let kept = trail_over(alloc, members, start, Vect::zero(alloc), steps, trail.last)?;
+    Ok(kept)
 }
 
 /// The stop of a Put whose row stopped. Where it has no memory for the trail it says so.

@@ -1,2 +1,1 @@
-mod EmptyBasis
 mod OneBasis

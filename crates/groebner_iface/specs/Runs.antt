@@ -1,11 +1,12 @@
 -- Runs of an engine
-use Rattle.std.specs.Prelude.{List, Option, Some, min, ℕ, ◌+◌, ◌-◌, ◌^◌, ◌≡◌, ◌≤◌}
+use Rattle.std.specs.Prelude.{List, Option, Some, ℕ, ◌≡◌}
 use Rattle.formal_sums.specs.FormalSums.{Each}
 use Rattle.bases.specs.Bases.{IsReducedBasis}
 use Rattle.module_vectors.specs.Rings.{ring_comparison, setting, variables}
 use Rattle.module_vectors.specs.Vectors.{AreVectorsOver, HasPositions, sums_of}
 use Rattle.module_vectors.specs.declared.key.Key.{Key as CodeKey}
 use Rattle.module_vectors.specs.declared.ring.Ring.{Ring}
+use Rattle.risen_counts.specs.Counts.{Rose}
 use Rattle.groebner_iface.specs.declared.stop.Stop.{Stop}
 use Rattle.groebner_iface.specs.declared.stop.Stop.TheVariants.{Memory, Pairs, Degree}
 
@@ -23,10 +24,6 @@ pub record StoppedRun : Type 0 where
   pub rank : ℕ
   pub list : List (List (CodeKey × ℕ))
   pub answer : Stop
-
--- the count went up; one that stands at 2 ^ 64 - 1 counts as risen
-abbrev pub Rose : ℕ → ℕ → Type 0
-Rose before now = min (before + 1) (2 ^ 64 - 1) ≤ now
 
 -- Memory leaves the count and the kept run as they were; Pairs and Degree come where the count rose, and this run with this answer is kept
 abbrev pub StopsRun : (before now : ℕ) → (kept new : Option StoppedRun) → Ring → ℕ → List (List (CodeKey × ℕ)) → Stop → Type 0

@@ -9,6 +9,7 @@ ghost use Rattle.groebner_iface.specs.Runs.{IsReducedBasisOf, StopsRun, StoppedR
 use crate::Stop;
 use module_vectors::{Ring, VectList};
 use std::alloc::Global;
+use std::sync::Wait;
 use std::thread::Threads;
 
 /// An engine for reduced Gröbner bases. Those that meet this contract answer the same list for the same run
@@ -29,7 +30,7 @@ pub trait Groebner {
     /// `Memory` where there is none. The list that is answered and `Memory` leave the count and the kept run as they were.
     /// The handle may be shared between threads: an engine's method knows its bound `Sync` by `sync`, and each caller by
     /// that bound.
-    fn reduced<R: Threads + Sync>(
+    fn reduced<R: Threads + Wait + Sync>(
         &mut self,
         rt: &R,
         alloc: Global,

@@ -8,6 +8,3 @@ mod stop;
 pub use engine::Groebner;
 pub use laws::one_basis;
 pub use stop::{OpStop, Stop};
-
-#[cfg(test)]
-mod tests;

@@ -3,3 +3,4 @@ mod Choosing
 mod Tails
 mod Trails
 mod Reducing
+mod Gathering

@@ -27,7 +27,7 @@ use Rattle.module_vectors.specs.Trails.{lead_at}
 use Rattle.module_vectors.specs.Vectors.{AreVectorsOver, HasPositions, IsVectorOver, sum_of, sums_of}
 use Rattle.module_vectors.specs.declared.ring.Ring.{Ring}
 use Rattle.vector_division.proofs.Members.{sums_at}
-use Rattle.vector_division.specs.Divisions.{IsReducedBy, IsUncovered}
+use Rattle.vector_division.specs.Divisions.{IsFreeOfLeads, IsUncovered}
 use Rattle.interreduce.specs.Leads.{AreNeeded, HaveLeads}
 use Rattle.interreduce.specs.Members.{AreReducedMembers, IsReducedMember}
 use Rattle.interreduce.proofs.Choosing.{apart_at}
@@ -166,7 +166,7 @@ module _ (ring : Ring) (compare : (n : ℕ) → Key n → Key n → Ordering) (l
 
     free_tail :
         (k : Key (variables ring)) (v : FormalSum (variables ring))
-        → head_key v ≡ k → IsReducedBy (sums_of (variables ring) list) (drop 1 v) → HasFreeTail K k v
+        → head_key v ≡ k → IsFreeOfLeads (sums_of (variables ring) list) (drop 1 v) → HasFreeTail K k v
     free_tail k [] e h = tt
     free_tail k (t ∷ v) e h = (inl e, Each_map _ _ v (λ u q. inr (free u.0 q)) h)
 

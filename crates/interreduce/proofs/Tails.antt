@@ -22,7 +22,7 @@ use Rattle.module_vectors.specs.declared.ring.Ring.{Ring}
 use Rattle.vector_division.proofs.Members.{sums_at}
 use Rattle.vector_division.proofs.Occurring.{at_key, occurring}
 use Rattle.vector_division.proofs.Subtracting.{none_above, up_to_trans}
-use Rattle.vector_division.specs.Divisions.{IsReducedBy, IsUncovered}
+use Rattle.vector_division.specs.Divisions.{IsFreeOfLeads, IsUncovered}
 use Rattle.vector_division.specs.Reductions.{AreMetFrom, HaveLeadsUpTo, IsQuotient, cofactors_of, step_of}
 use Rattle.vector_division.specs.declared.reduction.Quotient.{Quotient}
 use Rattle.interreduce.specs.Members.{IsReducedMember}
@@ -208,8 +208,8 @@ module _ (ring : Ring) (compare : (n : ℕ) → Key n → Key n → Ordering) (r
 
   tail_reduced :
       (new : Terms) (t : CodeKey × ℕ) (rest : Terms)
-      → map (λ x. x.0) new ≡ map (λ x. x.0) (t ∷ rest) → IsReducedBy (sums_of (variables ring) list) (sum_of (variables ring) rest)
-      → IsReducedBy (sums_of (variables ring) list) (drop 1 (sum_of (variables ring) new))
+      → map (λ x. x.0) new ≡ map (λ x. x.0) (t ∷ rest) → IsFreeOfLeads (sums_of (variables ring) list) (sum_of (variables ring) rest)
+      → IsFreeOfLeads (sums_of (variables ring) list) (drop 1 (sum_of (variables ring) new))
   tail_reduced [] t rest e h = tt
   tail_reduced (u ∷ new) t rest e h = each_of_keys (IsUncovered (sums_of (variables ring) list)) new rest (tail_of e) h
     where
@@ -221,7 +221,7 @@ module _ (ring : Ring) (compare : (n : ℕ) → Key n → Key n → Ordering) (r
       → i < length list → v ≡ get_or list i [] → 0 < length v → tail ≡ drop 1 v
       → Each (IsQuotient (variables ring) ring.modulus.value list) qs
       → StandsFor ring tail (combination (sums_of (variables ring) list) (cofactors_of (variables ring) qs) ++ sum_of (variables ring) rest)
-      → IsReducedBy (sums_of (variables ring) list) (sum_of (variables ring) rest)
+      → IsFreeOfLeads (sums_of (variables ring) list) (sum_of (variables ring) rest)
       → old ≡ take 1 v ++ rest → IsVectorOver ring compare new → IsMonicOf ring old new
       → IsReducedMember ring compare list i new
   member_reduced i [] tail rest old new qs lt ev some et known sum reduced eo vector monic = absurd (omega arith)

@@ -2,7 +2,7 @@
 use Rattle.std.proofs.Common.{List, [], drop, inl, inr, subst, sym, ℕ, ◌++◌, ◌∷◌, ◌≡◌}
 use Rattle.formal_sums.specs.FormalSums.{FormalSum, Key}
 use Rattle.module_vectors.specs.Rings.{variables}
-use Rattle.module_vectors.specs.Trails.{AreMet, Begins, HasKey, IsMet, IsTrail, Step, product_lead}
+use Rattle.module_vectors.specs.Trails.{AreMet, IsStart, HasKey, IsMet, IsTrail, Step, product_lead}
 use Rattle.module_vectors.specs.Vectors.{sum_of}
 use Rattle.module_vectors.specs.declared.ring.Ring.{Ring}
 use Rattle.module_vectors.specs.declared.trail.KeptTrail.{KeptTrail}
@@ -27,11 +27,11 @@ module _ (n : ℕ) (v w : FormalSum n) (list : List Terms) (more : (k : Key n) �
 
 begins_more :
     (n : ℕ) (start : TrailStart) (u v x : Terms) (list : List Terms) (first : Step) (later : List Step)
-    → start ≡ starts.Term → u ≡ drop 1 v → x ≡ v → Begins n start u list first later → Begins n start x list first later
+    → start ≡ starts.Term → u ≡ drop 1 v → x ≡ v → IsStart n start u list first later → IsStart n start x list first later
 begins_more n start u v x list first later s e f h =
-    let b : HasKey (sum_of n u) (product_lead n list first) = subst (λ z. Begins n z u list first later) s h in
+    let b : HasKey (sum_of n u) (product_lead n list first) = subst (λ z. IsStart n z u list first later) s h in
     let c : HasKey (sum_of n x) (product_lead n list first) = subst (λ z. HasKey (sum_of n z) (product_lead n list first)) (sym f) (tail_key n v _ (subst (λ z. HasKey (sum_of n z) (product_lead n list first)) e b)) in
-    subst (λ z. Begins n z x list first later) (sym s) c
+    subst (λ z. IsStart n z x list first later) (sym s) c
 
 pub widened :
     (ring : Ring) (list : List Terms) (v x : Terms) (t : KeptTrail)

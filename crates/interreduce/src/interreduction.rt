@@ -5,17 +5,32 @@ ghost use Rattle.bases.specs.Bases.{IsGroebnerBasis, IsReducedBasis};
 ghost use Rattle.module_vectors.specs.Rings.{setting, variables};
 ghost use Rattle.module_vectors.specs.Vectors.{AreVectorsOver, HasPositions, sums_of};
 ghost use Rattle.interreduce.specs.Leads.{HaveLeads};
-ghost use Rattle.interreduce.specs.Members.{AreReducedMembers};
+ghost use Rattle.interreduce.specs.Members.{AreReducedMembers, ReducesMember};
 ghost use Rattle.interreduce.specs.Trails.{InterreductionStops};
 
 use crate::leads::needed_members;
 use crate::member::reduced_member;
 use module_vectors::{Frame, Vect, VectList, Vectors, WorkStop, lawful_setting};
+use rayon::prelude::*;
 use std::alloc::Global;
 use std::thread::Threads;
 
-// The members with these indices, each with its tail reduced, in the same order.
-fn reduced_members<F: Frame, L: Vectors>(
+// So many terms make up for the threads that divide their tails.
+const WORTH_THREADS: usize = 2_048;
+
+// Have the members with these indices so many terms?
+fn is_worth_threads<L: Vectors>(list: &L, indices: &[usize]) -> bool
+    requires { Each (λ i. i < length (L.listed list.now)) indices.now }
+{
+    let mut terms: usize = 0;
+    for index in indices {
+        terms = terms.saturating_add(list.at(*index).terms().len());
+    }
+    terms >= WORTH_THREADS
+}
+
+// The members with these indices, each with its tail reduced, in the same order: one after another.
+fn reduced_in_turn<F: Frame, L: Vectors>(
     alloc: Global,
     frame: &F,
     list: &L,
@@ -34,13 +49,64 @@ fn reduced_members<F: Frame, L: Vectors>(
     Ok(members)
 }
 
+// The same by several threads. The answer is the first refusal in the order of the indices, where there is one.
+fn reduced_side_by_side<R: Threads + Sync, F: Frame + Sync, L: Vectors + Sync>(
+    rt: &R,
+    alloc: Global,
+    frame: &F,
+    list: &L,
+    indices: &[usize],
+) -> Result<Vec<Vect>, WorkStop>
+    requires indices { Each (λ i. i < length (L.listed list.now)) indices.now }
+    requires vectors { AreVectorsOver (F.over frame.now) (F.compare frame.now) (L.listed list.now) }
+    requires leads { HaveLeads (L.listed list.now) }
+    ensures reduced { IfOk result (λ members. AreReducedMembers (F.over frame.now) (F.compare frame.now) (L.listed list.now) indices.now members.items) }
+    ensures stop { IfErr result (InterreductionStops (F.over frame.now) (L.listed list.now)) }
+{
+    indices
+        .par_iter()
+        .with_min_len(1)
+        .map(
+            |index: &usize| -> Result<Vect, WorkStop>
+                requires index { index.now < length (L.listed list.now) }
+                requires vectors { AreVectorsOver (F.over frame.now) (F.compare frame.now) (L.listed list.now) }
+                requires leads { HaveLeads (L.listed list.now) }
+                ensures { ReducesMember (F.over frame.entry.now) (F.compare frame.entry.now) (L.listed list.entry.now) index.now result }
+            { reduced_member(alloc, frame, list, *index) },
+        )
+        .collect::<Result<Vec<Vect>, WorkStop>>(rt, alloc)?
+}
+
+// The members with these indices, each with its tail reduced, in the same order: by several threads where there is work
+// for them.
+fn reduced_members<R: Threads + Sync, F: Frame + Sync, L: Vectors + Sync>(
+    rt: &R,
+    alloc: Global,
+    frame: &F,
+    list: &L,
+    indices: &[usize],
+) -> Result<Vec<Vect>, WorkStop>
+    requires indices { Each (λ i. i < length (L.listed list.now)) indices.now }
+    requires vectors { AreVectorsOver (F.over frame.now) (F.compare frame.now) (L.listed list.now) }
+    requires leads { HaveLeads (L.listed list.now) }
+    ensures reduced { IfOk result (λ members. AreReducedMembers (F.over frame.now) (F.compare frame.now) (L.listed list.now) indices.now members.items) }
+    ensures stop { IfErr result (InterreductionStops (F.over frame.now) (L.listed list.now)) }
+{
+    if is_worth_threads(list, indices) {
+        reduced_side_by_side(rt, alloc, frame, list, indices)
+    } else {
+        reduced_in_turn(alloc, frame, list, indices)
+    }
+}
+
 /// The list without the members whose leads others divide, each other member monic and with its tail reduced by the list,
-/// by descending leads: of a Gröbner basis the reduced one (IVA chapter 2, section 7).
+/// by descending leads: of a Gröbner basis the reduced one (IVA chapter 2, section 7). Where there is much work the tails
+/// are divided side by side, in threads.
 ///
 /// `Degree` comes with a trail of the division of a member by the list, to a product of total degree above 65,535;
 /// `Memory` where a growth was refused.
-pub fn interreduce<R: Threads + Sync, F: Frame, L: Vectors>(
-    _rt: &R,
+pub fn interreduce<R: Threads + Sync, F: Frame + Sync, L: Vectors + Sync>(
+    rt: &R,
     alloc: Global,
     frame: &F,
     list: &L,
@@ -56,7 +122,7 @@ pub fn interreduce<R: Threads + Sync, F: Frame, L: Vectors>(
 {
     lawful_setting(frame);
     let kept = needed_members(alloc, frame, list)?;
-    let mut members = reduced_members(alloc, frame, list, &kept)?;
+    let mut members = reduced_members(rt, alloc, frame, list, &kept)?;
     members.reverse();
     Ok(VectList::from_vec(members))
 }

@@ -6,6 +6,3 @@ mod leads;
 mod member;
 
 pub use interreduction::interreduce;
-
-#[cfg(test)]
-mod tests;

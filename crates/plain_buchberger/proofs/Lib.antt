@@ -1,4 +1,4 @@
-mod Jobs
-mod Taking
-mod Trails
-mod Closings
+pub mod Jobs
+pub mod Taking
+pub mod Trails
+pub mod Leaving

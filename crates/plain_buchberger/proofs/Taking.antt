@@ -1,11 +1,12 @@
 -- The state after a Take, a Put, an End or a Stop of the only worker
-use Rattle.std.proofs.Common.{Bool, Err, IfOk, List, None, Ok, Option, Result, Some, [], ap, arith, cond, false, get_or, inl, inr, length, nat_eq, refl, slice_set, subst, sym, true, ℕ, ◌++◌, ◌+◌, ◌∙◌, ◌∷◌, ◌≡◌, ◌≤◌}
+use Rattle.std.proofs.Common.{Bool, Err, IfOk, List, None, Ok, Option, Result, Some, [], ap, arith, cond, false, get_or, inl, inr, length, nat_eq, refl, slice_set, subst, suc, sym, true, zero, ℕ, ◌++◌, ◌+◌, ◌<◌, ◌∙◌, ◌∷◌, ◌≡◌, ◌≤◌}
 use Rattle.module_vectors.specs.Rings.{variables}
 use Rattle.module_vectors.specs.declared.key.Key.{Key as CodeKey}
 use Rattle.module_vectors.specs.declared.ring.Ring.{Ring}
 use Rattle.module_vectors.specs.declared.trail.KeptTrail.{KeptTrail}
 use Rattle.module_vectors.specs.declared.trail.WorkStop.{WorkStop}
 use Rattle.basis_steps.specs.Criteria.{NoCriterionApplies, waiting}
+use Rattle.basis_steps.specs.Invariant.{HaveAllEnded}
 use Rattle.basis_steps.specs.Pairs.{Pair, count}
 use Rattle.basis_steps.specs.States as plain
 use Rattle.basis_steps.specs.States.{Member, Run, job_of, pairs_taken, vectors}
@@ -25,7 +26,8 @@ use Rattle.basis_core.specs.Shown.{Shown}
 use Rattle.basis_core.specs.Stops as stops
 use Rattle.basis_core.specs.Stops.{reason_of, stop_of}
 use Rattle.basis_core.specs.Views.{IsSameRun, ending_of, run_of, state_of, variables_of}
-use Rattle.plain_buchberger.specs.Rounds.{IsBudgetStop, IsClosed, IsFree, IsOut, IsRunning, KeepsDegree}
+use Rattle.run_endings.specs.Endings.{IsBudgetStop, IsClosed}
+use Rattle.plain_buchberger.specs.Rounds.{IsFree, IsOut, IsRunning, KeepsDegree, LeavesPairs}
 use Rattle.plain_buchberger.proofs.Jobs.{job_of-append, job_of_out_with, job_of_with_others, pairs_taken-append, took_now, unstopped_put, unstopped_take}
 
 pub same_variables : (s t : Shown) → IsSameRun s t → variables_of s ≡ variables_of t
@@ -53,8 +55,8 @@ abbrev TakesNow : (n : ℕ) (s : Shown) (answer : Taken) (t : Shown) → Type 0
 TakesNow n s answer t = (skipped : List Pair) × (left : List Pair) × Takes (run_of n s) (state_of n s) 0 1 skipped (pairs_given answer) left (state_of n t)
 
 takes_now : (n : ℕ) (s : Shown) (answer : Taken) (t : Shown) → s.stop ≡ None → IsTaken n s 0 1 answer t → TakesNow n s answer t
-takes_now n s answer t none (skipped, inl f) = absurd (let kept : stop_of n s.stop ≡ Some f.kept.0 = f.kept.1 in let nothing : stop_of n s.stop ≡ None = ap (stop_of n) none in cc)
-takes_now n s answer t none (skipped, inr (left, h)) = (skipped, left, h)
+takes_now n s answer t none (skipped, added, inl f) = absurd (let kept : stop_of n s.stop ≡ Some f.kept.0 = f.kept.1 in let nothing : stop_of n s.stop ≡ None = ap (stop_of n) none in cc)
+takes_now n s answer t none (skipped, added, inr (left, h)) = (skipped, left, h)
 
 module _ (s t : Shown) (free : IsFree s) (same : IsSameRun s t) where
   -- what each Take leaves
@@ -123,26 +125,31 @@ module _ (s t : Shown) (free : IsFree s) (same : IsSameRun s t) where
       go true q = refl
       go false q = absurd cc
 
-  pub budget_after_take : IsTaken (variables_of s) s 0 1 Stopped t → AnswersTake 0 t Stopped → IsBudgetStop t
+  pub budget_after_take : IsTaken (variables_of s) s 0 1 Stopped t → AnswersTake 0 t Stopped → IsBudgetStop t × LeavesPairs t
   budget_after_take taken (reason, kept) = go (takes_now (variables_of s) s Stopped t free.runs.stop taken)
     where
-      go : TakesNow (variables_of s) s Stopped t → IsBudgetStop t
+      go : TakesNow (variables_of s) s Stopped t → IsBudgetStop t × LeavesPairs t
       go (skipped, left, h) =
           let k : ℕ = variables_of s in
           let after : stop_of k t.stop ≡ stop_of_take (run_of k s) s.taken left = ap (λ u. u.stop) h.after in
           let stop : stop_of k t.stop ≡ Some plain.Pairs = after ∙ kept_by_take (run_of k s) s.taken left (reason_of k reason) (sym after ∙ ap (stop_of k) kept) in
-          let met = budget_met (run_of k s) (state_of k s) (state_of k t) 0 1 skipped [] left h stop in
-          record {
-            stop = stops_pairs k t.stop stop;
-            taken = met.0 ∙ sym same.budget;
-            queued = met.1;
-            none_applies =
-                subst (λ (sh : Shared). NoCriterionApplies (setting_of (variables sh.ring) sh) (vectors (members_of (variables sh.ring) t.members)) (waiting t.queue t.out) t.queue) (sym same.shared) met.2;
-          }
+          let met = budget_met (run_of k s) (state_of k s) (state_of k t) 0 1 skipped [] left h stop in (
+            record { stop = stops_pairs k t.stop stop; taken = met.0 ∙ sym same.budget },
+            record {
+              queued = met.1;
+              none_applies =
+                  subst (λ (sh : Shared). NoCriterionApplies (setting_of (variables sh.ring) sh) (vectors (members_of (variables sh.ring) t.members)) (waiting t.queue t.out) t.queue) (sym same.shared) met.2;
+            },
+          )
 
 first_ended : (es : List Bool) → get_or (slice_set es 0 true) 0 true ≡ true
 first_ended [] = refl
 first_ended (e ∷ es) = refl
+
+-- where there is one worker and it has ended, all have
+only_one : (u : Shown) → u.workers ≡ 1 → get_or u.ended 0 true ≡ true → HaveAllEnded (run_of (variables_of u) u) (state_of (variables_of u) u)
+only_one u one ended zero h = ended
+only_one u one ended (suc w) h = absurd (omega (arith, h, one))
 
 pub closed_after_end :
     (t u : Shown) (ending : Ending) → t.workers ≡ 1 → AnswersTake 0 t Empty → IsSameRun t u
@@ -153,9 +160,10 @@ closed_after_end t u ending one (none, empty) same h =
     let answer : ending_of ending ≡ plain.Ended =
     h.answers ∙ ap (λ (o : Option StopReason). cond (steps.is_stopped (stop_of n o)) plain.Ended (cond (steps.is_empty t.queue) plain.Ended plain.MoreWork)) none ∙ ap (λ q. cond (steps.is_empty q) plain.Ended plain.MoreWork) empty in
     record {
-      alone = same.workers ∙ one;
       stop = stops_none n u.stop (ap (λ z. z.stop) h.after ∙ ap (stop_of n) none);
-      ended = ap (λ z. get_or z.ended 0 true) h.after ∙ ap (λ e. get_or (steps.ended_after (state_of n t) 0 e) 0 true) answer ∙ first_ended t.ended;
+      ended =
+          only_one u (same.workers ∙ one)
+          (ap (λ z. get_or z.ended 0 true) h.after ∙ ap (λ e. get_or (steps.ended_after (state_of n t) 0 e) 0 true) answer ∙ first_ended t.ended);
     }
 
 pub free_after_put :

@@ -1,5 +1,5 @@
-pub mod Copies
-pub mod Rounds
-pub mod Stops
+-- what public clauses cite
 pub mod Engines
 pub mod Runs
+-- the rounds of a run
+pub mod Rounds

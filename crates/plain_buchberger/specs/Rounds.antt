@@ -14,7 +14,7 @@ use Rattle.basis_core.specs.Jobs.{JobShown, pairs_of}
 use Rattle.basis_core.specs.Members.{members_of, setting_of}
 use Rattle.basis_core.specs.Shown.{Shown}
 use Rattle.basis_core.specs.Views.{state_of, variables_of}
-use Rattle.plain_buchberger.specs.Copies.{IsSameTrail}
+use Rattle.run_endings.specs.Endings.{IsBudgetStop, IsClosed, IsDegreeStop}
 use Rattle.plain_buchberger.specs.declared.rounds.Round.{Round}
 use Rattle.plain_buchberger.specs.declared.rounds.Round.TheVariants as rounds
 
@@ -39,29 +39,16 @@ pub record IsOut (s : Shown) (job : JobShown) : Type 0 where
   pub out : job_of 0 s.out ≡ pairs_of job.pairs
   pub taken : (x : Pair) → count x (pairs_of job.pairs) ≤ count x (pairs_taken (state_of (variables_of s) s).history)
 
--- the only worker has ended, and no stop is kept
-pub record IsClosed (s : Shown) : Type 0 where
-  pub alone : s.workers ≡ 1
-  pub stop : s.stop ≡ None
-  pub ended : get_or s.ended 0 true ≡ true
-
--- a stop by the budget: as many pairs are taken as it has, and one is left to which no criterion applies
-pub record IsBudgetStop (s : Shown) : Type 0 where
-  pub stop : s.stop ≡ Some reasons.Pairs
-  pub taken : s.taken ≡ s.budget
+-- a pair is left, and no criterion applies to one that is
+pub record LeavesPairs (s : Shown) : Type 0 where
   pub queued : 0 < length s.queue
   pub none_applies :
       let n = variables_of s in
       NoCriterionApplies (setting_of n s.shared) (vectors (members_of n s.members)) (waiting s.queue s.out) s.queue
 
--- a stop by the degree of a pair's work: of the state's members and of a pair that was taken; the state keeps the same trail
-pub record IsDegreeStop (s : Shown) (t : KeptTrail) : Type 0 where
-  pub stop : (kept : KeptTrail) × (s.stop ≡ Some (reasons.Degree kept)) × IsSameTrail kept t
-  pub trail : IsRunTrail (variables_of s) s t
-
--- why a round is not done: a stop by the budget or by the degree, which the state keeps
+-- why a round is not done: a stop by the budget with a pair left, or by the degree; the state keeps it
 abbrev pub RoundStops : Shown → StopReason → Type 0
-RoundStops s reasons.Pairs = IsBudgetStop s
+RoundStops s reasons.Pairs = IsBudgetStop s × LeavesPairs s
 RoundStops s reasons.Memory = ⊤
 RoundStops s (reasons.Degree t) = IsDegreeStop s t
 

@@ -1,13 +1,20 @@
--- Why a run has no reduced basis
-use Rattle.std.specs.Prelude.{None, Some, ⊤, ℕ, ◌≡◌}
-use Rattle.basis_core.specs.Members.{Shared}
-use Rattle.plain_buchberger.specs.Stops.{IsStop, shared_of_trail}
-use Rattle.plain_buchberger.specs.declared.runs.RunStop.{RunStop}
-use Rattle.plain_buchberger.specs.declared.runs.RunStop.TheVariants.{Memory, Pairs, Beginning, Degree}
+-- What more a run with one worker leaves at a stop
+use Rattle.std.specs.Prelude.{None, Option, Some, ⊤}
+use Rattle.module_vectors.specs.declared.trail.KeptTrail.{KeptTrail}
+use Rattle.basis_core.specs.Shown.{Shown}
+use Rattle.run_endings.specs.declared.stop.RunStop.{RunStop}
+use Rattle.run_endings.specs.declared.stop.RunStop.TheVariants.{Memory, Pairs, Beginning, Degree}
+use Rattle.plain_buchberger.specs.Rounds.{LeavesPairs}
 
--- what is kept is of the run on these, with this budget
-abbrev pub RunStops : (pairs : ℕ) → Shared → RunStop → Type 0
-RunStops pairs shared Memory = ⊤
-RunStops pairs shared (Pairs s) = (s.shared ≡ shared) × IsStop pairs (Some s) None
-RunStops pairs shared (Beginning t) = (shared_of_trail t ≡ shared) × IsStop pairs None (Some t)
-RunStops pairs shared (Degree s t) = (s.shared ≡ shared) × IsStop pairs (Some s) (Some t)
+-- a stop by the budget leaves a pair
+abbrev pub StopLeaves : RunStop → Type 0
+StopLeaves Memory = ⊤
+StopLeaves (Pairs s) = LeavesPairs s
+StopLeaves (Beginning t) = ⊤
+StopLeaves (Degree s t) = ⊤
+
+-- the same of what is kept
+abbrev pub KeptLeaves : Option Shown → Option KeptTrail → Type 0
+KeptLeaves None t = ⊤
+KeptLeaves (Some s) None = LeavesPairs s
+KeptLeaves (Some s) (Some t) = ⊤

@@ -6,15 +6,17 @@ ghost use Rattle.module_vectors.specs.Vectors.{AreVectorsOver, HasPositions};
 ghost use Rattle.basis_core.specs.Members.{Shared};
 ghost use Rattle.groebner_iface.specs.Runs.{IsReducedBasisOf, StoppedRun};
 ghost use Rattle.plain_buchberger.specs.Engines.{Counts, EngineStops, IsKeptBy};
-ghost use Rattle.plain_buchberger.specs.Runs.{RunStops};
-ghost use Rattle.plain_buchberger.specs.Stops.{IsStop, shared_on, stopped_run};
+ghost use Rattle.plain_buchberger.specs.Runs.{KeptLeaves, StopLeaves};
+ghost use Rattle.run_endings.specs.Stops.{IsStop, RunStops, shared_on, stopped_run};
 
-use crate::runs::{RunStop, run};
+use crate::runs::run;
 use basis_core::BasisState;
 use groebner_iface::{Groebner, Stop};
 use module_vectors::{KeptTrail, Ring, VectList};
+use run_endings::RunStop;
 use std::alloc::Global;
 use std::marker::Model;
+use std::sync::Wait;
 use std::thread::Threads;
 
 /// Buchberger's algorithm on one thread. The last run that stopped early is kept: by its budget of pairs, its state; by a
@@ -111,7 +113,8 @@ impl PlainEngine {
     // Counts a run that stopped, and keeps this of it.
     fn keep(&mut self, state: Option<BasisState>, trail: Option<KeptTrail>)
         requires some { (run : StoppedRun) × (stopped_run state trail ≡ Some run) }
-        requires stop { IsStop self.old.pairs state trail }
+        requires stop { IsStop self.old.pairs 1 state trail }
+        requires left { KeptLeaves state trail }
         ensures counts { Counts self.old self.new }
         ensures state { self.new.state ≡ state }
         ensures trail { self.new.trail ≡ trail }
@@ -123,8 +126,9 @@ impl PlainEngine {
 
     // Counts and keeps a run that stopped, unless memory was wanting.
     fn keep_stop(&mut self, stop: RunStop) -> Stop
-        requires { (shared : Shared) × RunStops self.old.pairs shared stop }
-        ensures { (shared : Shared) → RunStops self.old.pairs shared stop → EngineStops self.old self.new shared result }
+        requires stop { (shared : Shared) × RunStops self.old.pairs 1 shared stop }
+        requires left { StopLeaves stop }
+        ensures { (shared : Shared) → RunStops self.old.pairs 1 shared stop → EngineStops self.old self.new shared result }
     {
         match stop {
             RunStop::Memory => Stop::Memory,
@@ -146,7 +150,7 @@ impl PlainEngine {
 
 impl Groebner for PlainEngine {
     ghost use Rattle.std.specs.Prelude.{[], ◌∷◌};
-    ghost use Rattle.plain_buchberger.specs.Stops.{stopped_run};
+    ghost use Rattle.run_endings.specs.Stops.{stopped_run};
 
     ghost stops = { λ e. e.stops };
 
@@ -154,7 +158,7 @@ impl Groebner for PlainEngine {
 
     ghost settings = { λ e. e.pairs ∷ 1 ∷ [] };
 
-    fn reduced<R: Threads + Sync>(
+    fn reduced<R: Threads + Wait + Sync>(
         &mut self,
         rt: &R,
         alloc: Global,

@@ -2,19 +2,8 @@
 //! S-vector is divided by the members so far, and what is left becomes a member.
 #![tactic(auto)]
 
-mod closing;
-mod copies;
 mod engine;
 mod rounds;
 mod runs;
 
 pub use engine::PlainEngine;
-
-#[cfg(test)]
-mod basis_tables;
-#[cfg(test)]
-mod basis_tests;
-#[cfg(test)]
-mod degree_tests;
-#[cfg(test)]
-mod tests;

@@ -1,11 +1,12 @@
 // Rounds: a pair is taken, solved, and what is left handed in.
 ghost use Rattle.std.specs.Prelude.{◌≡◌, ◌<◌, IfOk, IfErr, OnOk};
 ghost use Rattle.basis_core.specs.Views.{IsSameRun};
-ghost use Rattle.plain_buchberger.specs.Rounds.{IsClosed, IsFree, IsOut, IsRunning, KeepsDegree, RoundEnds, RoundStops, WorkFails, WorkStops};
+ghost use Rattle.run_endings.specs.Endings.{IsClosed};
+ghost use Rattle.plain_buchberger.specs.Rounds.{IsFree, IsOut, IsRunning, KeepsDegree, RoundEnds, RoundStops, WorkFails, WorkStops};
 
-use crate::copies::copy_trail;
 use basis_core::{BasisState, Job, Outcome, StopReason, Taken};
 use module_vectors::WorkStop;
+use run_endings::copy_trail;
 use s_vectors::solve;
 use std::alloc::Global;
 

@@ -5,29 +5,16 @@ ghost use Rattle.module_vectors.specs.Rings.{ring_comparison, variables};
 ghost use Rattle.module_vectors.specs.Vectors.{AreVectorsOver, HasPositions};
 ghost use Rattle.basis_core.specs.Answers.{BeginningStops, IsRunOf};
 ghost use Rattle.groebner_iface.specs.Runs.{IsReducedBasisOf};
-ghost use Rattle.plain_buchberger.specs.Rounds.{IsClosed, IsFree};
-ghost use Rattle.plain_buchberger.specs.Runs.{RunStops};
-ghost use Rattle.plain_buchberger.specs.Stops.{shared_on};
+ghost use Rattle.run_endings.specs.Stops.{RunStops, shared_on};
+ghost use Rattle.plain_buchberger.specs.Rounds.{IsFree};
+ghost use Rattle.plain_buchberger.specs.Runs.{StopLeaves};
 
-use crate::closing::reduce_members;
 use crate::rounds::look_at_pairs;
 use basis_core::{BasisState, StopReason};
-use module_vectors::{KeptTrail, Ring, VectList, WorkStop};
+use module_vectors::{Ring, VectList, WorkStop};
+use run_endings::{RunStop, close};
 use std::alloc::Global;
 use std::thread::Threads;
-
-/// Why a run has no reduced basis, with what is to be kept of it.
-#[derive(Drop)]
-pub(crate) enum RunStop {
-    /// There was no memory.
-    Memory,
-    /// The budget is met.
-    Pairs(BasisState),
-    /// A generator's division needed a product of total degree above 65,535.
-    Beginning(KeptTrail),
-    /// A pair's work or the interreduction needed one.
-    Degree(BasisState, KeptTrail),
-}
 
 // The run at its beginning, with one worker.
 fn begin(
@@ -48,19 +35,6 @@ fn begin(
     BasisState::begin(alloc, ring, rank, generators, pairs, 1)
 }
 
-// The reduced basis of a closed run, or the run with its trail.
-fn close<R: Threads + Sync>(rt: &R, alloc: Global, state: BasisState) -> Result<VectList, RunStop>
-    requires { IsClosed state }
-    ensures basis { IfOk result (IsReducedBasisOf state.shared.ring state.shared.rank state.shared.generators) }
-    ensures stop { IfErr result (RunStops state.budget state.shared) }
-{
-    match reduce_members(rt, alloc, &state) {
-        Ok(basis) => Ok(basis),
-        Err(WorkStop::Memory) => Err(RunStop::Memory),
-        Err(WorkStop::Degree(trail)) => Err(RunStop::Degree(state, trail)),
-    }
-}
-
 /// The reduced basis of the list, by Buchberger's algorithm with at most so many pairs. IVA chapter 2, section 10.
 pub(crate) fn run<R: Threads + Sync>(
     rt: &R,
@@ -73,7 +47,8 @@ pub(crate) fn run<R: Threads + Sync>(
     requires vectors { AreVectorsOver ring.now (ring_comparison ring.now) list.now }
     requires positions { Each (HasPositions rank) list.now }
     ensures basis { IfOk result (IsReducedBasisOf ring.now rank list.now) }
-    ensures stop { IfErr result (RunStops pairs (shared_on ring.now rank list.now)) }
+    ensures stop { IfErr result (RunStops pairs 1 (shared_on ring.now rank list.now)) }
+    ensures left { IfErr result StopLeaves }
 {
     let mut state = match begin(alloc, pairs, ring, rank, list) {
         Ok(state) => state,
@@ -81,7 +56,10 @@ pub(crate) fn run<R: Threads + Sync>(
         Err(WorkStop::Degree(trail)) => return Err(RunStop::Beginning(trail)),
     };
     match look_at_pairs(alloc, &mut state) {
-        Ok(()) => close(rt, alloc, state),
+        Ok(()) => match close(rt, alloc, state) {
+            Ok((basis, _state)) => Ok(basis),
+            Err(stop) => Err(stop),
+        },
         Err(StopReason::Pairs) => Err(RunStop::Pairs(state)),
         Err(StopReason::Memory) => Err(RunStop::Memory),
         Err(StopReason::Degree(trail)) => Err(RunStop::Degree(state, trail)),

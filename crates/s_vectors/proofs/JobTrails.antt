@@ -11,7 +11,7 @@ use Rattle.module_vectors.proofs.Scaling.{Each_at}
 use Rattle.module_vectors.proofs.SumsOfProducts.{Each_split}
 use Rattle.module_vectors.specs.Rings.{ring_comparison, variables}
 use Rattle.module_vectors.specs.Stops.{HasMonomial}
-use Rattle.module_vectors.specs.Trails.{AreMet, Begins, HasKey, IsChain, IsOfStep, IsTrail as IsKeptTrail, Step, last_step, lead_at}
+use Rattle.module_vectors.specs.Trails.{AreMet, IsStart, HasKey, IsChain, IsOfStep, IsTrail as IsKeptTrail, Step, last_step, lead_at}
 use Rattle.module_vectors.specs.Vectors.{AreVectorsOver, key_of, sum_of, sums_of}
 use Rattle.module_vectors.specs.declared.key.Key.{Key as CodeKey}
 use Rattle.module_vectors.specs.declared.trail.KeptTrail.{KeptTrail}
@@ -105,7 +105,7 @@ module _ (m : MembersShown) (x : CodePair) (of : AreOfPair m x) (combined : AreC
             steps = e;
             known = subst (λ l. Each (λ z. z.0 < length l) (first ∷ later)) (sym members_are) pair.known;
             variables = pair.variables;
-            begins = subst₂ (λ s l. Begins n s t.vector l first later) (sym start_is) (sym members_are) (
+            begins = subst₂ (λ s l. IsStart n s t.vector l first later) (sym start_is) (sym members_are) (
               record { left = lw; right = rw'; apart = λ q. (let o = of.real.ordered in absurd (omega arith)); position = same_position n m.shared m.list x of.monic of.real of.lcm; lcm = pair.linked.0 ∙ lcm_key },
               vector_is,
             );

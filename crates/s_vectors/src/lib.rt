@@ -11,6 +11,3 @@ mod sums;
 mod trails;
 
 pub use solving::solve;
-
-#[cfg(test)]
-mod tests;

@@ -5,7 +5,7 @@ ghost use Rattle.formal_sums.specs.Combinations.{combination};
 ghost use Rattle.bases.specs.Leads.{head_key};
 ghost use Rattle.module_vectors.specs.Rings.{variables};
 ghost use Rattle.module_vectors.specs.Vectors.{sum_of, sums_of, IsVectorOver, AreVectorsOver, StandsFor};
-ghost use Rattle.vector_division.specs.Divisions.{IsReducedBy, HasReducedLead, DivisionStops};
+ghost use Rattle.vector_division.specs.Divisions.{IsFreeOfLeads, HasReducedLead, DivisionStops};
 ghost use Rattle.vector_division.specs.Reductions.{cofactors_of, IsQuotient, AreMetFrom, HaveLeadsUpTo};
 
 use crate::buckets::Buckets;
@@ -51,7 +51,7 @@ pub fn reduce<F: Frame, L: Vectors>(
     ensures bounded { let n = variables (F.over frame.now) in IfOk result (λ r. HaveLeadsUpTo n (F.compare frame.now n) (L.listed list.now) (head_key (sum_of n v.now)) r.quotients.items) }
     ensures sum { let n = variables (F.over frame.now) in IfOk result (λ r. StandsFor (F.over frame.now) v.now (combination (sums_of n (L.listed list.now)) (cofactors_of n r.quotients.items) ++ sum_of n r.rest)) }
     ensures rest { IfOk result (λ r. IsVectorOver (F.over frame.now) (F.compare frame.now) r.rest) }
-    ensures reduced { let n = variables (F.over frame.now) in IfOk result (λ r. IsReducedBy (sums_of n (L.listed list.now)) (sum_of n r.rest)) }
+    ensures reduced { let n = variables (F.over frame.now) in IfOk result (λ r. IsFreeOfLeads (sums_of n (L.listed list.now)) (sum_of n r.rest)) }
     ensures stop { IfErr result (DivisionStops (F.over frame.now) v.now (L.listed list.now)) }
 {
     frame.ring().modulus.domain();

@@ -1,12 +1,10 @@
-use Rattle.std.proofs.Common.{List, Some, ap, length, subst, sym, ℕ, ◌++◌, ◌∙◌, ◌≡◌}
+use Rattle.std.proofs.Common.{List, ap, length, subst, sym, ℕ, ◌++◌, ◌∙◌, ◌≡◌}
 use Rattle.formal_sums.specs.FormalSums.{Each}
 use Rattle.module_vectors.specs.Rings.{variables}
 use Rattle.module_vectors.specs.Trails.{Step}
 use Rattle.module_vectors.specs.declared.key.Key.{Key as CodeKey}
 use Rattle.module_vectors.specs.declared.trail.KeptTrail.{KeptTrail}
-use Rattle.module_vectors.specs.declared.trail.TrailStart.TheVariants as starts
 use Rattle.pair_criteria.specs.declared.pair.Pair.{Pair as CodePair}
-use Rattle.cofactor_track.specs.declared.shared.Shared.{Shared as CodeShared}
 use Rattle.basis_core.specs.Chains.{AreTraced, IsStep, IsTracedTo}
 use Rattle.basis_core.specs.Jobs.{IsJobOver, JobShown}
 use Rattle.basis_core.specs.Members.{Shared, Tracked}
@@ -63,25 +61,16 @@ returns c =
     let traced : IsTracedTo n vs o.job.pairs (o.products ++ c.args.trail.steps.items) c.in_ok-steps.steps.items c.in_ok-steps.i c.in_ok-steps.j =
     subst (λ (z : List CodePair × List Step). IsTracedTo n vs z.0 z.1 c.in_ok-steps.steps.items c.in_ok-steps.i c.in_ok-steps.j) (λ i. (pairs i, all i)) c.in_ok-steps.ensures in
     let row = has_stopped_row shared ms o c.rows.result.now c.args.trail.steps.items c.args.trail.last c.kept.ensures c.requires.shared c.kept-2.ensures (subst IsJobOver c.job-job.ensures c.kept-3.ensures) c.rows.ensures.over c.rows.ensures.terms c.requires.base c.requires.row in
-    let t : KeptTrail = record {
-      ring = c.in_ok-try_copy.field-0;
-      rank = c.deref-4.result.now.rank;
-      generators = c.in_ok-copy_of.field-0;
-      below = c.new.result;
-      start = starts.Pair c.in_ok-steps.i c.in_ok-steps.j;
-      vector = c.zero.result;
-      members = c.in_ok-copy_of-2.field-0;
-      cofs = Some c.in_ok-copy_cofactors.field-0;
-      steps = c.in_ok-steps.steps;
-      last = c.args.trail.last;
-    } in
-    trail_at shared ms o (c.requires.row).0 c.args.trail.steps.items c.args.trail.last row c.in_ok-steps.steps.items c.in_ok-steps.i c.in_ok-steps.j traced t
-    (λ i. c.in_ok-steps.steps.items) c.new.ensures.items
+    let t : KeptTrail = c.in_ok-kept.kept in
+    let over = c.in_ok-kept.ensures in
+    trail_at shared ms o (c.requires.row).0 c.args.trail.steps.items c.args.trail.last row c.in_ok-steps.steps.items c.in_ok-steps.i c.in_ok-steps.j traced t over.steps_are over.below
     (λ i. record t {
-      ring = (c.in_ok-try_copy.ensures ∙ ap (λ (z : CodeShared). z.ring) c.deref-3.ensures ∙ ap (λ (z : Shared). z.ring) c.shared-shared.ensures) i;
-      rank = (ap (λ (z : CodeShared). z.rank) c.deref-4.ensures ∙ ap (λ (z : Shared). z.rank) c.shared-shared.ensures) i;
-      generators = (c.in_ok-copy_of.ensures ∙ ap (λ (z : CodeShared). z.generators) c.deref-5.ensures ∙ ap (λ (z : Shared). z.generators) c.shared-shared.ensures) i;
-      vector = c.zero.ensures i;
-      members = c.in_ok-copy_of-2.ensures i;
-      cofs = Some (c.in_ok-copy_cofactors.ensures i);
+      ring = over.ring i;
+      rank = over.rank i;
+      generators = over.generators i;
+      start = over.start_is i;
+      vector = (over.vector_is ∙ c.zero.ensures) i;
+      members = over.members i;
+      cofs = over.cofactors i;
+      last = over.last_is i;
     })

@@ -1,4 +1,4 @@
-use Rattle.plain_buchberger.proofs.Trails.{degree_stop}
+use Rattle.run_endings.proofs.Trails.{degree_stop}
 use Rattle.plain_buchberger.proofs.rounds.kept_trail.Goals as goal
 
 pub returns-in-Ok : goal.returns-in-Ok

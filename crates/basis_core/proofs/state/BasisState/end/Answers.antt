@@ -1,10 +1,12 @@
-use Rattle.std.proofs.Common.{ap, arith, subst, sym, ℕ}
+use Rattle.std.proofs.Common.{ap, arith, refl, subst, sym, ℕ}
 use Rattle.basis_steps.specs.Steps as steps
+use Rattle.basis_core.specs.Logs.{Adds, End as EndNote}
 use Rattle.basis_core.specs.Inside.{shown}
 use Rattle.basis_core.specs.Jobs.{pairs_of}
 use Rattle.basis_core.specs.Shown.{Shown}
 use Rattle.basis_core.specs.Views.{ending_of, run_of, state_of, variables_of}
 use Rattle.basis_core.proofs.Endings.{IsEnd, MayEnd, after_end, end_answer, end_kept, end_step, works_within}
+use Rattle.basis_core.proofs.Logging.{ends_more}
 use Rattle.basis_core.proofs.Room.{room_to_end}
 use Rattle.basis_core.proofs.state.BasisState.end.Goals as goal
 
@@ -48,3 +50,12 @@ returns-clause-step c =
     let t : Shown = after_end s c.mark_ended.new.ended.items c.push_reserved.new.self.items in
     subst (λ (z : Shown). steps.Ends (run_of (variables_of z) z) (state_of (variables_of z) z) w (ending_of e) (state_of (variables_of z) t)) c.self.view_is
     (end_step s w e c.mark_ended.new.ended.items c.push_reserved.new.self.items end c.self.invariant.read c.push_reserved.ensures.items)
+
+pub returns-clause-event : goal.returns-clause-event
+returns-clause-event c =
+    let s : Shown = shown c.self.inside in
+    let w : ℕ = c.args.worker in
+    let e = c.ending_at-ending.result in
+    let t : Shown = after_end s c.mark_ended.new.ended.items c.push_reserved.new.self.items in
+    subst (λ (z : Shown). Adds (EndNote w (ending_of e)) z t) c.self.view_is
+    (ends_more s t c.self.invariant.replays c.self.invariant.read (record { shared = refl; budget = refl; workers = refl }) refl w e c.push_reserved.ensures.items)

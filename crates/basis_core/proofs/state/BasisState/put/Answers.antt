@@ -19,6 +19,7 @@ use Rattle.vector_division.specs.declared.marks.Mark.{Mark}
 use Rattle.basis_core.specs.Makings.{AreMade, StopsAt, StopsOne, StopsRow}
 use Rattle.basis_core.specs.Members.{MembersShown, Shared, Tracked, members_of, setting_of}
 use Rattle.basis_core.specs.Outcomes.{OutcomeShown}
+use Rattle.basis_core.specs.Logs.{AddsPut}
 use Rattle.basis_core.specs.Shown.{Shown}
 use Rattle.basis_core.specs.Views.{outs_of, run_of, state_of, variables_of}
 use Rattle.basis_core.specs.Tested.{IsTested, waited}
@@ -26,6 +27,7 @@ use Rattle.basis_core.proofs.Testing.{loose_indices, put_members}
 use Rattle.basis_steps.specs.Pairs.{Pair}
 use Rattle.basis_core.specs.Waits.{IsWide}
 use Rattle.basis_core.proofs.AfterPut.{HasPut, IsWithin, base_more, each_out, each_queued, each_within, front_same, front_vectors, kept_same, one_stops, out_within, outcome_of, put_kept, put_step, put_stops, queue_lcms, queue_sorted, queue_within, rows_enough}
+use Rattle.basis_core.proofs.Logging.{puts_more}
 use Rattle.basis_core.proofs.state.BasisState.put.Goals as goal
 
 -- what holds of the state that the fields show
@@ -212,3 +214,14 @@ returns-clause-step c =
     put_step n s c.args.outcome c.make_members.new.members.list (pairs_of c.queue_made.new.queue.items) (outs_of c.close_job.new.out.items) c.push_reserved.new.self.items put in
     subst (λ (z : Shown). (made : List (PlainMember (variables_of z))) × Puts (run_of (variables_of z) z) (state_of (variables_of z) z) c.args.outcome.job.worker made (state_of (variables_of z) t)) c.self.view_is
     (members_of n (put.made).made, step)
+
+pub returns-clause-event : goal.returns-clause-event
+returns-clause-event c =
+    let s : Shown = shown c.self.inside in
+    let w : ℕ = c.args.outcome.job.worker in
+    let put = has_put c in
+    let list : List Tracked = c.make_members.new.members.list in
+    let t : Shown = record s { shared = c.make_members.new.members.shared; members = list; queue = pairs_of c.queue_made.new.queue.items; out = outs_of c.close_job.new.out.items; history = c.push_reserved.new.self.items } in
+    subst (λ (z : Shown). AddsPut w z t) c.self.view_is
+    (puts_more s t c.self.invariant.replays c.self.invariant.read (record { shared = c.in_default.ensures.shared; budget = refl; workers = refl }) w (put.made).made (put.made).same
+    (put.events ∙ ap (λ (k : ℕ). s.history ++ (Put w k (length list - k) ∷ [])) put.first_is))

@@ -4,10 +4,12 @@ use Rattle.basis_steps.specs.Pairs.{Pair}
 use Rattle.basis_steps.specs.Steps as steps
 use Rattle.basis_steps.specs.Steps.{out_with}
 use Rattle.basis_core.proofs.TakenPairs.{IsAfter, IsFound, MayTake, after_take, cut_to, fewer_left, found_by, job_is, kept_stop, no_stop, none_left, real_pairs, stopped_kept, stopped_step, take_kept, take_step}
+use Rattle.basis_core.proofs.Logging.{takes_more}
 use Rattle.basis_core.proofs.Replaying.{replayed_holds}
 use Rattle.basis_core.specs.Answers.{pairs_given}
 use Rattle.basis_core.specs.Inside.{shown}
 use Rattle.basis_core.specs.Jobs.{IsJobOver, pairs_of}
+use Rattle.basis_core.specs.Logs.{Adds, Take as TakeNote}
 use Rattle.basis_core.specs.Members.{MembersShown}
 use Rattle.basis_core.specs.Shown.{Shown}
 use Rattle.basis_core.specs.Views.{outs_of, run_of, state_of, variables_of}
@@ -73,9 +75,13 @@ returns-then-is_some-clause-step c =
     let kept = kept_stop i.stop (sym c.if-is_some.ensures) in
     let es : List Event = c.push_reserved.new.self.items in
     let t : Shown = record s { history = es } in
-    let finds = stopped_step s c.args.worker kept.0 c.new.result c.new-then-is_some.result es kept.1 c.new.ensures.items c.new-then-is_some.ensures.items c.self.invariant.read
-    (c.push_reserved.ensures.items ∙ ap (λ (l : List Event). l ++ Take c.args.worker c.new.result c.new-then-is_some.result ∷ []) c.reserve.ensures.items) in
-    ([], inl (subst (λ (z : Shown). steps.FindsStop (state_of (variables_of z) z) c.args.worker [] [] (state_of (variables_of z) t)) c.self.view_is finds))
+    let history = c.push_reserved.ensures.items ∙ ap (λ (l : List Event). l ++ Take c.args.worker c.new.result c.new-then-is_some.result ∷ []) c.reserve.ensures.items in
+    let finds = stopped_step s c.args.worker kept.0 c.new.result c.new-then-is_some.result es kept.1 c.new.ensures.items c.new-then-is_some.ensures.items c.self.invariant.read history in
+    let adds = takes_more s t c.self.invariant.replays c.self.invariant.read (record { shared = refl; budget = refl; workers = refl }) refl c.args.worker c.new.result c.new-then-is_some.result [] [] c.new.ensures.items c.new-then-is_some.ensures.items history in (
+      [],
+      subst (λ (z : Shown). Adds (TakeNote c.args.worker [] []) z t) c.self.view_is adds,
+      inl (subst (λ (z : Shown). steps.FindsStop (state_of (variables_of z) z) c.args.worker [] [] (state_of (variables_of z) t)) c.self.view_is finds),
+    )
 
 pub invariant_of-self-2 : goal.invariant_of-self-2
 invariant_of-self-2 c =
@@ -137,8 +143,12 @@ returns-clause-step c =
     let t : Shown = after_take s (pairs_of c.take_front.new.self.items) (outs_of c.give.new.out.items) (i.taken + k) stop c.push_reserved-2.new.self.items in
     let takes : steps.Takes (run_of (variables_of s) s) (state_of (variables_of s) s) c.args.worker c.args.most c.skip.new.skipped.items (pairs_of (take k left)) (pairs_of left) (state_of (variables_of s) t) =
     take_step i c.args.worker c.args.most k c.skip.new.skipped.items left rows stop found c.take_front.new.self.items c.give.new.out.items c.push_reserved-2.new.self.items after c.self.invariant.read in
-    let given : pairs_of (take k left) ≡ pairs_given c.answer.result = ap pairs_of (sym gives) ∙ sym c.answer.ensures.given in (
+    let given : pairs_of (take k left) ≡ pairs_given c.answer.result = ap pairs_of (sym gives) ∙ sym c.answer.ensures.given in
+    let adds =
+    takes_more s t c.self.invariant.replays c.self.invariant.read (record { shared = refl; budget = refl; workers = refl }) refl c.args.worker c.shrink_to_fit.new.self c.shrink_to_fit-2.new.self c.skip.new.skipped.items (pairs_given c.answer.result)
+    after.skipped_is (after.given_is ∙ given) after.history_is in (
       c.skip.new.skipped.items,
+      subst (λ (z : Shown). Adds (TakeNote c.args.worker c.skip.new.skipped.items (pairs_given c.answer.result)) z t) c.self.view_is adds,
       inr (
         pairs_of left,
         subst (λ (z : Shown). steps.Takes (run_of (variables_of z) z) (state_of (variables_of z) z) c.args.worker c.args.most c.skip.new.skipped.items (pairs_given c.answer.result) (pairs_of left) (state_of (variables_of z) t)) c.self.view_is

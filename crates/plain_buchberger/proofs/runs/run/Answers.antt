@@ -1,0 +1,18 @@
+use Rattle.std.proofs.Common.{refl, subst, ◌∙◌}
+use Rattle.basis_core.specs.Members.{Shared}
+use Rattle.run_endings.specs.Stops.{RunStops}
+use Rattle.plain_buchberger.proofs.Leaving.{closed_leaves}
+use Rattle.plain_buchberger.proofs.runs.run.Goals as goal
+
+pub returns-in-Err-clause-stop : goal.returns-in-Err-clause-stop
+returns-in-Err-clause-stop g c =
+    let same = c.in-Ok-look_at_pairs.ensures.run in
+    let run = c.in-Ok.ensures.run in
+    subst (λ (sh : Shared). RunStops c.args.pairs 1 sh c.in-Err.stop) (same.shared ∙ run.over)
+    (c.in-Err.ensures.stop c.args.pairs 1 (record { budget = same.budget ∙ run.most; workers_are = same.workers ∙ run.number }))
+
+pub returns-in-Err-clause-left : goal.returns-in-Err-clause-left
+returns-in-Err-clause-left g c =
+    let s = c.look_at_pairs.new.state in
+    closed_leaves s c.in-Err.stop c.in-Ok-look_at_pairs.ensures.closed c.in-Err.ensures.stopped
+    (c.in-Err.ensures.stop s.budget s.workers (record { budget = refl; workers_are = refl }))

@@ -1,0 +1,4 @@
+-- what public clauses cite
+pub mod Endings
+pub mod Stops
+pub mod Copies
