@@ -2,6 +2,12 @@
 //! them until another has come by. A gate tells nothing, and no contract speaks of what it does.
 #![tactic(auto)]
 
+mod held;
+mod shared;
+
+pub use held::HeldGate;
+pub use shared::SharedGate;
+
 /// Where a worker passes the gate.
 #[derive(Clone, Copy, Debug, PartialEq, Eq)]
 pub enum Point {
@@ -16,6 +22,9 @@ pub enum Point {
 pub trait Gate {
     /// Lets the worker with this number through the gate at this point. It returns, sooner or later.
     fn pass(&self, worker: u32, point: Point);
+
+    /// The gate that threads pass. What they pass is this gate.
+    fn shared(&self) -> SharedGate;
 }
 
 /// A gate that lets everyone through at once.
@@ -24,6 +33,10 @@ pub struct OpenGate;
 
 impl Gate for OpenGate {
     fn pass(&self, _worker: u32, _point: Point) {}
+
+    fn shared(&self) -> SharedGate {
+        SharedGate::open()
+    }
 }
 
 #[cfg(test)]
@@ -43,6 +56,17 @@ mod tests {
         let gate = OpenGate;
         let (first, second) = thread::join(&rt, || pass_both(&gate, 0), || pass_both(&gate, 1));
         assert_eq!(rt; (first, second), (0, 1));
+        Ok(())
+    }
+
+    #[test]
+    fn a_held_gate_lets_the_first_go_once_another_has_passed(rt: HostRuntime) -> Result<(), Fail> {
+        let gate = HeldGate::new(rt.alloc(), Point::RowClaimed)?;
+        let theirs = gate.shared();
+        let (first, second) = thread::join(&rt, || pass_both(&theirs, 0), || pass_both(&gate, 1));
+        assert_eq!(rt; (first, second), (0, 1));
+        assert!(rt; gate.met());
+        assert!(rt; !gate.ran_out());
         Ok(())
     }
 }

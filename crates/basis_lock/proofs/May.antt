@@ -1,0 +1,203 @@
+-- What a worker may do by what its seat has seen, the core lets it do at its hold
+use Rattle.std.proofs.Common.{Bool, List, None, Option, Some, [], ap, append_assoc, arith, cond, false, get_or, inl, inr, length, length-append, map, refl, subst, suc, sym, take, true, zero, ℕ, ◌++◌, ◌+◌, ◌<◌, ◌==◌, ◌∙◌, ◌∷◌, ◌≡◌, ◌≤◌}
+use Rattle.module_vectors.specs.Rings.{variables}
+use Rattle.module_vectors.specs.declared.trail.KeptTrail.{KeptTrail}
+use Rattle.basis_steps.proofs.Counting.{count-append}
+use Rattle.basis_steps.proofs.Keeping.{trail_more}
+use Rattle.basis_steps.specs.Pairs.{Pair, count}
+use Rattle.basis_steps.specs.States as plain
+use Rattle.basis_steps.specs.States.{job_of, pairs_taken}
+use Rattle.basis_steps.specs.Steps as steps
+use Rattle.basis_steps.specs.Trails.{IsTrail}
+use Rattle.basis_core.specs.declared.event.Event.{Event}
+use Rattle.basis_core.specs.declared.event.Event.TheVariants as events
+use Rattle.basis_core.specs.declared.stop.StopReason.{StopReason}
+use Rattle.basis_core.specs.declared.stop.StopReason.TheVariants as reasons
+use Rattle.basis_core.specs.Answers.{IsJobOut, IsReason, IsRunTrail}
+use Rattle.basis_core.specs.Jobs.{pairs_of}
+use Rattle.basis_core.specs.Members.{Tracked, member_of, members_of}
+use Rattle.basis_core.specs.Outcomes.{OutcomeShown}
+use Rattle.basis_core.specs.Shown.{Shown}
+use Rattle.basis_core.specs.Stops.{trail_of}
+use Rattle.basis_core.specs.Views.{ending_of, history_of, run_of, state_of, variables_of}
+use Rattle.ruled_lock.specs.declared.law.View.{View}
+use Rattle.ruled_lock.specs.Events.{StartsWith, calls_by}
+use Rattle.ruled_lock.specs.Plays.{Sees}
+use Rattle.basis_lock.specs.Acts.{Act, Stopped, act_of, acts_of, actor, has_ended, has_stop, held_after, took_after}
+use Rattle.basis_lock.specs.Calls.{IsReasonSeen, IsTrailSeen, MayFinish, MayHandIn, MayReport, MayTakeJob, own, run_on}
+use Rattle.basis_core.specs.Logs.{Base, End, Noted, Put, Stop, Take, base, by, log, made_in, members_after, notes_from, number_at_beginning, pairs_given_in}
+use Rattle.basis_lock.proofs.Acting.{acts_of_events, nobody_ended, own_acts, runs_out, runs_stop_kept, runs_stopped, runs_took, runs_works}
+use Rattle.basis_core.proofs.Logging.{members_told}
+
+-- the notes tell the same acts as the events
+acts_same : (n k : ℕ) (ms : List Tracked) (kept : Option StopReason) (es : List Event) → acts_of (notes_from k ms es) ≡ acts_of_events (history_of n ms kept es)
+acts_same n k ms kept [] = refl
+acts_same n k ms kept (events.Take w skipped job ∷ es) = ap (λ l. act_of (Take w skipped.items job.items) ∷ l) (acts_same n k ms kept es)
+acts_same n k ms kept (events.Put w first count ∷ es) = ap (λ l. act_of (Put w []) ∷ l) (acts_same n (k + count) ms kept es)
+acts_same n k ms kept (events.End w ending ∷ es) = ap (λ l. act_of (End w (ending_of ending)) ∷ l) (acts_same n k ms kept es)
+acts_same n k ms kept (events.Stop w reason ∷ es) = ap (λ l. act_of (Stop w) ∷ l) (acts_same n k ms kept es)
+
+-- the acts of one worker's notes are the one worker's acts
+pub acts_by : (w : ℕ) (es : List Noted) → acts_of (calls_by by w es) ≡ calls_by actor w (acts_of es)
+acts_by w [] = refl
+acts_by w (Take v skipped job ∷ es) = go (w == v) (acts_by w es)
+  where
+    go : (b : Bool) → acts_of (calls_by by w es) ≡ calls_by actor w (acts_of es) → acts_of (cond b (Take v skipped job ∷ calls_by by w es) (calls_by by w es)) ≡ cond b (act_of (Take v skipped job) ∷ calls_by actor w (acts_of es)) (calls_by actor w (acts_of es))
+    go true h = ap (λ l. act_of (Take v skipped job) ∷ l) h
+    go false h = h
+acts_by w (Put v made ∷ es) = go (w == v) (acts_by w es)
+  where
+    go : (b : Bool) → acts_of (calls_by by w es) ≡ calls_by actor w (acts_of es) → acts_of (cond b (Put v made ∷ calls_by by w es) (calls_by by w es)) ≡ cond b (act_of (Put v made) ∷ calls_by actor w (acts_of es)) (calls_by actor w (acts_of es))
+    go true h = ap (λ l. act_of (Put v made) ∷ l) h
+    go false h = h
+acts_by w (End v ending ∷ es) = go (w == v) (acts_by w es)
+  where
+    go : (b : Bool) → acts_of (calls_by by w es) ≡ calls_by actor w (acts_of es) → acts_of (cond b (End v ending ∷ calls_by by w es) (calls_by by w es)) ≡ cond b (act_of (End v ending) ∷ calls_by actor w (acts_of es)) (calls_by actor w (acts_of es))
+    go true h = ap (λ l. act_of (End v ending) ∷ l) h
+    go false h = h
+acts_by w (Stop v ∷ es) = go (w == v) (acts_by w es)
+  where
+    go : (b : Bool) → acts_of (calls_by by w es) ≡ calls_by actor w (acts_of es) → acts_of (cond b (Stop v ∷ calls_by by w es) (calls_by by w es)) ≡ cond b (act_of (Stop v) ∷ calls_by actor w (acts_of es)) (calls_by actor w (acts_of es))
+    go true h = ap (λ l. act_of (Stop v) ∷ l) h
+    go false h = h
+
+-- so those of a state's log are those of its history
+pub own_same : (n w : ℕ) (s : Shown) → acts_of (calls_by by w (log s)) ≡ own_acts w (state_of n s).history
+own_same n w s = acts_by w (log s) ∙ ap (calls_by actor w) (acts_same n (number_at_beginning s) s.members s.stop s.history)
+
+pub log_acts : (n : ℕ) (s : Shown) → acts_of (log s) ≡ acts_of_events (state_of n s).history
+log_acts n s = acts_same n (number_at_beginning s) s.members s.stop s.history
+
+-- and so are the pairs of its jobs
+pairs_same : (n k : ℕ) (ms : List Tracked) (kept : Option StopReason) (es : List Event) → pairs_given_in (notes_from k ms es) ≡ pairs_taken (history_of n ms kept es)
+pairs_same n k ms kept [] = refl
+pairs_same n k ms kept (events.Take w skipped job ∷ es) = ap (λ l. job.items ++ l) (pairs_same n k ms kept es)
+pairs_same n k ms kept (events.Put w first count ∷ es) = pairs_same n (k + count) ms kept es
+pairs_same n k ms kept (events.End w ending ∷ es) = pairs_same n k ms kept es
+pairs_same n k ms kept (events.Stop w reason ∷ es) = pairs_same n k ms kept es
+
+pub log_pairs : (n : ℕ) (s : Shown) → pairs_given_in (log s) ≡ pairs_taken (state_of n s).history
+log_pairs n s = pairs_same n (number_at_beginning s) s.members s.stop s.history
+
+-- what later events add
+made-append : (es fs : List Noted) → made_in (es ++ fs) ≡ made_in es ++ made_in fs
+made-append [] fs = refl
+made-append (Take w skipped job ∷ es) fs = made-append es fs
+made-append (Put w made ∷ es) fs = ap (λ l. made ++ l) (made-append es fs) ∙ sym (append_assoc made (made_in es) (made_in fs))
+made-append (End w ending ∷ es) fs = made-append es fs
+made-append (Stop w ∷ es) fs = made-append es fs
+
+pub pairs-append : (es fs : List Noted) → pairs_given_in (es ++ fs) ≡ pairs_given_in es ++ pairs_given_in fs
+pairs-append [] fs = refl
+pairs-append (Take w skipped job ∷ es) fs = ap (λ l. job ++ l) (pairs-append es fs) ∙ sym (append_assoc job (pairs_given_in es) (pairs_given_in fs))
+pairs-append (Put w made ∷ es) fs = pairs-append es fs
+pairs-append (End w ending ∷ es) fs = pairs-append es fs
+pairs-append (Stop w ∷ es) fs = pairs-append es fs
+
+pub stop-append : (es fs : List Noted) → has_stop (acts_of es) ≡ true → has_stop (acts_of (es ++ fs)) ≡ true
+stop-append [] fs h = absurd cc
+stop-append (Take w skipped job ∷ es) fs h = stop-append es fs h
+stop-append (Put w made ∷ es) fs h = stop-append es fs h
+stop-append (End w ending ∷ es) fs h = stop-append es fs h
+stop-append (Stop w ∷ es) fs h = refl
+
+-- members only grow
+pub members_grow : (b : Base) (es fs : List Noted) → members_after b (es ++ fs) ≡ members_after b es ++ made_in fs
+members_grow b es fs = ap (λ l. b.first ++ l) (made-append es fs) ∙ sym (append_assoc b.first (made_in es) (made_in fs))
+
+front : {A : Type 0} (k : ℕ) (xs ys : List A) → k ≤ length xs → take k (xs ++ ys) ≡ take k xs
+front zero xs ys h = refl
+front (suc k) [] ys h = absurd (omega arith)
+front (suc k) (x ∷ xs) ys h = ap (λ l. x ∷ l) (front k xs ys (omega arith))
+
+map-front : (n : ℕ) (xs ys : List Tracked) → members_of n (xs ++ ys) ≡ members_of n xs ++ members_of n ys
+map-front n [] ys = refl
+map-front n (x ∷ xs) ys = ap (λ l. member_of n x ∷ l) (map-front n xs ys)
+
+no_test : (b : Bool) → b ≡ true → b ≡ false → ⊥
+no_test b t f = cc
+
+module _ (s : Shown) (v : View Noted Base) (replays : steps.Replays (run_of (variables_of s) s) (state_of (variables_of s) s)) (sees : Sees by v (log s)) where
+  abbrev n : ℕ
+  n = variables_of s
+
+  own_now : own v ≡ own_acts v.worker (state_of n s).history
+  own_now = ap acts_of (sym sees.1) ∙ own_same n v.worker s
+
+  members_now : s.members ≡ members_after (base s) v.seen ++ made_in sees.0.0
+  members_now = sym (members_told s) ∙ ap (members_after (base s)) sees.0.1 ∙ members_grow (base s) v.seen sees.0.0
+
+  works_now : v.worker < s.workers → has_ended (own v) ≡ false → get_or s.ended v.worker true ≡ false
+  works_now known h =
+      let first = replays.0 in
+      let began : get_or first.ended v.worker true ≡ false = ap (λ l. get_or l v.worker true) replays.1.ended ∙ nobody_ended s.workers v.worker known in
+      runs_works (run_of n s) v.worker first (state_of n s) (state_of n s).history replays.2 (ap has_ended (sym own_now) ∙ h) began
+
+  out_now : job_of v.worker s.out ≡ held_after [] (own v)
+  out_now =
+      runs_out (run_of n s) v.worker replays.0 (state_of n s) (state_of n s).history replays.2
+      ∙ ap (λ o. held_after (job_of v.worker o) (own_acts v.worker (state_of n s).history)) replays.1.out
+      ∙ ap (held_after []) (sym own_now)
+
+  take_here : (most : ℕ) → MayTakeJob (base s) v most → steps.MayTake (run_of n s) (state_of n s) v.worker most
+  take_here most may = record { known = may.known; works = works_now may.known may.works; free = out_now ∙ may.free; some = may.some }
+
+  pub may_take : (b : Base) (most : ℕ) → base s ≡ b → MayTakeJob b v most → steps.MayTake (run_of n s) (state_of n s) v.worker most
+  may_take b most e may = take_here most (subst (λ z. MayTakeJob z v most) (sym e) may)
+
+  put_here : (o : OutcomeShown) → MayHandIn (base s) v o → (o.job.worker < s.workers) × (get_or s.ended o.job.worker true ≡ false) × IsJobOut s o
+  put_here o may =
+      let whole : take (length o.job.members) s.members ≡ take (length o.job.members) (members_after (base s) v.seen) =
+      ap (take (length o.job.members)) members_now ∙ front (length o.job.members) (members_after (base s) v.seen) (made_in sees.0.0) may.had in (
+        subst (λ w. w < s.workers) (sym may.worker) may.known,
+        subst (λ w. get_or s.ended w true ≡ false) (sym may.worker) (works_now may.known may.works),
+        record {
+          shared = may.shared;
+          out = ap (λ w. job_of w s.out) may.worker ∙ out_now ∙ may.out;
+          had = omega (arith, may.had, ap length members_now, length-append (members_after (base s) v.seen) (made_in sees.0.0));
+          members = may.members ∙ sym whole;
+        },
+      )
+
+  pub may_put : (b : Base) (o : OutcomeShown) → base s ≡ b → MayHandIn b v o → (o.job.worker < s.workers) × (get_or s.ended o.job.worker true ≡ false) × IsJobOut s o
+  may_put b o e may = put_here o (subst (λ z. MayHandIn z v o) (sym e) may)
+
+  end_here : MayFinish (base s) v → steps.MayEnd (run_of n s) (state_of n s) v.worker
+  end_here may = record {
+    known = may.known;
+    works = works_now may.known may.works;
+    done = λ none. elim may.done [
+      | inl seen ↦ absurd (runs_stop_kept (run_of n s) replays.0 (state_of n s) (state_of n s).history replays.2
+          (ap has_stop (sym (log_acts n s)) ∙ ap (λ l. has_stop (acts_of l)) sees.0.1 ∙ stop-append v.seen sees.0.0 seen) none)
+      | inr free ↦ (out_now ∙ free.0, runs_took v.worker (state_of n s).history false ∙ ap (took_after false) (sym own_now) ∙ free.1)
+    ];
+  }
+
+  pub may_end : (b : Base) → base s ≡ b → MayFinish b v → steps.MayEnd (run_of n s) (state_of n s) v.worker
+  may_end b e may = end_here (subst (λ z. MayFinish z v) (sym e) may)
+
+  more_taken : (x : Pair) → count x (pairs_given_in v.seen) ≤ count x (pairs_taken (state_of n s).history)
+  more_taken x =
+      let all : pairs_taken (state_of n s).history ≡ pairs_given_in v.seen ++ pairs_given_in sees.0.0 =
+      sym (pairs_same n (number_at_beginning s) s.members s.stop s.history) ∙ ap pairs_given_in sees.0.1 ∙ pairs-append v.seen sees.0.0 in
+      omega (arith, ap (count x) all, count-append x (pairs_given_in v.seen) (pairs_given_in sees.0.0))
+
+  trail_here : (t : KeptTrail) → IsTrailSeen (base s) v.seen t → IsRunTrail n s t
+  trail_here t h = record {
+    pair = h.pair;
+    way = subst (λ ms. IsTrail (run_of n s) ms (pairs_taken (state_of n s).history) (trail_of n t)) (sym (ap (members_of n) members_now ∙ map-front n (members_after (base s) v.seen) (made_in sees.0.0)))
+        (trail_more (run_of n s) (members_of n (members_after (base s) v.seen)) (members_of n (made_in sees.0.0)) (pairs_given_in v.seen) (pairs_taken (state_of n s).history) (trail_of n t) more_taken h.way);
+  }
+
+  reason_here : (reason : StopReason) → IsReasonSeen (base s) v.seen reason → IsReason n s reason
+  reason_here reasons.Pairs h = h
+  reason_here reasons.Memory h = h
+  reason_here (reasons.Degree t) h = trail_here t h
+
+  pub may_stop : (b : Base) (reason : StopReason) → base s ≡ b → MayReport b v reason → (v.worker < s.workers) × (steps.HasStopped v.worker (state_of n s).history → ⊥) × IsReason n s reason
+  may_stop b reason e may =
+      let here : MayReport (base s) v reason = subst (λ z. MayReport z v reason) (sym e) may in (
+        here.known,
+        (λ h. no_test (has_stop (own v)) (ap has_stop own_now ∙ runs_stopped v.worker (state_of n s).history h) here.first),
+        reason_here reason here.why,
+      )

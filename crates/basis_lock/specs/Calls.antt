@@ -1,0 +1,137 @@
+-- What a worker may do under the lock, read in what its seat has seen, and what each call does
+use Rattle.std.specs.Prelude.{List, [], false, length, take, true, ⊤, ℕ, ◌++◌, ◌<◌, ◌∷◌, ◌≡◌, ◌≤◌, ◌⊎◌}
+use Rattle.module_vectors.specs.Rings.{variables}
+use Rattle.module_vectors.specs.Vectors.{sums_of}
+use Rattle.module_vectors.specs.declared.trail.KeptTrail.{KeptTrail}
+use Rattle.module_vectors.specs.declared.trail.WorkStop.{WorkStop}
+use Rattle.module_vectors.specs.declared.trail.WorkStop.TheVariants as works
+use Rattle.basis_steps.specs.Pairs.{Pair}
+use Rattle.basis_steps.specs.States as plain
+use Rattle.basis_steps.specs.States.{Run}
+use Rattle.basis_steps.specs.Steps as steps
+use Rattle.basis_steps.specs.Trails.{IsTrail}
+use Rattle.basis_core.specs.declared.ending.Ending.{Ending}
+use Rattle.basis_core.specs.declared.stop.StopReason.{StopReason}
+use Rattle.basis_core.specs.declared.stop.StopReason.TheVariants as reasons
+use Rattle.basis_core.specs.declared.taken.Taken.{Taken}
+use Rattle.basis_core.specs.Answers.{AnswersTake, IsTakeOf, pairs_given}
+use Rattle.basis_core.specs.Jobs.{pairs_of}
+use Rattle.basis_core.specs.Members.{Tracked, members_of, setting_of}
+use Rattle.basis_core.specs.Outcomes.{OutcomeShown}
+use Rattle.basis_core.specs.Shown.{Shown}
+use Rattle.basis_core.specs.Stops.{IsPairTrail, reason_of, trail_of}
+use Rattle.basis_core.specs.Views.{IsSameRun, ending_of, run_of, state_of, variables_of}
+use Rattle.ruled_lock.specs.declared.law.View.{View}
+use Rattle.ruled_lock.specs.Plays.{Makes}
+use Rattle.basis_lock.specs.Acts.{Act, acts_of, has_ended, has_stop, held_after, took_after}
+use Rattle.basis_core.specs.Logs.{Base, End, Noted, Put, Stop, Take, base, by, log, members_after, pairs_given_in}
+
+-- what the seat's worker did
+abbrev pub own : View Noted Base → List Act
+own v = acts_of v.mine
+
+-- its worker may ask for at most `most` pairs: it has not ended, and has none out
+pub record MayTakeJob (b : Base) (v : View Noted Base) (most : ℕ) : Type 0 where
+  pub known : v.worker < b.workers
+  pub works : has_ended (own v) ≡ false
+  pub free : held_after [] (own v) ≡ []
+  pub some : 0 < most
+
+-- its worker may hand in the outcome: the job is out with it, of the run's generators and of the first of the members that were seen
+pub record MayHandIn (b : Base) (v : View Noted Base) (o : OutcomeShown) : Type 0 where
+  pub known : v.worker < b.workers
+  pub works : has_ended (own v) ≡ false
+  pub worker : o.job.worker ≡ v.worker
+  pub shared : o.job.shared ≡ b.shared
+  pub out : held_after [] (own v) ≡ pairs_of o.job.pairs
+  pub had : length o.job.members ≤ length (members_after b v.seen)
+  pub members : o.job.members ≡ take (length o.job.members) (members_after b v.seen)
+
+-- its worker may end: it has not; and a Stop was seen, or it has none out and took since its last End
+pub record MayFinish (b : Base) (v : View Noted Base) : Type 0 where
+  pub known : v.worker < b.workers
+  pub works : has_ended (own v) ≡ false
+  pub done : (has_stop (acts_of v.seen) ≡ true) ⊎ ((held_after [] (own v) ≡ []) × (took_after false (own v) ≡ true))
+
+-- what never changes in the run
+abbrev pub run_on : (n : ℕ) → Base → Run n
+run_on n b = record {
+  setting = setting_of n b.shared;
+  generators = sums_of n b.shared.generators;
+  budget = b.budget;
+  workers = b.workers;
+  degree_limit = 65535;
+}
+
+-- a trail of the members that were seen, and of a pair of a job that was seen
+pub record IsTrailSeen (b : Base) (seen : List Noted) (t : KeptTrail) : Type 0 where
+  pub pair : IsPairTrail b.shared t
+  pub way :
+      let n = variables b.shared.ring in
+      IsTrail (run_on n b) (members_of n (members_after b seen)) (pairs_given_in seen) (trail_of n t)
+
+-- the reason is not the budget; a stop by the degree has such a trail
+abbrev pub IsReasonSeen : Base → List Noted → StopReason → Type 0
+IsReasonSeen b seen reasons.Pairs = ⊥
+IsReasonSeen b seen reasons.Memory = ⊤
+IsReasonSeen b seen (reasons.Degree t) = IsTrailSeen b seen t
+
+-- why a piece of work is not done: a stop by the degree has such a trail
+abbrev pub IsWorkStopSeen : Base → List Noted → WorkStop → Type 0
+IsWorkStopSeen b seen works.Memory = ⊤
+IsWorkStopSeen b seen (works.Degree t) = IsTrailSeen b seen t
+
+-- its worker may stop the run: it has not yet
+pub record MayReport (b : Base) (v : View Noted Base) (reason : StopReason) : Type 0 where
+  pub known : v.worker < b.workers
+  pub first : has_stop (own v) ≡ false
+  pub why : IsReasonSeen b v.seen reason
+
+-- One hold and one event: between the run's states before and after it, at one point of the one history. This begins with
+-- all that the seat had seen and ends with the event; of the worker's events it has just those of the seat
+pub record IsHold (b : Base) (v : View Noted Base) (e : Noted) (w : View Noted Base) (s t : Shown) : Type 0 where
+  pub makes : Makes by v e w
+  pub before : base s ≡ b
+  pub after : base t ≡ b
+  pub run : IsSameRun s t
+  pub history : log t ≡ log s ++ (e ∷ [])
+  pub seen : w.seen ≡ log t
+  pub replays : steps.Replays (run_of (variables_of t) t) (state_of (variables_of t) t)
+
+-- a Take, with its answer
+pub record TakesJob (b : Base) (v : View Noted Base) (most : ℕ) (answer : Taken) (w : View Noted Base) : Type 0 where
+  pub before : Shown
+  pub after : Shown
+  pub skipped : List Pair
+  pub hold : IsHold b v (Take v.worker skipped (pairs_given answer)) w before after
+  pub taken : IsTakeOf (variables_of before) before v.worker most skipped answer after
+  pub answers : AnswersTake v.worker after answer
+
+-- a Put of the outcome
+pub record HandsIn (b : Base) (v : View Noted Base) (o : OutcomeShown) (w : View Noted Base) : Type 0 where
+  pub before : Shown
+  pub after : Shown
+  pub made : List Tracked
+  pub members : after.members ≡ before.members ++ made
+  pub hold : IsHold b v (Put v.worker made) w before after
+  pub puts :
+      let n = variables_of before in
+      (plain_made : List (plain.Member n)) × steps.Puts (run_of n before) (state_of n before) v.worker plain_made (state_of n after)
+
+-- an End, with its answer
+pub record Finishes (b : Base) (v : View Noted Base) (ending : Ending) (w : View Noted Base) : Type 0 where
+  pub before : Shown
+  pub after : Shown
+  pub hold : IsHold b v (End v.worker (ending_of ending)) w before after
+  pub ends :
+      let n = variables_of before in
+      steps.Ends (run_of n before) (state_of n before) v.worker (ending_of ending) (state_of n after)
+
+-- a Stop
+pub record Reports (b : Base) (v : View Noted Base) (reason : StopReason) (w : View Noted Base) : Type 0 where
+  pub before : Shown
+  pub after : Shown
+  pub hold : IsHold b v (Stop v.worker) w before after
+  pub stops :
+      let n = variables_of before in
+      steps.Stops (run_of n before) (state_of n before) v.worker (reason_of n reason) (state_of n after)

@@ -1,0 +1,294 @@
+-- What a worker's seat tells after each call of a round
+use Rattle.std.proofs.Common.{Bool, List, [], ap, append-nil, arith, false, inl, inr, length, map, refl, subst, sym, take, true, ℕ, suc, zero, ◌++◌, ◌+◌, ◌<◌, ◌∙◌, ◌∷◌, ◌≡◌, ◌≤◌, ◌⊎◌}
+use Rattle.module_vectors.specs.Rings.{variables}
+use Rattle.module_vectors.specs.declared.trail.KeptTrail.{KeptTrail}
+use Rattle.module_vectors.specs.declared.trail.WorkStop.{WorkStop}
+use Rattle.module_vectors.specs.declared.trail.WorkStop.TheVariants as works
+use Rattle.basis_steps.proofs.Counting.{count-append}
+use Rattle.basis_steps.specs.Pairs.{Pair, count}
+use Rattle.basis_steps.specs.States as plain
+use Rattle.basis_steps.specs.Trails.{IsTrail}
+use Rattle.basis_core.specs.declared.ending.Ending.{Ending}
+use Rattle.basis_core.specs.declared.ending.Ending.TheVariants as endings
+use Rattle.basis_core.specs.declared.stop.StopReason.{StopReason}
+use Rattle.basis_core.specs.declared.taken.Taken.{Taken}
+use Rattle.basis_core.specs.declared.taken.Taken.TheVariants.{Job as TookJob, Empty, Stopped as ToldStopped}
+use Rattle.basis_core.specs.Answers.{pairs_given}
+use Rattle.basis_core.specs.Jobs.{JobShown, pairs_of}
+use Rattle.basis_core.specs.Members.{Shared, Tracked, member_of, members_of}
+use Rattle.basis_core.specs.Outcomes.{OutcomeShown, work_of}
+use Rattle.basis_core.specs.Shown.{Shown}
+use Rattle.basis_core.specs.Stops.{IsPairTrail, trail_of}
+use Rattle.s_vectors.specs.Trails.{IsJobTrail, JobStops}
+use Rattle.ruled_lock.specs.declared.law.View.{View}
+use Rattle.ruled_lock.specs.Plays.{Holds, Makes}
+use Rattle.ruled_lock.specs.Events.{StartsWith}
+use Rattle.basis_lock.specs.Acts.{Act, Asked, HandedIn, Stopped, Took, act_of, acts_of, has_ended, has_stop, has_take, held_after, took_after}
+use Rattle.basis_lock.specs.Calls.{Finishes, HandsIn, IsHold, IsTrailSeen, IsWorkStopSeen, MayFinish, MayHandIn, MayReport, MayTakeJob, Reports, TakesJob, own, run_on}
+use Rattle.basis_core.specs.Logs.{Base, End, Noted, Put, Stop, Take, base, by, log, members_after, pairs_given_in}
+use Rattle.basis_lock.proofs.May.{pairs-append}
+use Rattle.basis_core.proofs.Logging.{members_told, take_whole}
+use Rattle.f4_engine.specs.Workers.{AreDone, HasJob, HasNone, IsSameWorker, IsWorking, MayGiveUp}
+
+-- acts after one more
+acts-append : (es : List Noted) (e : Noted) → acts_of (es ++ (e ∷ [])) ≡ acts_of es ++ (act_of e ∷ [])
+acts-append [] e = refl
+acts-append (f ∷ es) e = ap (λ l. act_of f ∷ l) (acts-append es e)
+
+held-more : (out : List Pair) (xs : List Act) (a : Act) → held_after out (xs ++ (a ∷ [])) ≡ held_after (held_after out xs) (a ∷ [])
+held-more out [] a = refl
+held-more out (Took w job ∷ xs) a = held-more (out ++ job) xs a
+held-more out (HandedIn w ∷ xs) a = held-more [] xs a
+held-more out (Asked w ending ∷ xs) a = held-more out xs a
+held-more out (Stopped w ∷ xs) a = held-more out xs a
+
+ended-more : (xs : List Act) (a : Act) → has_ended xs ≡ false → has_ended (xs ++ (a ∷ [])) ≡ has_ended (a ∷ [])
+ended-more [] a h = refl
+ended-more (Took w job ∷ xs) a h = ended-more xs a h
+ended-more (HandedIn w ∷ xs) a h = ended-more xs a h
+ended-more (Asked w plain.Ended ∷ xs) a h = absurd cc
+ended-more (Asked w plain.MoreWork ∷ xs) a h = ended-more xs a h
+ended-more (Stopped w ∷ xs) a h = ended-more xs a h
+
+took-more : (t : Bool) (xs : List Act) (a : Act) → took_after t (xs ++ (a ∷ [])) ≡ took_after (took_after t xs) (a ∷ [])
+took-more t [] a = refl
+took-more t (Took w job ∷ xs) a = took-more true xs a
+took-more t (HandedIn w ∷ xs) a = took-more t xs a
+took-more t (Asked w ending ∷ xs) a = took-more false xs a
+took-more t (Stopped w ∷ xs) a = took-more t xs a
+
+stop-more : (xs : List Act) (a : Act) → has_stop xs ≡ false → has_stop (xs ++ (a ∷ [])) ≡ has_stop (a ∷ [])
+stop-more [] a h = refl
+stop-more (Took w job ∷ xs) a h = stop-more xs a h
+stop-more (HandedIn w ∷ xs) a h = stop-more xs a h
+stop-more (Asked w ending ∷ xs) a h = stop-more xs a h
+stop-more (Stopped w ∷ xs) a h = absurd cc
+
+stop-stays : (xs : List Act) (a : Act) → has_stop xs ≡ true → has_stop (xs ++ (a ∷ [])) ≡ true
+stop-stays [] a h = absurd cc
+stop-stays (Took w job ∷ xs) a h = stop-stays xs a h
+stop-stays (HandedIn w ∷ xs) a h = stop-stays xs a h
+stop-stays (Asked w ending ∷ xs) a h = stop-stays xs a h
+stop-stays (Stopped w ∷ xs) a h = refl
+
+take-stays : (xs : List Act) (a : Act) → has_take xs ≡ true → has_take (xs ++ (a ∷ [])) ≡ true
+take-stays [] a h = absurd cc
+take-stays (Took w job ∷ xs) a h = refl
+take-stays (HandedIn w ∷ xs) a h = take-stays xs a h
+take-stays (Asked w ending ∷ xs) a h = take-stays xs a h
+take-stays (Stopped w ∷ xs) a h = take-stays xs a h
+
+take-here : (xs : List Act) (w : ℕ) (job : List Pair) → has_take (xs ++ (Took w job ∷ [])) ≡ true
+take-here [] w job = refl
+take-here (Took v ys ∷ xs) w job = refl
+take-here (HandedIn v ∷ xs) w job = take-here xs w job
+take-here (Asked v ending ∷ xs) w job = take-here xs w job
+take-here (Stopped v ∷ xs) w job = take-here xs w job
+
+stop-last : (es : List Noted) (w : ℕ) → has_stop (acts_of (es ++ (Stop w ∷ []))) ≡ true
+stop-last [] w = refl
+stop-last (Take v skipped job ∷ es) w = stop-last es w
+stop-last (Put v made ∷ es) w = stop-last es w
+stop-last (End v ending ∷ es) w = stop-last es w
+stop-last (Stop v ∷ es) w = refl
+
+module _ (b : Base) (v : View Noted Base) (e : Noted) (w : View Noted Base) (s t : Shown) (hold : IsHold b v e w s t) where
+  -- the seat after a hold
+  pub own_after : own w ≡ own v ++ (act_of e ∷ [])
+  own_after = ap acts_of hold.makes.2 ∙ acts-append v.mine e
+
+  pub same_seat : IsSameWorker v w
+  same_seat = (hold.makes.4.0, hold.makes.4.2)
+
+  known_after : v.worker < b.workers → w.worker < b.workers
+  known_after h = subst (λ k. k < b.workers) (sym hold.makes.4.0) h
+
+  seen_after : w.seen ≡ log s ++ (e ∷ [])
+  seen_after = hold.seen ∙ hold.history
+
+module _ (b : Base) (v w : View Noted Base) (most : ℕ) (job : JobShown) (working : IsWorking b v) (h : TakesJob b v most (TookJob job) w) where
+  abbrev e : Noted
+  e = Take v.worker h.skipped (pairs_given (TookJob job))
+
+  abbrev acts : own w ≡ own v ++ (Took v.worker (pairs_of job.pairs) ∷ [])
+  acts = own_after b v e w h.before h.after h.hold
+
+  all_members : job.members ≡ members_after b w.seen
+  all_members =
+      h.answers.3 ∙ sym (members_told h.after) ∙ (λ i. members_after (h.hold.after i) (sym h.hold.seen i))
+
+  pub takes_a_job : IsSameWorker v w × HasJob b w job
+  takes_a_job = (
+    same_seat b v e w h.before h.after h.hold,
+    record {
+      known = known_after b v e w h.before h.after h.hold working.known;
+      works = ap has_ended acts ∙ ended-more (own v) (Took v.worker (pairs_of job.pairs)) working.works;
+      unstopped = ap has_stop acts ∙ stop-more (own v) (Took v.worker (pairs_of job.pairs)) working.unstopped;
+      took = ap has_take acts ∙ take-here (own v) v.worker (pairs_of job.pairs);
+      worker = h.answers.1 ∙ sym h.hold.makes.4.0;
+      shared = h.answers.2 ∙ ap (λ (z : Base). z.shared) h.hold.after;
+      out = ap (held_after []) acts ∙ held-more [] (own v) (Took v.worker (pairs_of job.pairs)) ∙ ap (λ l. l ++ pairs_of job.pairs) working.free;
+      had = omega (arith, ap length all_members);
+      members = all_members ∙ sym (take_whole (length job.members) (members_after b w.seen) (omega (arith, ap length all_members)));
+      given = λ x.
+          let all : pairs_given_in w.seen ≡ pairs_given_in (log h.before) ++ (pairs_of job.pairs ++ []) = ap pairs_given_in (seen_after b v e w h.before h.after h.hold) ∙ pairs-append (log h.before) (e ∷ []) in
+          omega (arith, ap (count x) all, count-append x (pairs_given_in (log h.before)) (pairs_of job.pairs ++ []), count-append x (pairs_of job.pairs) []);
+    },
+  )
+
+module _ (b : Base) (v w : View Noted Base) (most : ℕ) (answer : Taken) (working : IsWorking b v) (h : TakesJob b v most answer w) (none : pairs_given answer ≡ []) where
+  abbrev e' : Noted
+  e' = Take v.worker h.skipped (pairs_given answer)
+
+  acts' : own w ≡ own v ++ (Took v.worker [] ∷ [])
+  acts' = own_after b v e' w h.before h.after h.hold ∙ ap (λ l. own v ++ (Took v.worker l ∷ [])) none
+
+  pub takes_none : IsSameWorker v w × HasNone b w
+  takes_none = (
+    same_seat b v e' w h.before h.after h.hold,
+    record {
+      working = record {
+        known = known_after b v e' w h.before h.after h.hold working.known;
+        works = ap has_ended acts' ∙ ended-more (own v) (Took v.worker []) working.works;
+        free = ap (held_after []) acts' ∙ held-more [] (own v) (Took v.worker []) ∙ ap (λ l. l ++ []) working.free;
+        unstopped = ap has_stop acts' ∙ stop-more (own v) (Took v.worker []) working.unstopped;
+      };
+      took = ap (took_after false) acts' ∙ took-more false (own v) (Took v.worker []);
+      has_taken = ap has_take acts' ∙ take-here (own v) v.worker [];
+    },
+  )
+
+-- a worker with a job may hand in its outcome
+pub may_hand_in : (b : Base) (v : View Noted Base) (job : JobShown) (o : OutcomeShown) → HasJob b v job → o.job ≡ job → MayHandIn b v o
+may_hand_in b v job o h same = subst (λ (j : JobShown). MayHandIn b v (record o { job = j })) (sym same) (record {
+  known = h.known;
+  works = h.works;
+  worker = h.worker;
+  shared = h.shared;
+  out = h.out;
+  had = h.had;
+  members = h.members;
+})
+
+pub hands_it_in : (b : Base) (v w : View Noted Base) (job : JobShown) (o : OutcomeShown) → HasJob b v job → HandsIn b v o w → IsSameWorker v w × IsWorking b w
+hands_it_in b v w job o has h =
+    let e : Noted = Put v.worker h.made in
+    let acts : own w ≡ own v ++ (HandedIn v.worker ∷ []) = own_after b v e w h.before h.after h.hold in (
+      same_seat b v e w h.before h.after h.hold,
+      record {
+        known = known_after b v e w h.before h.after h.hold has.known;
+        works = ap has_ended acts ∙ ended-more (own v) (HandedIn v.worker) has.works;
+        free = ap (held_after []) acts ∙ held-more [] (own v) (HandedIn v.worker);
+        unstopped = ap has_stop acts ∙ stop-more (own v) (HandedIn v.worker) has.unstopped;
+      },
+    )
+
+-- who was told that there is no job may end
+pub may_finish : (b : Base) (v : View Noted Base) → HasNone b v → MayFinish b v
+may_finish b v h = record { known = h.working.known; works = h.working.works; done = inr (h.working.free, h.took) }
+
+pub ends_done : (b : Base) (v w : View Noted Base) → HasNone b v → Finishes b v endings.Ended w → IsSameWorker v w × AreDone (own w)
+ends_done b v w has h =
+    let e : Noted = End v.worker plain.Ended in
+    let acts : own w ≡ own v ++ (Asked v.worker plain.Ended ∷ []) = own_after b v e w h.before h.after h.hold in (
+      same_seat b v e w h.before h.after h.hold,
+      record {
+        ended = ap has_ended acts ∙ ended-more (own v) (Asked v.worker plain.Ended) has.working.works;
+        took = inl (ap has_take acts ∙ take-stays (own v) (Asked v.worker plain.Ended) has.has_taken);
+      },
+    )
+
+pub ends_with_more : (b : Base) (v w : View Noted Base) → HasNone b v → Finishes b v endings.MoreWork w → IsSameWorker v w × IsWorking b w
+ends_with_more b v w has h =
+    let e : Noted = End v.worker plain.MoreWork in
+    let acts : own w ≡ own v ++ (Asked v.worker plain.MoreWork ∷ []) = own_after b v e w h.before h.after h.hold in (
+      same_seat b v e w h.before h.after h.hold,
+      record {
+        known = known_after b v e w h.before h.after h.hold has.working.known;
+        works = ap has_ended acts ∙ ended-more (own v) (Asked v.worker plain.MoreWork) has.working.works;
+        free = ap (held_after []) acts ∙ held-more [] (own v) (Asked v.worker plain.MoreWork) ∙ has.working.free;
+        unstopped = ap has_stop acts ∙ stop-more (own v) (Asked v.worker plain.MoreWork) has.working.unstopped;
+      },
+    )
+
+-- after a Stop of its own a worker may end, and then is done
+pub may_finish_stopped :
+    (b : Base) (v w : View Noted Base) (reason : StopReason) (stop : WorkStop) → MayGiveUp b v stop → Reports b v reason w
+    → MayFinish b w × (has_stop (acts_of w.seen) ≡ true) × (has_ended (own w) ≡ false) × (has_stop (own w) ≡ true) × IsSameWorker v w
+may_finish_stopped b v w reason stop may h =
+    let e : Noted = Stop v.worker in
+    let acts : own w ≡ own v ++ (Stopped v.worker ∷ []) = own_after b v e w h.before h.after h.hold in
+    let seen : has_stop (acts_of w.seen) ≡ true = ap (λ l. has_stop (acts_of l)) (seen_after b v e w h.before h.after h.hold) ∙ stop-last (log h.before) v.worker in
+    let works : has_ended (own w) ≡ false = ap has_ended acts ∙ ended-more (own v) (Stopped v.worker) may.works in (
+      record { known = known_after b v e w h.before h.after h.hold may.known; works = works; done = inl seen },
+      seen,
+      works,
+      ap has_stop acts ∙ stop-more (own v) (Stopped v.worker) may.unstopped,
+      same_seat b v e w h.before h.after h.hold,
+    )
+
+pub stopped_done :
+    (b : Base) (v w : View Noted Base) → has_ended (own v) ≡ false → has_stop (own v) ≡ true → Finishes b v endings.Ended w
+    → IsSameWorker v w × AreDone (own w)
+stopped_done b v w works stopped h =
+    let e : Noted = End v.worker plain.Ended in
+    let acts : own w ≡ own v ++ (Asked v.worker plain.Ended ∷ []) = own_after b v e w h.before h.after h.hold in (
+      same_seat b v e w h.before h.after h.hold,
+      record {
+        ended = ap has_ended acts ∙ ended-more (own v) (Asked v.worker plain.Ended) works;
+        took = inr (ap has_stop acts ∙ stop-stays (own v) (Asked v.worker plain.Ended) stopped);
+      },
+    )
+
+-- the same worker over two calls
+pub same_twice : (u v w : View Noted Base) → IsSameWorker u v → IsSameWorker v w → IsSameWorker u w
+same_twice u v w h k = (k.0 ∙ h.0, k.1 ∙ h.1)
+
+-- a call that made no event leaves what a worker may do
+pub no_event : (v w : View Noted Base) → Holds by v w → IsSameWorker v w × (own w ≡ own v)
+no_event v w h = ((h.3.0, h.3.2), ap acts_of h.1)
+
+-- the trail of a job is one of what was seen
+pub job_trail_seen : (b : Base) (v : View Noted Base) (job : JobShown) (stop : WorkStop) → HasJob b v job → JobStops job stop → IsWorkStopSeen b v.seen stop
+job_trail_seen b v job works.Memory has h = tt
+job_trail_seen b v job (works.Degree t) has h = record {
+  pair = over.0;
+  way = record {
+    members = record {
+      first = length job.members;
+      there = omega (arith, has.had, mapped (members_after b v.seen));
+      rows = [];
+      put = inl refl;
+      made = [];
+      makes = refl;
+      same = over.2 ∙ ap (members_of n) has.members ∙ taken (length job.members) (members_after b v.seen) ∙ sym (append-nil (take (length job.members) (members_of n (members_after b v.seen))));
+    };
+    start = let some = has.given (trail_of n t).start in let begins = over.1.start in omega (arith, some, begins);
+    pair = over.1.pair;
+    products = over.1.products;
+    monomial = over.1.monomial;
+    above = over.1.above;
+  };
+}
+  where
+    n : ℕ
+    n = variables b.shared.ring
+
+    over : IsPairTrail b.shared t × IsTrail (work_of n b.shared) (members_of n job.members) (pairs_of job.pairs) (trail_of n t) × ((trail_of n t).members ≡ members_of n job.members)
+    over = subst (λ (sh : Shared). IsPairTrail sh t × IsTrail (work_of (variables sh.ring) sh) (members_of (variables sh.ring) job.members) (pairs_of job.pairs) (trail_of (variables sh.ring) t) × ((trail_of (variables sh.ring) t).members ≡ members_of (variables sh.ring) job.members)) has.shared (h.pair, h.way, h.members)
+
+    mapped : (ms : List Tracked) → length (members_of n ms) ≡ length ms
+    mapped [] = refl
+    mapped (m ∷ ms) = ap suc (mapped ms)
+
+    none : (k : ℕ) → ◌≡◌ {A = List (plain.Member n)} [] (take k [])
+    none zero = refl
+    none (suc k) = refl
+
+    taken : (k : ℕ) (ms : List Tracked) → members_of n (take k ms) ≡ take k (members_of n ms)
+    taken zero ms = refl
+    taken (suc k) [] = refl
+    taken (suc k) (m ∷ ms) = ap (λ l. member_of n m ∷ l) (taken k ms)
+
+pub known_same : (b : Base) (v w : View Noted Base) → IsSameWorker v w → v.worker < b.workers → w.worker < b.workers
+known_same b v w h k = subst (λ n. n < b.workers) (sym h.0) k

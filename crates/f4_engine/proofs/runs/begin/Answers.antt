@@ -1,0 +1,16 @@
+use Rattle.std.proofs.Common.{List, subst, sym, ℕ}
+use Rattle.cofactor_track.specs.Members.{AreGenerators}
+use Rattle.module_vectors.specs.declared.key.Key.{Key as CodeKey}
+use Rattle.module_vectors.specs.declared.ring.Ring.{Ring}
+use Rattle.run_endings.proofs.Closings.{are_generators}
+use Rattle.f4_engine.proofs.Begun.{begins_new}
+use Rattle.f4_engine.proofs.runs.begin.Goals as goal
+
+pub begin-requires-clause-generators : goal.begin-requires-clause-generators
+begin-requires-clause-generators c =
+    subst (λ (ring : Ring). AreGenerators ring c.args.rank c.in_ok-generators.generators) (sym c.in_ok-ring.ensures)
+    (subst (λ (list : List (List (CodeKey × ℕ))). AreGenerators c.args.ring.now c.args.rank list) (sym c.in_ok-generators.ensures)
+    (are_generators c.args.ring.now c.args.rank c.args.list.now c.requires.vectors c.requires.positions))
+
+pub returns-clause-new : goal.returns-clause-new
+returns-clause-new c = begins_new c.in_ok-ring.ring c.args.rank c.in_ok-generators.generators c.args.pairs c.args.workers c.begin.result c.requires.workers c.begin.ensures.run c.begin.ensures.begins

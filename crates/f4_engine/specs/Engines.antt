@@ -1,0 +1,46 @@
+-- What contracts see of the engine
+use Rattle.std.specs.Prelude.{IfSome, Option, Some, min, ℕ, ◌+◌, ◌-◌, ◌<◌, ◌^◌, ◌≡◌, ◌≤◌}
+use Rattle.module_vectors.specs.declared.trail.KeptTrail.{KeptTrail}
+use Rattle.basis_core.specs.Members.{Shared}
+use Rattle.basis_core.specs.Shown.{Shown}
+use Rattle.groebner_iface.specs.declared.stop.Stop.{Stop}
+use Rattle.groebner_iface.specs.declared.stop.Stop.TheVariants.{Memory, Pairs, Degree}
+use Rattle.run_endings.specs.Stops.{IsCounted, IsStop, stopped_on, stopped_run}
+use Rattle.f4_engine.specs.Runs.{IsLastRun, IsWorkedByAll}
+
+-- its budget of pairs and number of workers; how many runs stopped; the state and the trail that are kept of the last one of them;
+-- and the state of the last one that answered
+pub record EngineShown : Type 0 where
+  pub pairs : ℕ
+  pub workers : ℕ
+  pub stops : ℕ
+  pub state : Option Shown
+  pub trail : Option KeptTrail
+  pub last : Option Shown
+
+-- what is kept is of runs of this engine, each with an End of each worker; and those that stopped are counted
+pub record IsKeptBy (e : EngineShown) : Type 0 where
+  pub some : 0 < e.workers
+  pub stop : IsStop e.pairs e.workers e.state e.trail
+  pub counted : IsCounted e.stops (stopped_run e.state e.trail)
+  pub by_all : IfSome e.state IsWorkedByAll
+  pub last : IsLastRun e.pairs e.workers e.last
+
+-- one more run that stopped is counted, up to 2 ^ 64 - 1; all else is the same
+pub record Counts (old new : EngineShown) : Type 0 where
+  pub pairs : new.pairs ≡ old.pairs
+  pub workers : new.workers ≡ old.workers
+  pub last : new.last ≡ old.last
+  pub stops : new.stops ≡ min (old.stops + 1) (2 ^ 64 - 1)
+  pub later : old.stops ≤ new.stops
+
+-- a run that answered is kept; all else is the same
+pub record Answers (old new : EngineShown) (shared : Shared) : Type 0 where
+  pub same : new ≡ record old { last = new.last }
+  pub last : (s : Shown) × (new.last ≡ Some s) × (s.shared ≡ shared)
+
+-- Memory leaves the engine as it was; Pairs and Degree are counted, and the run on these is kept with the answer
+abbrev pub EngineStops : (old new : EngineShown) → Shared → Stop → Type 0
+EngineStops old new shared Memory = new ≡ old
+EngineStops old new shared Pairs = Counts old new × (stopped_run new.state new.trail ≡ Some (stopped_on shared Pairs))
+EngineStops old new shared Degree = Counts old new × (stopped_run new.state new.trail ≡ Some (stopped_on shared Degree))

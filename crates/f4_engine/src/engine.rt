@@ -1,0 +1,224 @@
+// The engine.
+ghost use Rattle.std.specs.Prelude.{◌≡◌, ◌<◌, IfErr, IfOk, IfSome, MatchOption, None, OnOk, Some};
+ghost use Rattle.formal_sums.specs.FormalSums.{Each};
+ghost use Rattle.module_vectors.specs.Rings.{ring_comparison};
+ghost use Rattle.module_vectors.specs.Vectors.{AreVectorsOver, HasPositions};
+ghost use Rattle.basis_core.specs.Members.{Shared};
+ghost use Rattle.groebner_iface.specs.Runs.{IsReducedBasisOf, StoppedRun};
+ghost use Rattle.run_endings.specs.Stops.{IsRunBy, IsStop, OfState, RunStops, shared_on, stopped_run};
+ghost use Rattle.f4_engine.specs.Engines.{Answers, Counts, EngineStops, IsKeptBy};
+ghost use Rattle.f4_engine.specs.Runs.{IsFinished, IsWorkedByAll};
+
+use crate::runs::run;
+use basis_core::BasisState;
+use groebner_iface::{Groebner, Stop};
+use module_vectors::{KeptTrail, Ring, VectList};
+use run_endings::RunStop;
+use std::alloc::Global;
+use std::marker::Model;
+use std::sync::Wait;
+use std::thread::Threads;
+use worker_gate::SharedGate;
+
+/// Buchberger's algorithm by running workers. The last run that stopped early is kept: by its budget of pairs, its state;
+/// by a degree above 65,535, a trail and its state, or the trail alone where the beginning of the run met it. So is the
+/// state of the last run that answered.
+#[derive(Drop)]
+pub struct F4Engine {
+    pairs: u64,
+    workers: u32,
+    gate: SharedGate,
+    stops: u64,
+    state: Option<BasisState>,
+    trail: Option<KeptTrail>,
+    last: Option<BasisState>,
+}
+
+impl Model for F4Engine {
+    ghost use Rattle.f4_engine.specs.Engines.{EngineShown, IsKeptBy};
+
+    ghost Value = { EngineShown };
+
+    ghost view = { λ e. record { pairs = e.pairs; workers = e.workers; stops = e.stops; state = e.state; trail = e.trail; last = e.last } };
+
+    ghost invariant = { λ e. IsKeptBy (record { pairs = e.pairs; workers = e.workers; stops = e.stops; state = e.state; trail = e.trail; last = e.last }) };
+}
+
+impl F4Engine {
+    /// An engine whose runs take at most so many pairs each, by so many workers, which pass this gate with each job.
+    pub fn new(pairs: u64, workers: u32, gate: SharedGate) -> F4Engine
+        requires { 0 < workers }
+        ensures pairs { result.pairs ≡ pairs }
+        ensures workers { result.workers ≡ workers }
+        ensures stops { result.stops ≡ 0 }
+        ensures state { result.state ≡ None }
+        ensures trail { result.trail ≡ None }
+        ensures last { result.last ≡ None }
+    {
+        F4Engine {
+            pairs,
+            workers,
+            gate,
+            stops: 0,
+            state: None,
+            trail: None,
+            last: None,
+        }
+    }
+
+    /// The most pairs that a run takes.
+    pub fn pairs(&self) -> u64
+        ensures { result ≡ self.now.pairs }
+    {
+        self.pairs
+    }
+
+    /// The number of workers.
+    pub fn workers(&self) -> u32
+        ensures workers { result ≡ self.now.workers }
+        ensures some { 0 < result }
+    {
+        self.workers
+    }
+
+    /// The gate that its workers pass.
+    pub fn gate(&self) -> &SharedGate {
+        &self.gate
+    }
+
+    /// How many runs stopped early, up to 2^64 - 1.
+    pub fn stops(&self) -> u64
+        ensures { result ≡ self.now.stops }
+    {
+        self.stops
+    }
+
+    /// The state of the last run that answered a basis, if there was one.
+    pub fn last_run(&self) -> Option<&BasisState>
+        ensures state { MatchOption result (self.now.last ≡ None) (λ s. self.now.last ≡ Some s.now) }
+        ensures kept { IsKeptBy self.now }
+    {
+        self.last.as_ref()
+    }
+
+    /// What is kept of the last run that stopped early: its state unless its beginning stopped it, and a trail where a
+    /// degree stopped it; neither before a run has stopped.
+    pub fn last_stop(&self) -> (Option<&BasisState>, Option<&KeptTrail>)
+        ensures state { MatchOption result.0 (self.now.state ≡ None) (λ s. self.now.state ≡ Some s.now) }
+        ensures trail { MatchOption result.1 (self.now.trail ≡ None) (λ t. self.now.trail ≡ Some t.now) }
+        ensures kept { IsKeptBy self.now }
+    {
+        (self.state.as_ref(), self.trail.as_ref())
+    }
+
+    /// The same, without taking memory.
+    pub fn into_stop(self) -> (Option<BasisState>, Option<KeptTrail>)
+        ensures state { result.0 ≡ self.state }
+        ensures trail { result.1 ≡ self.trail }
+        ensures kept { IsKeptBy self }
+    {
+        (self.state, self.trail)
+    }
+
+    // Counts a run that stopped, and keeps this of it.
+    fn keep(&mut self, state: Option<BasisState>, trail: Option<KeptTrail>)
+        requires some { (run : StoppedRun) × (stopped_run state trail ≡ Some run) }
+        requires stop { IsStop self.old.pairs self.old.workers state trail }
+        requires by_all { IfSome state IsWorkedByAll }
+        ensures counts { Counts self.old self.new }
+        ensures state { self.new.state ≡ state }
+        ensures trail { self.new.trail ≡ trail }
+    {
+        self.stops = self.stops.saturating_add(1);
+        self.state = state;
+        self.trail = trail;
+    }
+
+    // Counts and keeps a run that stopped, unless memory was wanting.
+    fn keep_stop(&mut self, stop: RunStop) -> Stop
+        requires stop { (shared : Shared) × RunStops self.old.pairs self.old.workers shared stop }
+        requires by_all { OfState IsWorkedByAll stop }
+        ensures { (shared : Shared) → RunStops self.old.pairs self.old.workers shared stop → EngineStops self.old self.new shared result }
+    {
+        match stop {
+            RunStop::Memory => Stop::Memory,
+            RunStop::Pairs(state) => {
+                self.keep(Some(state), None);
+                Stop::Pairs
+            }
+            RunStop::Beginning(trail) => {
+                self.keep(None, Some(trail));
+                Stop::Degree
+            }
+            RunStop::Degree(state, trail) => {
+                self.keep(Some(state), Some(trail));
+                Stop::Degree
+            }
+        }
+    }
+
+    // Keeps the state of a run that answered.
+    fn keep_last(&mut self, state: BasisState)
+        requires by { IsRunBy self.old.pairs self.old.workers state × IsWorkedByAll state }
+        requires finished { IsFinished state }
+        ensures { Answers self.old self.new state.shared }
+    {
+        self.last = Some(state);
+    }
+
+    /// The reduced Gröbner basis of the list in a free module of this rank, by descending leads in the ring's own order. It
+    /// does what the trait's `reduced` does, and more is said of it: the state of a run that answers is kept.
+    pub fn run<R: Threads + Wait + Sync>(
+        &mut self,
+        rt: &R,
+        alloc: Global,
+        ring: &Ring,
+        rank: u128,
+        list: &VectList,
+    ) -> Result<VectList, Stop>
+        requires vectors { AreVectorsOver ring.now (ring_comparison ring.now) list.now }
+        requires positions { Each (HasPositions rank) list.now }
+        ensures basis { IfOk result (IsReducedBasisOf ring.now rank list.now) }
+        ensures answers { OnOk result (Answers self.old self.new (shared_on ring.now rank list.now)) }
+        ensures stop { IfErr result (EngineStops self.old self.new (shared_on ring.now rank list.now)) }
+    {
+        match run(
+            rt,
+            alloc,
+            self.pairs,
+            self.workers,
+            &self.gate,
+            ring,
+            rank,
+            list,
+        ) {
+            Ok((basis, state)) => {
+                self.keep_last(state);
+                Ok(basis)
+            }
+            Err(stop) => Err(self.keep_stop(stop)),
+        }
+    }
+}
+
+impl Groebner for F4Engine {
+    ghost use Rattle.std.specs.Prelude.{[], ◌∷◌};
+    ghost use Rattle.run_endings.specs.Stops.{stopped_run};
+
+    ghost stops = { λ e. e.stops };
+
+    ghost stopped = { λ e. stopped_run e.state e.trail };
+
+    ghost settings = { λ e. e.pairs ∷ e.workers ∷ [] };
+
+    fn reduced<R: Threads + Wait + Sync>(
+        &mut self,
+        rt: &R,
+        alloc: Global,
+        ring: &Ring,
+        rank: u128,
+        list: &VectList,
+    ) -> Result<VectList, Stop> {
+        self.run(rt, alloc, ring, rank, list)
+    }
+}

@@ -1,0 +1,129 @@
+// A run of the engine.
+ghost use Rattle.std.specs.Prelude.{◌≡◌, ◌<◌, IfOk, IfErr, IfSome};
+ghost use Rattle.formal_sums.specs.FormalSums.{Each};
+ghost use Rattle.module_vectors.specs.Rings.{ring_comparison, variables};
+ghost use Rattle.module_vectors.specs.Vectors.{AreVectorsOver, HasPositions};
+ghost use Rattle.basis_core.specs.Answers.{BeginningStops, IsRunOf};
+ghost use Rattle.groebner_iface.specs.Runs.{IsReducedBasisOf};
+ghost use Rattle.run_endings.specs.Stops.{IsRunBy, OfState, RunStops, shared_on};
+ghost use Rattle.f4_engine.specs.Runs.{EndsAs, IsFinished, IsLeft, IsNew, IsWorkedByAll};
+
+use crate::workers::work_all;
+use basis_core::{BasisState, StopReason};
+use module_vectors::{KeptTrail, Ring, VectList, WorkStop};
+use ruled_lock::Lock;
+use run_endings::{RunStop, close, copy_trail};
+use std::alloc::Global;
+use std::sync::Wait;
+use std::thread::Threads;
+use worker_gate::SharedGate;
+
+// The run at its beginning.
+fn begin(
+    alloc: Global,
+    pairs: u64,
+    workers: u32,
+    ring: &Ring,
+    rank: u128,
+    list: &VectList,
+) -> Result<BasisState, WorkStop>
+    requires workers { 0 < workers }
+    requires vectors { AreVectorsOver ring.now (ring_comparison ring.now) list.now }
+    requires positions { Each (HasPositions rank) list.now }
+    ensures run { IfOk result (IsRunOf (shared_on ring.now rank list.now) pairs workers) }
+    ensures new { IfOk result IsNew }
+    ensures stop { IfErr result (BeginningStops (variables ring.now) (shared_on ring.now rank list.now)) }
+{
+    let ring = ring.try_copy(alloc)?;
+    let generators = VectList::copy_of(alloc, list)?;
+    BasisState::begin(alloc, ring, rank, generators, pairs, workers)
+}
+
+// How many workers have a pair to begin with, and at least one.
+fn threads_for(state: &BasisState) -> u32 {
+    let pairs = u32::try_from(state.queued().len()).unwrap_or(u32::MAX);
+    state.workers().min(pairs).max(1)
+}
+
+// The state after all workers have ended; None where there was no memory for the lock.
+fn let_work<R: Threads + Wait + Sync>(
+    rt: &R,
+    alloc: Global,
+    gate: &SharedGate,
+    state: BasisState,
+) -> Option<BasisState>
+    requires { IsNew state }
+    ensures { IfSome result (IsLeft state) }
+{
+    let workers = state.workers();
+    let threads = threads_for(&state);
+    match Lock::new(alloc, state) {
+        Ok((lock, seat)) => {
+            let seat = work_all(rt, alloc, &lock, gate, seat, workers, threads);
+            let state = lock.close(seat);
+            state.kept();
+            Some(state)
+        }
+        Err(_state) => None,
+    }
+}
+
+// How a run ended, by the stop that its state keeps: none, or this one with a copy of its trail.
+#[derive(Drop)]
+enum Ended {
+    Finished,
+    Pairs,
+    Memory,
+    Degree(KeptTrail),
+}
+
+fn how_ended(alloc: Global, state: &BasisState) -> Ended
+    ensures { EndsAs state.now result }
+{
+    state.kept();
+    match state.stop_reason() {
+        None => Ended::Finished,
+        Some(StopReason::Pairs) => Ended::Pairs,
+        Some(StopReason::Memory) => Ended::Memory,
+        Some(StopReason::Degree(trail)) => match copy_trail(alloc, trail) {
+            Ok(copy) => Ended::Degree(copy),
+            Err(_) => Ended::Memory,
+        },
+    }
+}
+
+/// The reduced basis of the list, by so many workers with at most so many pairs. IVA chapter 2, section 10.
+pub(crate) fn run<R: Threads + Wait + Sync>(
+    rt: &R,
+    alloc: Global,
+    pairs: u64,
+    workers: u32,
+    gate: &SharedGate,
+    ring: &Ring,
+    rank: u128,
+    list: &VectList,
+) -> Result<(VectList, BasisState), RunStop>
+    requires workers { 0 < workers }
+    requires vectors { AreVectorsOver ring.now (ring_comparison ring.now) list.now }
+    requires positions { Each (HasPositions rank) list.now }
+    ensures basis { IfOk result (λ t. IsReducedBasisOf ring.now rank list.now t.0) }
+    ensures shared { IfOk result (λ t. t.1.shared ≡ shared_on ring.now rank list.now) }
+    ensures finished { IfOk result (λ t. IsRunBy pairs workers t.1 × IsWorkedByAll t.1 × IsFinished t.1) }
+    ensures stop { IfErr result (RunStops pairs workers (shared_on ring.now rank list.now)) }
+    ensures stopped { IfErr result (OfState IsWorkedByAll) }
+{
+    let state = match begin(alloc, pairs, workers, ring, rank, list) {
+        Ok(state) => state,
+        Err(WorkStop::Memory) => return Err(RunStop::Memory),
+        Err(WorkStop::Degree(trail)) => return Err(RunStop::Beginning(trail)),
+    };
+    let Some(state) = let_work(rt, alloc, gate, state) else {
+        return Err(RunStop::Memory);
+    };
+    match how_ended(alloc, &state) {
+        Ended::Finished => close(rt, alloc, state),
+        Ended::Pairs => Err(RunStop::Pairs(state)),
+        Ended::Memory => Err(RunStop::Memory),
+        Ended::Degree(trail) => Err(RunStop::Degree(state, trail)),
+    }
+}

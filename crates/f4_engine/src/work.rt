@@ -1,0 +1,135 @@
+// What one worker does.
+ghost use Rattle.std.specs.Prelude.{◌≡◌, ◌<◌, List};
+ghost use Rattle.ruled_lock.specs.Plays.{IsIdle};
+ghost use Rattle.basis_core.specs.Logs.{Base, Noted, base};
+ghost use Rattle.f4_engine.specs.Workers.{AreDone, HasDone, HasJob, HasNone, IsFresh, IsSameWorker, IsWorking, MayGiveUp, RoundEnds};
+ghost use Rattle.basis_lock.specs.Calls.{IsReasonSeen, IsWorkStopSeen, own};
+
+use basis_core::{Ending, Job, StopReason, Taken};
+use basis_lock::{BasisLock, BasisSeat, finish, hand_in, report_stop, take_job};
+use module_vectors::WorkStop;
+use s_vectors::solve;
+use std::alloc::Global;
+use std::sync::Wait;
+use std::thread;
+use worker_gate::{Gate, Point, SharedGate};
+
+// How many pairs a worker asks for, of the 512 that it may. Plain division solves the jobs: it divides each pair of a job by
+// the members of the Take alone, and the Put divides the rows by each other, so one pair a job is the least work.
+const PAIRS_OF_A_JOB: u64 = 1;
+
+// The reason of a stop.
+fn reason_for(stop: WorkStop) -> StopReason
+    ensures { (b : Base) (seen : List Noted) → IsWorkStopSeen b seen stop → IsReasonSeen b seen result }
+{
+    match stop {
+        WorkStop::Memory => StopReason::Memory,
+        WorkStop::Degree(trail) => StopReason::Degree(trail),
+    }
+}
+
+// Stops the run, and ends.
+fn give_up<R: Wait>(rt: &R, lock: &BasisLock, seat: &mut BasisSeat, stop: WorkStop)
+    requires idle { IsIdle lock.now.table.shared.table_id (base lock.now.table.shared.key.value) seat.old.place }
+    requires may { MayGiveUp (base lock.now.table.shared.key.value) seat.old.place.me.0 stop }
+    ensures idle { IsIdle lock.now.table.shared.table_id (base lock.now.table.shared.key.value) seat.new.place }
+    ensures same { IsSameWorker seat.old.place.me.0 seat.new.place.me.0 }
+    ensures done { AreDone (own seat.new.place.me.0) }
+{
+    report_stop(rt, lock, seat, reason_for(stop));
+    // A stop is kept, so the worker has ended.
+    finish(rt, lock, seat);
+}
+
+// Ends, or goes on where there is more work. Is the worker done?
+fn ask_to_end<R: Wait>(rt: &R, lock: &BasisLock, seat: &mut BasisSeat) -> bool
+    requires idle { IsIdle lock.now.table.shared.table_id (base lock.now.table.shared.key.value) seat.old.place }
+    requires none { HasNone (base lock.now.table.shared.key.value) seat.old.place.me.0 }
+    ensures idle { IsIdle lock.now.table.shared.table_id (base lock.now.table.shared.key.value) seat.new.place }
+    ensures ends { RoundEnds (base lock.now.table.shared.key.value) seat.old.place.me.0 seat.new.place.me.0 result }
+{
+    match finish(rt, lock, seat) {
+        Ending::Ended => true,
+        Ending::MoreWork => {
+            thread::yield_now();
+            false
+        }
+    }
+}
+
+// Solves a job and hands it in, or gives up. Is the worker done?
+fn do_job<R: Wait>(
+    rt: &R,
+    alloc: Global,
+    lock: &BasisLock,
+    gate: &SharedGate,
+    seat: &mut BasisSeat,
+    job: Job,
+) -> bool
+    requires idle { IsIdle lock.now.table.shared.table_id (base lock.now.table.shared.key.value) seat.old.place }
+    requires job { HasJob (base lock.now.table.shared.key.value) seat.old.place.me.0 job }
+    ensures idle { IsIdle lock.now.table.shared.table_id (base lock.now.table.shared.key.value) seat.new.place }
+    ensures ends { RoundEnds (base lock.now.table.shared.key.value) seat.old.place.me.0 seat.new.place.me.0 result }
+{
+    gate.pass(seat.worker, Point::JobTaken);
+    match solve(alloc, job) {
+        Ok(outcome) => match hand_in(rt, alloc, lock, seat, outcome) {
+            Ok(()) => false,
+            Err((stop, _outcome)) => {
+                give_up(rt, lock, seat, stop);
+                true
+            }
+        },
+        Err((stop, _job)) => {
+            give_up(rt, lock, seat, stop);
+            true
+        }
+    }
+}
+
+// One round: a job, or the answer that there is none. Is the worker done?
+fn do_round<R: Wait>(
+    rt: &R,
+    alloc: Global,
+    lock: &BasisLock,
+    gate: &SharedGate,
+    seat: &mut BasisSeat,
+) -> bool
+    requires idle { IsIdle lock.now.table.shared.table_id (base lock.now.table.shared.key.value) seat.old.place }
+    requires works { IsWorking (base lock.now.table.shared.key.value) seat.old.place.me.0 }
+    ensures idle { IsIdle lock.now.table.shared.table_id (base lock.now.table.shared.key.value) seat.new.place }
+    ensures ends { RoundEnds (base lock.now.table.shared.key.value) seat.old.place.me.0 seat.new.place.me.0 result }
+{
+    match take_job(rt, alloc, lock, seat, PAIRS_OF_A_JOB) {
+        Ok(Taken::Job(job)) => do_job(rt, alloc, lock, gate, seat, job),
+        Ok(Taken::Empty) => ask_to_end(rt, lock, seat),
+        Ok(Taken::Stopped) => ask_to_end(rt, lock, seat),
+        Err(_) => {
+            give_up(rt, lock, seat, WorkStop::Memory);
+            true
+        }
+    }
+}
+
+/// The rounds of one worker, until it has ended.
+pub(crate) fn work<R: Wait>(
+    rt: &R,
+    alloc: Global,
+    lock: &BasisLock,
+    gate: &SharedGate,
+    seat: BasisSeat,
+) -> BasisSeat
+    requires idle { IsIdle lock.now.table.shared.table_id (base lock.now.table.shared.key.value) seat.place }
+    requires fresh { IsFresh seat.worker seat.place.me.0 }
+    requires known { seat.worker < (base lock.now.table.shared.key.value).workers }
+    ensures idle { IsIdle lock.now.table.shared.table_id (base lock.now.table.shared.key.value) result.place }
+    ensures done { HasDone seat.worker result.place.me.0 }
+{
+    let mut seat = seat;
+    for _ in rt.forever() {
+        if do_round(rt, alloc, lock, gate, &mut seat) {
+            return seat;
+        }
+    }
+    unreachable!()
+}

@@ -1,0 +1,126 @@
+// All workers of a run: the first in the caller's thread, others in threads of their own, as many as there is work for.
+ghost use Rattle.std.specs.Prelude.{◌≡◌, ◌<◌, ◌≤◌, ◌+◌};
+ghost use Rattle.std.specs.Thread.{IsSync};
+ghost use Rattle.ruled_lock.specs.Plays.{IsIdle};
+ghost use Rattle.basis_core.specs.Logs.{base};
+ghost use Rattle.f4_engine.specs.Workers.{AllDone, HasDone, IsFresh, IsReady};
+
+use crate::work::work;
+use basis_lock::{BasisLock, BasisSeat};
+use std::alloc::Global;
+use std::sync::Wait;
+use std::thread::{Threads, join};
+use worker_gate::SharedGate;
+
+// The seat of the last worker.
+fn part(lock: &BasisLock, seat: &mut BasisSeat, n: u32, last: u32) -> BasisSeat
+    requires idle { IsIdle lock.now.table.shared.table_id (base lock.now.table.shared.key.value) seat.old.place }
+    requires ready { IsReady n seat.old.place.me.0 }
+    requires last { (last < n) × (0 < last) }
+    ensures idle { IsIdle lock.now.table.shared.table_id (base lock.now.table.shared.key.value) seat.new.place
+        × IsReady last seat.new.place.me.0 }
+    ensures other { IsIdle lock.now.table.shared.table_id (base lock.now.table.shared.key.value) result.place
+        × (result.worker ≡ last) × IsFresh last result.place.me.0 }
+{
+    lock.split(seat, last)
+}
+
+// The seat after the last worker has come back.
+fn unite(lock: &BasisLock, seat: BasisSeat, other: BasisSeat, n: u32, last: u32) -> BasisSeat
+    requires idle { IsIdle lock.now.table.shared.table_id (base lock.now.table.shared.key.value) seat.place
+        × IsIdle lock.now.table.shared.table_id (base lock.now.table.shared.key.value) other.place }
+    requires done { AllDone last seat.place.me.0 × HasDone last other.place.me.0 }
+    requires last { last + 1 ≡ n }
+    ensures idle { IsIdle lock.now.table.shared.table_id (base lock.now.table.shared.key.value) result.place }
+    ensures done { AllDone n result.place.me.0 }
+{
+    let mut seat = seat;
+    lock.join(&mut seat, other);
+    seat
+}
+
+// The first worker, where it is alone.
+fn work_alone<R: Wait>(
+    rt: &R,
+    alloc: Global,
+    lock: &BasisLock,
+    gate: &SharedGate,
+    seat: BasisSeat,
+    n: u32,
+) -> BasisSeat
+    requires idle { IsIdle lock.now.table.shared.table_id (base lock.now.table.shared.key.value) seat.place }
+    requires ready { IsReady n seat.place.me.0 × (n ≤ 1) }
+    requires known { 0 < (base lock.now.table.shared.key.value).workers }
+    ensures idle { IsIdle lock.now.table.shared.table_id (base lock.now.table.shared.key.value) result.place }
+    ensures done { AllDone n result.place.me.0 }
+{
+    work(rt, alloc, lock, gate, seat)
+}
+
+// The last worker, after those before it have ended.
+fn work_late<R: Wait>(
+    rt: &R,
+    alloc: Global,
+    lock: &BasisLock,
+    gate: &SharedGate,
+    seat: BasisSeat,
+    other: BasisSeat,
+    n: u32,
+    last: u32,
+) -> BasisSeat
+    requires idle { IsIdle lock.now.table.shared.table_id (base lock.now.table.shared.key.value) seat.place
+        × IsIdle lock.now.table.shared.table_id (base lock.now.table.shared.key.value) other.place }
+    requires done { AllDone last seat.place.me.0 }
+    requires fresh { (other.worker ≡ last) × IsFresh last other.place.me.0 }
+    requires last { (last + 1 ≡ n) × (last < (base lock.now.table.shared.key.value).workers) }
+    ensures idle { IsIdle lock.now.table.shared.table_id (base lock.now.table.shared.key.value) result.place }
+    ensures done { AllDone n result.place.me.0 }
+{
+    let worked = work(rt, alloc, lock, gate, other);
+    unite(lock, seat, worked, n, last)
+}
+
+/// The workers below n, of which the seat is the first. Those below `threads` work side by side, the others after them, one
+/// after another in the caller's thread.
+pub(crate) fn work_all<R: Threads + Wait + Sync>(
+    rt: &R,
+    alloc: Global,
+    lock: &BasisLock,
+    gate: &SharedGate,
+    mut seat: BasisSeat,
+    n: u32,
+    threads: u32,
+) -> BasisSeat
+    requires idle { IsIdle lock.now.table.shared.table_id (base lock.now.table.shared.key.value) seat.place }
+    requires ready { IsReady n seat.place.me.0 }
+    requires known { (n ≤ (base lock.now.table.shared.key.value).workers) × (0 < (base lock.now.table.shared.key.value).workers) }
+    ensures idle { IsIdle lock.now.table.shared.table_id (base lock.now.table.shared.key.value) result.place }
+    ensures done { AllDone n result.place.me.0 }
+{
+    if n <= 1 {
+        return work_alone(rt, alloc, lock, gate, seat, n);
+    }
+    let last = n - 1;
+    let other = part(lock, &mut seat, n, last);
+    if threads <= last {
+        let seat = work_all(rt, alloc, lock, gate, seat, last, threads);
+        return work_late(rt, alloc, lock, gate, seat, other, n, last);
+    }
+    let (theirs, ours) = join(
+        rt,
+        || -> BasisSeat
+            requires { IsIdle lock.now.table.shared.table_id (base lock.now.table.shared.key.value) other.place
+                × IsFresh other.worker other.place.me.0 × (other.worker < (base lock.now.table.shared.key.value).workers) }
+            ensures { IsIdle lock.entry.now.table.shared.table_id (base lock.entry.now.table.shared.key.value) result.place
+                × HasDone other.worker result.place.me.0 }
+        { work(rt, alloc, lock, gate, other) },
+        || -> BasisSeat
+            requires { IsSync R.row × IsIdle lock.now.table.shared.table_id (base lock.now.table.shared.key.value) seat.place
+                × IsReady last seat.place.me.0 × (last ≤ (base lock.now.table.shared.key.value).workers)
+                × (0 < (base lock.now.table.shared.key.value).workers) }
+            ensures { IsIdle lock.entry.now.table.shared.table_id (base lock.entry.now.table.shared.key.value) result.place
+                × AllDone last result.place.me.0 }
+        { work_all(rt, alloc, lock, gate, seat, last, threads) },
+    );
+    unite(lock, ours, theirs, n, last)
+}
