@@ -20,7 +20,7 @@ use Rattle.module_vectors.specs.Rings.{ring_comparison, setting, variables}
 use Rattle.module_vectors.specs.Vectors.{IsVectorOver, StandsFor, sum_of, sums_of}
 use Rattle.module_vectors.specs.declared.key.Key.{Key as CodeKey}
 use Rattle.module_vectors.specs.declared.ring.Ring.{Ring}
-use Rattle.vector_division.specs.Divisions.{IsReducedBy}
+use Rattle.vector_division.specs.Divisions.{IsFreeOfLeads}
 use Rattle.groebner_iface.specs.Runs.{IsReducedBasisOf}
 use Rattle.session_lang.specs.Answers.{IsInModule, IsNormalForm}
 
@@ -50,7 +50,7 @@ module _ {n : ℕ} (S : Setting n) (lawful : IsLawful S) (F G : List (FormalSum 
       (subst (λ g. IsCongruent S.modulus (coefficient g (leads G i)) 0) (sym e) (IsCongruent_refl S.modulus 0)))
 
   -- what division by the basis leaves is free of its leads
-  pub free_terms : (v : FormalSum n) → IsReducedBy G v → HasFreeTerms G v
+  pub free_terms : (v : FormalSum n) → IsFreeOfLeads G v → HasFreeTerms G v
   free_terms v h = Each_map _ _ v (λ t u covered. u covered.0 covered.1 (nonzero covered.0 covered.1) covered.2) h
 
   -- and differs from what was divided by a member
@@ -64,7 +64,7 @@ module _ (ring : Ring) (rank : ℕ) (list basis : List Terms) (lawful : IsLawful
   pub normal_form_by_division :
       (v w : Terms) (a : FormalSum (variables ring))
       → StandsFor ring v (combination (sums_of (variables ring) basis) a ++ sum_of (variables ring) w) → IsVectorOver ring (ring_comparison ring) w
-      → IsReducedBy (sums_of (variables ring) basis) (sum_of (variables ring) w) → IsNormalForm ring rank list v w
+      → IsFreeOfLeads (sums_of (variables ring) basis) (sum_of (variables ring) w) → IsNormalForm ring rank list v w
   normal_form_by_division v w a sum vector free = record {
     basis = basis;
     reduced = reduced;

@@ -1,17 +1,18 @@
 -- The values that a session keeps, found by their names
-use Rattle.std.proofs.Common.{List, None, Option, Some, [], ap, arith, get_or, inl, inr, length, subst, sym, ℕ, ◌<◌, ◌∙◌, ◌∷◌, ◌≡◌, ◌⊎◌}
+use Rattle.std.proofs.Common.{List, None, Option, Some, [], ap, arith, get_or, inl, inr, length, subst, sym, ℕ, ◌<◌, ◌∙◌, ◌∷◌, ◌≡◌}
 use Rattle.std.proofs.lemmas.Option.{none-some}
+use Rattle.module_vectors.specs.declared.key.Key.{Key}
 use Rattle.module_vectors.specs.declared.ring.Ring.{Ring}
-use Rattle.groebner_iface.specs.Runs.{StoppedRun}
-use Rattle.groebner_iface.specs.declared.stop.OpStop.{OpStop}
 use Rattle.script_parse.specs.declared.named.NameInfo.{NameInfo}
 use Rattle.session_lang.proofs.KeptValues.{length_written}
+use Rattle.session_lang.proofs.Stopping.{run_for}
 use Rattle.session_lang.proofs.Values.{found_value, kept_values, no_value}
 use Rattle.session_lang.specs.Answers.{Asked}
 use Rattle.session_lang.specs.Asking.{IsAskedOver}
 use Rattle.session_lang.specs.Kept.{AreKept, AreSound, IsGiven, place_named, value_of, values_of}
 use Rattle.session_lang.specs.Names.{HasValue, State, after_run, value_named}
-use Rattle.session_lang.specs.Failures.{CompareFails, Keeps, RunFails}
+use Rattle.session_lang.specs.Lines.{IsRunForEither}
+use Rattle.session_lang.specs.Parts.{IsRunAtEither, Keeps}
 use Rattle.session_lang.specs.declared.stored.Stored.{Stored}
 
 module _ (before : State) (ring : Option Ring) (infos : List NameInfo) (stored : List Stored)
@@ -66,21 +67,18 @@ some_info (j ∷ infos) i lt = j
 pub no_stored : Stored
 no_stored = record { list = []; basis = None }
 
--- what stops a comparison of two places, said of their names
-pub compare_fails :
+-- the run for one of two places, as the run for one of the names that have them
+pub run_for_either :
     (before : State) (ring : Option Ring) (infos : List NameInfo) (stored : List Stored) (view : record { ring = ring; values = values_of infos stored } ≡ before)
-    (r : Ring) (first second : List ℕ) (i j : ℕ) (d : NameInfo) (old new : ℕ) (kept kept' : Option StoppedRun) (stop : OpStop)
-    → length infos ≡ length stored → ring ≡ Some r → place_named infos first ≡ Some i → place_named infos second ≡ Some j
-    → RunFails old new kept kept' r (value_of (get_or infos i d) (get_or stored i no_stored)) stop
-    ⊎ ((middle : List Stored) × Keeps stored i middle × RunFails old new kept kept' r (value_of (get_or infos j d) (get_or middle j no_stored)) stop)
-    → CompareFails old new kept kept' before first second stop
-compare_fails before ring infos stored view r first second i j d old new kept kept' stop same is found found' (inl h) =
-    inl (r, value_of (get_or infos i d) (get_or stored i no_stored), has_value before ring infos stored view r first i d no_stored same is found, h)
-compare_fails before ring infos stored view r first second i j d old new kept kept' stop same is found found' (inr h) =
-    inr (
-      r,
-      value_of (get_or infos j d) (get_or h.0 j no_stored),
-      has_value (after_run first before) ring infos h.0 (kept_after before ring infos stored view first i h.0 no_stored same found h.1) r second j d no_stored
-          (as_many_after before ring infos stored view i h.0 same h.1) is found',
-      h.2,
-    )
+    (over : Ring) (first second : List ℕ) (i j : ℕ) (d : NameInfo)
+    → length infos ≡ length stored → ring ≡ Some over → place_named infos first ≡ Some i → place_named infos second ≡ Some j
+    → (r : Ring) (rank : ℕ) (list : List (List (Key × ℕ))) → IsRunAtEither over infos stored (i, j) d no_stored r rank list
+    → IsRunForEither before first second r rank list
+run_for_either before ring infos stored view over first second i j d same is found found' r rank list (inl h) =
+    inl (run_for before first over _ (has_value before ring infos stored view over first i d no_stored same is found) r rank list h)
+run_for_either before ring infos stored view over first second i j d same is found found' r rank list (inr h) =
+    inr
+    (run_for (after_run first before) second over _
+    (has_value (after_run first before) ring infos h.0 (kept_after before ring infos stored view first i h.0 no_stored same found h.1) over second j d no_stored
+    (as_many_after before ring infos stored view i h.0 same h.1) is found')
+    r rank list h.2)

@@ -1,74 +1,67 @@
--- What a stop of a question or of a comparison is to the statement that asked it
-use Rattle.std.proofs.Common.{List, None, Option, ap, inl, inr, refl, ℕ, ◌≡◌, ◌⊎◌}
+-- Stops of a call: by which runs and which trails, said of others
+use Rattle.std.proofs.Common.{List, None, Option, ap, get_or, length, refl, subst, subst₂, sym, ℕ, ◌<◌, ◌≡◌}
 use Rattle.std.specs.Prelude.{is_some}
 use Rattle.module_vectors.specs.declared.key.Key.{Key}
 use Rattle.module_vectors.specs.declared.ring.Ring.{Ring}
 use Rattle.module_vectors.specs.declared.trail.KeptTrail.{KeptTrail}
-use Rattle.groebner_iface.specs.Runs.{IsReducedBasisOf, StoppedRun, StopsRun}
+use Rattle.groebner_iface.specs.Calls.{CallStops, NoTrail}
+use Rattle.groebner_iface.specs.Runs.{StoppedRun, StopsRun}
 use Rattle.groebner_iface.specs.Stops.{op_stop_of_run}
 use Rattle.groebner_iface.specs.declared.stop.OpStop.{OpStop}
 use Rattle.groebner_iface.specs.declared.stop.OpStop.TheVariants as causes
 use Rattle.groebner_iface.specs.declared.stop.Stop.{Stop}
 use Rattle.groebner_iface.specs.declared.stop.Stop.TheVariants as runs
 use Rattle.script_parse.specs.declared.named.NameInfo.{NameInfo}
-use Rattle.script_parse.specs.declared.stated.Statement.{Statement}
+use Rattle.session_lang.proofs.KeptValues.{at_place}
 use Rattle.session_lang.specs.Answers.{Asked}
-use Rattle.session_lang.specs.Asking.{DividesBy}
-use Rattle.session_lang.specs.Names.{HasValue, State, Value, after_run}
 use Rattle.session_lang.specs.Kept.{value_of}
+use Rattle.session_lang.specs.Lines.{IsRunFor}
+use Rattle.session_lang.specs.Names.{HasValue, State, Value}
+use Rattle.session_lang.specs.Parts.{IsRunAt, IsRunOf}
+use Rattle.session_lang.specs.Stops.{IsTrailFor, IsTrailOf}
 use Rattle.session_lang.specs.declared.stored.Stored.{Stored}
-use Rattle.session_lang.specs.Failures.{AskFails, CompareFails, FirstFails, RunFails}
-use Rattle.session_lang.specs.Lines.{IsRunFor, Needs, States}
-use Rattle.session_lang.specs.Stops.{Meets, StatementStops, StepStops}
 
 module _ (old new : ℕ) (kept kept' : Option StoppedRun) where
-  -- a run that stopped, as a stop of the operation
+  -- the stop of a run for a value, as a stop of the call that needs it
   pub run_fails :
-      (ring : Ring) (info : NameInfo) (s : Stored) (stop : Stop)
-      → s.basis ≡ None → StopsRun old new kept kept' ring info.rank s.list stop → RunFails old new kept kept' ring (value_of info s) (op_stop_of_run stop)
-  run_fails ring info s runs.Memory none h = h
-  run_fails ring info s runs.Pairs none h = (ap is_some none, h.0, h.1)
-  run_fails ring info s runs.Degree none h = (ap is_some none, h.0, h.1)
+      (Trails : KeptTrail → Type 0) (ring : Ring) (info : NameInfo) (s : Stored) (stop : Stop)
+      → s.basis ≡ None → StopsRun old new kept kept' ring info.rank s.list stop
+      → CallStops (IsRunOf ring (value_of info s)) Trails old new kept kept' (op_stop_of_run stop)
+  run_fails Trails ring info s runs.Memory none h = h
+  run_fails Trails ring info s runs.Pairs none h = (h.0, (ring, info.rank, s.list, (refl, ap is_some none, refl, refl), h.1))
+  run_fails Trails ring info s runs.Degree none h = (h.0, (ring, info.rank, s.list, (refl, ap is_some none, refl, refl), h.1))
 
-  -- a stop of a question stops the statement that asks it
-  pub asking_stops :
-      (before : State) (statement : Statement) (name : List ℕ) (asked : Asked)
-      → ((ring : Ring) (rank : ℕ) (list : List (List (Key × ℕ))) → IsRunFor before name ring rank list → Needs before statement ring rank list)
-      → ((t : KeptTrail) (ring : Ring) (value : Value) (basis : List (List (Key × ℕ))) → HasValue before name ring value → IsReducedBasisOf ring value.rank value.list basis
-      → DividesBy ring asked basis t → Meets before statement t)
-      → (stop : OpStop) → AskFails old new kept kept' before name asked stop → StatementStops old new kept kept' before statement stop
-  asking_stops before statement name asked needs meets causes.Memory h = h.3
-  asking_stops before statement name asked needs meets causes.Pairs h =
-      (h.3.1, (h.0, h.1.rank, h.1.list, needs h.0 h.1.rank h.1.list (h.1, h.2, h.3.0, refl, refl), h.3.2))
-  asking_stops before statement name asked needs meets causes.Degree h =
-      (h.3.1, (h.0, h.1.rank, h.1.list, needs h.0 h.1.rank h.1.list (h.1, h.2, h.3.0, refl, refl), h.3.2))
-  asking_stops before statement name asked needs meets (causes.Trail t) h = (h.3.0, h.3.1, meets t h.0 h.1 h.3.2.0 h.2 h.3.2.1 h.3.2.2)
+  -- what stops a call stops one that needs the same runs and can meet the same trails, and more
+  pub call_stops :
+      {Runs Others : Ring → ℕ → List (List (Key × ℕ)) → Type 0} {Trails More : KeptTrail → Type 0}
+      → ((ring : Ring) (rank : ℕ) (list : List (List (Key × ℕ))) → Runs ring rank list → Others ring rank list)
+      → ((t : KeptTrail) → Trails t → More t)
+      → (stop : OpStop) → CallStops Runs Trails old new kept kept' stop → CallStops Others More old new kept kept' stop
+  call_stops needs meets causes.Memory h = h
+  call_stops needs meets causes.Pairs h = (h.0, (h.1.0, h.1.1, h.1.2, needs h.1.0 h.1.1 h.1.2 h.1.3, h.1.4))
+  call_stops needs meets causes.Degree h = (h.0, (h.1.0, h.1.1, h.1.2, needs h.1.0 h.1.1 h.1.2 h.1.3, h.1.4))
+  call_stops needs meets (causes.Trail t) h = (h.0, h.1, meets t h.2)
 
-  -- and one of a comparison the statement that compares
-  module _ (before : State) (statement : Statement) (first second : List ℕ)
-      (needs : (ring : Ring) (rank : ℕ) (list : List (List (Key × ℕ))) → IsRunFor before first ring rank list ⊎ IsRunFor (after_run first before) second ring rank list
-      → Needs before statement ring rank list) where
-    first_stops : (stop : OpStop) → FirstFails old new kept kept' before first stop → StatementStops old new kept kept' before statement stop
-    first_stops causes.Memory h = h.3
-    first_stops causes.Pairs h = (h.3.1, (h.0, h.1.rank, h.1.list, needs h.0 h.1.rank h.1.list (inl (h.1, h.2, h.3.0, refl, refl)), h.3.2))
-    first_stops causes.Degree h = (h.3.1, (h.0, h.1.rank, h.1.list, needs h.0 h.1.rank h.1.list (inl (h.1, h.2, h.3.0, refl, refl)), h.3.2))
-    first_stops (causes.Trail t) h = absurd h.3
+-- the run for an item and its name, as the run for the value at their place
+pub placed_run :
+    (over : Ring) (infos : List NameInfo) (stored : List Stored) (i : ℕ) (d : NameInfo) (e : Stored) (info : NameInfo) (s : Stored)
+    → i < length infos → i < length stored → info ≡ get_or infos i info → s ≡ get_or stored i s
+    → (ring : Ring) (rank : ℕ) (list : List (List (Key × ℕ))) → IsRunOf over (value_of info s) ring rank list → IsRunAt over infos stored i d e ring rank list
+placed_run over infos stored i d e info s within below at_info at_item ring rank list h =
+    subst₂ (λ j t. IsRunOf over (value_of j t) ring rank list) (at_place infos i info d within at_info) (at_place stored i s e below at_item) h
 
-    second_stops : (stop : OpStop) → FirstFails old new kept kept' (after_run first before) second stop → StatementStops old new kept kept' before statement stop
-    second_stops causes.Memory h = h.3
-    second_stops causes.Pairs h = (h.3.1, (h.0, h.1.rank, h.1.list, needs h.0 h.1.rank h.1.list (inr (h.1, h.2, h.3.0, refl, refl)), h.3.2))
-    second_stops causes.Degree h = (h.3.1, (h.0, h.1.rank, h.1.list, needs h.0 h.1.rank h.1.list (inr (h.1, h.2, h.3.0, refl, refl)), h.3.2))
-    second_stops (causes.Trail t) h = absurd h.3
+-- there is no trail
+pub no_trail : (More : KeptTrail → Type 0) (t : KeptTrail) → NoTrail t → More t
+no_trail More t h = absurd h
 
-    pub comparing_stops : (stop : OpStop) → CompareFails old new kept kept' before first second stop → StatementStops old new kept kept' before statement stop
-    comparing_stops stop (inl h) = first_stops stop h
-    comparing_stops stop (inr h) = second_stops stop h
+-- the run for a value, as the run for a name that has it
+pub run_for :
+    (before : State) (name : List ℕ) (over : Ring) (value : Value) → HasValue before name over value
+    → (ring : Ring) (rank : ℕ) (list : List (List (Key × ℕ))) → IsRunOf over value ring rank list → IsRunFor before name ring rank list
+run_for before name over value has ring rank list h = (value, subst (λ r. HasValue before name r value) (sym h.0) has, h.1, h.2, h.3)
 
-  -- what stops the statement of a line stops the line
-  pub stated_stops :
-      (before : State) (line : List ℕ) (statement : Statement) → States before line statement
-      → (stop : OpStop) → StatementStops old new kept kept' before statement stop → StepStops old new kept kept' before line stop
-  stated_stops before line statement states causes.Memory h = h
-  stated_stops before line statement states causes.Pairs h = (statement, states, h)
-  stated_stops before line statement states causes.Degree h = (statement, states, h)
-  stated_stops before line statement states (causes.Trail t) h = (statement, states, h)
+-- the trail of a value, as one of a name that has it
+pub trail_for :
+    (before : State) (name : List ℕ) (ring : Ring) (value : Value) (asked : Asked) → HasValue before name ring value
+    → (t : KeptTrail) → IsTrailOf ring value asked t → IsTrailFor before name asked t
+trail_for before name ring value asked has t h = (ring, value, has, h)

@@ -4,11 +4,10 @@ use Rattle.module_vectors.specs.Rings.{ring_comparison}
 use Rattle.module_vectors.specs.Vectors.{IsVectorOver}
 use Rattle.module_vectors.specs.declared.key.Key.{Key}
 use Rattle.module_vectors.specs.declared.ring.Ring.{Ring}
-use Rattle.module_vectors.specs.declared.trail.KeptTrail.{KeptTrail}
-use Rattle.vector_division.specs.Divisions.{IsDivisionTrail}
 use Rattle.groebner_iface.specs.declared.stop.OpStop.{OpStop}
 use Rattle.groebner_iface.specs.declared.stop.OpStop.TheVariants as causes
 use Rattle.session_lang.specs.Answers.{Asked, basis, member, normal_form, sizes_of_basis}
+use Rattle.session_lang.specs.Stops.{DividesBy}
 use Rattle.session_lang.specs.declared.answers.Question.{Question}
 use Rattle.session_lang.specs.declared.answers.Question.TheVariants as questions
 
@@ -25,13 +24,6 @@ IsAskedOver ring basis = ⊤
 IsAskedOver ring sizes_of_basis = ⊤
 IsAskedOver ring (normal_form v) = IsVectorOver ring (ring_comparison ring) v
 IsAskedOver ring (member v) = IsVectorOver ring (ring_comparison ring) v
-
--- a trail of the division of the vector by the basis
-abbrev pub DividesBy : Ring → Asked → List (List (Key × ℕ)) → KeptTrail → Type 0
-DividesBy ring basis G t = ⊥
-DividesBy ring sizes_of_basis G t = ⊥
-DividesBy ring (normal_form v) G t = IsDivisionTrail ring v G t
-DividesBy ring (member v) G t = IsDivisionTrail ring v G t
 
 -- why there is no answer from the basis
 abbrev pub AnswerStops : Ring → Asked → List (List (Key × ℕ)) → OpStop → Type 0

@@ -54,14 +54,17 @@ Line before line after text = (statement : Statement) × States before line stat
 abbrev pub IsRunFor : State → List ℕ → Ring → ℕ → List (List (Key × ℕ)) → Type 0
 IsRunFor before name ring rank list = (value : Value) × HasValue before name ring value × (value.kept ≡ false) × (rank ≡ value.rank) × (list ≡ value.list)
 
--- the runs that a statement needs: of two values, the second once the first has its basis
+-- the run for the reduced basis of one of the values with these names, of the second once the first has its basis
+abbrev pub IsRunForEither : State → (first second : List ℕ) → Ring → ℕ → List (List (Key × ℕ)) → Type 0
+IsRunForEither before first second ring rank list = IsRunFor before first ring rank list ⊎ IsRunFor (after_run first before) second ring rank list
+
+-- the runs that a statement needs
 abbrev pub Needs : State → Statement → Ring → ℕ → List (List (Key × ℕ)) → Type 0
 Needs before (statements.Gb name) ring rank list = IsRunFor before (string_bytes name) ring rank list
 Needs before (statements.Size name) ring rank list = IsRunFor before (string_bytes name) ring rank list
 Needs before (statements.NormalForm name v) ring rank list = IsRunFor before (string_bytes name) ring rank list
 Needs before (statements.Member name v) ring rank list = IsRunFor before (string_bytes name) ring rank list
-Needs before (statements.Equal first second) ring rank list =
-    IsRunFor before (string_bytes first) ring rank list ⊎ IsRunFor (after_run (string_bytes first) before) (string_bytes second) ring rank list
+Needs before (statements.Equal first second) ring rank list = IsRunForEither before (string_bytes first) (string_bytes second) ring rank list
 Needs before _ ring rank list = ⊥
 
 -- a run of a line that is not refused: its ring, rank and list

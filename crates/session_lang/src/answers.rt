@@ -1,11 +1,13 @@
 // The answers that the reduced bases of values give.
-ghost use Rattle.std.specs.Prelude.{◌≡◌, ◌<◌, ◌≤◌, ◌++◌, ◌⊎◌, Bool, IfErr, IsSome, List, OnErr, OnOk, get_or, length, ℕ, string_bytes};
+ghost use Rattle.std.specs.Prelude.{◌≡◌, ◌<◌, ◌≤◌, ◌++◌, Bool, IfErr, IsSome, List, OnErr, OnOk, get_or, length, ℕ, string_bytes};
+ghost use Rattle.groebner_iface.specs.Calls.{CallStops, NoTrail};
 ghost use Rattle.groebner_iface.specs.Runs.{IsReducedBasisOf};
 ghost use Rattle.script_parse.specs.declared.named.NameInfo.{NameInfo as NameValue};
 ghost use Rattle.session_lang.specs.Answers.{Decides, IsAnswer, IsOneModule};
 ghost use Rattle.session_lang.specs.Asking.{AnswerStops, IsAskedOver, asked_of};
 ghost use Rattle.session_lang.specs.Kept.{AreSound, IsSound, value_of};
-ghost use Rattle.session_lang.specs.Failures.{AnswerFails, Keeps, RunFails};
+ghost use Rattle.session_lang.specs.Parts.{IsRunAt, IsRunAtEither, IsRunOf, Keeps};
+ghost use Rattle.session_lang.specs.Stops.{IsTrailOf};
 ghost use Rattle.session_lang.specs.declared.stored.Stored.{Stored as StoredValue};
 
 use crate::kept_bases::{forget, is_one_module, keep_basis, kept_of, normal_form};
@@ -16,6 +18,7 @@ use groebner_iface::{Groebner, OpStop};
 use module_vectors::{Ring, Vect, VectList};
 use script_parse::NameInfo;
 use std::alloc::Global;
+use std::sync::Wait;
 use std::thread::Threads;
 
 /// What is asked of a value that its reduced basis answers.
@@ -71,7 +74,7 @@ pub fn push_answer(
 
 /// Appends the answer to a question of a value, whose reduced basis is kept from then on. After an error nothing is
 /// appended, and no basis is kept that was not.
-pub fn answer_value<R: Threads + Sync, B: Groebner>(
+pub fn answer_value<R: Threads + Wait + Sync, B: Groebner>(
     rt: &R,
     alloc: Global,
     engine: &mut B,
@@ -90,8 +93,8 @@ pub fn answer_value<R: Threads + Sync, B: Groebner>(
     ensures text { OnOk result ((text : List ℕ) × IsAnswer ring.now (value_of info.now stored.old) (asked_of question.entry) text × (out.new.items ≡ out.old.items ++ text)) }
     ensures unwritten { OnErr result (out.new.items ≡ out.old.items) }
     ensures same { OnOk result ((B.stops engine.new ≡ B.stops engine.old) × (B.stopped engine.new ≡ B.stopped engine.old)) }
-    ensures stop { IfErr result (AnswerFails (B.stops engine.old) (B.stops engine.new) (B.stopped engine.old) (B.stopped engine.new)
-        ring.now (value_of info.now stored.old) (asked_of question.entry)) }
+    ensures stop { IfErr result (CallStops (IsRunOf ring.now (value_of info.now stored.old)) (IsTrailOf ring.now (value_of info.now stored.old) (asked_of question.entry))
+        (B.stops engine.old) (B.stops engine.new) (B.stopped engine.old) (B.stopped engine.new)) }
     ensures later { B.stops engine.old ≤ B.stops engine.new }
     ensures settings { B.settings engine.new ≡ B.settings engine.old }
 {
@@ -111,7 +114,7 @@ pub fn answer_value<R: Threads + Sync, B: Groebner>(
 
 // Appends whether the values at these places generate one module. The basis of the first is kept, and so is that of the
 // second from then on. After an error nothing is appended, and no basis is kept that was not.
-fn compare_with<R: Threads + Sync, B: Groebner>(
+fn compare_with<R: Threads + Wait + Sync, B: Groebner>(
     rt: &R,
     alloc: Global,
     engine: &mut B,
@@ -133,8 +136,9 @@ fn compare_with<R: Threads + Sync, B: Groebner>(
         × (out.new.items ≡ out.old.items ++ text)) }
     ensures unwritten { OnErr result (out.new.items ≡ out.old.items) }
     ensures same { OnOk result ((B.stops engine.new ≡ B.stops engine.old) × (B.stopped engine.new ≡ B.stopped engine.old)) }
-    ensures stop { IfErr result (λ stop. (d : NameValue) (e : StoredValue) → RunFails (B.stops engine.old) (B.stops engine.new) (B.stopped engine.old) (B.stopped engine.new)
-        ring.now (value_of (get_or names.now.items places.1 d) (get_or stored.old.items places.1 e)) stop) }
+    ensures stop { IfErr result (λ stop. (d : NameValue) (e : StoredValue)
+        → CallStops (IsRunAt ring.now names.now.items stored.old.items places.1 d e) NoTrail
+        (B.stops engine.old) (B.stops engine.new) (B.stopped engine.old) (B.stopped engine.new) stop) }
     ensures later { B.stops engine.old ≤ B.stops engine.new }
     ensures settings { B.settings engine.new ≡ B.settings engine.old }
 {
@@ -156,7 +160,7 @@ fn compare_with<R: Threads + Sync, B: Groebner>(
 
 /// Appends whether the values at these places generate one module, whose reduced bases are kept from then on. After an
 /// error nothing is appended, and no basis is kept that was not.
-pub fn compare_values<R: Threads + Sync, B: Groebner>(
+pub fn compare_values<R: Threads + Wait + Sync, B: Groebner>(
     rt: &R,
     alloc: Global,
     engine: &mut B,
@@ -178,11 +182,8 @@ pub fn compare_values<R: Threads + Sync, B: Groebner>(
     ensures unwritten { OnErr result (out.new.items ≡ out.old.items) }
     ensures same { OnOk result ((B.stops engine.new ≡ B.stops engine.old) × (B.stopped engine.new ≡ B.stopped engine.old)) }
     ensures stop { IfErr result (λ stop. (d : NameValue) (e : StoredValue)
-        → RunFails (B.stops engine.old) (B.stops engine.new) (B.stopped engine.old) (B.stopped engine.new)
-        ring.now (value_of (get_or names.now.items places.0 d) (get_or stored.old.items places.0 e)) stop
-        ⊎ ((middle : List StoredValue) × Keeps stored.old.items places.0 middle
-        × RunFails (B.stops engine.old) (B.stops engine.new) (B.stopped engine.old) (B.stopped engine.new)
-        ring.now (value_of (get_or names.now.items places.1 d) (get_or middle places.1 e)) stop)) }
+        → CallStops (IsRunAtEither ring.now names.now.items stored.old.items places d e) NoTrail
+        (B.stops engine.old) (B.stops engine.new) (B.stopped engine.old) (B.stopped engine.new) stop) }
     ensures later { B.stops engine.old ≤ B.stops engine.new }
     ensures settings { B.settings engine.new ≡ B.settings engine.old }
 {

@@ -13,11 +13,12 @@ use crate::stored::Stored;
 use groebner_iface::{Groebner, Stop, one_basis};
 use module_vectors::{Ring, Vect, VectList, WorkStop, lawful_setting};
 use std::alloc::Global;
+use std::sync::Wait;
 use std::thread::Threads;
 use vector_division::{Reduction, reduce};
 
 /// Keeps the reduced basis of a value, by a run if there is none yet.
-pub fn keep_basis<R: Threads + Sync, B: Groebner>(
+pub fn keep_basis<R: Threads + Wait + Sync, B: Groebner>(
     rt: &R,
     alloc: Global,
     engine: &mut B,

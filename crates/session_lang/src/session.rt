@@ -1,6 +1,8 @@
 // What the lines of a script do, one after another.
 ghost use Rattle.std.specs.Prelude.{◌≡◌, ◌≤◌, IfErr, IfOk, OnErr, OnOk};
-ghost use Rattle.session_lang.specs.Stops.{StepStops, Steps};
+ghost use Rattle.groebner_iface.specs.Calls.{CallStops};
+ghost use Rattle.session_lang.specs.Lines.{RunOf};
+ghost use Rattle.session_lang.specs.Stops.{Steps, TrailOf};
 
 use crate::answers::{Question, answer_value, compare_values};
 use crate::names::{give_name, place_of};
@@ -11,6 +13,7 @@ use module_vectors::{NoMemory, Ring, Vect, VectList};
 use script_parse::{Kind, NameInfo, ParseStop, Statement, statement};
 use std::alloc::Global;
 use std::marker::Model;
+use std::sync::Wait;
 use std::thread::Threads;
 
 /// What became of a line.
@@ -52,10 +55,11 @@ impl Session {
     ghost use Rattle.poly_text.specs.Texts.{names_of, poly_text};
     ghost use Rattle.session_lang.specs.Asking.{IsAskedOver, asked_of};
     ghost use Rattle.session_lang.specs.Kept.{IsFit, IsGiven};
-    ghost use Rattle.session_lang.specs.Lines.{Answers, Does};
+    ghost use Rattle.groebner_iface.specs.Calls.{NoTrail};
+    ghost use Rattle.session_lang.specs.Lines.{Answers, Does, IsRunFor, IsRunForEither, Needs};
     ghost use Rattle.session_lang.specs.Names.{HasValue, Value, after_run, no_names, with_value};
-    ghost use Rattle.session_lang.specs.Failures.{AskFails, CompareFails, Compares, Lists};
-    ghost use Rattle.session_lang.specs.Stops.{StatementStops};
+    ghost use Rattle.session_lang.specs.Parts.{Compares, Lists};
+    ghost use Rattle.session_lang.specs.Stops.{IsTrailFor, Meets};
 
     /// A session in which no ring is stated and nothing has a name.
     pub fn new(alloc: Global) -> Session
@@ -69,7 +73,7 @@ impl Session {
     }
 
     // Prints the answer to a question of a value.
-    fn ask<R: Threads + Sync, B: Groebner>(
+    fn ask<R: Threads + Wait + Sync, B: Groebner>(
         &mut self,
         rt: &R,
         alloc: Global,
@@ -85,8 +89,8 @@ impl Session {
         ensures text { OnOk result ((text : List ℕ) × Answers self.old name.now (asked_of question.entry) text × (out.new.items ≡ out.old.items ++ text)) }
         ensures unwritten { OnErr result (out.new.items ≡ out.old.items) }
         ensures engine { OnOk result ((B.stops engine.new ≡ B.stops engine.old) × (B.stopped engine.new ≡ B.stopped engine.old)) }
-        ensures stop { IfErr result (AskFails (B.stops engine.old) (B.stops engine.new) (B.stopped engine.old) (B.stopped engine.new)
-            self.old name.now (asked_of question.entry)) }
+        ensures stop { IfErr result (CallStops (IsRunFor self.old name.now) (IsTrailFor self.old name.now (asked_of question.entry))
+            (B.stops engine.old) (B.stops engine.new) (B.stopped engine.old) (B.stopped engine.new)) }
         ensures later { B.stops engine.old ≤ B.stops engine.new }
         ensures settings { B.settings engine.new ≡ B.settings engine.old }
     {
@@ -109,7 +113,7 @@ impl Session {
     }
 
     // Prints whether two values generate one module.
-    fn compare<R: Threads + Sync, B: Groebner>(
+    fn compare<R: Threads + Wait + Sync, B: Groebner>(
         &mut self,
         rt: &R,
         alloc: Global,
@@ -125,8 +129,8 @@ impl Session {
         ensures text { OnOk result ((text : List ℕ) × Compares self.old first.now second.now text × (out.new.items ≡ out.old.items ++ text)) }
         ensures unwritten { OnErr result (out.new.items ≡ out.old.items) }
         ensures engine { OnOk result ((B.stops engine.new ≡ B.stops engine.old) × (B.stopped engine.new ≡ B.stopped engine.old)) }
-        ensures stop { IfErr result (CompareFails (B.stops engine.old) (B.stops engine.new) (B.stopped engine.old) (B.stopped engine.new)
-            self.old first.now second.now) }
+        ensures stop { IfErr result (CallStops (IsRunForEither self.old first.now second.now) NoTrail
+            (B.stops engine.old) (B.stops engine.new) (B.stopped engine.old) (B.stopped engine.new)) }
         ensures later { B.stops engine.old ≤ B.stops engine.new }
         ensures settings { B.settings engine.new ≡ B.settings engine.old }
     {
@@ -212,7 +216,7 @@ impl Session {
     }
 
     // Does what a line states.
-    fn perform<R: Threads + Sync, B: Groebner>(
+    fn perform<R: Threads + Wait + Sync, B: Groebner>(
         &mut self,
         rt: &R,
         alloc: Global,
@@ -225,7 +229,8 @@ impl Session {
         ensures same { OnErr result (self.new ≡ self.old) }
         ensures unwritten { OnErr result (out.new.items ≡ out.old.items) }
         ensures engine { OnOk result ((B.stops engine.new ≡ B.stops engine.old) × (B.stopped engine.new ≡ B.stopped engine.old)) }
-        ensures stop { IfErr result (StatementStops (B.stops engine.old) (B.stops engine.new) (B.stopped engine.old) (B.stopped engine.new) self.old stated) }
+        ensures stop { IfErr result (CallStops (Needs self.old stated) (Meets self.old stated)
+            (B.stops engine.old) (B.stops engine.new) (B.stopped engine.old) (B.stopped engine.new)) }
         ensures later { B.stops engine.old ≤ B.stops engine.new }
         ensures settings { B.settings engine.new ≡ B.settings engine.old }
     {
@@ -265,7 +270,7 @@ impl Session {
     /// to it, where a division by a reduced basis needed one. After a refusal and after each error session and text are as
     /// before, so no basis is kept that was not. The engine counts and keeps a run that stopped; else its count and the
     /// run that it keeps are as before, and its settings always are.
-    pub fn step<R: Threads + Sync, B: Groebner>(
+    pub fn step<R: Threads + Wait + Sync, B: Groebner>(
         &mut self,
         rt: &R,
         alloc: Global,
@@ -277,7 +282,8 @@ impl Session {
         ensures same { OnErr result (self.new ≡ self.old) }
         ensures unwritten { OnErr result (out.new.items ≡ out.old.items) }
         ensures engine { OnOk result ((B.stops engine.new ≡ B.stops engine.old) × (B.stopped engine.new ≡ B.stopped engine.old)) }
-        ensures stop { IfErr result (StepStops (B.stops engine.old) (B.stops engine.new) (B.stopped engine.old) (B.stopped engine.new) self.old line.now) }
+        ensures stop { IfErr result (CallStops (RunOf self.old line.now) (TrailOf self.old line.now)
+            (B.stops engine.old) (B.stops engine.new) (B.stopped engine.old) (B.stopped engine.new)) }
         ensures later { B.stops engine.old ≤ B.stops engine.new }
         ensures settings { B.settings engine.new ≡ B.settings engine.old }
     {

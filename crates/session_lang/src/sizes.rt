@@ -1,6 +1,6 @@
 // How many members a basis has, and its leads by degree.
 ghost use Rattle.std.specs.Prelude.{◌≡◌, ◌++◌, OnErr, OnOk, codes, length};
-ghost use Rattle.poly_text.specs.Writing.{Begins};
+ghost use Rattle.poly_text.specs.Writing.{IsFront};
 ghost use Rattle.session_lang.specs.Texts.{degree_count, degree_line, degree_lines, greatest_degree, heading, lead_degree};
 
 use crate::texts::{append_heading, whole_or_none};
@@ -45,7 +45,7 @@ fn greatest_degree(list: &[Vect]) -> u128
 /// stands there.
 fn append_degree(out: &mut Vec<u8>, list: &[Vect], degree: u128) -> Result<(), NoMemory>
     ensures ok { OnOk result (out.new.items ≡ out.old.items ++ degree_line list.now degree) }
-    ensures err { OnErr result (Begins out.old.items out.new.items) }
+    ensures err { OnErr result (IsFront out.old.items out.new.items) }
 {
     let count = degree_count(list, degree);
     if count == 0 {
@@ -62,7 +62,7 @@ fn append_degree(out: &mut Vec<u8>, list: &[Vect], degree: u128) -> Result<(), N
 /// Appends how many leads have each degree, the degrees ascending. After an error what was written so far stands there.
 fn append_degrees(out: &mut Vec<u8>, list: &[Vect]) -> Result<(), NoMemory>
     ensures ok { OnOk result (out.new.items ≡ out.old.items ++ degree_lines list.now) }
-    ensures err { OnErr result (Begins out.old.items out.new.items) }
+    ensures err { OnErr result (IsFront out.old.items out.new.items) }
 {
     let greatest = greatest_degree(list);
     for degree in 0..greatest {
@@ -80,7 +80,7 @@ fn append_degrees(out: &mut Vec<u8>, list: &[Vect]) -> Result<(), NoMemory>
 // Appends the heading and the degrees. After an error what was written so far stands there.
 fn append_sizes(out: &mut Vec<u8>, name: &[u8], list: &[Vect]) -> Result<(), NoMemory>
     ensures ok { OnOk result (out.new.items ≡ out.old.items ++ (heading (codes "size") name.now (length list.now) ++ degree_lines list.now)) }
-    ensures err { OnErr result (Begins out.old.items out.new.items) }
+    ensures err { OnErr result (IsFront out.old.items out.new.items) }
 {
     append_heading(out, b"size", name, list.len())?;
     append_degrees(out, list)

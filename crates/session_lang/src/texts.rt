@@ -4,7 +4,7 @@ ghost use Rattle.formal_sums.specs.FormalSums.{Each};
 ghost use Rattle.module_vectors.specs.Rings.{variables};
 ghost use Rattle.module_vectors.specs.Vectors.{HasVariables};
 ghost use Rattle.poly_text.specs.Texts.{list_text, names_of, vector_text};
-ghost use Rattle.poly_text.specs.Writing.{Begins};
+ghost use Rattle.poly_text.specs.Writing.{IsFront};
 ghost use Rattle.session_lang.specs.Texts.{heading, verdict};
 
 use itoa::Buffer;
@@ -36,7 +36,7 @@ pub fn append_heading(
     count: usize,
 ) -> Result<(), NoMemory>
     ensures ok { OnOk result (out.new.items ≡ out.old.items ++ heading word.now name.now count) }
-    ensures err { OnErr result (Begins out.old.items out.new.items) }
+    ensures err { OnErr result (IsFront out.old.items out.new.items) }
 {
     let mut digits = Buffer::new();
     out.extend_from_slice(word)?;
@@ -60,7 +60,7 @@ fn append_listing(
 ) -> Result<(), NoMemory>
     requires { Each (λ v. Each (HasVariables (variables ring.now)) v) list.now }
     ensures ok { OnOk result (out.new.items ≡ out.old.items ++ (heading word.now name.now (length list.now) ++ list_text (names_of ring.now) rank list.now)) }
-    ensures err { OnErr result (Begins out.old.items out.new.items) }
+    ensures err { OnErr result (IsFront out.old.items out.new.items) }
 {
     append_heading(out, word, name, list.len())?;
     match push_list(alloc, out, ring, u128::from(rank), list) {

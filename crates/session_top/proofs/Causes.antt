@@ -9,18 +9,19 @@ use Rattle.basis_core.specs.Members.{Shared}
 use Rattle.basis_core.specs.Shown.{Shown}
 use Rattle.basis_core.specs.Stops.{stop_of}
 use Rattle.basis_core.specs.Views.{run_of, state_of, variables_of}
+use Rattle.groebner_iface.specs.Calls.{CallStops, StopsAtRun}
 use Rattle.groebner_iface.specs.Runs.{StoppedRun}
 use Rattle.groebner_iface.specs.declared.stop.Stop.{Stop}
 use Rattle.groebner_iface.specs.declared.stop.OpStop.TheVariants as causes
-use Rattle.plain_buchberger.specs.Stops.{IsOneWorkerRun, IsStop, stopped_on, stopped_run}
-use Rattle.script_parse.specs.declared.stated.Statement.{Statement}
-use Rattle.session_lang.specs.Lines.{RunOf, States}
+use Rattle.run_endings.specs.Stops.{IsRunBy, IsStop, stopped_on, stopped_run}
+use Rattle.session_lang.specs.Lines.{RunOf}
 use Rattle.session_lang.specs.Names.{State}
-use Rattle.session_lang.specs.Stops.{StepStops, StopsAtRun}
+use Rattle.session_lang.specs.Stops.{TrailOf}
 use Rattle.session_top.specs.Parts.{LineStops, StopEnds}
 use Rattle.session_top.specs.Stops.{IsRunState, StopsScript}
 use Rattle.session_top.specs.declared.early.Early.{Early}
 use Rattle.session_top.proofs.Shown.{stopped_stops}
+use Rattle.session_top.specs.Limits.{Limits}
 
 -- the state replays its history
 abbrev pub HasReplay : Shown → Type 0
@@ -36,41 +37,44 @@ run_here before line shared answer run same here =
     let is : stopped_on shared answer ≡ run = cc in
     subst (λ r. RunOf before line r.ring r.rank r.list) (sym is) here
 
-run_state : (pairs : ℕ) (before : State) (line : List ℕ) (s : Shown) → RunOf before line s.shared.ring s.shared.rank s.shared.generators
-    → HasReplay s → IsOneWorkerRun pairs s → IsRunState pairs before line s
-run_state pairs before line s here replays one = record { run = here; replays = replays; budget = one.budget; workers = one.alone }
+run_state : (limits : Limits) (before : State) (line : List ℕ) (s : Shown) → RunOf before line s.shared.ring s.shared.rank s.shared.generators
+    → HasReplay s → IsRunBy limits.0 limits.1 s → IsRunState limits before line s
+run_state limits before line s here replays one = record { run = here; replays = replays; budget = one.budget; workers = one.workers_are }
 
 -- what is kept of a run of the line that stopped
-pub run_cause : (pairs : ℕ) (before : State) (line : List ℕ) (state : Option Shown) (trail : Option KeptTrail) (run : StoppedRun)
-    → stopped_run state trail ≡ Some run → RunOf before line run.ring run.rank run.list → IsStop pairs state trail → IfSome state HasReplay
-    → StopsScript pairs before line state trail
-run_cause pairs before line None None run same here stop replays = no_run run same
-run_cause pairs before line (Some s) None run same here (one, stop) replays = record {
-  run = run_state pairs before line s (run_here before line s.shared _ run same here) replays one;
+pub run_cause : (limits : Limits) (before : State) (line : List ℕ) (state : Option Shown) (trail : Option KeptTrail) (run : StoppedRun)
+    → stopped_run state trail ≡ Some run → RunOf before line run.ring run.rank run.list → IsStop limits.0 limits.1 state trail → IfSome state HasReplay
+    → StopsScript limits before line state trail
+run_cause limits before line None None run same here stop replays = no_run run same
+run_cause limits before line (Some s) None run same here (one, stop) replays = record {
+  run = run_state limits before line s (run_here before line s.shared _ run same here) replays one;
   taken = stop.taken;
   moment = budget_moment (run_of (variables_of s) s) (state_of (variables_of s) s) replays (ap (stop_of (variables_of s)) stop.stop);
 }
-run_cause pairs before line None (Some t) run same here stop replays = inr (run_here before line _ _ run same here, stop)
-run_cause pairs before line (Some s) (Some t) run same here (one, stop) replays =
-    (run_state pairs before line s (run_here before line s.shared _ run same here) replays one, stop)
+run_cause limits before line None (Some t) run same here stop replays = inr (run_here before line _ _ run same here, stop)
+run_cause limits before line (Some s) (Some t) run same here (one, stop) replays =
+    (run_state limits before line s (run_here before line s.shared _ run same here) replays one, stop)
 
-same_budget : (p q : ℕ) → p ∷ 1 ∷ [] ≡ q ∷ 1 ∷ [] → p ≡ q
-same_budget p q same = cc
+same_number : (p q r t : ℕ) → p ∷ r ∷ [] ≡ q ∷ t ∷ [] → (p ≡ q) × (r ≡ t)
+same_number p q r t same = (cc, cc)
+
+same_budget : (p q : Limits) → p.0 ∷ p.1 ∷ [] ≡ q.0 ∷ q.1 ∷ [] → p ≡ q
+same_budget p q same = let both = same_number p.0 q.0 p.1 q.1 same in λ i. (both.0 i, both.1 i)
 
 -- a run of the line stopped, and its stop line or a front of it was written
-pub run_stopped : (a b : Option (List ℕ)) (pairs kept_pairs : ℕ) (before : State) (line : List ℕ) (number : ℕ) (old new : ℕ) (answer : Stop)
-    (state : Option Shown) (trail : Option KeptTrail) (stop : Early) → kept_pairs ∷ 1 ∷ [] ≡ pairs ∷ 1 ∷ []
-    → ((statement : Statement) × States before line statement × StopsAtRun old new (stopped_run state trail) before statement answer)
-    → IsStop kept_pairs state trail → IfSome state HasReplay
-    → StopEnds a b number state trail stop → LineStops a b pairs before line number stop
-run_stopped a b pairs kept_pairs before line number old new answer state trail stop budget (statement, states, (rose, (ring, rank, list, needs, same))) kept replays says =
-    let is_stop = subst (λ p. IsStop p state trail) (same_budget kept_pairs pairs budget) kept in
-    stopped_stops a b pairs before line number state trail stop
-    (run_cause pairs before line state trail (record { ring = ring; rank = rank; list = list; answer = answer }) same (statement, states, needs) is_stop replays) says
+pub run_stopped : (a b : Option (List ℕ)) (limits kept_limits : Limits) (before : State) (line : List ℕ) (number : ℕ) (old new : ℕ) (answer : Stop)
+    (state : Option Shown) (trail : Option KeptTrail) (stop : Early) → kept_limits.0 ∷ kept_limits.1 ∷ [] ≡ limits.0 ∷ limits.1 ∷ []
+    → StopsAtRun (RunOf before line) old new (stopped_run state trail) answer
+    → IsStop kept_limits.0 kept_limits.1 state trail → IfSome state HasReplay
+    → StopEnds a b number state trail stop → LineStops a b limits before line number stop
+run_stopped a b limits kept_limits before line number old new answer state trail stop budget (rose, (ring, rank, list, here, same)) kept replays says =
+    let is_stop = subst (λ (p : Limits). IsStop p.0 p.1 state trail) (same_budget kept_limits limits budget) kept in
+    stopped_stops a b limits before line number state trail stop
+    (run_cause limits before line state trail (record { ring = ring; rank = rank; list = list; answer = answer }) same here is_stop replays) says
 
 -- a division of the line stopped, and its stop line or a front of it was written
-pub division_stopped : (a b : Option (List ℕ)) (pairs : ℕ) (before : State) (line : List ℕ) (number : ℕ) (old new : ℕ) (kept kept' : Option StoppedRun)
-    (t : KeptTrail) (stop : Early) → StepStops old new kept kept' before line (causes.Trail t)
-    → StopEnds a b number None (Some t) stop → LineStops a b pairs before line number stop
-division_stopped a b pairs before line number old new kept kept' t stop (statement, states, (count, same, meets)) says =
-    stopped_stops a b pairs before line number None (Some t) stop (inl (statement, states, meets)) says
+pub division_stopped : (a b : Option (List ℕ)) (limits : Limits) (before : State) (line : List ℕ) (number : ℕ) (old new : ℕ) (kept kept' : Option StoppedRun)
+    (t : KeptTrail) (stop : Early) → CallStops (RunOf before line) (TrailOf before line) old new kept kept' (causes.Trail t)
+    → StopEnds a b number None (Some t) stop → LineStops a b limits before line number stop
+division_stopped a b limits before line number old new kept kept' t stop (count, same, met) says =
+    stopped_stops a b limits before line number None (Some t) stop (inl met) says

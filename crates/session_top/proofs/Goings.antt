@@ -18,6 +18,7 @@ use Rattle.session_top.specs.Parts.{LineStops, LinesStop, LinesMeant, ErrorEnds}
 use Rattle.session_top.proofs.Going.{Going}
 use Rattle.session_top.proofs.Endings.{front_after}
 use Rattle.session_top.proofs.Steps.{done_more, folds_after, folds_all}
+use Rattle.session_top.specs.Limits.{Limits}
 
 pub going_starts : (all : List (List ℕ)) (a : Option (List ℕ)) → Going all all 0 no_names a a
 going_starts all a = record { lines = []; text = []; parts = refl; count = refl; steps = (refl, refl); written = Appends-nil a }
@@ -42,9 +43,9 @@ refused_next all rest line n s a b kind last so refuses more =
     folds_after last (Refused (n + 1) (OfLine kind)) 1 no_names s so.lines (line ∷ more) so.text (closing (Refused (n + 1) (OfLine kind))) so.steps
     (inr (kind, refuses, ap (λ k. Refused k (OfLine kind)) number, ap (λ k. closing (Refused k (OfLine kind))) number))
 
-pub going_stops : (all rest : List (List ℕ)) (line : List ℕ) (n : ℕ) (s : State) (a b c : Option (List ℕ)) (pairs : ℕ) (last : Ending) (stop : Early)
-    → Going all (line ∷ rest) n s a b → LineStops b c pairs s line (n + 1) stop → LinesStop a c pairs all last stop
-going_stops all rest line n s a b c pairs last (early.Refused m) so (same, (kind, refuses, wrote)) = (
+pub going_stops : (all rest : List (List ℕ)) (line : List ℕ) (n : ℕ) (s : State) (a b c : Option (List ℕ)) (limits : Limits) (last : Ending) (stop : Early)
+    → Going all (line ∷ rest) n s a b → LineStops b c limits s line (n + 1) stop → LinesStop a c limits all last stop
+going_stops all rest line n s a b c limits last (early.Refused m) so (same, (kind, refuses, wrote)) = (
   OfLine kind,
   record {
     text = so.text ++ closing (Refused (n + 1) (OfLine kind));
@@ -54,7 +55,7 @@ going_stops all rest line n s a b c pairs last (early.Refused m) so (same, (kind
     written = Appends-trans a b c so.text (closing (Refused (n + 1) (OfLine kind))) so.written wrote;
   },
 )
-going_stops all rest line n s a b c pairs last early.WriteFault so (text, inl (t, step), wrote) = record {
+going_stops all rest line n s a b c limits last early.WriteFault so (text, inl (t, step), wrote) = record {
   lines = so.lines ++ line ∷ [];
   rest = rest;
   text = so.text ++ text;
@@ -68,7 +69,7 @@ going_stops all rest line n s a b c pairs last early.WriteFault so (text, inl (t
   );
   written = front_after a b c so.text text so.written wrote;
 }
-going_stops all rest line n s a b c pairs last early.WriteFault so (text, inr (inl (kind, refuses, is)), wrote) = record {
+going_stops all rest line n s a b c limits last early.WriteFault so (text, inr (inl (kind, refuses, is)), wrote) = record {
   lines = so.lines ++ line ∷ [];
   rest = rest;
   text = so.text ++ text;
@@ -82,7 +83,7 @@ going_stops all rest line n s a b c pairs last early.WriteFault so (text, inr (i
   );
   written = front_after a b c so.text text so.written wrote;
 }
-going_stops all rest line n s a b c pairs last early.WriteFault so (text, inr (inr (kept, trail, cause, is)), wrote) = record {
+going_stops all rest line n s a b c limits last early.WriteFault so (text, inr (inr (kept, trail, cause, is)), wrote) = record {
   lines = so.lines;
   rest = line ∷ rest;
   text = so.text ++ text;
@@ -101,7 +102,7 @@ going_stops all rest line n s a b c pairs last early.WriteFault so (text, inr (i
   });
   written = front_after a b c so.text text so.written wrote;
 }
-going_stops all rest line n s a b c pairs last (early.NoMemory m) so (same, keeps) = record {
+going_stops all rest line n s a b c limits last (early.NoMemory m) so (same, keeps) = record {
   lines = so.lines;
   rest = line ∷ rest;
   state = s;
@@ -112,8 +113,8 @@ going_stops all rest line n s a b c pairs last (early.NoMemory m) so (same, keep
   steps = so.steps;
   written = Appends-kept a b c so.text so.written keeps;
 }
-going_stops all rest line n s a b c pairs last early.ReadFault so stops = absurd stops
-going_stops all rest line n s a b c pairs last (early.Stopped m kept) so (same, cause, wrote) = record {
+going_stops all rest line n s a b c limits last early.ReadFault so stops = absurd stops
+going_stops all rest line n s a b c limits last (early.Stopped m kept) so (same, cause, wrote) = record {
   lines = so.lines;
   line = line;
   rest = rest;
@@ -139,9 +140,9 @@ going_ends all n s a b so = record {
 }
 
 -- no line is left, and a refusal comes behind them
-pub going_refused : (all : List (List ℕ)) (n : ℕ) (s : State) (a b c : Option (List ℕ)) (pairs : ℕ) (refusal : Refusal) (stop : Early)
-    → Going all [] n s a b → ErrorEnds b c 0 refusal stop → LinesStop a c pairs all (Refused 0 refusal) stop
-going_refused all n s a b c pairs refusal (early.Refused m) so (same, wrote) = (
+pub going_refused : (all : List (List ℕ)) (n : ℕ) (s : State) (a b c : Option (List ℕ)) (limits : Limits) (refusal : Refusal) (stop : Early)
+    → Going all [] n s a b → ErrorEnds b c 0 refusal stop → LinesStop a c limits all (Refused 0 refusal) stop
+going_refused all n s a b c limits refusal (early.Refused m) so (same, wrote) = (
   refusal,
   record {
     text = so.text ++ closing (Refused 0 refusal);
@@ -150,7 +151,7 @@ going_refused all n s a b c pairs refusal (early.Refused m) so (same, wrote) = (
     written = Appends-trans a b c so.text (closing (Refused 0 refusal)) so.written wrote;
   },
 )
-going_refused all n s a b c pairs refusal early.WriteFault so wrote = record {
+going_refused all n s a b c limits refusal early.WriteFault so wrote = record {
   lines = all;
   rest = [];
   text = so.text ++ closing (Refused 0 refusal);
@@ -158,15 +159,15 @@ going_refused all n s a b c pairs refusal early.WriteFault so wrote = record {
   due = inl (Refused 0 refusal, Refused 0 refusal, inr (refl, refl), all_lines all n s a b so (Refused 0 refusal));
   written = front_after a b c so.text (closing (Refused 0 refusal)) so.written wrote;
 }
-going_refused all n s a b c pairs refusal (early.NoMemory m) so stops = absurd stops
-going_refused all n s a b c pairs refusal early.ReadFault so stops = absurd stops
-going_refused all n s a b c pairs refusal (early.Stopped m kept) so stops = absurd stops
+going_refused all n s a b c limits refusal (early.NoMemory m) so stops = absurd stops
+going_refused all n s a b c limits refusal early.ReadFault so stops = absurd stops
+going_refused all n s a b c limits refusal (early.Stopped m kept) so stops = absurd stops
 
 -- the same, where the text was cut off or not
-pub going_cut : (w : Bool) (all : List (List ℕ)) (n : ℕ) (s : State) (a b c : Option (List ℕ)) (pairs : ℕ) (stop : Early) → w ≡ true
-    → Going all [] n s a b → ErrorEnds b c 0 Length stop → LinesStop a c pairs all (last_of w) stop
-going_cut true all n s a b c pairs stop e so says = going_refused all n s a b c pairs Length stop so says
-going_cut false all n s a b c pairs stop e so says = cc
+pub going_cut : (w : Bool) (all : List (List ℕ)) (n : ℕ) (s : State) (a b c : Option (List ℕ)) (limits : Limits) (stop : Early) → w ≡ true
+    → Going all [] n s a b → ErrorEnds b c 0 Length stop → LinesStop a c limits all (last_of w) stop
+going_cut true all n s a b c limits stop e so says = going_refused all n s a b c limits Length stop so says
+going_cut false all n s a b c limits stop e so says = cc
 
 pub going_whole : (w : Bool) (all : List (List ℕ)) (n : ℕ) (s : State) (a b : Option (List ℕ)) → w ≡ false
     → Going all [] n s a b → LinesMeant a b all (last_of w) Done

@@ -4,7 +4,6 @@ mod Degrees
 mod Endings
 mod Going
 mod Goings
-mod Numbers
 mod Shown
 mod Steps
 mod Texts

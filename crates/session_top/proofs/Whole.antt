@@ -18,6 +18,7 @@ use Rattle.basis_core.specs.Shown.{Shown}
 use Rattle.session_top.specs.Parts.{LinesMeant, LinesStop}
 use Rattle.session_top.specs.Run.{Meant, ReadCut, MemoryCut, RunStops, AreReady, Stopped, StoppedByPairs, StoppedByDegree}
 use Rattle.session_top.specs.Stops.{StopsScript, stop_status}
+use Rattle.session_top.specs.Limits.{Limits}
 
 not_lt : (m n : ℕ) → n ≤ m → nat_lt m n ≡ false
 not_lt m n le = search rules
@@ -129,11 +130,11 @@ ready b script lines end same = elim end [
   | inr long ↦ let true_long : is_long script ≡ true = long_script script long in inl (sym same ∙ cut_lines (is_long script) script true_long)
 ]
 
-pub run_stops : (a b t u : Option (List ℕ)) (pairs : ℕ) (script : List ℕ) → Consumes a b script → IsAtEnd b ⊎ (SCRIPT_LIMIT < length script)
-    → (stop : Early) → LinesStop t u pairs (script_lines script) (last_of (is_long script)) stop → RunStops a b t u pairs stop
-run_stops a b t u pairs script read end (early.Refused n) (refusal, meant) = record { refusal = refusal; meant = meant_refused a b t u script n refusal read end meant }
-run_stops a b t u pairs script read end early.ReadFault stops = absurd stops
-run_stops a b t u pairs script read end early.WriteFault cut = record {
+pub run_stops : (a b t u : Option (List ℕ)) (limits : Limits) (script : List ℕ) → Consumes a b script → IsAtEnd b ⊎ (SCRIPT_LIMIT < length script)
+    → (stop : Early) → LinesStop t u limits (script_lines script) (last_of (is_long script)) stop → RunStops a b t u limits stop
+run_stops a b t u limits script read end (early.Refused n) (refusal, meant) = record { refusal = refusal; meant = meant_refused a b t u script n refusal read end meant }
+run_stops a b t u limits script read end early.ReadFault stops = absurd stops
+run_stops a b t u limits script read end early.WriteFault cut = record {
   script = script;
   lines = cut.lines;
   rest = cut.rest;
@@ -143,7 +144,7 @@ run_stops a b t u pairs script read end early.WriteFault cut = record {
   due = cut.due;
   written = cut.written;
 }
-run_stops a b t u pairs script read end (early.NoMemory n) began = record {
+run_stops a b t u limits script read end (early.NoMemory n) began = record {
   script = script;
   lines = began.lines;
   rest = began.rest;
@@ -155,7 +156,7 @@ run_stops a b t u pairs script read end (early.NoMemory n) began = record {
   steps = began.steps;
   written = began.written;
 }
-run_stops a b t u pairs script read end (early.Stopped n kept) stopped = record {
+run_stops a b t u limits script read end (early.Stopped n kept) stopped = record {
   script = script;
   lines = stopped.lines;
   stopped = stopped.line;
@@ -204,24 +205,24 @@ pub results_done : (a b t u : Option (List ℕ)) (script : List ℕ) → Consume
 results_done a b t u script read end (Ok x) meant = meant_done a b t u script read end meant
 results_done a b t u script read end (Err e) meant = tt
 
-pub results_stop : (a b t u : Option (List ℕ)) (pairs : ℕ) (script : List ℕ) → Consumes a b script → IsAtEnd b ⊎ (SCRIPT_LIMIT < length script)
-    → (r : Result Unit Early) → IfErr r (LinesStop t u pairs (script_lines script) (last_of (is_long script))) → IfErr r (RunStops a b t u pairs)
-results_stop a b t u pairs script read end (Ok x) stops = tt
-results_stop a b t u pairs script read end (Err e) stops = run_stops a b t u pairs script read end e stops
+pub results_stop : (a b t u : Option (List ℕ)) (limits : Limits) (script : List ℕ) → Consumes a b script → IsAtEnd b ⊎ (SCRIPT_LIMIT < length script)
+    → (r : Result Unit Early) → IfErr r (LinesStop t u limits (script_lines script) (last_of (is_long script))) → IfErr r (RunStops a b t u limits)
+results_stop a b t u limits script read end (Ok x) stops = tt
+results_stop a b t u limits script read end (Err e) stops = run_stops a b t u limits script read end e stops
 
 -- what stopped the reading
-pub reading_stops : (a b t : Option (List ℕ)) (pairs : ℕ) (stop : Early) → (stop ≡ early.ReadFault) ⊎ (stop ≡ early.NoMemory 0) → (script : List ℕ) × Consumes a b script
-    → RunStops a b t t pairs stop
-reading_stops a b t pairs early.ReadFault why (script, read) = nothing_read a b t script read
-reading_stops a b t pairs (early.NoMemory n) (inl e) (script, read) = cc
-reading_stops a b t pairs (early.NoMemory n) (inr e) (script, read) =
+pub reading_stops : (a b t : Option (List ℕ)) (limits : Limits) (stop : Early) → (stop ≡ early.ReadFault) ⊎ (stop ≡ early.NoMemory 0) → (script : List ℕ) × Consumes a b script
+    → RunStops a b t t limits stop
+reading_stops a b t limits early.ReadFault why (script, read) = nothing_read a b t script read
+reading_stops a b t limits (early.NoMemory n) (inl e) (script, read) = cc
+reading_stops a b t limits (early.NoMemory n) (inr e) (script, read) =
     subst (MemoryCut a b t t) (sym (line_of_memory n 0 e)) (nothing_done a b t t script read (Keeps-refl t))
-reading_stops a b t pairs early.WriteFault (inl e) (script, read) = cc
-reading_stops a b t pairs early.WriteFault (inr e) (script, read) = cc
-reading_stops a b t pairs (early.Refused n) (inl e) (script, read) = cc
-reading_stops a b t pairs (early.Refused n) (inr e) (script, read) = cc
-reading_stops a b t pairs (early.Stopped n kept) (inl e) (script, read) = cc
-reading_stops a b t pairs (early.Stopped n kept) (inr e) (script, read) = cc
+reading_stops a b t limits early.WriteFault (inl e) (script, read) = cc
+reading_stops a b t limits early.WriteFault (inr e) (script, read) = cc
+reading_stops a b t limits (early.Refused n) (inl e) (script, read) = cc
+reading_stops a b t limits (early.Refused n) (inr e) (script, read) = cc
+reading_stops a b t limits (early.Stopped n kept) (inl e) (script, read) = cc
+reading_stops a b t limits (early.Stopped n kept) (inr e) (script, read) = cc
 
 no_trail : (trail : Option KeptTrail) → stop_status trail ≡ 6 → trail ≡ None
 no_trail None six = refl
@@ -235,31 +236,31 @@ none_or_some : (kept : Option Shown) → (kept ≡ None) ⊎ ((s : Shown) × (ke
 none_or_some None = inl refl
 none_or_some (Some s) = inr (s, refl)
 
-something_kept : (pairs : ℕ) (before : State) (line : List ℕ) (kept : Option Shown) → StopsScript pairs before line kept None → kept ≡ None → ⊥
-something_kept pairs before line kept cause none = subst (λ k. StopsScript pairs before line k None) none cause
+something_kept : (limits : Limits) (before : State) (line : List ℕ) (kept : Option Shown) → StopsScript limits before line kept None → kept ≡ None → ⊥
+something_kept limits before line kept cause none = subst (λ k. StopsScript limits before line k None) none cause
 
 -- a stop that is no stop by a degree keeps a state
-pub stopped_by_pairs : (a b t u : Option (List ℕ)) (pairs line : ℕ) (kept : Option Shown) (trail : Option KeptTrail) → Stopped a b t u pairs line kept trail
-    → stop_status trail ≡ 6 → StoppedByPairs a b t u pairs line kept trail
-stopped_by_pairs a b t u pairs line kept trail stopped six =
+pub stopped_by_pairs : (a b t u : Option (List ℕ)) (limits : Limits) (line : ℕ) (kept : Option Shown) (trail : Option KeptTrail) → Stopped a b t u limits line kept trail
+    → stop_status trail ≡ 6 → StoppedByPairs a b t u limits line kept trail
+stopped_by_pairs a b t u limits line kept trail stopped six =
     let none : trail ≡ None = no_trail trail six in
-    let here : Stopped a b t u pairs line kept None = subst (λ o. Stopped a b t u pairs line kept o) none stopped in
+    let here : Stopped a b t u limits line kept None = subst (λ o. Stopped a b t u limits line kept o) none stopped in
     elim (none_or_some kept) [
-      | inl e ↦ absurd (something_kept pairs here.state here.stopped kept here.cause e)
-      | inr (s, e) ↦ (s, e, none, subst (λ k. Stopped a b t u pairs line k None) e here)
+      | inl e ↦ absurd (something_kept limits here.state here.stopped kept here.cause e)
+      | inr (s, e) ↦ (s, e, none, subst (λ k. Stopped a b t u limits line k None) e here)
     ]
 
 -- a stop by a degree keeps a trail
-pub stopped_by_degree : (a b t u : Option (List ℕ)) (pairs line : ℕ) (kept : Option Shown) (trail : Option KeptTrail) → Stopped a b t u pairs line kept trail
-    → stop_status trail ≡ 7 → StoppedByDegree a b t u pairs line kept trail
-stopped_by_degree a b t u pairs line kept trail stopped seven =
+pub stopped_by_degree : (a b t u : Option (List ℕ)) (limits : Limits) (line : ℕ) (kept : Option Shown) (trail : Option KeptTrail) → Stopped a b t u limits line kept trail
+    → stop_status trail ≡ 7 → StoppedByDegree a b t u limits line kept trail
+stopped_by_degree a b t u limits line kept trail stopped seven =
     let some : (t : KeptTrail) × (trail ≡ Some t) = a_trail trail seven in
-    (some.0, some.1, subst (λ o. Stopped a b t u pairs line kept o) some.1 stopped)
+    (some.0, some.1, subst (λ o. Stopped a b t u limits line kept o) some.1 stopped)
 
 -- the same of equal values
-pub as_told : (a b t u : Option (List ℕ)) (pairs asked line told : ℕ) (kept state : Option Shown) (trail path : Option KeptTrail)
-    → asked ≡ pairs → told ≡ line → state ≡ kept → path ≡ trail → Stopped a b t u pairs line kept trail → Stopped a b t u asked told state path
-as_told a b t u pairs asked line told kept state trail path same_pairs same_line same_state same_trail stopped =
-    subst (λ n. Stopped a b t u n told state path) (sym same_pairs)
-    (subst (λ n. Stopped a b t u pairs n state path) (sym same_line)
-    (subst (λ s. Stopped a b t u pairs line s path) (sym same_state) (subst (λ p. Stopped a b t u pairs line kept p) (sym same_trail) stopped)))
+pub as_told : (a b t u : Option (List ℕ)) (limits asked : Limits) (line told : ℕ) (kept state : Option Shown) (trail path : Option KeptTrail)
+    → asked ≡ limits → told ≡ line → state ≡ kept → path ≡ trail → Stopped a b t u limits line kept trail → Stopped a b t u asked told state path
+as_told a b t u limits asked line told kept state trail path same_limits same_line same_state same_trail stopped =
+    subst (λ n. Stopped a b t u n told state path) (sym same_limits)
+    (subst (λ n. Stopped a b t u limits n state path) (sym same_line)
+    (subst (λ s. Stopped a b t u limits line s path) (sym same_state) (subst (λ p. Stopped a b t u limits line kept p) (sym same_trail) stopped)))

@@ -1,6 +1,8 @@
-pub mod Command
+-- what public clauses cite
+pub mod Limits
 pub mod Lines
 pub mod Meaning
-pub mod Parts
 pub mod Run
 pub mod Stops
+-- what private clauses cite
+pub mod Parts

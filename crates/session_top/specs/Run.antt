@@ -13,6 +13,7 @@ use Rattle.session_top.specs.Lines.{whole_lines}
 use Rattle.session_lang.specs.Names.{State, no_names}
 use Rattle.session_top.specs.Stops.{StopsScript, stop_line}
 use Rattle.session_top.specs.Meaning.{Ending, Done, Refused, Meaning, Folds, AllDone, script_lines, last_of, is_long}
+use Rattle.session_top.specs.Limits.{Limits}
 
 -- the lines that this ending rests on are whole in the bytes read, or the input is at its end
 abbrev pub IsSettled : List ℕ → Option (List ℕ) → Ending → Type 0
@@ -71,7 +72,7 @@ abbrev pub IsLast : Ending → List (List ℕ) → Ending → Type 0
 IsLast last rest final = (final ≡ Done) ⊎ ((rest ≡ []) × (final ≡ last))
 
 -- the text of these lines and the stop line of the first line of the rest
-pub record IsStopText (pairs : ℕ) (lines rest : List (List ℕ)) (text : List ℕ) : Type 0 where
+pub record IsStopText (limits : Limits) (lines rest : List (List ℕ)) (text : List ℕ) : Type 0 where
   pub state : State
   pub done : List ℕ
   pub line : List ℕ
@@ -80,28 +81,28 @@ pub record IsStopText (pairs : ℕ) (lines rest : List (List ℕ)) (text : List 
   pub trail : Option KeptTrail
   pub steps : AllDone no_names lines state done
   pub next : rest ≡ line ∷ more
-  pub cause : StopsScript pairs state line kept trail
+  pub cause : StopsScript limits state line kept trail
   pub parts : text ≡ done ++ stop_line kept trail
 
 -- the text that is due of these lines: their own with the error line, if one is due, or with a stop line
-abbrev pub IsTextDue : (pairs : ℕ) → Ending → (lines rest : List (List ℕ)) → List ℕ → Type 0
-IsTextDue pairs last lines rest text =
+abbrev pub IsTextDue : (limits : Limits) → Ending → (lines rest : List (List ℕ)) → List ℕ → Type 0
+IsTextDue limits last lines rest text =
     ((final : Ending) × (ending : Ending) × IsLast last rest final × Folds final 1 no_names lines text ending)
-    ⊎ IsStopText pairs lines rest text
+    ⊎ IsStopText limits lines rest text
 
 -- a front was written of the text of the first lines and the error line or stop line, if one was due
-pub record WriteCut (left left' taken taken' : Option (List ℕ)) (pairs : ℕ) : Type 0 where
+pub record WriteCut (left left' taken taken' : Option (List ℕ)) (limits : Limits) : Type 0 where
   pub script : List ℕ
   pub lines : List (List ℕ)
   pub rest : List (List ℕ)
   pub text : List ℕ
   pub read : Consumes left left' script
   pub ready : AreReady script left' (lines ++ rest)
-  pub due : IsTextDue pairs (last_of (is_long script)) lines rest text
+  pub due : IsTextDue limits (last_of (is_long script)) lines rest text
   pub written : AppendsFront taken taken' text
 
 -- A line stopped the script: the lines before it were done, and their text and the stop line are what was written.
-pub record Stopped (left left' taken taken' : Option (List ℕ)) (pairs line : ℕ) (kept : Option Shown) (trail : Option KeptTrail) : Type 0 where
+pub record Stopped (left left' taken taken' : Option (List ℕ)) (limits : Limits) (line : ℕ) (kept : Option Shown) (trail : Option KeptTrail) : Type 0 where
   pub script : List ℕ
   pub lines : List (List ℕ)
   pub stopped : List ℕ
@@ -112,26 +113,26 @@ pub record Stopped (left left' taken taken' : Option (List ℕ)) (pairs line : �
   pub ready : AreReady script left' (lines ++ (stopped ∷ rest))
   pub place : line ≡ length lines + 1
   pub steps : AllDone no_names lines state text
-  pub cause : StopsScript pairs state stopped kept trail
+  pub cause : StopsScript limits state stopped kept trail
   pub written : Appends taken taken' (text ++ stop_line kept trail)
 
 -- a run of a line met its budget of pairs, and its state is kept
-abbrev pub StoppedByPairs : Option (List ℕ) → Option (List ℕ) → Option (List ℕ) → Option (List ℕ) → (pairs line : ℕ) → Option Shown → Option KeptTrail → Type 0
-StoppedByPairs left left' taken taken' pairs line kept trail =
-    (s : Shown) × (kept ≡ Some s) × (trail ≡ None) × Stopped left left' taken taken' pairs line (Some s) None
+abbrev pub StoppedByPairs : Option (List ℕ) → Option (List ℕ) → Option (List ℕ) → Option (List ℕ) → (limits : Limits) (line : ℕ) → Option Shown → Option KeptTrail → Type 0
+StoppedByPairs left left' taken taken' limits line kept trail =
+    (s : Shown) × (kept ≡ Some s) × (trail ≡ None) × Stopped left left' taken taken' limits line (Some s) None
 
 -- a line needed a product of too great a degree, and the trail to it is kept
-abbrev pub StoppedByDegree : Option (List ℕ) → Option (List ℕ) → Option (List ℕ) → Option (List ℕ) → (pairs line : ℕ) → Option Shown → Option KeptTrail → Type 0
-StoppedByDegree left left' taken taken' pairs line kept trail =
-    (t : KeptTrail) × (trail ≡ Some t) × Stopped left left' taken taken' pairs line kept (Some t)
+abbrev pub StoppedByDegree : Option (List ℕ) → Option (List ℕ) → Option (List ℕ) → Option (List ℕ) → (limits : Limits) (line : ℕ) → Option Shown → Option KeptTrail → Type 0
+StoppedByDegree left left' taken taken' limits line kept trail =
+    (t : KeptTrail) × (trail ≡ Some t) × Stopped left left' taken taken' limits line kept (Some t)
 
 -- why a run did not come to the end of its script
-abbrev pub RunStops : Option (List ℕ) → Option (List ℕ) → Option (List ℕ) → Option (List ℕ) → (pairs : ℕ) → Early → Type 0
-RunStops left left' taken taken' pairs (early.Refused n) = MeantRefused left left' taken taken' n
-RunStops left left' taken taken' pairs early.ReadFault = ReadCut left left' taken taken'
-RunStops left left' taken taken' pairs early.WriteFault = WriteCut left left' taken taken' pairs
-RunStops left left' taken taken' pairs (early.NoMemory n) = MemoryCut left left' taken taken' n
-RunStops left left' taken taken' pairs (early.Stopped n kept) = Stopped left left' taken taken' pairs n kept.state kept.trail
+abbrev pub RunStops : Option (List ℕ) → Option (List ℕ) → Option (List ℕ) → Option (List ℕ) → (limits : Limits) → Early → Type 0
+RunStops left left' taken taken' limits (early.Refused n) = MeantRefused left left' taken taken' n
+RunStops left left' taken taken' limits early.ReadFault = ReadCut left left' taken taken'
+RunStops left left' taken taken' limits early.WriteFault = WriteCut left left' taken taken' limits
+RunStops left left' taken taken' limits (early.NoMemory n) = MemoryCut left left' taken taken' n
+RunStops left left' taken taken' limits (early.Stopped n kept) = Stopped left left' taken taken' limits n kept.state kept.trail
 
 -- The error line for words was written, or a front of it, or memory ran out before.
 abbrev pub WordsEnd : Option (List ℕ) → Option (List ℕ) → ℕ → Type 0

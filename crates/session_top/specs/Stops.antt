@@ -9,12 +9,12 @@ use Rattle.budget_stops.specs.Moments.{KeepsBudgetStop}
 use Rattle.basis_core.specs.Answers.{IsBeginningTrail}
 use Rattle.basis_core.specs.Shown.{Shown}
 use Rattle.basis_core.specs.Views.{run_of, state_of, variables_of}
-use Rattle.plain_buchberger.specs.Rounds.{IsDegreeStop}
-use Rattle.plain_buchberger.specs.Stops.{IsInterreductionStop, shared_of_trail}
-use Rattle.script_parse.specs.declared.stated.Statement.{Statement}
-use Rattle.session_lang.specs.Lines.{RunOf, States}
+use Rattle.run_endings.specs.Endings.{IsDegreeStop, IsInterreductionStop}
+use Rattle.run_endings.specs.Stops.{shared_of_trail}
+use Rattle.session_lang.specs.Lines.{RunOf}
 use Rattle.session_lang.specs.Names.{State}
-use Rattle.session_lang.specs.Stops.{Meets}
+use Rattle.session_lang.specs.Stops.{TrailOf}
+use Rattle.session_top.specs.Limits.{Limits}
 
 -- the degree of the product that these steps lead to, by this last monomial
 abbrev pub product_degree : List Step → List ℕ → ℕ
@@ -39,32 +39,32 @@ stop_line None None = []
 stop_line (Some s) None = pairs_line s
 stop_line s (Some t) = degree_line t
 
--- the state is of a run that this line needs, by one worker with this budget of pairs
-pub record IsRunState (pairs : ℕ) (before : State) (line : List ℕ) (s : Shown) : Type 0 where
+-- the state is of a run that this line needs, by so many workers with this budget of pairs
+pub record IsRunState (limits : Limits) (before : State) (line : List ℕ) (s : Shown) : Type 0 where
   pub run : RunOf before line s.shared.ring s.shared.rank s.shared.generators
   pub replays : let n = variables_of s in Replays (run_of n s) (state_of n s)
-  pub budget : s.budget ≡ pairs
-  pub workers : s.workers ≡ 1
+  pub budget : s.budget ≡ limits.0
+  pub workers : s.workers ≡ limits.1
 
 -- a run of the line met its budget: so many pairs are taken, and a Take found one more to which no criterion applies
-pub record StopsByPairs (pairs : ℕ) (before : State) (line : List ℕ) (s : Shown) : Type 0 where
-  pub run : IsRunState pairs before line s
+pub record StopsByPairs (limits : Limits) (before : State) (line : List ℕ) (s : Shown) : Type 0 where
+  pub run : IsRunState limits before line s
   pub taken : s.taken ≡ s.budget
   pub moment : let n = variables_of s in KeepsBudgetStop (run_of n s) (state_of n s)
 
 -- The line needed a product of too great a degree: outside a run, in its division by a reduced basis; in a run before there
 -- was a state, where a generator is divided; and in a run later, in the work on a pair or where a member's tail is divided.
-abbrev pub StopsByDegree : ℕ → State → List ℕ → Option Shown → KeptTrail → Type 0
-StopsByDegree pairs before line None t =
-    ((statement : Statement) × States before line statement × Meets before statement t)
+abbrev pub StopsByDegree : Limits → State → List ℕ → Option Shown → KeptTrail → Type 0
+StopsByDegree limits before line None t =
+    TrailOf before line t
     ⊎ (RunOf before line t.ring t.rank t.generators × IsBeginningTrail (variables t.ring) (shared_of_trail t) t)
-StopsByDegree pairs before line (Some s) t = IsRunState pairs before line s × (IsDegreeStop s t ⊎ IsInterreductionStop s t)
+StopsByDegree limits before line (Some s) t = IsRunState limits before line s × (IsDegreeStop s t ⊎ IsInterreductionStop s t)
 
 -- the line stops the script, and this state and this trail are kept: a state alone at a stop by the budget, a trail at one by the degree
-abbrev pub StopsScript : ℕ → State → List ℕ → Option Shown → Option KeptTrail → Type 0
-StopsScript pairs before line None None = ⊥
-StopsScript pairs before line (Some s) None = StopsByPairs pairs before line s
-StopsScript pairs before line s (Some t) = StopsByDegree pairs before line s t
+abbrev pub StopsScript : Limits → State → List ℕ → Option Shown → Option KeptTrail → Type 0
+StopsScript limits before line None None = ⊥
+StopsScript limits before line (Some s) None = StopsByPairs limits before line s
+StopsScript limits before line s (Some t) = StopsByDegree limits before line s t
 
 -- the status of a stop of which this trail is kept
 abbrev pub stop_status : Option KeptTrail → ℕ

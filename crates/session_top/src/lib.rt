@@ -8,17 +8,11 @@ mod lines;
 mod reading;
 mod stops;
 mod top;
-mod words;
 
 pub use top::{Ended, run};
-pub use words::{Command, Request, WordStop, read_words};
 
 /// The most bytes that a script has.
 pub const SCRIPT_LIMIT: usize = 1_048_576;
 
-#[cfg(test)]
-mod stop_tests;
-#[cfg(test)]
-mod telling_tests;
 #[cfg(test)]
 mod tests;

@@ -1,13 +1,15 @@
 // The lines of a script, done one after another.
 ghost use Rattle.std.specs.Prelude.{◌≡◌, ℕ, ◌+◌, ◌<◌, ◌≤◌, List, length, take, drop, codes, [], ◌∷◌, ◌++◌, IfErr, OnOk, OnErr, MatchOption, IfSome, None, Some, Err};
 ghost use Rattle.std.specs.Io.KnownBytes.{Appends};
-ghost use Rattle.byte_ports.specs.Causes.{Rose, HasCause, AppendsFront};
+ghost use Rattle.byte_ports.specs.Causes.{HasCause, AppendsFront};
+ghost use Rattle.risen_counts.specs.Counts.{Rose};
 ghost use Rattle.session_lang.specs.Lines.{Line};
 ghost use Rattle.session_top.specs.Lines.{lines_in, HasNoNewline};
 ghost use Rattle.session_top.specs.Meaning.{refusal_word, error_line, last_of, Done};
 ghost use Rattle.basis_core.specs.Views.{run_of, state_of, variables_of};
 ghost use Rattle.basis_steps.specs.Steps.{Replays};
-ghost use Rattle.plain_buchberger.specs.Stops.{IsStop};
+ghost use Rattle.run_endings.specs.Stops.{IsStop};
+ghost use Rattle.session_top.specs.Limits.{limits_in, limits_of};
 ghost use Rattle.session_top.specs.Parts.{ErrorEnds, LineStops, LinesMeant, LinesStop, StopEnds};
 
 use crate::SCRIPT_LIMIT;
@@ -15,15 +17,18 @@ use crate::early::{Early, Kept, Refusal};
 use crate::stops::write_stop_line;
 use basis_core::BasisState;
 use byte_ports::{Failed, Sink, write_all_to};
+use command_words::Request;
+use f4_engine::F4Engine;
 use groebner_iface::OpStop;
 use itoa::Buffer;
 use module_vectors::KeptTrail;
-use plain_buchberger::PlainEngine;
 use script_parse::Kind;
 use session_lang::{Session, Step};
 use std::alloc::Global;
 use std::mem::replace;
+use std::sync::Wait;
 use std::thread::Threads;
+use worker_gate::{Gate, SharedGate};
 
 /// The end of the error line of a refusal.
 fn error_end(refusal: Refusal) -> &'static [u8]
@@ -102,14 +107,15 @@ fn replays(state: &Option<BasisState>)
     }
 }
 
-/// Takes out what an engine keeps of the last run that stopped. A new engine with the same budget stands in its place.
-fn take_stop(engine: &mut PlainEngine) -> Kept
+/// Takes out what an engine keeps of the last run that stopped. A new engine with the same budget, workers and
+/// gate stands in its place.
+fn take_stop(engine: &mut F4Engine) -> Kept
     ensures state { result.state ≡ engine.old.state }
     ensures trail { result.trail ≡ engine.old.trail }
-    ensures kept { IsStop engine.old.pairs engine.old.state engine.old.trail }
+    ensures kept { IsStop engine.old.pairs engine.old.workers engine.old.state engine.old.trail }
     ensures replays { IfSome engine.old.state (λ s. let n = variables_of s in Replays (run_of n s) (state_of n s)) }
 {
-    let fresh = PlainEngine::new(engine.pairs());
+    let fresh = F4Engine::new(engine.pairs(), engine.workers(), engine.gate().shared());
     let (state, trail) = replace(engine, fresh).into_stop();
     replays(&state);
     Kept { state, trail }
@@ -128,9 +134,9 @@ fn stop<K: Sink>(sink: &mut K, number: u32, kept: Kept) -> Early
 }
 
 /// The end of a run of lines at a basis run that stopped, of which the engine keeps what it can tell.
-fn stop_at_run<K: Sink>(sink: &mut K, number: u32, engine: &mut PlainEngine) -> Early
+fn stop_at_run<K: Sink>(sink: &mut K, number: u32, engine: &mut F4Engine) -> Early
     ensures says { StopEnds (K.taken sink.old) (K.taken sink.new) number engine.old.state engine.old.trail result }
-    ensures kept { IsStop engine.old.pairs engine.old.state engine.old.trail }
+    ensures kept { IsStop engine.old.pairs engine.old.workers engine.old.state engine.old.trail }
     ensures replays { IfSome engine.old.state (λ s. let n = variables_of s in Replays (run_of n s) (state_of n s)) }
     ensures write { result ≡ Early.WriteFault → Rose (K.faults sink.old) (K.faults sink.new) }
     ensures later { K.faults sink.old ≤ K.faults sink.new }
@@ -154,14 +160,14 @@ fn stop_at_division<K: Sink>(sink: &mut K, number: u32, trail: KeptTrail) -> Ear
 /// What a run of lines works with from line to line.
 #[derive(Drop)]
 pub struct Desk {
-    engine: PlainEngine,
+    engine: F4Engine,
     session: Session,
     /// Where the text of a line is made.
     out: Vec<u8>,
 }
 
 /// Does a line and writes its text, its error line or its stop line.
-fn do_line<R: Threads + Sync, K: Sink>(
+fn do_line<R: Threads + Wait + Sync, K: Sink>(
     rt: &R,
     alloc: Global,
     desk: &mut Desk,
@@ -170,8 +176,8 @@ fn do_line<R: Threads + Sync, K: Sink>(
     line: &[u8],
 ) -> Result<(), Early>
     ensures done { OnOk result ((text : List ℕ) × Line desk.old.session line.now desk.new.session text × Appends (K.taken sink.old) (K.taken sink.new) text) }
-    ensures pairs { OnOk result (desk.new.engine.pairs ≡ desk.old.engine.pairs) }
-    ensures stops { IfErr result (LineStops (K.taken sink.old) (K.taken sink.new) desk.old.engine.pairs desk.old.session line.now number) }
+    ensures limits { OnOk result (limits_in desk.new.engine ≡ limits_in desk.old.engine) }
+    ensures stops { IfErr result (LineStops (K.taken sink.old) (K.taken sink.new) (limits_in desk.old.engine) desk.old.session line.now number) }
     ensures write { result ≡ Err Early.WriteFault → Rose (K.faults sink.old) (K.faults sink.new) }
     ensures later { K.faults sink.old ≤ K.faults sink.new }
 {
@@ -192,24 +198,26 @@ fn do_line<R: Threads + Sync, K: Sink>(
     }
 }
 
-/// Does the lines of a text, with this budget of pairs for each basis run. Where the text is the front of a longer one, the
-/// script is refused behind it.
-pub fn do_lines<R: Threads + Sync, K: Sink>(
+/// Does the lines of a text, each basis run as the request says, by workers that pass this gate. Where the text is the front
+/// of a longer one, the script is refused behind it.
+pub fn do_lines<R: Threads + Wait + Sync, K: Sink>(
     rt: &R,
     alloc: Global,
-    pairs: u64,
+    request: Request,
+    gate: SharedGate,
     sink: &mut K,
     text: &[u8],
     is_cut: bool,
 ) -> Result<(), Early>
-    requires { length text.now ≤ SCRIPT_LIMIT }
+    requires limit { length text.now ≤ SCRIPT_LIMIT }
+    requires workers { 0 < request.workers }
     ensures done { OnOk result (LinesMeant (K.taken sink.old) (K.taken sink.new) (lines_in is_cut text.now) (last_of is_cut) Done) }
-    ensures stops { IfErr result (LinesStop (K.taken sink.old) (K.taken sink.new) pairs (lines_in is_cut text.now) (last_of is_cut)) }
+    ensures stops { IfErr result (LinesStop (K.taken sink.old) (K.taken sink.new) (limits_of request) (lines_in is_cut text.now) (last_of is_cut)) }
     ensures write { result ≡ Err Early.WriteFault → Rose (K.faults sink.old) (K.faults sink.new) }
     ensures later { K.faults sink.old ≤ K.faults sink.new }
 {
     let mut desk = Desk {
-        engine: PlainEngine::new(pairs),
+        engine: F4Engine::new(request.pairs, request.workers, gate),
         session: Session::new(alloc),
         out: Vec::new(alloc),
     };

@@ -1,7 +1,7 @@
 // The bytes of a script.
 ghost use Rattle.std.specs.Prelude.{◌≡◌, ◌<◌, ◌≤◌, ◌⊎◌, List, ℕ, length, IfOk, IfErr, OnErr, Err};
 ghost use Rattle.std.specs.Io.KnownBytes.{Consumes, IsAtEnd};
-ghost use Rattle.byte_ports.specs.Causes.{Rose};
+ghost use Rattle.risen_counts.specs.Counts.{Rose};
 
 use crate::SCRIPT_LIMIT;
 use crate::early::Early;

@@ -1,8 +1,9 @@
 // The run of a script: from the bytes of a source to the bytes of a sink.
-ghost use Rattle.std.specs.Prelude.{◌≡◌, ◌≢◌, ◌≤◌, map, codes, string_bytes, Err, IfErr, None, OnOk};
+ghost use Rattle.std.specs.Prelude.{◌≡◌, ◌≢◌, ◌<◌, ◌≤◌, map, codes, string_bytes, Err, IfErr, None, OnOk};
 ghost use Rattle.std.specs.Io.KnownBytes.{Appends};
-ghost use Rattle.byte_ports.specs.Causes.{Rose};
-ghost use Rattle.session_top.specs.Command.{IsForm, request_of};
+ghost use Rattle.risen_counts.specs.Counts.{Rose};
+ghost use Rattle.command_words.specs.Command.{IsForm, request_of};
+ghost use Rattle.session_top.specs.Limits.{limits_of};
 ghost use Rattle.session_top.specs.Meaning.{Done};
 ghost use Rattle.session_top.specs.Stops.{stop_status};
 ghost use Rattle.session_top.specs.Run.{Meant, MeantRefused, ReadCut, WriteCut, MemoryCut, RunStops, StoppedByDegree, StoppedByPairs, WordsEnd, IsComplete};
@@ -11,14 +12,15 @@ use crate::SCRIPT_LIMIT;
 use crate::early::{Early, Kept};
 use crate::lines::do_lines;
 use crate::reading::read_script;
-use crate::words::{WordStop, read_words};
 use basis_core::BasisState;
 use byte_ports::{Sink, Source, write_all_to};
+use command_words::{Request, WordStop, read_words};
 use module_vectors::KeptTrail;
 use session_lang::one_result;
 use std::alloc::Global;
+use std::sync::Wait;
 use std::thread::Threads;
-use worker_gate::Gate;
+use worker_gate::{Gate, SharedGate};
 
 /// How a run ended.
 #[derive(Drop)]
@@ -74,16 +76,18 @@ fn stop_ending(line: u32, kept: Kept) -> Ended
     }
 }
 
-/// Reads a script and runs it, with this budget of pairs for each basis run.
-fn run_script<R: Threads + Sync, S: Source, K: Sink>(
+/// Reads a script and runs it, each basis run as the request says, by workers that pass this gate.
+fn run_script<R: Threads + Wait + Sync, S: Source, K: Sink>(
     rt: &R,
     alloc: Global,
-    pairs: u64,
+    request: Request,
+    gate: SharedGate,
     source: &mut S,
     sink: &mut K,
 ) -> Result<(), Early>
+    requires { 0 < request.workers }
     ensures done { OnOk result (Meant (S.left source.old) (S.left source.new) (K.taken sink.old) (K.taken sink.new) Done) }
-    ensures stops { IfErr result (RunStops (S.left source.old) (S.left source.new) (K.taken sink.old) (K.taken sink.new) pairs) }
+    ensures stops { IfErr result (RunStops (S.left source.old) (S.left source.new) (K.taken sink.old) (K.taken sink.new) (limits_of request)) }
     ensures read { result ≡ Err Early.ReadFault → Rose (S.faults source.old) (S.faults source.new) }
     ensures write { result ≡ Err Early.WriteFault → Rose (K.faults sink.old) (K.faults sink.new) }
     ensures read_later { S.faults source.old ≤ S.faults source.new }
@@ -92,7 +96,15 @@ fn run_script<R: Threads + Sync, S: Source, K: Sink>(
     match read_script(alloc, source) {
         Ok(script) => {
             let text = &script[..SCRIPT_LIMIT.min(script.len())];
-            do_lines(rt, alloc, pairs, sink, text, script.len() > SCRIPT_LIMIT)
+            do_lines(
+                rt,
+                alloc,
+                request,
+                gate,
+                sink,
+                text,
+                script.len() > SCRIPT_LIMIT,
+            )
         }
         Err(early) => Err(early),
     }
@@ -103,14 +115,14 @@ fn run_script<R: Threads + Sync, S: Source, K: Sink>(
 /// The script is read whole and then done line by line. The text of a line is written only when the
 /// line is done; a refused line writes its error line, and one that stops its stop line, and both end
 /// the run. Words that are not of the form write `error words`, and nothing is read then. Basis runs
-/// take as many pairs each as the words say, with one worker. The gate is for further workers.
-pub fn run<R: Threads + Sync, S: Source, K: Sink, G: Gate + Sync>(
+/// take as many pairs each as the words say, by as many workers, which pass the gate with each job.
+pub fn run<R: Threads + Wait + Sync, S: Source, K: Sink, G: Gate + Sync>(
     rt: &R,
     alloc: Global,
     words: &[String],
     source: &mut S,
     sink: &mut K,
-    _gate: &G,
+    gate: &G,
 ) -> Ended
     ensures range { result.status ≤ 7 }
     ensures line { result.status ≢ 1 → result.status ≢ 5 → result.status ≢ 6 → result.status ≢ 7 → result.line ≡ 0 }
@@ -134,7 +146,7 @@ pub fn run<R: Threads + Sync, S: Source, K: Sink, G: Gate + Sync>(
         → ReadCut (S.left source.old) (S.left source.new) (K.taken sink.old) (K.taken sink.new) }
     ensures write_fault { result.status ≡ 4 → Rose (K.faults sink.old) (K.faults sink.new) }
     ensures write_cut { result.status ≡ 4 → IsForm (map string_bytes words.now)
-        → WriteCut (S.left source.old) (S.left source.new) (K.taken sink.old) (K.taken sink.new) (request_of (map string_bytes words.now)).pairs }
+        → WriteCut (S.left source.old) (S.left source.new) (K.taken sink.old) (K.taken sink.new) (limits_of (request_of (map string_bytes words.now))) }
 
     // Want of memory is the one free answer.
     ensures memory { result.status ≡ 5
@@ -142,11 +154,11 @@ pub fn run<R: Threads + Sync, S: Source, K: Sink, G: Gate + Sync>(
 
     // Status 6: a run of this line took as many pairs as the words allow, and one more was to be looked at.
     ensures pairs { result.status ≡ 6
-        → StoppedByPairs (S.left source.old) (S.left source.new) (K.taken sink.old) (K.taken sink.new) (request_of (map string_bytes words.now)).pairs result.line result.kept result.trail }
+        → StoppedByPairs (S.left source.old) (S.left source.new) (K.taken sink.old) (K.taken sink.new) (limits_of (request_of (map string_bytes words.now))) result.line result.kept result.trail }
 
     // Status 7: this line led to a product of too great a degree.
     ensures degree { result.status ≡ 7
-        → StoppedByDegree (S.left source.old) (S.left source.new) (K.taken sink.old) (K.taken sink.new) (request_of (map string_bytes words.now)).pairs result.line result.kept result.trail }
+        → StoppedByDegree (S.left source.old) (S.left source.new) (K.taken sink.old) (K.taken sink.new) (limits_of (request_of (map string_bytes words.now))) result.line result.kept result.trail }
 
     // Where no count rose, a script that has a meaning ends as it means, or memory ran out, or a line stopped.
     ensures complete { IsForm (map string_bytes words.now)
@@ -165,7 +177,7 @@ pub fn run<R: Threads + Sync, S: Source, K: Sink, G: Gate + Sync>(
     };
     // A script has one meaning, because each line has one result.
     one_result();
-    match run_script(rt, alloc, request.pairs, source, sink) {
+    match run_script(rt, alloc, request, gate.shared(), source, sink) {
         Ok(()) => plain_ending(0, 0),
         Err(Early::Refused(line)) => plain_ending(1, line),
         Err(Early::ReadFault) => plain_ending(3, 0),

@@ -1,10 +1,11 @@
 use Rattle.std.proofs.Common.{List, ℕ, inl, inr, ◌++◌, ◌<◌, ◌≡◌, ◌∙◌, ap, arith, get_or, length, refl, rules, slice_set, subst, subst₂, sym}
 use Rattle.groebner_iface.specs.Stops.{op_stop_of_run}
-use Rattle.session_lang.specs.Kept.{IsSound, value_of}
-use Rattle.session_lang.specs.Failures.{RunFails}
+use Rattle.groebner_iface.specs.Calls.{CallStops, NoTrail}
+use Rattle.session_lang.specs.Kept.{IsSound}
+use Rattle.session_lang.specs.Parts.{IsRunAtEither, Keeps}
 use Rattle.session_lang.specs.Answers.{Decides, IsOneModule}
 use Rattle.session_lang.proofs.KeptValues.{at_place, length_written, undone, written_basis, written_lists}
-use Rattle.session_lang.proofs.Stopping.{run_fails}
+use Rattle.session_lang.proofs.Stopping.{call_stops, no_trail, placed_run, run_fails}
 use Rattle.session_lang.proofs.Values.{as_many, kept_sound, sound_at}
 use Rattle.session_lang.specs.declared.stored.Stored.{Stored}
 use Rattle.session_lang.proofs.answers.compare_values.Goals as goal
@@ -30,15 +31,12 @@ pub returns-in-Err-clause-stop : goal.returns-in-Err-clause-stop
 returns-in-Err-clause-stop g c = λ d e.
     let same = as_many c.args.ring.now c.args.names.now.items c.args.stored.now.items c.requires.sound in
     let below : c.args.places.0 < length c.args.stored.now.items = omega (arith, c.requires.within.0, same) in
-    inl
-    (subst
-    (λ stop. RunFails (g.B.Groebner.stops c.args.engine.now) (g.B.Groebner.stops c.keep_basis.new.engine) (g.B.Groebner.stopped c.args.engine.now) (g.B.Groebner.stopped c.keep_basis.new.engine) c.args.ring.now (value_of (get_or c.args.names.now.items c.args.places.0 d) (get_or c.args.stored.now.items c.args.places.0 e)) stop)
-    (sym c.from.ensures)
-    (subst₂
-    (λ i s. RunFails (g.B.Groebner.stops c.args.engine.now) (g.B.Groebner.stops c.keep_basis.new.engine) (g.B.Groebner.stopped c.args.engine.now) (g.B.Groebner.stopped c.keep_basis.new.engine) c.args.ring.now (value_of i s) (op_stop_of_run c.in-Err.stop))
-    (at_place c.args.names.now.items c.args.places.0 c.index-2.result.now d c.requires.within.0 c.index-2.ensures)
-    (at_place c.args.stored.now.items c.args.places.0 c.index_mut.result.now e below c.index_mut.ensures.value)
-    (run_fails _ _ _ _ c.args.ring.now c.index-2.result.now c.index_mut.result.now c.in-Err.stop c.in-Err.ensures.none.0 c.in-Err.ensures.stop)))
+    rw c.from.ensures
+    (call_stops _ _ _ _
+    (λ r m l h. inl (placed_run c.args.ring.now c.args.names.now.items c.args.stored.now.items c.args.places.0 d e c.index-2.result.now c.index_mut.result.now
+    c.requires.within.0 below c.index-2.ensures c.index_mut.ensures.value r m l h))
+    (no_trail NoTrail) (op_stop_of_run c.in-Err.stop)
+    (run_fails _ _ _ _ NoTrail c.args.ring.now c.index-2.result.now c.index_mut.result.now c.in-Err.stop c.in-Err.ensures.none.0 c.in-Err.ensures.stop))
 
 pub compare_with-requires-clause-sound : goal.compare_with-requires-clause-sound
 compare_with-requires-clause-sound g c κs within =
@@ -100,16 +98,15 @@ pub returns-in-Err-compare_with-clause-stop : goal.returns-in-Err-compare_with-c
 returns-in-Err-compare_with-clause-stop g c = λ d e.
     let same = as_many c.args.ring.now c.args.names.now.items c.args.stored.now.items c.requires.sound in
     let below : c.args.places.0 < length c.args.stored.now.items = omega (arith, c.requires.within.0, same) in
-    inr (
-      slice_set c.args.stored.now.items c.args.places.0 c.keep_basis.new.stored,
-      record {
-        item = c.keep_basis.new.stored;
-        written = refl;
-        some = c.in-Ok.ensures.kept;
-        list = λ e'. c.in-Ok.ensures.list ∙ ap (λ s. s.list) (at_place c.args.stored.now.items c.args.places.0 c.index_mut.result.now e' below c.index_mut.ensures.value);
-      },
-      subst₂
-          (λ a b. RunFails a (g.B.Groebner.stops c.compare_with.new.engine) b (g.B.Groebner.stopped c.compare_with.new.engine) c.args.ring.now
-          (value_of (get_or c.args.names.now.items c.args.places.1 d) (get_or (slice_set c.args.stored.now.items c.args.places.0 c.keep_basis.new.stored) c.args.places.1 e)) c.in-Err-compare_with.stop)
-          c.in-Ok.ensures.same.0 c.in-Ok.ensures.same.1 (c.in-Err-compare_with.ensures.stop d e),
-    )
+    let keeps : Keeps c.args.stored.now.items c.args.places.0 (slice_set c.args.stored.now.items c.args.places.0 c.keep_basis.new.stored) = record {
+      item = c.keep_basis.new.stored;
+      written = refl;
+      some = c.in-Ok.ensures.kept;
+      list = λ e'. c.in-Ok.ensures.list ∙ ap (λ s. s.list) (at_place c.args.stored.now.items c.args.places.0 c.index_mut.result.now e' below c.index_mut.ensures.value);
+    } in
+    subst₂
+    (λ a b. CallStops (IsRunAtEither c.args.ring.now c.args.names.now.items c.args.stored.now.items c.args.places d e) NoTrail
+    a (g.B.Groebner.stops c.compare_with.new.engine) b (g.B.Groebner.stopped c.compare_with.new.engine) c.in-Err-compare_with.stop)
+    c.in-Ok.ensures.same.0 c.in-Ok.ensures.same.1
+    (call_stops _ _ _ _ (λ r m l h. inr (slice_set c.args.stored.now.items c.args.places.0 c.keep_basis.new.stored, keeps, h)) (no_trail NoTrail)
+    c.in-Err-compare_with.stop (c.in-Err-compare_with.ensures.stop d e))

@@ -1,11 +1,11 @@
 use Rattle.std.proofs.Common.{◌<◌, ◌≡◌, ◌∙◌, Some, ap, arith, length, refl, rules, slice_set, subst, subst₂, sym}
 use Rattle.std.specs.Prelude.{IsSome}
 use Rattle.groebner_iface.specs.Stops.{op_stop_of_run}
-use Rattle.session_lang.specs.Kept.{AreSound, IsSound, value_of}
-use Rattle.session_lang.specs.Failures.{RunFails}
+use Rattle.groebner_iface.specs.Calls.{NoTrail}
+use Rattle.session_lang.specs.Kept.{AreSound, IsSound}
 use Rattle.session_lang.specs.Texts.{verdict}
 use Rattle.session_lang.proofs.KeptValues.{at_place, at_written, compared, decided, undone, written_lists}
-use Rattle.session_lang.proofs.Stopping.{run_fails}
+use Rattle.session_lang.proofs.Stopping.{call_stops, no_trail, placed_run, run_fails}
 use Rattle.session_lang.proofs.Values.{as_many, kept_sound, sound_at}
 use Rattle.session_lang.proofs.answers.compare_with.Goals as goal
 
@@ -31,11 +31,11 @@ returns-in-Err-clause-stop g c = λ d e.
     let same = as_many c.args.ring.now c.args.names.now.items c.args.stored.now.items c.requires.sound in
     let below : c.args.places.1 < length c.args.stored.now.items = omega (arith, c.requires.within.1, same) in
     rw c.from.ensures
-    (subst₂
-    (λ i s. RunFails (g.B.Groebner.stops c.args.engine.now) (g.B.Groebner.stops c.keep_basis.new.engine) (g.B.Groebner.stopped c.args.engine.now) (g.B.Groebner.stopped c.keep_basis.new.engine) c.args.ring.now (value_of i s) (op_stop_of_run c.in-Err.stop))
-    (at_place c.args.names.now.items c.args.places.1 c.index-2.result.now d c.requires.within.1 c.index-2.ensures)
-    (at_place c.args.stored.now.items c.args.places.1 c.index_mut.result.now e below c.index_mut.ensures.value)
-    (run_fails _ _ _ _ c.args.ring.now c.index-2.result.now c.index_mut.result.now c.in-Err.stop c.in-Err.ensures.none.0 c.in-Err.ensures.stop))
+    (call_stops _ _ _ _
+    (placed_run c.args.ring.now c.args.names.now.items c.args.stored.now.items c.args.places.1 d e c.index-2.result.now c.index_mut.result.now
+    c.requires.within.1 below c.index-2.ensures c.index_mut.ensures.value)
+    (no_trail NoTrail) (op_stop_of_run c.in-Err.stop)
+    (run_fails _ _ _ _ NoTrail c.args.ring.now c.index-2.result.now c.index_mut.result.now c.in-Err.stop c.in-Err.ensures.none.0 c.in-Err.ensures.stop))
 
 pub index-requires-3 : goal.index-requires-3
 index-requires-3 g c =

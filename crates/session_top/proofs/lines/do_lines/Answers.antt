@@ -6,14 +6,14 @@ pub loop-line-preserved : goal.loop-line-preserved
 loop-line-preserved g c =
     record {
       going = going_more _ _ _ _ _ _ _ _ _ _ (rw c.in-Some.ensures.0 at c.loop-line.invariant.going) c.in-Ok.ensures.done.1 c.in-Ok.ensures.done.2;
-      pairs = c.in-Ok.ensures.pairs ∙ c.loop-line.invariant.pairs;
+      limits = c.in-Ok.ensures.limits ∙ c.loop-line.invariant.limits;
       room = search rules;
       later = search rules;
     }
 
 pub returns-in-Err-clause-stops : goal.returns-in-Err-clause-stops
 returns-in-Err-clause-stops g c =
-    going_stops _ _ _ _ _ _ _ _ _ _ _ (rw c.in-Some.ensures.0 at c.loop-line.invariant.going) (rw c.loop-line.invariant.pairs at c.in-Err.ensures.stops)
+    going_stops _ _ _ _ _ _ _ _ _ _ _ (rw c.in-Some.ensures.0 at c.loop-line.invariant.going) (rw c.loop-line.invariant.limits at c.in-Err.ensures.stops)
 
 pub returns-then-is_cut-clause-stops : goal.returns-then-is_cut-clause-stops
 returns-then-is_cut-clause-stops g c =

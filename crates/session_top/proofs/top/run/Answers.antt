@@ -1,8 +1,8 @@
 use Rattle.std.proofs.Common.{[], sym, ap, map, string_bytes, ◌≡◌, ◌∙◌}
 use Rattle.std.proofs.KnownBytes.{Consumes-nil, Keeps-refl}
-use Rattle.session_top.specs.Command.{request_of}
+use Rattle.command_words.specs.Command.{request_of}
 use Rattle.session_top.specs.Stops.{stop_status}
-use Rattle.session_top.specs.declared.words.Request.{Request}
+use Rattle.session_top.specs.Limits.{limits_of}
 use Rattle.session_top.proofs.Complete.{LineLaws, done_complete, refused_complete}
 use Rattle.session_top.proofs.Whole.{as_told, nothing_done, stopped_by_degree, stopped_by_pairs}
 use Rattle.session_top.proofs.top.run.Goals as goal
@@ -25,13 +25,13 @@ returns-in-Err-Refused-clause-complete g c form calm_source calm_sink =
 pub returns-in-Err-Stopped-clause-pairs : goal.returns-in-Err-Stopped-clause-pairs
 returns-in-Err-Stopped-clause-pairs g c six =
     let why = rw c.in-Err-Stopped.field-0-is at c.in-Err-Stopped.ensures.stops in
-    let asked : (request_of (map string_bytes c.args.words.now)).pairs ≡ c.in-Ok.request.pairs = sym (ap (λ (r : Request). r.pairs) c.in-Ok.ensures.request) in
+    let asked : limits_of (request_of (map string_bytes c.args.words.now)) ≡ limits_of c.in-Ok.request = sym (ap limits_of c.in-Ok.ensures.request) in
     stopped_by_pairs _ _ _ _ _ _ _ _ (as_told _ _ _ _ _ _ _ _ _ _ _ _ asked c.stop_ending.ensures.line c.stop_ending.ensures.kept c.stop_ending.ensures.trail why)
     (ap stop_status c.stop_ending.ensures.trail ∙ sym c.stop_ending.ensures.status ∙ six)
 
 pub returns-in-Err-Stopped-clause-degree : goal.returns-in-Err-Stopped-clause-degree
 returns-in-Err-Stopped-clause-degree g c seven =
     let why = rw c.in-Err-Stopped.field-0-is at c.in-Err-Stopped.ensures.stops in
-    let asked : (request_of (map string_bytes c.args.words.now)).pairs ≡ c.in-Ok.request.pairs = sym (ap (λ (r : Request). r.pairs) c.in-Ok.ensures.request) in
+    let asked : limits_of (request_of (map string_bytes c.args.words.now)) ≡ limits_of c.in-Ok.request = sym (ap limits_of c.in-Ok.ensures.request) in
     stopped_by_degree _ _ _ _ _ _ _ _ (as_told _ _ _ _ _ _ _ _ _ _ _ _ asked c.stop_ending.ensures.line c.stop_ending.ensures.kept c.stop_ending.ensures.trail why)
     (ap stop_status c.stop_ending.ensures.trail ∙ sym c.stop_ending.ensures.status ∙ seven)

@@ -2,9 +2,11 @@ use Rattle.std.proofs.Common.{None, Some, ap, arith, length, refl, rules, slice_
 use Rattle.std.proofs.lemmas.Result.{IfErr-weaker, on_ok_weaker}
 use Rattle.session_lang.specs.Kept.{AreKept, IsSound, place_named, value_of}
 use Rattle.session_lang.specs.Names.{HasValue}
-use Rattle.session_lang.specs.Failures.{Keeps}
+use Rattle.session_lang.specs.Asking.{asked_of}
+use Rattle.session_lang.specs.Parts.{Keeps}
 use Rattle.session_lang.proofs.Finding.{has_value, kept_after, no_stored, place_given, sound_over}
 use Rattle.session_lang.proofs.KeptValues.{at_place}
+use Rattle.session_lang.proofs.Stopping.{call_stops, run_for, trail_for}
 use Rattle.session_lang.proofs.Values.{kept_as_many, kept_sound, place_bound, sound_at}
 use Rattle.session_lang.proofs.session.Session.ask.Goals as goal
 
@@ -97,4 +99,8 @@ returns-clause-stop g c =
     let has : HasValue before c.args.name.now c.in-Some.ring (value_of c.index.result.now c.index_mut.result.now) =
     subst₂ (λ i s. HasValue before c.args.name.now c.in-Some.ring (value_of i s)) (sym c.index.ensures) (sym c.index_mut.ensures.value)
     (has_value before c.self.inside.ring infos stored c.self.view_is c.in-Some.ring c.args.name.now c.in-Some-place_of.i c.index.result.now c.index_mut.result.now same c.in-Some.is found) in
-    IfErr-weaker c.answer_value.result _ _ (λ stop k. (c.in-Some.ring, value_of c.index.result.now c.index_mut.result.now, has, k)) c.answer_value.ensures.stop
+    let value = value_of c.index.result.now c.index_mut.result.now in
+    IfErr-weaker c.answer_value.result _ _
+    (call_stops _ _ _ _ (run_for before c.args.name.now c.in-Some.ring value has)
+    (trail_for before c.args.name.now c.in-Some.ring value (asked_of c.args.question) has))
+    c.answer_value.ensures.stop

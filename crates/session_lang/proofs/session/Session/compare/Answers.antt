@@ -1,8 +1,10 @@
 use Rattle.std.proofs.Common.{None, Some, ap, get_or, rules, sym, ◌∙◌, ◌≡◌}
 use Rattle.std.proofs.lemmas.Result.{IfErr-weaker, on_ok_weaker}
+use Rattle.groebner_iface.specs.Calls.{NoTrail}
 use Rattle.session_lang.specs.Kept.{place_named, value_of}
 use Rattle.session_lang.proofs.OneAnswer.{one_value}
-use Rattle.session_lang.proofs.Finding.{as_many_after, compare_fails, has_value, kept_after, no_stored, place_given, some_info}
+use Rattle.session_lang.proofs.Finding.{as_many_after, has_value, kept_after, no_stored, place_given, run_for_either, some_info}
+use Rattle.session_lang.proofs.Stopping.{call_stops, no_trail}
 use Rattle.session_lang.proofs.Values.{kept_as_many, place_bound}
 use Rattle.session_lang.proofs.session.Session.compare.Goals as goal
 
@@ -89,6 +91,8 @@ returns-clause-stop g c =
     let d = some_info infos c.in-Some-place_of.i (place_bound infos c.args.first.now c.in-Some-place_of.i found) in
     IfErr-weaker c.compare_values.result _ _
     (λ stop k.
-    compare_fails before c.self.inside.ring infos stored c.self.view_is c.in-Some.ring c.args.first.now c.args.second.now c.in-Some-place_of.i c.in-Some-place_of-2.j d _ _ _ _ stop
-    same c.in-Some.is found found' (k d no_stored))
+    call_stops _ _ _ _
+    (run_for_either before c.self.inside.ring infos stored c.self.view_is c.in-Some.ring c.args.first.now c.args.second.now c.in-Some-place_of.i c.in-Some-place_of-2.j d
+    same c.in-Some.is found found')
+    (no_trail NoTrail) stop (k d no_stored))
     c.compare_values.ensures.stop

@@ -1,4 +1,4 @@
-use Rattle.std.proofs.Common.{Err, Ok, [], refl, subst, subst₂, sym, ◌++◌, ◌∙◌, ◌∷◌, ◌≡◌, ◌⊎◌}
+use Rattle.std.proofs.Common.{Err, Ok, [], refl, subst, subst₂, sym, ◌++◌, ◌∙◌, ◌∷◌, ◌≡◌}
 use Rattle.std.specs.Prelude.{OnOk, Result}
 use Rattle.std.proofs.lemmas.Option.{same_Some}
 use Rattle.std.proofs.lemmas.Result.{IfErr-weaker}
@@ -8,11 +8,11 @@ use Rattle.module_vectors.specs.declared.ring.Ring.{Ring}
 use Rattle.poly_text.specs.Texts.{names_of, poly_text}
 use Rattle.session_lang.specs.Answers.{basis, member, normal_form, sizes_of_basis}
 use Rattle.session_lang.specs.Kept.{IsFit, IsGiven}
-use Rattle.session_lang.specs.Lines.{Answers, Does, IsRunFor, Needs}
+use Rattle.session_lang.specs.Lines.{Answers, Does, IsRunFor, IsRunForEither, Needs}
 use Rattle.session_lang.specs.Names.{HasValue, Value, after_run}
-use Rattle.session_lang.specs.Failures.{Compares, Lists}
-use Rattle.session_lang.specs.Stops.{IsTrailBy, Meets}
-use Rattle.session_lang.proofs.Stopping.{asking_stops, comparing_stops}
+use Rattle.session_lang.specs.Parts.{Compares, Lists}
+use Rattle.session_lang.specs.Stops.{IsTrailFor, Meets}
+use Rattle.session_lang.proofs.Stopping.{call_stops, no_trail}
 use Rattle.session_lang.proofs.session.Session.perform.Goals as goal
 
 pub list-requires : goal.list-requires
@@ -37,11 +37,9 @@ ask-requires-in-Member-clause-given g c κs within =
 pub returns-in-Gb-clause-stop : goal.returns-in-Gb-clause-stop
 returns-in-Gb-clause-stop g c =
     IfErr-weaker c.ask.result _ _
-    (λ stop k.
-    asking_stops (g.B.Groebner.stops c.args.engine.now) (g.B.Groebner.stops c.ask.new.engine) (g.B.Groebner.stopped c.args.engine.now) (g.B.Groebner.stopped c.ask.new.engine)
-    c.args.self.now c.args.stated c.as_bytes-in-Gb.result.now basis
+    (call_stops _ _ _ _
     (λ r m l h. subst (λ s. Needs c.args.self.now s r m l) (sym c.in-Gb.is) (subst (λ n. IsRunFor c.args.self.now n r m l) c.as_bytes-in-Gb.ensures.value h))
-    (λ t r v G h b d. absurd d) stop k)
+    (λ t h. absurd h.3.2))
     c.ask.ensures.stop
 
 both : {T E P Q R : Type 0} (r : Result T E) → (P → Q → R) → OnOk r P → OnOk r Q → OnOk r R
@@ -62,11 +60,9 @@ returns-in-Gb-clause-done g c =
 pub returns-in-Size-clause-stop : goal.returns-in-Size-clause-stop
 returns-in-Size-clause-stop g c =
     IfErr-weaker c.ask-in-Size.result _ _
-    (λ stop k.
-    asking_stops (g.B.Groebner.stops c.args.engine.now) (g.B.Groebner.stops c.ask-in-Size.new.engine) (g.B.Groebner.stopped c.args.engine.now) (g.B.Groebner.stopped c.ask-in-Size.new.engine)
-    c.args.self.now c.args.stated c.as_bytes-in-Size.result.now sizes_of_basis
+    (call_stops _ _ _ _
     (λ r m l h. subst (λ s. Needs c.args.self.now s r m l) (sym c.in-Size.is) (subst (λ n. IsRunFor c.args.self.now n r m l) c.as_bytes-in-Size.ensures.value h))
-    (λ t r v G h b d. absurd d) stop k)
+    (λ t h. absurd h.3.2))
     c.ask-in-Size.ensures.stop
 
 pub returns-in-Size-clause-done : goal.returns-in-Size-clause-done
@@ -83,11 +79,9 @@ returns-in-Size-clause-done g c =
 pub returns-in-NormalForm-clause-stop : goal.returns-in-NormalForm-clause-stop
 returns-in-NormalForm-clause-stop g c =
     IfErr-weaker c.ask-in-NormalForm.result _ _
-    (λ stop k.
-    asking_stops (g.B.Groebner.stops c.args.engine.now) (g.B.Groebner.stops c.ask-in-NormalForm.new.engine) (g.B.Groebner.stopped c.args.engine.now) (g.B.Groebner.stopped c.ask-in-NormalForm.new.engine)
-    c.args.self.now c.args.stated c.as_bytes-in-NormalForm.result.now (normal_form c.in-NormalForm.v)
+    (call_stops _ _ _ _
     (λ r m l h. subst (λ s. Needs c.args.self.now s r m l) (sym c.in-NormalForm.is) (subst (λ n. IsRunFor c.args.self.now n r m l) c.as_bytes-in-NormalForm.ensures.value h))
-    (λ t r v G h b d. subst (λ s. Meets c.args.self.now s t) (sym c.in-NormalForm.is) (subst (λ n. IsTrailBy c.args.self.now n c.in-NormalForm.v t) c.as_bytes-in-NormalForm.ensures.value (r, v, G, h, b, d))) stop k)
+    (λ t h. subst (λ s. Meets c.args.self.now s t) (sym c.in-NormalForm.is) (subst (λ n. IsTrailFor c.args.self.now n (normal_form c.in-NormalForm.v) t) c.as_bytes-in-NormalForm.ensures.value h)))
     c.ask-in-NormalForm.ensures.stop
 
 pub returns-in-NormalForm-clause-done : goal.returns-in-NormalForm-clause-done
@@ -104,11 +98,9 @@ returns-in-NormalForm-clause-done g c =
 pub returns-in-Member-clause-stop : goal.returns-in-Member-clause-stop
 returns-in-Member-clause-stop g c =
     IfErr-weaker c.ask-in-Member.result _ _
-    (λ stop k.
-    asking_stops (g.B.Groebner.stops c.args.engine.now) (g.B.Groebner.stops c.ask-in-Member.new.engine) (g.B.Groebner.stopped c.args.engine.now) (g.B.Groebner.stopped c.ask-in-Member.new.engine)
-    c.args.self.now c.args.stated c.as_bytes-in-Member.result.now (member c.in-Member.v)
+    (call_stops _ _ _ _
     (λ r m l h. subst (λ s. Needs c.args.self.now s r m l) (sym c.in-Member.is) (subst (λ n. IsRunFor c.args.self.now n r m l) c.as_bytes-in-Member.ensures.value h))
-    (λ t r v G h b d. subst (λ s. Meets c.args.self.now s t) (sym c.in-Member.is) (subst (λ n. IsTrailBy c.args.self.now n c.in-Member.v t) c.as_bytes-in-Member.ensures.value (r, v, G, h, b, d))) stop k)
+    (λ t h. subst (λ s. Meets c.args.self.now s t) (sym c.in-Member.is) (subst (λ n. IsTrailFor c.args.self.now n (member c.in-Member.v) t) c.as_bytes-in-Member.ensures.value h)))
     c.ask-in-Member.ensures.stop
 
 pub returns-in-Member-clause-done : goal.returns-in-Member-clause-done
@@ -170,10 +162,8 @@ returns-in-Equal-clause-done g c =
 pub returns-in-Equal-clause-stop : goal.returns-in-Equal-clause-stop
 returns-in-Equal-clause-stop g c =
     IfErr-weaker c.compare.result _ _
-    (λ stop k.
-    comparing_stops (g.B.Groebner.stops c.args.engine.now) (g.B.Groebner.stops c.compare.new.engine) (g.B.Groebner.stopped c.args.engine.now) (g.B.Groebner.stopped c.compare.new.engine)
-    c.args.self.now c.args.stated c.as_bytes-in-Equal.result.now c.as_bytes-in-Equal-2.result.now
+    (call_stops _ _ _ _
     (λ r m l h. subst (λ s. Needs c.args.self.now s r m l) (sym c.in-Equal.is)
-    (subst₂ (λ a b. IsRunFor c.args.self.now a r m l ⊎ IsRunFor (after_run a c.args.self.now) b r m l)
-    c.as_bytes-in-Equal.ensures.value c.as_bytes-in-Equal-2.ensures.value h)) stop k)
+    (subst₂ (λ a b. IsRunForEither c.args.self.now a b r m l) c.as_bytes-in-Equal.ensures.value c.as_bytes-in-Equal-2.ensures.value h))
+    (no_trail (Meets c.args.self.now c.args.stated)))
     c.compare.ensures.stop

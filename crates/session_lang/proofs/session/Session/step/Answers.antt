@@ -1,7 +1,7 @@
 use Rattle.std.proofs.Common.{refl, subst, sym}
 use Rattle.std.specs.Prelude.{option_copied}
 use Rattle.session_lang.proofs.Reported.{fits, refuses, states}
-use Rattle.session_lang.proofs.Stopping.{stated_stops}
+use Rattle.session_lang.proofs.Stopping.{call_stops}
 use Rattle.session_lang.specs.Lines.{Refuses}
 use Rattle.session_lang.proofs.session.Session.step.Goals as goal
 
@@ -25,11 +25,10 @@ returns-in-Ok-perform-clause-steps g c =
 
 pub returns-in-Err-clause-stop : goal.returns-in-Err-clause-stop
 returns-in-Err-clause-stop g c =
-    stated_stops (g.B.Groebner.stops c.args.engine.now) (g.B.Groebner.stops c.perform.new.engine) (g.B.Groebner.stopped c.args.engine.now) (g.B.Groebner.stopped c.perform.new.engine)
-    c.args.self.now c.args.line.now c.in-Ok.stated
-    (states c.args.self.now c.self.inside.ring c.self.inside.names.items c.self.inside.stored.items c.self.view_is c.self.invariant
-    (option_copied c.as_ref.result) c.deref.result.now c.as_ref.ensures.value c.deref.ensures.value c.args.line.now c.in-Ok.stated c.in-Ok.ensures)
-    c.in-Err.stop c.in-Err.ensures.stop
+    let stated =
+    states c.args.self.now c.self.inside.ring c.self.inside.names.items c.self.inside.stored.items c.self.view_is c.self.invariant
+    (option_copied c.as_ref.result) c.deref.result.now c.as_ref.ensures.value c.deref.ensures.value c.args.line.now c.in-Ok.stated c.in-Ok.ensures in
+    call_stops _ _ _ _ (λ r m l h. (c.in-Ok.stated, stated, h)) (λ t h. (c.in-Ok.stated, stated, h)) c.in-Err.stop c.in-Err.ensures.stop
 
 pub returns-in-Err-Refused-clause-steps : goal.returns-in-Err-Refused-clause-steps
 returns-in-Err-Refused-clause-steps g c = (

@@ -7,8 +7,8 @@ use Rattle.clap.specs.Faults.{fault_of}
 use Rattle.clap.specs.ValueTests.{is_unsigned_in}
 use Rattle.clap.specs.declared.builder.action.ArgAction.TheVariants.{Set}
 use Rattle.clap.specs.declared.builder.value_parser.ValueParser.TheVariants as parser
-use Rattle.session_top.specs.declared.words.Request.{Request}
-use Rattle.session_top.specs.declared.words.Command.TheVariants.{Run}
+use Rattle.command_words.specs.declared.words.Request.{Request}
+use Rattle.command_words.specs.declared.words.Command.TheVariants.{Run}
 
 -- an option with one number in these bounds, set at most once
 abbrev pub number_rule : List ℕ → ℕ → ℕ → Rule

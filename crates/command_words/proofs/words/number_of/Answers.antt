@@ -1,5 +1,5 @@
-use Rattle.session_top.proofs.Numbers.{read_number, read_nothing}
-use Rattle.session_top.proofs.words.number_of.Goals as goal
+use Rattle.command_words.proofs.Numbers.{read_number, read_nothing}
+use Rattle.command_words.proofs.words.number_of.Goals as goal
 
 pub returns-in-Some-clause-number : goal.returns-in-Some-clause-number
 returns-in-Some-clause-number c =

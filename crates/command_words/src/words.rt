@@ -5,7 +5,7 @@ ghost use Rattle.clap.specs.Kinds.{FailsBy};
 ghost use Rattle.clap.specs.Faults.{fault_of};
 ghost use Rattle.clap.specs.Simple.{subcommand_rows_of, subcommand_of};
 ghost use Rattle.clap.specs.Walk.{rule_of};
-ghost use Rattle.session_top.specs.Command.{number_rule, words_app, IsForm, number_or, request_of};
+ghost use Rattle.command_words.specs.Command.{number_rule, words_app, IsForm, number_or, request_of};
 
 use clap::builder::ValueParser;
 use clap::error::ErrorKind;

@@ -9,9 +9,9 @@ use Rattle.clap.specs.declared.parser.matches.Found.{Found}
 use Rattle.clap.specs.declared.builder.value_parser.ValueParser.TheVariants as parser
 use Rattle.clap.proofs.WalkLemmas.{one_text-rows}
 use Rattle.clap.proofs.ValueTestLemmas.{accepts-Accepts, Accepts-accepts}
-use Rattle.session_top.specs.declared.words.Request.{Request}
-use Rattle.session_top.specs.declared.words.Command.TheVariants.{Run}
-use Rattle.session_top.specs.Command.{number_or, option_text, request_of}
+use Rattle.command_words.specs.declared.words.Request.{Request}
+use Rattle.command_words.specs.declared.words.Command.TheVariants.{Run}
+use Rattle.command_words.specs.Command.{number_or, option_text, request_of}
 
 -- a text that is read as a number within the bounds states it
 pub number_within : (least most default n : ℕ) (text : Text) → IsNumeral 10 (without_leading_plus text) → digits_value 10 (without_leading_plus text) < 2 ^ 64

@@ -1,7 +1,7 @@
 use Rattle.std.proofs.Common.{codes, map, string_bytes}
 use Rattle.clap.specs.Matches.{found_of}
-use Rattle.session_top.proofs.Numbers.{chosen_number, request_is}
-use Rattle.session_top.proofs.words.read_words.Goals as goal
+use Rattle.command_words.proofs.Numbers.{chosen_number, request_is}
+use Rattle.command_words.proofs.words.read_words.Goals as goal
 
 pub returns-in-Some-clause-request : goal.returns-in-Some-clause-request
 returns-in-Some-clause-request c =

@@ -3,8 +3,8 @@ use Rattle.std.proofs.lemmas.Result.{IfOk-weaker}
 use Rattle.clap.specs.Kinds.{FailsBy}
 use Rattle.clap.specs.Faults.{fault_of, is_simple_and_free}
 use Rattle.clap.specs.Simple.{App, app_of, app_of_fields, new_app, is_simple, subcommand_of, with_rule, with_subcommand}
-use Rattle.session_top.specs.Command.{words_app, run_app, requiring}
-use Rattle.session_top.proofs.words.parse.Goals as goal
+use Rattle.command_words.specs.Command.{words_app, run_app, requiring}
+use Rattle.command_words.proofs.words.parse.Goals as goal
 
 pub returns-clause-exact : goal.returns-clause-exact
 returns-clause-exact c =
