@@ -1,0 +1,81 @@
+"""Systems of equations that benchmarks use, and what they time them with: Katsura's equations, the cyclic roots, and six
+random quadrics in six variables, all over Z/32003 in grevlex."""
+import os
+import random
+import subprocess
+import tempfile
+import time
+
+MODULUS = 32003
+LIMIT = 600
+
+
+def katsura(n):
+    """n + 1 unknowns u_0..u_n: their sum, and for m below n the sums of the products u_i u_j with i - j = m."""
+    u = lambda i: f"u{abs(i)}" if abs(i) <= n else None
+    product = lambda i, m: f"{u(i)}*{u(m - i)}"
+    sums = ["+".join(u(i) for i in range(-n, n + 1)) + "-1"]
+    for m in range(n):
+        terms = [product(i, m) for i in range(-n, n + 1) if u(m - i)]
+        sums.append("+".join(terms) + f"-{u(m)}")
+    return [f"u{i}" for i in range(n + 1)], sums
+
+
+def cyclic(n):
+    names = [f"x{i}" for i in range(1, n + 1)]
+    lists = [
+        "+".join("*".join(names[(i + j) % n] for j in range(degree)) for i in range(n)) for degree in range(1, n)
+    ]
+    return names, lists + ["*".join(names) + "-1"]
+
+
+def quadrics(n):
+    draw = random.Random(6)
+    names = [f"x{i}" for i in range(1, n + 1)]
+    monomials = [f"{a}*{b}" for i, a in enumerate(names) for b in names[i:]] + names
+    return names, ["+".join(f"{draw.randrange(1, MODULUS)}*{m}" for m in monomials) for _ in range(n)]
+
+
+SYSTEMS = (
+    [(f"katsura-{n}", katsura(n)) for n in (4, 5, 6)]
+    + [(f"cyclic-{n}", cyclic(n)) for n in (4, 5, 6)]
+    + [("6 quadrics", quadrics(6))]
+)
+
+
+def script_of(names, generators):
+    return f"ring {MODULUS} {','.join(names)} grevlex\nideal I = {', '.join(generators)}\nsize I\n"
+
+
+def run(words, script):
+    """Seconds, peak memory in KiB, status and output of a program that reads the script."""
+    with tempfile.TemporaryFile() as given, tempfile.TemporaryFile() as printed:
+        given.write(script.encode())
+        given.seek(0)
+        begin = time.perf_counter()
+        child = subprocess.Popen(words, stdin=given, stdout=printed, stderr=subprocess.DEVNULL)
+        _, status, usage = os.wait4(child.pid, 0)
+        taken = time.perf_counter() - begin
+        child.returncode = os.waitstatus_to_exitcode(status)
+        printed.seek(0)
+        return taken, usage.ru_maxrss, child.returncode, printed.read()
+
+
+def best(words, script):
+    """The fastest of three runs, or of one that takes long."""
+    runs = [run(words, script)]
+    while len(runs) < 3 and runs[0][0] < 20:
+        runs.append(run(words, script))
+    return min(runs)
+
+
+def singular(command, names, generators):
+    """Seconds of Singular's own timer for `std` or `liftstd`."""
+    call = {"std": "ideal G = std(I);", "liftstd": "matrix T; ideal G = liftstd(I, T);"}[command]
+    script = (
+        f"ring r = {MODULUS},({','.join(names)}),dp;\nideal I = {','.join(generators)};\noption(redSB);\n"
+        f"int t = rtimer; system(\"--ticks-per-sec\", 1000); t = rtimer; {call} rtimer - t; quit;\n"
+    )
+    done = subprocess.run(["timeout", str(LIMIT), "Singular", "-q"], input=script.encode(), stdout=subprocess.PIPE)
+    lines = done.stdout.decode().split()
+    return f"{int(lines[-1]) / 1000:.3f} s" if done.returncode == 0 and lines else "-"
