@@ -3,3 +3,4 @@ pub mod SquareBasis
 pub mod SquareMaps
 pub mod SquareTable
 pub mod SquareNumerator
+pub mod WeightedSquare

@@ -7,6 +7,7 @@ use Rattle.formal_sums.specs.Combinations.{IsSyzygy}
 use Rattle.formal_sums.specs.FormalSums.{Key, coefficient}
 use Rattle.orders.specs.KeyOrders.{KeyDivides, pot}
 use Rattle.orders.specs.MonomialOrders.{lex}
+use Rattle.bases.proofs.FreeTerms.{IsCovered_monic}
 use Rattle.bases.proofs.NormalForms.{IsMonicList_normal}
 use Rattle.bases.specs.Bases.{IsCovered}
 use Rattle.bases.specs.Leads.{IsMonicList, IsNormal, head_coefficient, head_key, leads}
@@ -43,10 +44,10 @@ relations_syzygies = each_at (IsSyzygy 101 generators) [] relations (
 )
 
 -- the leads of the relations cover those of the pairs
-relations_pairs : (i j : ℕ) → i < j → j < 3 → (leads generators i).0 ≡ (leads generators j).0 → IsCovered relations (pair_lead_key generators i j)
-relations_pairs zero (suc zero) lt h e = (0, omega arith, (monomial 0 0, refl))
-relations_pairs zero (suc (suc zero)) lt h e = (0, omega arith, (monomial 0 1, refl))
-relations_pairs (suc zero) (suc (suc zero)) lt h e = (1, omega arith, (monomial 0 0, refl))
+relations_pairs : (i j : ℕ) → i < j → j < 3 → (leads generators i).0 ≡ (leads generators j).0 → IsCovered up relations (pair_lead_key generators i j)
+relations_pairs zero (suc zero) lt h e = IsCovered_monic up up_lawful relations relations_monic 0 _ (omega arith) (monomial 0 0, refl)
+relations_pairs zero (suc (suc zero)) lt h e = IsCovered_monic up up_lawful relations relations_monic 0 _ (omega arith) (monomial 0 1, refl)
+relations_pairs (suc zero) (suc (suc zero)) lt h e = IsCovered_monic up up_lawful relations relations_monic 1 _ (omega arith) (monomial 0 0, refl)
 relations_pairs i zero lt h e = absurd (omega (arith, lt))
 relations_pairs i (suc (suc (suc j))) lt h e = absurd (omega (arith, h))
 relations_pairs (suc i) (suc zero) lt h e = absurd (omega (arith, lt))
@@ -90,7 +91,7 @@ relations_map = record {
 pub relations_last : IsExact 101 relations []
 relations_last = exact_of_pairs up up_lawful relations relations_monic [] (record { monic = λ i h. absurd (omega (arith, h)); ranked = λ i h. absurd (omega (arith, h)) }) (λ c h. absurd (omega (arith, h))) none
   where
-    none : (i j : ℕ) → i < j → j < 2 → (leads relations i).0 ≡ (leads relations j).0 → IsCovered [] (pair_lead_key relations i j)
+    none : (i j : ℕ) → i < j → j < 2 → (leads relations i).0 ≡ (leads relations j).0 → IsCovered (induced_setting up relations) [] (pair_lead_key relations i j)
     none zero (suc zero) lt h e = absurd (omega (arith, e))
     none i zero lt h e = absurd (omega (arith, lt))
     none i (suc (suc j)) lt h e = absurd (omega (arith, h))

@@ -3,4 +3,6 @@
 
 mod square_laws;
 
-pub use square_laws::{square_numerator, square_resolution, square_table};
+pub use square_laws::{
+    square_numerator, square_resolution, square_table, weighted_degree_of_two, weighted_square,
+};

@@ -34,16 +34,16 @@ monic_y = record {
 }
 
 -- ---- the members
-free_cubic : IsCovered generators (at 0 0 3) → ⊥
-free_cubic (zero, h, d) = x_apart 2 0 0 3 (omega arith) d
-free_cubic (suc zero, h, d) = x_apart 1 1 0 3 (omega arith) d
-free_cubic (suc (suc i), h, d) = absurd (omega arith)
+free_cubic : IsCovered setting generators (at 0 0 3) → ⊥
+free_cubic (zero, h, lead, d) = x_apart 2 0 0 3 (omega arith) d
+free_cubic (suc zero, h, lead, d) = x_apart 1 1 0 3 (omega arith) d
+free_cubic (suc (suc i), h, lead, d) = absurd (omega arith)
 
-free_y : IsCovered (vectors old_members) (at 0 0 1) → ⊥
-free_y (zero, h, d) = x_apart 2 0 0 1 (omega arith) d
-free_y (suc zero, h, d) = x_apart 1 1 0 1 (omega arith) d
-free_y (suc (suc zero), h, d) = y_apart 0 3 0 1 (omega arith) d
-free_y (suc (suc (suc i)), h, d) = absurd (omega arith)
+free_y : IsCovered setting (vectors old_members) (at 0 0 1) → ⊥
+free_y (zero, h, lead, d) = x_apart 2 0 0 1 (omega arith) d
+free_y (suc zero, h, lead, d) = x_apart 1 1 0 1 (omega arith) d
+free_y (suc (suc zero), h, lead, d) = y_apart 0 3 0 1 (omega arith) d
+free_y (suc (suc (suc i)), h, lead, d) = absurd (omega arith)
 
 leaves_cubic : LeavesMember setting two_members cubic_member [] 1 1 cubic_member
 leaves_cubic = record { quotients = tt; reached = tt; at_most = inr refl; inverse = record { same = refl }; vector = IsSame_of 101 _ _ refl; cofactors = IsSame_of 101 _ _ refl; member = monic_cubic; free = free_cubic }

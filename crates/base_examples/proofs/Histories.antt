@@ -38,17 +38,17 @@ pub monic_2 : IsMonicMember setting y_squared
 monic_2 = record { monic = IsMonicLead_normal setting lawful y_squared (basis_normal 2 (omega arith)) refl; ranked = (omega arith, tt) }
 
 -- ---- the members: no row is divided
-pub free_0 : IsCovered {n = 2} [] (at 0 2 0) → ⊥
-free_0 (i, h, d) = absurd (omega arith)
+pub free_0 : IsCovered setting [] (at 0 2 0) → ⊥
+free_0 (i, h, lead, d) = absurd (omega arith)
 
-pub free_1 : IsCovered (square_plus ∷ []) (at 0 1 1) → ⊥
-free_1 (zero, h, d) = x_apart 2 0 1 1 (omega arith) d
-free_1 (suc i, h, d) = absurd (omega arith)
+pub free_1 : IsCovered setting (square_plus ∷ []) (at 0 1 1) → ⊥
+free_1 (zero, h, lead, d) = x_apart 2 0 1 1 (omega arith) d
+free_1 (suc i, h, lead, d) = absurd (omega arith)
 
-free_2 : IsCovered generators (at 0 0 2) → ⊥
-free_2 (zero, h, d) = x_apart 2 0 0 2 (omega arith) d
-free_2 (suc zero, h, d) = x_apart 1 1 0 2 (omega arith) d
-free_2 (suc (suc i), h, d) = absurd (omega arith)
+free_2 : IsCovered setting generators (at 0 0 2) → ⊥
+free_2 (zero, h, lead, d) = x_apart 2 0 0 2 (omega arith) d
+free_2 (suc zero, h, lead, d) = x_apart 1 1 0 2 (omega arith) d
+free_2 (suc (suc i), h, lead, d) = absurd (omega arith)
 
 pub leaves_0 : LeavesMember setting [] member_0 [] 1 1 member_0
 leaves_0 = record { quotients = tt; reached = tt; at_most = inr refl; inverse = record { same = refl }; vector = IsSame_of 101 _ _ refl; cofactors = IsSame_of 101 _ _ refl; member = monic_0; free = free_0 }

@@ -25,17 +25,17 @@ monic_x = record {
   ranked = (omega arith, tt);
 }
 
-free_x : IsCovered {n = 2} [] (at 0 2 0) → ⊥
-free_x (i, h, d) = absurd (omega arith)
+free_x : IsCovered setting [] (at 0 2 0) → ⊥
+free_x (i, h, lead, d) = absurd (omega arith)
 
-free_xy : IsCovered (x_squared ∷ []) (at 0 1 1) → ⊥
-free_xy (zero, h, d) = x_apart 2 0 1 1 (omega arith) d
-free_xy (suc i, h, d) = absurd (omega arith)
+free_xy : IsCovered setting (x_squared ∷ []) (at 0 1 1) → ⊥
+free_xy (zero, h, lead, d) = x_apart 2 0 1 1 (omega arith) d
+free_xy (suc i, h, lead, d) = absurd (omega arith)
 
-free_y : IsCovered (x_squared ∷ (xy ∷ [])) (at 0 0 2) → ⊥
-free_y (zero, h, d) = x_apart 2 0 0 2 (omega arith) d
-free_y (suc zero, h, d) = x_apart 1 1 0 2 (omega arith) d
-free_y (suc (suc i), h, d) = absurd (omega arith)
+free_y : IsCovered setting (x_squared ∷ (xy ∷ [])) (at 0 0 2) → ⊥
+free_y (zero, h, lead, d) = x_apart 2 0 0 2 (omega arith) d
+free_y (suc zero, h, lead, d) = x_apart 1 1 0 2 (omega arith) d
+free_y (suc (suc i), h, lead, d) = absurd (omega arith)
 
 leaves_x : LeavesMember setting [] x_member [] 1 1 x_member
 leaves_x = record { quotients = tt; reached = tt; at_most = inr refl; inverse = record { same = refl }; vector = IsSame_of 101 _ _ refl; cofactors = IsSame_of 101 _ _ refl; member = monic_x; free = free_x }

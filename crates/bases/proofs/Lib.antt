@@ -1,5 +1,6 @@
 pub mod Below
 pub mod Covering
+pub mod FreeTerms
 pub mod Leading
 pub mod MoreMembers
 pub mod NormalForms

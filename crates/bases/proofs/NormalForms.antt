@@ -16,7 +16,8 @@ module _ {n : ℕ} (S : Setting n) (lawful : IsLawful S) where
   IsAbove k v = Each (λ u. S.compare k u.0 ≡ Greater) v
 
   -- from k up nothing stands in v
-  none_from : (k l : Key n) (v : FormalSum n) → IsAbove k v → (S.compare k l ≡ Less) ⊎ (k ≡ l) → coefficient v l ≡ 0
+  -- below k nothing stands at k
+  pub none_from : (k l : Key n) (v : FormalSum n) → IsAbove k v → (S.compare k l ≡ Less) ⊎ (k ≡ l) → coefficient v l ≡ 0
   none_from k l [] h e = refl
   none_from k l (t ∷ v) h e = go (same_key l t.0) refl (none_from k l v h.1 e) e
     where

@@ -6,21 +6,30 @@ use Rattle.residues.specs.Residues.{IsCongruent}
 use Rattle.formal_sums.specs.Combinations.{IsMember}
 use Rattle.formal_sums.specs.FormalSums.{FormalSum, Key, coefficient}
 use Rattle.orders.specs.KeyOrders.{KeyDivides}
-use Rattle.bases.specs.Leads.{IsLead, IsMonicLead, IsNormal, head_key, leads}
+use Rattle.bases.specs.Leads.{IsLead, IsMonicLead, IsNormal, leads}
 use Rattle.bases.specs.Settings.{Setting}
 
--- some lead of G divides k (IVA chapter 2, section 4)
-abbrev pub IsCovered : {n : ℕ} → List (FormalSum n) → Key n → Type 0
-IsCovered G k = (i : ℕ) × (i < length G) × KeyDivides (leads G i) k
+-- some member of G begins with its lead, and this divides k: zero covers no key (IVA chapter 2, section 4)
+abbrev pub IsCovered : {n : ℕ} → Setting n → List (FormalSum n) → Key n → Type 0
+IsCovered S G k = (i : ℕ) × (i < length G) × IsLead S (get_or G i []) (leads G i) × KeyDivides (leads G i) k
+
+-- no lead of G divides a term of v: its coefficient at each covered key is 0 (IVA chapter 2, section 3)
+abbrev pub HasFreeTerms : {n : ℕ} → Setting n → List (FormalSum n) → FormalSum n → Type 0
+HasFreeTerms {n} S G v = (k : Key n) → IsCovered S G k → IsCongruent S.modulus (coefficient v k) 0
+
+-- the first key of g as a vector of one term; zero for zero
+abbrev pub lead_vector : {n : ℕ} → FormalSum n → FormalSum n
+lead_vector [] = []
+lead_vector (t ∷ g) = (t.0, 1) ∷ []
 
 -- the leads of the members of G, as vectors of one term: they generate the textbook's module of leading terms
 abbrev pub lead_vectors : {n : ℕ} → List (FormalSum n) → List (FormalSum n)
-lead_vectors G = map (λ g. (head_key g, 1) ∷ []) G
+lead_vectors G = map lead_vector G
 
 -- G is a Gröbner basis of the module of F (IVA chapter 2, section 5; UAG chapter 5, section 2)
 pub record IsGroebnerBasis {n : ℕ} (S : Setting n) (F G : List (FormalSum n)) : Type 0 where
   pub members : (i : ℕ) → i < length G → IsMember S.modulus F (get_or G i [])
-  pub covers : (v : FormalSum n) (k : Key n) → IsMember S.modulus F v → IsLead S v k → IsCovered G k
+  pub covers : (v : FormalSum n) (k : Key n) → IsMember S.modulus F v → IsLead S v k → IsCovered S G k
 
 -- G is a reduced Gröbner basis of the module of F, in any order of its members (IVA chapter 2, section 7)
 pub record IsReducedSet {n : ℕ} (S : Setting n) (F G : List (FormalSum n)) : Type 0 where

@@ -252,7 +252,7 @@ module _ {n : ℕ} (r : Run n) (ok : IsLawfulRun r) (s : State n) (inv : HoldsIn
         members = makes_members S ok.setting G h.rows made h.makes inv.members;
         combined = makes_combined S ok.setting r.generators G h.rows made h.makes h.outcome.combined inv.combined;
         generators = λ i l. subst (λ v. IsMember S.modulus v (get_or r.generators i [])) (sym vs) (module_more S ok.setting (vectors G) (vectors made) (get_or r.generators i []) (inv.generators i l));
-        new_leads = makes_new_leads S ok.setting G h.rows made h.makes inv.new_leads;
+        new_leads = makes_new_leads S ok.setting G h.rows made h.makes inv.members inv.new_leads;
         covered = put_covered S ok.setting G h.rows made h.base h.makes h.had s.queue h.queue s.out w h.outcome.pairs h.outcome.represented h.queues inv.covered;
         real = λ x p. real x (new_cases x) (subst (λ l. 0 < count x h.queue + count x l) same p);
         sorted = h.queues.sorted;

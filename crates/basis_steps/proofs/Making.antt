@@ -11,13 +11,13 @@ use Rattle.formal_sums.proofs.Combining.{IsSame_combination}
 use Rattle.formal_sums.specs.Combinations.{IsMember, combination}
 use Rattle.formal_sums.specs.FormalSums.{Each, FormalSum, IsSame, scale}
 use Rattle.orders.specs.KeyOrders.{KeyDivides}
-use Rattle.bases.proofs.Leading.{positive}
+use Rattle.bases.proofs.Leading.{IsLead_of_monic, positive}
 use Rattle.bases.proofs.MoreMembers.{get_or-append_front}
 use Rattle.bases.specs.Bases.{IsCovered}
 use Rattle.bases.specs.Leads.{head_key, leads}
 use Rattle.bases.specs.Settings.{IsLawful, Setting}
 use Rattle.division_laws.specs.Standard.{HasStandardRepresentation}
-use Rattle.basis_steps.proofs.Growing.{leads_front, vectors-append}
+use Rattle.basis_steps.proofs.Growing.{each_at, leads_front, vectors-append}
 use Rattle.basis_steps.specs.Divisions.{IsCombined, IsMonicMember, LeavesMember, Makes, difference}
 use Rattle.basis_steps.specs.Invariant.{HasNewLeads}
 use Rattle.basis_steps.specs.States.{Member, cofactor_lists, vectors}
@@ -38,8 +38,9 @@ module _ {n : ℕ} (S : Setting n) (lawful : IsLawful S) where
   -- ---- new leads
   leads_more :
       (G : List (Member n)) (g : Member n)
-      → HasNewLeads (vectors G) → (IsCovered (vectors G) (head_key g.vector) → ⊥) → HasNewLeads (vectors (G ++ (g ∷ [])))
-  leads_more G g h free i j l m d = go (cases_lt j (length (vectors G)))
+      → Each (IsMonicMember S) (vectors G) → HasNewLeads (vectors G) → (IsCovered S (vectors G) (head_key g.vector) → ⊥)
+      → HasNewLeads (vectors (G ++ (g ∷ [])))
+  leads_more G g ms h free i j l m d = go (cases_lt j (length (vectors G)))
     where
       vs : vectors (G ++ (g ∷ [])) ≡ vectors G ++ (g.vector ∷ [])
       vs = vectors-append G (g ∷ [])
@@ -58,15 +59,18 @@ module _ {n : ℕ} (S : Setting n) (lawful : IsLawful S) where
       go (inr q) =
           let e : j ≡ length (vectors G) = omega (arith, long) in
           let f : leads (vectors (G ++ (g ∷ []))) j ≡ head_key g.vector = ap (leads (vectors (G ++ (g ∷ [])))) e ∙ last in
-          free (i, omega arith, subst (λ k. KeyDivides k (head_key g.vector)) (old i (omega arith)) (subst (λ k. KeyDivides (leads (vectors (G ++ (g ∷ []))) i) k) f d))
+          let at : i < length (vectors G) = omega (arith, l, e) in
+          free (i, at, IsLead_of_monic S lawful (each_at (IsMonicMember S) (vectors G) i [] ms at).monic, subst (λ k. KeyDivides k (head_key g.vector)) (old i (omega arith)) (subst (λ k. KeyDivides (leads (vectors (G ++ (g ∷ []))) i) k) f d))
 
   pub makes_new_leads :
       (G rows made : List (Member n))
-      → Makes S G rows made → HasNewLeads (vectors G) → HasNewLeads (vectors (G ++ made))
-  makes_new_leads G [] made e h = subst (λ m. HasNewLeads (vectors (G ++ m))) (sym e) (subst (λ l. HasNewLeads (vectors l)) (sym (append-nil G)) h)
-  makes_new_leads G (row ∷ rows) made (inl (a, v, rest)) h = makes_new_leads G rows made rest h
-  makes_new_leads G (row ∷ rows) made (inr (a, c, d, g, later, l, e, rest)) h =
-      subst (λ l. HasNewLeads (vectors l)) (append_assoc G (g ∷ []) later ∙ ap (λ x. G ++ x) (sym e)) (makes_new_leads (G ++ (g ∷ [])) rows later rest (leads_more G g h l.free))
+      → Makes S G rows made → Each (IsMonicMember S) (vectors G) → HasNewLeads (vectors G) → HasNewLeads (vectors (G ++ made))
+  makes_new_leads G [] made e ms h = subst (λ m. HasNewLeads (vectors (G ++ m))) (sym e) (subst (λ l. HasNewLeads (vectors l)) (sym (append-nil G)) h)
+  makes_new_leads G (row ∷ rows) made (inl (a, v, rest)) ms h = makes_new_leads G rows made rest ms h
+  makes_new_leads G (row ∷ rows) made (inr (a, c, d, g, later, l, e, rest)) ms h =
+      subst (λ l. HasNewLeads (vectors l)) (append_assoc G (g ∷ []) later ∙ ap (λ x. G ++ x) (sym e)) (makes_new_leads (G ++ (g ∷ [])) rows later rest
+      (subst (Each (IsMonicMember S)) (sym (vectors-append G (g ∷ []))) (Each_append (IsMonicMember S) (vectors G) (g.vector ∷ []) ms (l.member, tt)))
+      (leads_more G g ms h l.free))
 
   -- ---- combinations of the generators F
   module _ (F : List (FormalSum n)) where

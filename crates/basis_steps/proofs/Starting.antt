@@ -30,7 +30,7 @@ module _ {n : ℕ} (r : Run n) (ok : IsLawfulRun r) where
     members = makes_members r.setting ok.setting [] (generator_rows 0 r.generators) s.members h.makes tt;
     combined = makes_combined r.setting ok.setting r.generators [] (generator_rows 0 r.generators) s.members h.makes (generators_combined r.setting ok.setting r.generators r.generators 0 (λ i. ap (λ j. get_or r.generators j []) (omega arith))) tt;
     generators = λ i l. generators_inside r.setting ok.setting (vectors s.members) r.generators 0 i (rows_standard r.setting ok.setting [] (generator_rows 0 r.generators) s.members h.makes) l;
-    new_leads = makes_new_leads r.setting ok.setting [] (generator_rows 0 r.generators) s.members h.makes (λ i j l m d. absurd (omega arith));
+    new_leads = makes_new_leads r.setting ok.setting [] (generator_rows 0 r.generators) s.members h.makes tt (λ i j l m d. absurd (omega arith));
     covered = λ x p. let one : ◌≡◌ {A = ℕ} (cond (is_new_pair 0 G x) 1 0) 1 = ap (λ c. cond c 1 0) (is_new-true 0 G x (omega arith) p) in inl (omega (arith, one, h.queues.same x));
     real = λ x p. real x (is_new_pair 0 G x) refl p;
     sorted = h.queues.sorted;

@@ -56,7 +56,7 @@ pub record LeavesMember {n : ℕ} (S : Setting n) (G : List (Member n)) (row : M
   pub vector : IsSame S.modulus g.vector (scale d (unit n) (difference S.modulus row.vector (combination (vectors G) a)))
   pub cofactors : IsSame S.modulus g.cofactors (scale d (unit n) (difference S.modulus row.cofactors (combination (cofactor_lists G) a)))
   pub member : IsMonicMember S g.vector
-  pub free : IsCovered (vectors G) (head_key g.vector) → ⊥
+  pub free : IsCovered S (vectors G) (head_key g.vector) → ⊥
 
 -- division of the row by the members G with the quotients a leaves 0 (IVA chapter 2, section 3)
 pub record LeavesNothing {n : ℕ} (S : Setting n) (G : List (Member n)) (row : Member n) (a : FormalSum n) : Type 0 where

@@ -1,20 +1,18 @@
 -- Remainders: 0 for members alone, and one for each vector
-use Rattle.std.proofs.Common.{List, [], ap, append-nil, arith, inl, inr, refl, subst, sym, ℕ, ◌*◌, ◌++◌, ◌+◌, ◌-◌, ◌<◌, ◌∙◌, ◌∷◌, ◌≡◌}
+use Rattle.std.proofs.Common.{List, [], ap, append-nil, arith, inl, inr, subst, sym, ℕ, ◌*◌, ◌++◌, ◌+◌, ◌-◌, ◌<◌, ◌∙◌, ◌≡◌}
 use Rattle.residues.proofs.Congruences.{IsCongruent_add, IsCongruent_minus, IsCongruent_multiply, IsCongruent_of, IsCongruent_of_minus, IsCongruent_refl, IsCongruent_trans}
 use Rattle.residues.specs.Residues.{IsCongruent}
 use Rattle.monomials.specs.Exponents.{unit}
 use Rattle.formal_sums.proofs.Combining.{IsMember_append, IsMember_same, IsMember_scale}
 use Rattle.formal_sums.proofs.Sameness.{weighted_sum-minus}
-use Rattle.formal_sums.proofs.WeightedSums.{indicator_other}
 use Rattle.formal_sums.specs.Combinations.{IsMember}
 use Rattle.formal_sums.specs.FormalSums.{FormalSum, IsSame, Key, coefficient, indicator, scale}
 use Rattle.bases.proofs.Leading.{positive}
 use Rattle.bases.proofs.NormalForms.{normal_unique}
 use Rattle.bases.proofs.Normalizing.{HasLead, has_lead}
-use Rattle.bases.specs.Bases.{IsCovered, IsGroebnerBasis}
+use Rattle.bases.specs.Bases.{HasFreeTerms, IsCovered, IsGroebnerBasis}
 use Rattle.bases.specs.Leads.{IsLead, IsNormal}
 use Rattle.bases.specs.Settings.{IsLawful, Setting}
-use Rattle.division_laws.specs.Remainders.{HasFreeTerms}
 
 -- v - (v - w) is w
 minus_twice :
@@ -35,7 +33,7 @@ module _ {n : ℕ} (S : Setting n) (lawful : IsLawful S) (F G : List (FormalSum 
   -- a member without a covered lead is 0
   pub remainder_zero :
       (v : FormalSum n)
-      → IsMember S.modulus F v → ((k : Key n) → IsLead S v k → IsCovered G k → ⊥) → IsSame S.modulus v []
+      → IsMember S.modulus F v → ((k : Key n) → IsLead S v k → IsCovered S G k → ⊥) → IsSame S.modulus v []
   remainder_zero v member free = go (has_lead S lawful v)
     where
       go : HasLead S v → IsSame S.modulus v []
@@ -44,7 +42,7 @@ module _ {n : ℕ} (S : Setting n) (lawful : IsLawful S) (F G : List (FormalSum 
 
   -- two vectors that differ by a member, and have no covered key, are the same
   pub remainder_unique : (v w : FormalSum n) → IsMember S.modulus F (v ++ scale (S.modulus - 1) (unit n) w)
-      → ((k : Key n) → IsCovered G k → IsCongruent S.modulus (coefficient v k) 0) → ((k : Key n) → IsCovered G k → IsCongruent S.modulus (coefficient w k) 0) → IsSame S.modulus v w
+      → HasFreeTerms S G v → HasFreeTerms S G w → IsSame S.modulus v w
   remainder_unique v w member free free' = record { by_key = λ k. IsCongruent_of_minus (positive S lawful) (IsCongruent_trans (IsCongruent_of S.modulus _ _ (sym (value k))) (zero.by_key k)) }
     where
       d : FormalSum n
@@ -53,7 +51,7 @@ module _ {n : ℕ} (S : Setting n) (lawful : IsLawful S) (F G : List (FormalSum 
       value : (k : Key n) → coefficient d k ≡ coefficient v k + (S.modulus - 1) * coefficient w k
       value k = weighted_sum-minus S.modulus (indicator k) v w
 
-      none : (k : Key n) → IsCovered G k → IsCongruent S.modulus (coefficient d k) 0
+      none : (k : Key n) → IsCovered S G k → IsCongruent S.modulus (coefficient d k) 0
       none k c =
           IsCongruent_trans (IsCongruent_of S.modulus _ _ (value k))
           (IsCongruent_trans (IsCongruent_add (free k c) (IsCongruent_multiply (IsCongruent_refl S.modulus (S.modulus - 1)) (free' k c))) (IsCongruent_of S.modulus (0 + (S.modulus - 1) * 0) 0 (omega arith)))
@@ -61,37 +59,24 @@ module _ {n : ℕ} (S : Setting n) (lawful : IsLawful S) (F G : List (FormalSum 
       zero : IsSame S.modulus d []
       zero = remainder_zero d member (λ k lead c. lead.nonzero (none k c))
 
--- at a covered key a vector of free terms has nothing
-pub HasFreeTerms_at :
-    {n : ℕ} (G : List (FormalSum n)) (v : FormalSum n) → HasFreeTerms G v → (k : Key n) → IsCovered G k
-    → coefficient v k ≡ 0
-HasFreeTerms_at G [] h k c = refl
-HasFreeTerms_at G (t ∷ v) h k c =
-    let rest = HasFreeTerms_at G v h.1 k c in
-    let first : indicator k t.0 ≡ 0 = indicator_other k t.0 (λ e. h.0 (subst (IsCovered G) e c)) in
-    rw (first, rest) (omega arith)
-
 module _ {n : ℕ} (S : Setting n) (lawful : IsLawful S) (F G : List (FormalSum n)) (basis : IsGroebnerBasis S F G) where
-  free : (v : FormalSum n) → HasFreeTerms G v → (k : Key n) → IsCovered G k → IsCongruent S.modulus (coefficient v k) 0
-  free v h k c = IsCongruent_of S.modulus _ 0 (HasFreeTerms_at G v h k c)
-
   -- normal forms without covered terms that differ by a member are one list
   pub normal_form_unique :
       (v w : FormalSum n)
       → IsMember S.modulus F (v ++ scale (S.modulus - 1) (unit n) w) → IsNormal S v → IsNormal S w
-      → HasFreeTerms G v → HasFreeTerms G w → v ≡ w
+      → HasFreeTerms S G v → HasFreeTerms S G w → v ≡ w
   normal_form_unique v w member nv nw fv fw =
       normal_unique S lawful v w nv.descends nw.descends nv.residues nw.residues
-      (remainder_unique S lawful F G basis v w member (free v fv) (free w fw))
+      (remainder_unique S lawful F G basis v w member fv fw)
 
   -- members have the empty normal form
   pub normal_form_of_member :
       (v w : FormalSum n)
-      → IsMember S.modulus F (v ++ scale (S.modulus - 1) (unit n) w) → IsNormal S w → HasFreeTerms G w
+      → IsMember S.modulus F (v ++ scale (S.modulus - 1) (unit n) w) → IsNormal S w → HasFreeTerms S G w
       → IsMember S.modulus F v → w ≡ []
   normal_form_of_member v w member nw fw a =
       normal_unique S lawful w [] nw.descends tt nw.residues tt
-      (remainder_zero S lawful F G basis w inside (λ k lead c. lead.nonzero (free w fw k c)))
+      (remainder_zero S lawful F G basis w inside (λ k lead c. lead.nonzero (fw k c)))
     where
       inside : IsMember S.modulus F w
       inside =

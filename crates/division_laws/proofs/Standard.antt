@@ -25,8 +25,8 @@ module _ {n : ℕ} (S : Setting n) (lawful : IsLawful S) (F G : List (FormalSum 
       → IsMember S.modulus F v → IsLead S v k → HasStandardRepresentation S G k v
   IsGroebnerBasis_standard v k member lead = go (basis.covers v k member lead)
     where
-      go : IsCovered G k → HasStandardRepresentation S G k v
-      go (i, h, (m, e)) = record {
+      go : IsCovered S G k → HasStandardRepresentation S G k v
+      go (i, h, first, (m, e)) = record {
         cofactors = rest.cofactors ++ t ∷ [];
         at_most = Each_append (IsAtMost S G k) rest.cofactors (t ∷ []) (Each_map (IsLower S G k) (IsAtMost S G k) rest.cofactors (λ u g. (g.0, inl g.1)) rest.below) ((h, inr e), tt);
         sums = IsSame_trans (IsSame_of S.modulus _ _ (combination-append G rest.cofactors (t ∷ []) ∙ ap (λ x. combination G rest.cofactors ++ x) (append-nil (multiple G t))))

@@ -1,4 +1,3 @@
 -- what public clauses cite
 pub mod Elimination
-pub mod Remainders
 pub mod Standard

@@ -5,6 +5,6 @@ mod module_laws;
 mod product_laws;
 mod sum_laws;
 
-pub use module_laws::{combinations, modules, ranks, same_modules, syzygies};
+pub use module_laws::{combinations, modules, ranks, same_members, same_modules, syzygies};
 pub use product_laws::products;
 pub use sum_laws::{coefficients, compared_keys, same_vectors};

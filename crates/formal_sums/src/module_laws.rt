@@ -43,6 +43,12 @@ pub fn same_modules()
         → IsSameModule p F H ↔ ((v : FormalSum n) → IsMember p F v ↔ IsMember p H v) }
 {}
 
+/// Lists that are the same vectors one by one generate one module; behind the end of a list stands zero.
+pub fn same_members()
+    ensures { (n p : ℕ) (F H : List (FormalSum n))
+        → 0 < p → ((i : ℕ) → IsSame p (get_or F i []) (get_or H i [])) → IsSameModule p F H }
+{}
+
 /// To be of rank m is a matter of sameness; it is kept by sums and multiples, and by combinations of members.
 pub fn ranks()
     ensures positions { (n p m : ℕ) (v : FormalSum n) → HasRank m v → IsOfRank p m v }

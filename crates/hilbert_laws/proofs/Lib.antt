@@ -1,3 +1,4 @@
+pub mod Steps
 pub mod Recurrence
 pub mod Orders
 pub mod OneMore

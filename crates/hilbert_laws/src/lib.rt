@@ -4,8 +4,8 @@
 mod dimension_laws;
 mod numerator_laws;
 
-pub use dimension_laws::dimensions;
+pub use dimension_laws::{dimensions, division, orders_at_one};
 pub use numerator_laws::{
-    division, numerator_exists, numerator_size, numerators, one_more_generator, one_numerator,
-    positions,
+    numerator_exists, numerator_size, numerators, one_more_generator, one_numerator, positions,
+    steps_of_series,
 };

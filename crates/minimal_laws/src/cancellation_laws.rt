@@ -11,19 +11,19 @@ ghost use Rattle.minimal_laws.specs.Cancellation.{AreSameMaps, IsCancelled, colu
 /// A split at a constant keeps the maps homogeneous and exact, and the module that they present
 /// (Eisenbud, section 20.1).
 pub fn splits()
-    ensures graded { (n p k c r s : ℕ) (rows : List ℕ) (maps : List (GradedMap n))
-        → HasConstant p maps k c r → AreGraded p rows maps
-        → AreGraded p (split p k r c s rows maps).0 (split p k r c s rows maps).1 }
+    ensures graded { (n p k c r s : ℕ) (ws rows : List ℕ) (maps : List (GradedMap n))
+        → HasConstant p maps k c r → AreGraded ws p rows maps
+        → AreGraded ws p (split p k r c s rows maps).0 (split p k r c s rows maps).1 }
     ensures exact { (n p k c r s : ℕ) (rows : List ℕ) (maps : List (GradedMap n))
         → 0 < p → HasConstant p maps k c r
         → IsCongruent p (s * coefficient (get_or (first_columns (drop k maps)) c []) (r, unit n)) 1
         → AreExact p maps → AreExact p (split p k r c s rows maps).1 }
-    ensures presents { (n p k c r s : ℕ) (places rows : List ℕ) (A : List (FormalSum n)) (maps : List (GradedMap n))
+    ensures presents { (n p k c r s : ℕ) (ws places rows : List ℕ) (A : List (FormalSum n)) (maps : List (GradedMap n))
         → 0 < p → HasConstant p maps k c r
         → IsCongruent p (s * coefficient (get_or (first_columns (drop k maps)) c []) (r, unit n)) 1
-        → AreGraded p rows maps → AreExact p maps
-        → Presents p (record { positions = rows; maps = maps }) places A
-        → Presents p (record { positions = (split p k r c s rows maps).0; maps = (split p k r c s rows maps).1 }) places A }
+        → AreGraded ws p rows maps → AreExact p maps
+        → Presents ws p (record { positions = rows; maps = maps }) places A
+        → Presents ws p (record { positions = (split p k r c s rows maps).0; maps = (split p k r c s rows maps).1 }) places A }
 {}
 
 /// A split leaves fewer columns: the measure of cancellation.
@@ -35,9 +35,9 @@ pub fn split_falls()
 /// The cancellation of an exact list of homogeneous maps is minimal, and presents the same module
 /// (UAG chapter 6, section 3).
 pub fn cancellation()
-    ensures { (n p : ℕ) (places : List ℕ) (A : List (FormalSum n)) (C D : GradedMaps n)
-        → 0 < p → AreGraded p C.positions C.maps → AreExact p C.maps → Presents p C places A
-        → IsCancelled p C D → IsMinimal p D × Presents p D places A }
+    ensures { (n p : ℕ) (ws places : List ℕ) (A : List (FormalSum n)) (C D : GradedMaps n)
+        → 0 < p → AreGraded ws p C.positions C.maps → AreExact p C.maps → Presents ws p C places A
+        → IsCancelled p C D → IsMinimal ws p D × Presents ws p D places A }
 {}
 
 /// Each list of maps has its cancellation: a constant is first or there is none, it has an inverse, and the columns fall.

@@ -8,34 +8,34 @@ ghost use Rattle.minimal_laws.specs.Gradings.{AreExact, AreGraded, AreHomogeneou
 ghost use Rattle.minimal_laws.specs.Minimal.{IsMinimal, Presents};
 ghost use Rattle.minimal_laws.specs.Cancellation.{IsCancelled};
 
-/// The canonical resolution of a homogeneous module is graded by the degrees of its leads, and exact
-/// (UAG chapter 6, section 2).
+/// The canonical resolution of a module that is homogeneous by the weights ws is graded by these, by the degrees of its leads,
+/// and exact, whatever the order (UAG chapter 6, section 2).
 pub fn canonical_grading()
-    ensures { (n : ℕ) (S : Setting n) (rows degrees : List ℕ) (A : List (FormalSum n)) (maps : List (List (FormalSum n)))
-        → IsLawful S → length rows ≡ S.rank → AreHomogeneous S.modulus rows degrees A → IsCanonical S A maps
-        → AreGraded S.modulus rows (graded_by_leads rows maps) × AreExact S.modulus (graded_by_leads rows maps) }
+    ensures { (n : ℕ) (S : Setting n) (ws rows degrees : List ℕ) (A : List (FormalSum n)) (maps : List (List (FormalSum n)))
+        → IsLawful S → length rows ≡ S.rank → AreHomogeneous ws S.modulus rows degrees A → IsCanonical S A maps
+        → AreGraded ws S.modulus rows (graded_by_leads ws rows maps) × AreExact S.modulus (graded_by_leads ws rows maps) }
 {}
 
 /// It presents the free module modulo that module.
 pub fn canonical_presentation()
-    ensures { (n : ℕ) (S : Setting n) (rows degrees : List ℕ) (A : List (FormalSum n)) (maps : List (List (FormalSum n)))
-        → IsLawful S → length rows ≡ S.rank → AreHomogeneous S.modulus rows degrees A → IsCanonical S A maps
-        → Presents S.modulus (record { positions = rows; maps = graded_by_leads rows maps }) rows A }
+    ensures { (n : ℕ) (S : Setting n) (ws rows degrees : List ℕ) (A : List (FormalSum n)) (maps : List (List (FormalSum n)))
+        → IsLawful S → length rows ≡ S.rank → AreHomogeneous ws S.modulus rows degrees A → IsCanonical S A maps
+        → Presents ws S.modulus (record { positions = rows; maps = graded_by_leads ws rows maps }) rows A }
 {}
 
 /// Its cancellation is minimal, and presents the same.
 pub fn minimal_resolution()
-    ensures { (n : ℕ) (S : Setting n) (rows degrees : List ℕ) (A : List (FormalSum n)) (maps : List (List (FormalSum n)))
+    ensures { (n : ℕ) (S : Setting n) (ws rows degrees : List ℕ) (A : List (FormalSum n)) (maps : List (List (FormalSum n)))
         (D : GradedMaps n)
-        → IsLawful S → length rows ≡ S.rank → AreHomogeneous S.modulus rows degrees A → IsCanonical S A maps
-        → IsCancelled S.modulus (record { positions = rows; maps = graded_by_leads rows maps }) D
-        → IsMinimal S.modulus D × Presents S.modulus D rows A }
+        → IsLawful S → length rows ≡ S.rank → AreHomogeneous ws S.modulus rows degrees A → IsCanonical S A maps
+        → IsCancelled S.modulus (record { positions = rows; maps = graded_by_leads ws rows maps }) D
+        → IsMinimal ws S.modulus D × Presents ws S.modulus D rows A }
 {}
 
 /// Each canonical resolution of a homogeneous module has a cancellation, which is a minimal resolution of the module.
 pub fn minimal_exists()
-    ensures { (n : ℕ) (S : Setting n) (rows degrees : List ℕ) (A : List (FormalSum n)) (maps : List (List (FormalSum n)))
-        → IsLawful S → length rows ≡ S.rank → AreHomogeneous S.modulus rows degrees A → IsCanonical S A maps
-        → (D : GradedMaps n) × IsCancelled S.modulus (record { positions = rows; maps = graded_by_leads rows maps }) D
-        × IsMinimal S.modulus D × Presents S.modulus D rows A }
+    ensures { (n : ℕ) (S : Setting n) (ws rows degrees : List ℕ) (A : List (FormalSum n)) (maps : List (List (FormalSum n)))
+        → IsLawful S → length rows ≡ S.rank → AreHomogeneous ws S.modulus rows degrees A → IsCanonical S A maps
+        → (D : GradedMaps n) × IsCancelled S.modulus (record { positions = rows; maps = graded_by_leads ws rows maps }) D
+        × IsMinimal ws S.modulus D × Presents ws S.modulus D rows A }
 {}

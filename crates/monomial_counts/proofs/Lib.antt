@@ -1,2 +1,3 @@
 pub mod Counting
-pub mod Once
+pub mod Divisors
+pub mod Within

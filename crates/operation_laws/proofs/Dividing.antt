@@ -11,6 +11,7 @@ use Rattle.formal_sums.specs.FormalSums.{FormalSum, IsOfRank, Key, coefficient, 
 use Rattle.orders.proofs.KeyOrdering.{less_of_greater, not_itself}
 use Rattle.orders.specs.KeyOrders.{KeyDivides}
 use Rattle.orders.specs.MonomialOrders.{IsAccessible, accessible}
+use Rattle.bases.proofs.FreeTerms.{IsCovered_monic}
 use Rattle.bases.proofs.Leading.{positive}
 use Rattle.bases.proofs.Normalizing.{HasLead, has_lead}
 use Rattle.bases.proofs.Places.{IsDown}
@@ -69,12 +70,16 @@ covered_before : {n : ℕ} (G : List (FormalSum n)) (k : Key n) (m : ℕ) → Co
 covered_before G k zero = inr (λ b. let lt = b.1 in omega (arith, lt))
 covered_before G k (suc m) = one_more G k m (decided_key (leads G m) k) (covered_before G k m)
 
-decided_covered : {n : ℕ} (G : List (FormalSum n)) (k : Key n) → IsCovered G k ⊎ (IsCovered G k → ⊥)
-decided_covered G k = covered_before G k (length G)
-
 module _ {n : ℕ} (S : Setting n) (lawful : IsLawful S) (G : List (FormalSum n)) (list : IsMonicList S G) where
+  decided_covered : (k : Key n) → IsCovered S G k ⊎ (IsCovered S G k → ⊥)
+  decided_covered k = go (covered_before G k (length G))
+    where
+      go : CoveredBefore G k (length G) ⊎ (CoveredBefore G k (length G) → ⊥) → IsCovered S G k ⊎ (IsCovered S G k → ⊥)
+      go (inl b) = inl (IsCovered_monic S lawful G list b.0 k b.1 b.2)
+      go (inr never) = inr (λ c. never (c.0, c.1, c.3))
+
   abbrev HasRemainder : FormalSum n → Type 0
-  HasRemainder v = (w : FormalSum n) × IsRemainder S.modulus G v w
+  HasRemainder v = (w : FormalSum n) × IsRemainder S G v w
 
   -- a vector that is 0
   none : (v : FormalSum n) → HasLead S v → ((k : Key n) → IsLead S v k → HasRemainder v) → HasRemainder v
@@ -112,7 +117,7 @@ module _ {n : ℕ} (S : Setting n) (lawful : IsLawful S) (G : List (FormalSum n)
           (IsCongruent_trans (IsCongruent_add ((remainder_step_undone S lawful G list v k i m).by_key x) (IsCongruent_refl S.modulus (coefficient minus x))) (IsCongruent_of S.modulus _ _ (sym e)))
 
   -- the lead kept
-  keep : (v : FormalSum n) (k : Key n) → (IsCovered G k → ⊥) → HasRemainder (v ++ (k, (S.modulus - 1) * coefficient v k) ∷ []) → HasRemainder v
+  keep : (v : FormalSum n) (k : Key n) → (IsCovered S G k → ⊥) → HasRemainder (v ++ (k, (S.modulus - 1) * coefficient v k) ∷ []) → HasRemainder v
   keep v k never (w, r) = ((k, coefficient v k) ∷ w, record { member = IsMember_same G _ _ (record { by_key = same }) r.member; free = free })
     where
       same : (x : Key n) → IsCongruent S.modulus (coefficient ((v ++ (k, (S.modulus - 1) * coefficient v k) ∷ []) ++ scale (S.modulus - 1) (unit n) w) x) (coefficient (v ++ scale (S.modulus - 1) (unit n) ((k, coefficient v k) ∷ w)) x)
@@ -122,11 +127,11 @@ module _ {n : ℕ} (S : Setting n) (lawful : IsLawful S) (G : List (FormalSum n)
           let d = weighted_sum-minus S.modulus (indicator x) v ((k, coefficient v k) ∷ w) in
           IsCongruent_of S.modulus _ _ (omega (arith, a, b, d))
 
-      free : (x : Key n) → IsCovered G x → IsCongruent S.modulus (coefficient ((k, coefficient v k) ∷ w) x) 0
+      free : (x : Key n) → IsCovered S G x → IsCongruent S.modulus (coefficient ((k, coefficient v k) ∷ w) x) 0
       free x cov = go (key_cases x k)
         where
           go : (x ≡ k) ⊎ (x ≡ k → ⊥) → IsCongruent S.modulus (coefficient ((k, coefficient v k) ∷ w) x) 0
-          go (inl e) = absurd (never (subst (IsCovered G) e cov))
+          go (inl e) = absurd (never (subst (IsCovered S G) e cov))
           go (inr ne) =
               let z : indicator x k ≡ 0 = indicator_other x k ne in
               let y : coefficient v k * indicator x k ≡ 0 = ap (λ i. coefficient v k * i) z ∙ omega arith in
@@ -156,7 +161,7 @@ module _ {n : ℕ} (S : Setting n) (lawful : IsLawful S) (G : List (FormalSum n)
       lower l q Greater d = absurd (q.nonzero (over l (less_of_greater lawful.order l k d)))
 
   step : (k : Key n) → k.0 < S.rank → ((y : Key n) → IsDown S y k → Claim y) → ((i : ℕ) → i < length G → IsOfRank S.modulus S.rank (get_or G i [])) → Claim k
-  step k low down ranks v rank lead = go (decided_covered G k)
+  step k low down ranks v rank lead = go (decided_covered k)
     where
       cut : FormalSum n
       cut = v ++ (k, (S.modulus - 1) * coefficient v k) ∷ []
@@ -178,8 +183,8 @@ module _ {n : ℕ} (S : Setting n) (lawful : IsLawful S) (G : List (FormalSum n)
           let e = value l in
           IsCongruent_trans (IsCongruent_of S.modulus _ (coefficient v l) (omega (arith, e, y))) (lead.above l lt)
 
-      go : IsCovered G k ⊎ (IsCovered G k → ⊥) → HasRemainder v
-      go (inl (i, lt, (m, e))) =
+      go : IsCovered S G k ⊎ (IsCovered S G k → ⊥) → HasRemainder v
+      go (inl (i, lt, first, (m, e))) =
           undo v k i m lt
           (below k down (remainder_step S lawful G list v k i m) (IsOfRank_append v (scale ((S.modulus - 1) * coefficient v k) m (get_or G i [])) rank (IsOfRank_scale ((S.modulus - 1) * coefficient v k) m (get_or G i []) (ranks i lt)))
           (remainder_step_at S lawful G list v k i m lt e) (λ l less. remainder_step_above S lawful G list v k i m lt e lead l less))
@@ -190,7 +195,7 @@ module _ {n : ℕ} (S : Setting n) (lawful : IsLawful S) (G : List (FormalSum n)
   claim : ((i : ℕ) → i < length G → IsOfRank S.modulus S.rank (get_or G i [])) → (k : Key n) → IsAccessible (IsDown S) k → k.0 < S.rank → Claim k
   claim ranks k (accessible k' down) low = step k' low (λ y d. claim ranks y (down y d) d.0) ranks
 
-  pub remainder_exists : ((i : ℕ) → i < length G → IsOfRank S.modulus S.rank (get_or G i [])) → (v : FormalSum n) → IsOfRank S.modulus S.rank v → (w : FormalSum n) × IsRemainder S.modulus G v w
+  pub remainder_exists : ((i : ℕ) → i < length G → IsOfRank S.modulus S.rank (get_or G i [])) → (v : FormalSum n) → IsOfRank S.modulus S.rank v → (w : FormalSum n) × IsRemainder S G v w
   remainder_exists ranks v rank = none v (has_lead S lawful v) (λ k lead. claim ranks k (lawful.order.well_founded k) (row k lead (cases k.0 S.rank)) v rank lead)
     where
       cases : (x y : ℕ) → (x < y) ⊎ (y ≤ x)

@@ -16,7 +16,7 @@ use Rattle.formal_sums.specs.FormalSums.{Each, FormalSum, HasRank, IsOfRank, IsS
 use Rattle.orders.specs.MonomialOrders.{IsMonomialOrder}
 use Rattle.bases.proofs.Leading.{positive}
 use Rattle.bases.proofs.Normalizing.{HasLead, has_lead}
-use Rattle.bases.specs.Bases.{IsCovered, IsGroebnerBasis, IsReducedBasis}
+use Rattle.bases.specs.Bases.{HasFreeTerms, IsCovered, IsGroebnerBasis, IsReducedBasis}
 use Rattle.bases.specs.Leads.{IsLead}
 use Rattle.bases.specs.Settings.{IsLawful, Setting}
 use Rattle.division_laws.proofs.Remainders.{remainder_unique}
@@ -35,7 +35,7 @@ use Rattle.syzygy_laws.specs.Kernels.{kernel_of, lowered, pot_setting}
 pub lift_one :
     {n : ℕ} (S : Setting n) → IsLawful S → (F K : List (FormalSum n)) (v a b : FormalSum n) → IsGroebnerBasis S K K
     → ((c : FormalSum n) → IsSyzygy S.modulus F c → IsMember S.modulus K c)
-    → IsLift S.modulus F K v a → IsLift S.modulus F K v b → IsSame S.modulus a b
+    → IsLift S F K v a → IsLift S F K v b → IsSame S.modulus a b
 lift_one {n} S lawful F K v a b basis all x y =
     remainder_unique S lawful K K basis a b (all (a ++ scale (S.modulus - 1) (unit n) b) syzygy) x.free y.free
   where
@@ -51,8 +51,10 @@ lift_one {n} S lawful F K v a b basis all x y =
           (record { by_key = λ k. IsCongruent_trans (IsCongruent_of p _ _ (weighted_sum-minus p (indicator k) v v)) (IsCongruent_minus p (coefficient v k) (positive S lawful)) }));
     }
 
-pub IsLift_same : {n p : ℕ} → 0 < p → (F K : List (FormalSum n)) (v a b : FormalSum n) → IsSame p a b → IsLift p F K v a → IsLift p F K v b
-IsLift_same pos F K v a b e h = record {
+pub IsLift_same :
+    {n : ℕ} (S : Setting n) → 0 < S.modulus → (F K : List (FormalSum n)) (v a b : FormalSum n)
+    → IsSame S.modulus a b → IsLift S F K v a → IsLift S F K v b
+IsLift_same S pos F K v a b e h = record {
   rank = IsOfRank_same e h.rank;
   sums = IsSame_trans (IsSame_sym (IsSame_combination pos F a b e)) h.sums;
   free = λ k c. IsCongruent_trans (IsCongruent_sym (e.by_key k)) (h.free k c);
@@ -74,9 +76,9 @@ minus_zero : (p x y : ℕ) → IsCongruent p y 0 → IsCongruent p (x + (p - 1) 
 minus_zero p x y h = IsCongruent_trans (IsCongruent_add (IsCongruent_refl p x) (IsCongruent_multiply (IsCongruent_refl p (p - 1)) h)) (IsCongruent_of p (x + (p - 1) * 0) x (omega arith))
 
 module _ {n : ℕ} (S : Setting n) (monomials : Exponents n → Exponents n → Ordering) (q : ℕ) (F G : List (FormalSum n)) (v w : FormalSum n) (lawful : IsLawful S) (o : IsMonomialOrder monomials) (f_ranks : Each (HasRank q) F) (v_rank : IsOfRank S.modulus q v)
-    (reduced : IsReducedBasis (pot_setting S.modulus (q + length F) monomials) (marked q 0 F) G)
+    (reduced : IsReducedBasis (pot_setting S.weights S.modulus (q + length F) monomials) (marked q 0 F) G)
     (member : IsMember S.modulus (marked q 0 F) (v ++ scale (S.modulus - 1) (unit n) w))
-    (free : (k : Key n) → IsCovered G k → IsCongruent S.modulus (coefficient w k) 0) where
+    (free : HasFreeTerms (pot_setting S.weights S.modulus (q + length F) monomials) G w) where
   -- the cofactors of v - w
   cof_rank : HasRank (length F) member.cofactors
   cof_rank = subst (λ d. HasRank d member.cofactors) (length-marked q 0 F) member.positions
@@ -116,7 +118,7 @@ module _ {n : ℕ} (S : Setting n) (monomials : Exponents n → Exponents n → 
   lift_vanishes m k lt = go (has_lead T (lawful_position monomials (q + length F) S o lawful) u)
     where
       T : Setting n
-      T = pot_setting S.modulus (q + length F) monomials
+      T = pot_setting S.weights S.modulus (q + length F) monomials
 
       b : FormalSum n
       b = m.cofactors
@@ -154,9 +156,9 @@ module _ {n : ℕ} (S : Setting n) (monomials : Exponents n → Exponents n → 
       go (inr (l, lead)) = at l lead (cases_lt l.0 q)
 
   -- the lift is minus what stands behind the first positions
-  pub lift_found : ((k : Key n) → k.0 < q → IsCongruent S.modulus (coefficient w k) 0) → IsLift S.modulus F (kernel_of q G) v (scale (S.modulus - 1) (unit n) (lowered q w))
+  pub lift_found : ((k : Key n) → k.0 < q → IsCongruent S.modulus (coefficient w k) 0) → IsLift (pot_setting S.weights S.modulus (length F) monomials) F (kernel_of q G) v (scale (S.modulus - 1) (unit n) (lowered q w))
   lift_found none =
-      IsLift_same (positive S lawful) F (kernel_of q G) v member.cofactors (scale (S.modulus - 1) (unit n) (lowered q w)) same
+      IsLift_same (pot_setting S.weights S.modulus (length F) monomials) (positive S lawful) F (kernel_of q G) v member.cofactors (scale (S.modulus - 1) (unit n) (lowered q w)) same
       (record { rank = IsOfRank_of S.modulus (length F) member.cofactors cof_rank; sums = combines none; free = uncovered })
     where
       minus : (k : Key n) → (k.0 < q) ⊎ (q ≤ k.0) → IsCongruent S.modulus (coefficient (raised q member.cofactors) k) (coefficient (scale (S.modulus - 1) (unit n) w) k)
@@ -171,7 +173,7 @@ module _ {n : ℕ} (S : Setting n) (monomials : Exponents n → Exponents n → 
           (IsSame_trans (IsSame_linear (positive S lawful) (lowered q) (IsLinear_lowered q) (raised q member.cofactors) (scale (S.modulus - 1) (unit n) w) (record { by_key = λ k. minus k (cases_lt k.0 q) }))
           (IsSame_of S.modulus _ _ (lowered-scale q (S.modulus - 1) (unit n) w)))
 
-      uncovered : (k : Key n) → IsCovered (kernel_of q G) k → IsCongruent S.modulus (coefficient member.cofactors k) 0
+      uncovered : (k : Key n) → IsCovered (pot_setting S.weights S.modulus (length F) monomials) (kernel_of q G) k → IsCongruent S.modulus (coefficient member.cofactors k) 0
       uncovered k c =
           IsCongruent_trans (IsCongruent_of S.modulus _ _ (sym (coefficient-raised q member.cofactors k)))
           (IsCongruent_trans (behind (q + k.0, k.1) (omega arith))
@@ -180,9 +182,9 @@ module _ {n : ℕ} (S : Setting n) (monomials : Exponents n → Exponents n → 
 -- each member of the module has a lift
 pub lift_exists :
     {n : ℕ} (S : Setting n) (monomials : Exponents n → Exponents n → Ordering) (q : ℕ) (F G : List (FormalSum n)) (v : FormalSum n) → IsLawful S → IsMonomialOrder monomials → Each (HasRank q) F
-    → IsReducedBasis (pot_setting S.modulus (q + length F) monomials) (marked q 0 F) G → IsMember S.modulus F v → (a : FormalSum n) × IsLift S.modulus F (kernel_of q G) v a
+    → IsReducedBasis (pot_setting S.weights S.modulus (q + length F) monomials) (marked q 0 F) G → IsMember S.modulus F v → (a : FormalSum n) × IsLift (pot_setting S.weights S.modulus (length F) monomials) F (kernel_of q G) v a
 lift_exists {n} S monomials q F G v lawful o r reduced m =
-    let T = pot_setting S.modulus (q + length F) monomials in
+    let T = pot_setting S.weights S.modulus (q + length F) monomials in
     let l = lawful_position monomials (q + length F) S o lawful in
     let run = marked_run S monomials q F G lawful o r reduced in
     let v_rank = IsOfRank_member q F (λ i lt. IsOfRank_of S.modulus q (get_or F i []) (Each_at (HasRank q) [] F r i lt)) v m in

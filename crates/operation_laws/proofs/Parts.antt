@@ -16,7 +16,7 @@ use Rattle.formal_sums.specs.FormalSums.{Each, FormalSum, HasRank, Key, coeffici
 use Rattle.orders.proofs.Lexicographic.{nat_cmp-add, nat_cmp-equal, nat_cmp-less, then_less}
 use Rattle.orders.specs.KeyOrders.{Descends, KeyDivides, pot}
 use Rattle.orders.specs.MonomialOrders.{IsMonomialOrder}
-use Rattle.bases.proofs.Leading.{one_not_zero, positive}
+use Rattle.bases.proofs.Leading.{IsLead_of_monic, one_not_zero, positive}
 use Rattle.bases.specs.Bases.{IsCovered, IsReducedBasis}
 use Rattle.bases.specs.Leads.{IsLead, IsMonicLead, IsNormal, head_key, leads}
 use Rattle.bases.specs.Settings.{IsLawful, Setting}
@@ -73,19 +73,19 @@ module _ {n : ℕ} (monomials : Exponents n → Exponents n → Ordering) (q : �
   )
 
   module _ (S : Setting n) (r m : ℕ) where
-    normal_raised : (h : FormalSum n) → IsNormal (pot_setting S.modulus r monomials) (raised q h) → IsNormal (pot_setting S.modulus m monomials) h
+    normal_raised : (h : FormalSum n) → IsNormal (pot_setting S.weights S.modulus r monomials) (raised q h) → IsNormal (pot_setting S.weights S.modulus m monomials) h
     normal_raised h a = record {
       descends = descends_raised h a.descends;
       residues = Each_to_map (λ t. (0 < t.1) × (t.1 < S.modulus)) (λ u. ((q + u.0.0, u.0.1), u.1)) h a.residues;
     }
 
-    monic_raised : (h : FormalSum n) (k : Key n) → IsMonicLead (pot_setting S.modulus r monomials) (raised q h) (q + k.0, k.1) → IsMonicLead (pot_setting S.modulus m monomials) h k
+    monic_raised : (h : FormalSum n) (k : Key n) → IsMonicLead (pot_setting S.weights S.modulus r monomials) (raised q h) (q + k.0, k.1) → IsMonicLead (pot_setting S.weights S.modulus m monomials) h k
     monic_raised h k a = record {
       one = IsCongruent_trans (IsCongruent_of S.modulus _ _ (sym (coefficient-raised q h k))) a.one;
       above = λ l lt. IsCongruent_trans (IsCongruent_of S.modulus _ _ (sym (coefficient-raised q h l))) (a.above (q + l.0, l.1) (compare_raised k l ∙ lt));
     }
 
-    lead_raised : (a : FormalSum n) (k : Key n) → IsLead (pot_setting S.modulus m monomials) a k → IsLead (pot_setting S.modulus r monomials) (raised q a) (q + k.0, k.1)
+    lead_raised : (a : FormalSum n) (k : Key n) → IsLead (pot_setting S.weights S.modulus m monomials) a k → IsLead (pot_setting S.weights S.modulus r monomials) (raised q a) (q + k.0, k.1)
     lead_raised a k lead = record {
       nonzero = λ z. lead.nonzero (IsCongruent_trans (IsCongruent_of S.modulus _ _ (sym (coefficient-raised q a k))) z);
       above = λ l lt. over l lt (cases_lt l.0 q);
@@ -154,7 +154,7 @@ marked_each {n} {p} pos q i F (h ∷ H) r m = (
         ∙ append-nil h
 
 module _ {n : ℕ} (S : Setting n) (monomials : Exponents n → Exponents n → Ordering) (q : ℕ) (F G : List (FormalSum n)) (lawful : IsLawful S) (o : IsMonomialOrder monomials) (f_ranks : Each (HasRank q) F)
-    (reduced : IsReducedBasis (pot_setting S.modulus (q + length F) monomials) (marked q 0 F) G) where
+    (reduced : IsReducedBasis (pot_setting S.weights S.modulus (q + length F) monomials) (marked q 0 F) G) where
   -- the kernel part has exactly the syzygies
   pub kernel_exact : (a : FormalSum n) → IsMember S.modulus (kernel_of q G) a ↔ IsSyzygy S.modulus F a
   kernel_exact a =
@@ -185,13 +185,12 @@ module _ {n : ℕ} (S : Setting n) (monomials : Exponents n → Exponents n → 
           one_not_zero S lawful (IsCongruent_sym (subst (λ g. IsCongruent S.modulus (coefficient g (leads G j)) 1) empty (reduced.reduced.monic j lt).one))
 
   -- the kernel part is the reduced basis of the syzygies
-  pub kernel_reduced : IsReducedBasis (pot_setting S.modulus (length F) monomials) (kernel_of q G) (kernel_of q G)
+  pub kernel_reduced : IsReducedBasis (pot_setting S.weights S.modulus (length F) monomials) (kernel_of q G) (kernel_of q G)
   kernel_reduced = record {
     reduced = record {
       basis = record { members = IsMember_itself S.modulus (kernel_of q G); covers = covers };
       normal = λ i lt. normal_raised monomials q S (q + length F) (length F) (get_or (kernel_of q G) i []) (subst (IsNormal T) (sym (raised_at i lt)) (reduced.reduced.normal (chosen.place i) (place_in i lt)));
-      monic = λ i lt. monic_raised monomials q S (q + length F) (length F) (get_or (kernel_of q G) i []) (leads (kernel_of q G) i)
-          (subst (λ k. IsMonicLead T (raised q (get_or (kernel_of q G) i [])) k) (head i lt) (subst (λ g. IsMonicLead T g (leads G (chosen.place i))) (sym (raised_at i lt)) (reduced.reduced.monic (chosen.place i) (place_in i lt))));
+      monic = monic;
       apart = apart;
     };
     descends = λ i j lt h.
@@ -201,10 +200,18 @@ module _ {n : ℕ} (S : Setting n) (monomials : Exponents n → Exponents n → 
   }
     where
       T : Setting n
-      T = pot_setting S.modulus (q + length F) monomials
+      T = pot_setting S.weights S.modulus (q + length F) monomials
 
       head : (i : ℕ) → i < length (kernel_of q G) → leads G (chosen.place i) ≡ (q + (leads (kernel_of q G) i).0, (leads (kernel_of q G) i).1)
       head i lt = lead_at i (chosen.place i) (place_in i lt) (raised_at i lt)
+
+      monic : (i : ℕ) → i < length (kernel_of q G) → IsMonicLead (pot_setting S.weights S.modulus (length F) monomials) (get_or (kernel_of q G) i []) (leads (kernel_of q G) i)
+      monic i lt =
+          monic_raised monomials q S (q + length F) (length F) (get_or (kernel_of q G) i []) (leads (kernel_of q G) i)
+          (subst (λ k. IsMonicLead T (raised q (get_or (kernel_of q G) i [])) k) (head i lt) (subst (λ g. IsMonicLead T g (leads G (chosen.place i))) (sym (raised_at i lt)) (reduced.reduced.monic (chosen.place i) (place_in i lt))))
+
+      kernel_lead : (i : ℕ) → i < length (kernel_of q G) → IsLead (pot_setting S.weights S.modulus (length F) monomials) (get_or (kernel_of q G) i []) (leads (kernel_of q G) i)
+      kernel_lead i lt = IsLead_of_monic (pot_setting S.weights S.modulus (length F) monomials) (lawful_position monomials (length F) S o lawful) (monic i lt)
 
       apart : (i j : ℕ) (k : Key n) → i < length (kernel_of q G) → j < length (kernel_of q G) → (i ≡ j → ⊥) → KeyDivides (leads (kernel_of q G) j) k → IsCongruent S.modulus (coefficient (get_or (kernel_of q G) i []) k) 0
       apart i j k hi hj ne d =
@@ -213,27 +220,31 @@ module _ {n : ℕ} (S : Setting n) (monomials : Exponents n → Exponents n → 
           (place_apart chosen.place (length (kept_list (is_from_position q) G)) chosen.rising i j (in_kept i hi) (in_kept j hj) ne)
           (d.0, ap (shift d.0) (head j hj) ∙ ap (λ x. (q + x.0, x.1)) d.1))
 
-      covers : (a : FormalSum n) (k : Key n) → IsMember S.modulus (kernel_of q G) a → IsLead (pot_setting S.modulus (length F) monomials) a k → IsCovered (kernel_of q G) k
+      covers : (a : FormalSum n) (k : Key n) → IsMember S.modulus (kernel_of q G) a → IsLead (pot_setting S.weights S.modulus (length F) monomials) a k → IsCovered (pot_setting S.weights S.modulus (length F) monomials) (kernel_of q G) k
       covers a k m lead = found (reduced.reduced.basis.covers (raised q a) (q + k.0, k.1) (IsMember_raised q F a ((kernel_exact a).0 m)) (lead_raised monomials q S (q + length F) (length F) a k lead))
         where
-          found : IsCovered G (q + k.0, k.1) → IsCovered (kernel_of q G) k
-          found (j, lt, d) =
+          found : IsCovered T G (q + k.0, k.1) → IsCovered (pot_setting S.weights S.modulus (length F) monomials) (kernel_of q G) k
+          found (j, lt, first, d) =
               let z : (leads G j).0 ≡ q + k.0 = ap (λ x. x.0) d.1 in
               let passes : all_kept (is_from_position q) (get_or G j []) ≡ true =
-              all_kept_normal (pot_setting S.modulus (q + length F) monomials) (is_from_position q) (lawful_position monomials (q + length F) S o lawful) (IsDownClosed_position (pot_setting S.modulus (q + length F) monomials) monomials q refl) (get_or G j []) (reduced.reduced.normal j lt)
+              all_kept_normal (pot_setting S.weights S.modulus (q + length F) monomials) (is_from_position q) (lawful_position monomials (q + length F) S o lawful) (IsDownClosed_position (pot_setting S.weights S.modulus (q + length F) monomials) monomials q refl) (get_or G j []) (reduced.reduced.normal j lt)
               (le_true q (leads G j).0 (omega (arith, z))) in
               let c = chosen.all j lt passes in
               let h = lead_at c.0 j lt (at_place c.0 j c.2 passes) in (
                 c.0,
                 subst (λ m. c.0 < m) (sym (length-map (lowered q) (kept_list (is_from_position q) G))) c.1,
+                kernel_lead c.0 (subst (λ m. c.0 < m) (sym (length-map (lowered q) (kept_list (is_from_position q) G))) c.1),
                 (d.0, unraise q (shift d.0 (leads (kernel_of q G) c.0)) k (sym (ap (shift d.0) h) ∙ d.1)),
               )
 
   -- what the kernel part covers, the basis does behind the first positions
-  pub covered_raised : (k : Key n) → IsCovered (kernel_of q G) k → IsCovered G (q + k.0, k.1)
-  covered_raised k (i, lt, d) = (
+  pub covered_raised :
+      (k : Key n) → IsCovered (pot_setting S.weights S.modulus (length F) monomials) (kernel_of q G) k
+      → IsCovered (pot_setting S.weights S.modulus (q + length F) monomials) G (q + k.0, k.1)
+  covered_raised k (i, lt, first, d) = (
     chosen.place i,
     place_in i lt,
+    IsLead_of_monic (pot_setting S.weights S.modulus (q + length F) monomials) (lawful_position monomials (q + length F) S o lawful) (reduced.reduced.monic (chosen.place i) (place_in i lt)),
     (d.0, ap (shift d.0) (lead_at i (chosen.place i) (place_in i lt) (raised_at i lt)) ∙ ap (λ x. (q + x.0, x.1)) d.1),
   )
 
@@ -247,12 +258,12 @@ module _ {n : ℕ} (S : Setting n) (monomials : Exponents n → Exponents n → 
   first_at i j e = get_or-map (first_components q) [] (led_before q G) i ∙ ap (first_components q) e
 
   -- the first components are the reduced basis of the list
-  pub first_reduced : IsReducedBasis (pot_setting S.modulus q monomials) F (first_parts_of q G)
+  pub first_reduced : IsReducedBasis (pot_setting S.weights S.modulus q monomials) F (first_parts_of q G)
   first_reduced = record {
     reduced = record {
       basis = record { members = members; covers = covers };
       normal = λ i lt. let g = reduced.reduced.normal (first_chosen.place i) (place i lt) in
-          subst (IsNormal (pot_setting S.modulus q monomials)) (sym (at i lt))
+          subst (IsNormal (pot_setting S.weights S.modulus q monomials)) (sym (at i lt))
           (record { descends = Descends_picked (pot monomials) (λ j. nat_lt j q) (get_or G (first_chosen.place i) []) g.descends; residues = Each_picked (λ t. (0 < t.1) × (t.1 < S.modulus)) (λ j. nat_lt j q) (get_or G (first_chosen.place i) []) g.residues });
       monic = monic;
       apart = apart;
@@ -291,10 +302,10 @@ module _ {n : ℕ} (S : Setting n) (monomials : Exponents n → Exponents n → 
       zero_is : IsCongruent S.modulus 0 0
       zero_is = IsCongruent_of S.modulus 0 0 refl
 
-      monic : (i : ℕ) → i < length (first_parts_of q G) → IsMonicLead (pot_setting S.modulus q monomials) (get_or (first_parts_of q G) i []) (leads (first_parts_of q G) i)
+      monic : (i : ℕ) → i < length (first_parts_of q G) → IsMonicLead (pot_setting S.weights S.modulus q monomials) (get_or (first_parts_of q G) i []) (leads (first_parts_of q G) i)
       monic i lt =
           let m = reduced.reduced.monic (first_chosen.place i) (place i lt) in
-          subst (IsMonicLead (pot_setting S.modulus q monomials) (get_or (first_parts_of q G) i [])) (sym (head i lt)) (record {
+          subst (IsMonicLead (pot_setting S.weights S.modulus q monomials) (get_or (first_parts_of q G) i [])) (sym (head i lt)) (record {
             one = IsCongruent_trans (IsCongruent_of S.modulus _ _ (ap (λ g. coefficient g (leads G (first_chosen.place i))) (at i lt) ∙ coefficient_first q (get_or G (first_chosen.place i) []) (leads G (first_chosen.place i)) (below i lt))) m.one;
             above = λ l less. value (λ x. IsCongruent S.modulus x 0) zero_is i lt l (m.above l less);
           })
@@ -306,7 +317,7 @@ module _ {n : ℕ} (S : Setting n) (monomials : Exponents n → Exponents n → 
           (place_apart first_chosen.place (length (led_before q G)) first_chosen.rising i j (in_led i hi) (in_led j hj) ne)
           (subst (λ x. KeyDivides x k) (head j hj) d))
 
-      covers : (v : FormalSum n) (k : Key n) → IsMember S.modulus F v → IsLead (pot_setting S.modulus q monomials) v k → IsCovered (first_parts_of q G) k
+      covers : (v : FormalSum n) (k : Key n) → IsMember S.modulus F v → IsLead (pot_setting S.weights S.modulus q monomials) v k → IsCovered (pot_setting S.weights S.modulus q monomials) (first_parts_of q G) k
       covers v k m lead = found (reduced.reduced.basis.covers w k (IsMember_of (marked q 0 F) m.cofactors w (IsSame_refl S.modulus w)) w_lead)
         where
           w : FormalSum n
@@ -325,7 +336,7 @@ module _ {n : ℕ} (S : Setting n) (monomials : Exponents n → Exponents n → 
               IsCongruent_trans ((combination-marked S.modulus q F m.cofactors m.positions).by_key l)
               (IsCongruent_trans (IsCongruent_of S.modulus (coefficient (combination F m.cofactors ++ raised q m.cofactors) l) (coefficient (combination F m.cofactors) l) (let e = coefficient-append (combination F m.cofactors) (raised q m.cofactors) l in omega (arith, e, z))) (m.sums.by_key l))
 
-          w_lead : IsLead (pot_setting S.modulus (q + length F) monomials) w k
+          w_lead : IsLead (pot_setting S.weights S.modulus (q + length F) monomials) w k
           w_lead = record {
             nonzero = λ z. lead.nonzero (IsCongruent_trans (IsCongruent_sym (same_at k low)) z);
             above = λ l less. IsCongruent_trans (same_at l (before l (then_less (nat_cmp l.0 k.0) (monomials k.1 l.1) less))) (lead.above l less);
@@ -335,12 +346,13 @@ module _ {n : ℕ} (S : Setting n) (monomials : Exponents n → Exponents n → 
               before l (inl h) = let z : l.0 < k.0 = nat_cmp-less l.0 k.0 h in omega (arith, z, low)
               before l (inr h) = let z : l.0 ≡ k.0 = nat_cmp-equal l.0 k.0 h.0 in omega (arith, z, low)
 
-          found : IsCovered G k → IsCovered (first_parts_of q G) k
-          found (j, lt, d) =
+          found : IsCovered (pot_setting S.weights S.modulus (q + length F) monomials) G k → IsCovered (pot_setting S.weights S.modulus q monomials) (first_parts_of q G) k
+          found (j, lt, first, d) =
               let z : (leads G j).0 ≡ k.0 = ap (λ x. x.0) d.1 in
               let passes : nat_lt (leads G j).0 q ≡ true = lt_true (leads G j).0 q (omega (arith, z, low)) in
               let c = first_chosen.all j lt passes in (
                 c.0,
                 subst (λ m. c.0 < m) (sym (length-map (first_components q) (led_before q G))) c.1,
+                IsLead_of_monic (pot_setting S.weights S.modulus q monomials) (lawful_position monomials q S o lawful) (monic c.0 (subst (λ m. c.0 < m) (sym (length-map (first_components q) (led_before q G))) c.1)),
                 subst (λ x. KeyDivides x k) (sym (ap head_key (first_at c.0 j c.2) ∙ first_head q (get_or G j []) passes)) d,
               )

@@ -26,36 +26,36 @@ use Rattle.operation_laws.proofs.Running.{blocks_rank, colon_run, eliminate_run,
 use Rattle.syzygy_laws.specs.Kernels.{kernel_of, pot_setting}
 use Rattle.operation_laws.specs.Operations.{IsCombinationOfKept, IsInSaturation, IsRun, IsSumOfMembers, back, blocks, eliminated, elimination_setting, first_components, intersection_list, multiples_of, power_times, products_of, saturation_list, stacked}
 
-back_of : {n : ℕ} (S : Setting n) → IsLawful S → (L G : List (FormalSum (suc n))) (R : List (FormalSum n)) → IsRun (elimination_setting (suc n) 1 S) L G → IsReducedBasis S (back G) R → IsRun S (back G) R
-back_of S lawful L G R run b = run_of S lawful (back G) R (back_rank S.rank G run.ranks) b
+back_of : {n : ℕ} (S : Setting n) (ws : List ℕ) → IsLawful S → (L G : List (FormalSum (suc n))) (R : List (FormalSum n)) → IsRun (elimination_setting ws (suc n) 1 S) L G → IsReducedBasis S (back G) R → IsRun S (back G) R
+back_of S ws lawful L G R run b = run_of S lawful (back G) R (back_rank S.rank G run.ranks) b
 
 pub intersect_plain :
-    {n : ℕ} (S : Setting n) (F H : List (FormalSum n)) (G : List (FormalSum (suc n))) (R : List (FormalSum n)) (v : FormalSum n) → IsLawful S
+    {n : ℕ} (S : Setting n) (ws : List ℕ) (F H : List (FormalSum n)) (G : List (FormalSum (suc n))) (R : List (FormalSum n)) (v : FormalSum n) → IsLawful S
     → Each (HasRank S.rank) F → Each (HasRank S.rank) H
-    → IsReducedBasis (elimination_setting (suc n) 1 S) (intersection_list S.modulus F H) G → IsReducedBasis S (back G) R
+    → IsReducedBasis (elimination_setting ws (suc n) 1 S) (intersection_list S.modulus F H) G → IsReducedBasis S (back G) R
     → IsMember S.modulus R v ↔ (IsMember S.modulus F v × IsMember S.modulus H v)
-intersect_plain {n} S F H G R v lawful f h a b =
-    let run = run_of (elimination_setting (suc n) 1 S) (lawful_elimination (suc n) 1 S lawful) (intersection_list S.modulus F H) G (intersection_rank S.modulus S.rank F H f h) a in
-    intersect_run S F H G R v lawful run (back_of S lawful (intersection_list S.modulus F H) G R run b)
+intersect_plain {n} S ws F H G R v lawful f h a b =
+    let run = run_of (elimination_setting ws (suc n) 1 S) (lawful_elimination ws (suc n) 1 S lawful) (intersection_list S.modulus F H) G (intersection_rank S.modulus S.rank F H f h) a in
+    intersect_run S ws F H G R v lawful run (back_of S ws lawful (intersection_list S.modulus F H) G R run b)
 
 -- the list of a syzygy run is a run
 pub marked_run :
     {n : ℕ} (S : Setting n) (monomials : Exponents n → Exponents n → Ordering) (q : ℕ) (F G : List (FormalSum n)) → IsLawful S → IsMonomialOrder monomials → Each (HasRank q) F
-    → IsReducedBasis (pot_setting S.modulus (q + length F) monomials) (marked q 0 F) G → IsRun (pot_setting S.modulus (q + length F) monomials) (marked q 0 F) G
-marked_run S monomials q F G lawful o r a = run_of (pot_setting S.modulus (q + length F) monomials) (lawful_position monomials (q + length F) S o lawful) (marked q 0 F) G (marked_rank q F r) a
+    → IsReducedBasis (pot_setting S.weights S.modulus (q + length F) monomials) (marked q 0 F) G → IsRun (pot_setting S.weights S.modulus (q + length F) monomials) (marked q 0 F) G
+marked_run S monomials q F G lawful o r a = run_of (pot_setting S.weights S.modulus (q + length F) monomials) (lawful_position monomials (q + length F) S o lawful) (marked q 0 F) G (marked_rank q F r) a
 
 pub eliminate_plain :
-    {n : ℕ} (S : Setting n) (k : ℕ) (F G R : List (FormalSum n)) (v : FormalSum n) → IsLawful S → Each (HasRank S.rank) F
-    → IsReducedBasis (elimination_setting n k S) F G → IsReducedBasis S (eliminated k G) R
+    {n : ℕ} (S : Setting n) (ws : List ℕ) (k : ℕ) (F G R : List (FormalSum n)) (v : FormalSum n) → IsLawful S → Each (HasRank S.rank) F
+    → IsReducedBasis (elimination_setting ws n k S) F G → IsReducedBasis S (eliminated k G) R
     → IsMember S.modulus R v ↔ IsCombinationOfKept S.modulus (has_none_of_first k) F v
-eliminate_plain {n} S k F G R v lawful r a b =
-    let run = run_of (elimination_setting n k S) (lawful_elimination n k S lawful) F G r a in
-    eliminate_run S k F G R v lawful run (run_of S lawful (eliminated k G) R (eliminated_rank S.rank k G run.ranks) b)
+eliminate_plain {n} S ws k F G R v lawful r a b =
+    let run = run_of (elimination_setting ws n k S) (lawful_elimination ws n k S lawful) F G r a in
+    eliminate_run S ws k F G R v lawful run (run_of S lawful (eliminated k G) R (eliminated_rank S.rank k G run.ranks) b)
 
 pub kernel_plain :
     {n : ℕ} (S K : Setting n) (monomials : Exponents n → Exponents n → Ordering) (q : ℕ) (F G R : List (FormalSum n)) (a : FormalSum n)
     → IsLawful S → IsLawful K → K.modulus ≡ S.modulus → K.rank ≡ length F → IsMonomialOrder monomials → Each (HasRank q) F
-    → IsReducedBasis (pot_setting S.modulus (q + length F) monomials) (marked q 0 F) G → IsReducedBasis K (kernel_of q G) R
+    → IsReducedBasis (pot_setting S.weights S.modulus (q + length F) monomials) (marked q 0 F) G → IsReducedBasis K (kernel_of q G) R
     → IsMember S.modulus R a ↔ IsSyzygy S.modulus F a
 kernel_plain S K monomials q F G R a lawful k_lawful same ranks o r x y =
     let run = marked_run S monomials q F G lawful o r x in
@@ -78,7 +78,7 @@ of_rank p m R P v r same h =
 pub quotient_plain :
     {n : ℕ} (S : Setting n) (monomials : Exponents n → Exponents n → Ordering) (f : FormalSum n) (F G R : List (FormalSum n)) (v : FormalSum n) → IsLawful S → IsMonomialOrder monomials
     → Each (HasRank S.rank) F → IsOfRank S.modulus S.rank v
-    → IsReducedBasis (pot_setting S.modulus (S.rank + length (multiples_of S.rank f ++ F)) monomials) (marked S.rank 0 (multiples_of S.rank f ++ F)) G
+    → IsReducedBasis (pot_setting S.weights S.modulus (S.rank + length (multiples_of S.rank f ++ F)) monomials) (marked S.rank 0 (multiples_of S.rank f ++ F)) G
     → IsReducedBasis S (map (first_components S.rank) (kernel_of S.rank G)) R
     → IsMember S.modulus R v ↔ IsMember S.modulus F (product f v)
 quotient_plain {n} S monomials f F G R v lawful o r vr a b =
@@ -92,7 +92,7 @@ pub colon_plain :
     {n : ℕ} (S U : Setting n) (monomials : Exponents n → Exponents n → Ordering) (F C G R : List (FormalSum n)) (v : FormalSum n)
     → IsLawful S → IsLawful U → U.modulus ≡ S.modulus → U.rank ≡ 1 → IsMonomialOrder monomials
     → Each (HasRank S.rank) F → Each (HasRank S.rank) C → IsOfRank S.modulus 1 v
-    → IsReducedBasis (pot_setting S.modulus (S.rank * length C + length (stacked S.rank 0 C ∷ blocks S.rank 0 (length C) F)) monomials) (marked (S.rank * length C) 0 (stacked S.rank 0 C ∷ blocks S.rank 0 (length C) F)) G
+    → IsReducedBasis (pot_setting S.weights S.modulus (S.rank * length C + length (stacked S.rank 0 C ∷ blocks S.rank 0 (length C) F)) monomials) (marked (S.rank * length C) 0 (stacked S.rank 0 C ∷ blocks S.rank 0 (length C) F)) G
     → IsReducedBasis U (map (first_components 1) (kernel_of (S.rank * length C) G)) R
     → IsMember S.modulus R v ↔ Each (λ c. IsMember S.modulus F (product v c)) C
 colon_plain {n} S U monomials F C G R v lawful u_lawful same one o r cr vr a b =
@@ -106,15 +106,15 @@ colon_plain {n} S U monomials F C G R v lawful u_lawful same one o r cr vr a b =
     (run_of U u_lawful (map (first_components 1) (kernel_of q G)) R (subst (λ m. Each (HasRank m) (map (first_components 1) (kernel_of q G))) (sym one) (first_rank 1 (kernel_of q G))) b))
 
 pub saturate_plain :
-    {n : ℕ} (S : Setting n) (f : FormalSum n) (F : List (FormalSum n)) (G : List (FormalSum (suc n))) (R : List (FormalSum n)) (v : FormalSum n) → IsLawful S
+    {n : ℕ} (S : Setting n) (ws : List ℕ) (f : FormalSum n) (F : List (FormalSum n)) (G : List (FormalSum (suc n))) (R : List (FormalSum n)) (v : FormalSum n) → IsLawful S
     → Each (HasRank S.rank) F → IsOfRank S.modulus S.rank v
-    → IsReducedBasis (elimination_setting (suc n) 1 S) (saturation_list S.modulus S.rank f F) G → IsReducedBasis S (back G) R
+    → IsReducedBasis (elimination_setting ws (suc n) 1 S) (saturation_list S.modulus S.rank f F) G → IsReducedBasis S (back G) R
     → IsMember S.modulus R v ↔ IsInSaturation S.modulus f F v
-saturate_plain {n} S f F G R v lawful r vr a b =
-    let run = run_of (elimination_setting (suc n) 1 S) (lawful_elimination (suc n) 1 S lawful) (saturation_list S.modulus S.rank f F) G (saturation_rank S.modulus S.rank f F r) a in
+saturate_plain {n} S ws f F G R v lawful r vr a b =
+    let run = run_of (elimination_setting ws (suc n) 1 S) (lawful_elimination ws (suc n) 1 S lawful) (saturation_list S.modulus S.rank f F) G (saturation_rank S.modulus S.rank f F r) a in
     of_rank S.modulus S.rank R (IsInSaturation S.modulus f F) v vr
     (λ u w e m. record { power = m.power; positive = m.positive; inside = IsMember_same F (power_times f m.power u) (power_times f m.power w) (IsSame_linear (positive S lawful) (power_times f m.power) (IsLinear_power_times f m.power) u w e) m.inside })
-    (saturate_run S f F G R (kept S.rank v) lawful (HasRank_kept S.rank v) run (back_of S lawful (saturation_list S.modulus S.rank f F) G R run b))
+    (saturate_run S ws f F G R (kept S.rank v) lawful (HasRank_kept S.rank v) run (back_of S ws lawful (saturation_list S.modulus S.rank f F) G R run b))
 
 pub sum_plain :
     {n : ℕ} (S : Setting n) (F H R : List (FormalSum n)) (v : FormalSum n) → IsLawful S → Each (HasRank S.rank) F → Each (HasRank S.rank) H

@@ -1,16 +1,19 @@
 -- What the runs of an operation give
-use Rattle.std.proofs.Common.{List, [], arith, length, map, refl, subst, suc, zero, ℕ, ◌*◌, ◌+◌, ◌++◌, ◌<◌, ◌∷◌, ◌≡◌, ◌≤◌}
+use Rattle.std.proofs.Common.{List, [], ap, arith, length, map, refl, subst, suc, zero, ℕ, ◌*◌, ◌+◌, ◌++◌, ◌<◌, ◌∷◌, ◌≡◌, ◌≤◌}
 use Rattle.std.specs.Prelude.{◌↔◌}
 use Rattle.std.specs.declared.cmp.Ordering.{Ordering}
+use mathlib.Core.Path.{fun_ext}
 use Rattle.monomials.specs.Exponents.{Exponents}
 use Rattle.formal_sums.proofs.Combining.{Each_map, IsMember_itself, IsMember_through}
 use Rattle.formal_sums.proofs.OfRank.{IsSyzygy_member}
 use Rattle.formal_sums.proofs.WeightedSums.{Each_append}
 use Rattle.formal_sums.specs.Combinations.{IsMember, IsSyzygy}
 use Rattle.formal_sums.specs.FormalSums.{Each, FormalSum, HasRank, product}
-use Rattle.orders.proofs.Eliminating.{elimination_order}
 use Rattle.orders.proofs.Positions.{pot_order, top_order}
+use Rattle.orders.proofs.Weighted.{weighted_elimination-none, weighted_elimination_order}
+use Rattle.orders.specs.KeyOrders.{top}
 use Rattle.orders.specs.MonomialOrders.{IsMonomialOrder, elimination}
+use Rattle.orders.specs.WeightedOrders.{weighted_elimination}
 use Rattle.bases.proofs.Leading.{positive}
 use Rattle.bases.specs.Bases.{IsReducedBasis}
 use Rattle.bases.specs.Settings.{IsLawful, Setting}
@@ -29,10 +32,21 @@ use Rattle.operation_laws.proofs.Saturate.{HasRank_product, saturation_from, sat
 use Rattle.syzygy_laws.specs.Kernels.{kernel_of, pot_setting}
 use Rattle.operation_laws.specs.Operations.{IsCombinationOfKept, IsInSaturation, IsRun, back, basis_vector, blocks, eliminated, elimination_setting, first_components, intersection_list, listed, multiples_of, saturation_list, stacked, with_first}
 
-pub lawful_elimination : {n : ℕ} (l k : ℕ) (S : Setting n) → IsLawful S → IsLawful (elimination_setting l k S)
-lawful_elimination l k S lawful = record { domain = lawful.domain; order = top_order S.rank (elimination k) (elimination_order l k) }
+pub lawful_elimination : {n : ℕ} (ws : List ℕ) (l k : ℕ) (S : Setting n) → IsLawful S → IsLawful (elimination_setting ws l k S)
+lawful_elimination ws l k S lawful = record {
+  domain = lawful.domain;
+  order = top_order S.rank (weighted_elimination ws k) (weighted_elimination_order l ws k);
+}
 
-pub lawful_position : {n : ℕ} (monomials : Exponents n → Exponents n → Ordering) (r : ℕ) (S : Setting n) → IsMonomialOrder monomials → IsLawful S → IsLawful (pot_setting S.modulus r monomials)
+-- without weights the order is that by total degrees
+pub elimination_setting-none :
+    (n l k : ℕ) (S : Setting n)
+    → elimination_setting [] l k S ≡ record { modulus = S.modulus; weights = []; rank = S.rank; compare = top (elimination k) }
+elimination_setting-none n l k S =
+    ap (λ c. record { modulus = S.modulus; weights = []; rank = S.rank; compare = top {n = l} c })
+    (fun_ext (λ v. fun_ext (λ w. weighted_elimination-none k v w)))
+
+pub lawful_position : {n : ℕ} (monomials : Exponents n → Exponents n → Ordering) (r : ℕ) (S : Setting n) → IsMonomialOrder monomials → IsLawful S → IsLawful (pot_setting S.weights S.modulus r monomials)
 lawful_position monomials r S o lawful = record { domain = lawful.domain; order = pot_order r monomials o }
 
 -- a run generates the module of its list
@@ -58,49 +72,49 @@ through : {A B C : Type 0} → A ↔ B → B ↔ C → A ↔ C
 through f g = (λ a. g.0 (f.0 a), λ c. f.1 (g.1 c))
 
 pub eliminate_run :
-    {n : ℕ} (S : Setting n) (k : ℕ) (F G R : List (FormalSum n)) (v : FormalSum n) → IsLawful S → IsRun (elimination_setting n k S) F G → IsRun S (eliminated k G) R
+    {n : ℕ} (S : Setting n) (ws : List ℕ) (k : ℕ) (F G R : List (FormalSum n)) (v : FormalSum n) → IsLawful S → IsRun (elimination_setting ws n k S) F G → IsRun S (eliminated k G) R
     → IsMember S.modulus R v ↔ IsCombinationOfKept S.modulus (has_none_of_first k) F v
-eliminate_run {n} S k F G R v lawful run last =
+eliminate_run {n} S ws k F G R v lawful run last =
     through (run_generates S lawful (eliminated k G) R last v)
-    (let T = elimination_setting n k S in let l = lawful_elimination n k S lawful in (
-      eliminate_to T l F G run.list run.reduced.reduced.normal run.reduced.reduced.basis (has_none_of_first k) (IsDownClosed_elimination T k refl) v,
-      eliminate_from T l F G run.list run.reduced.reduced.normal run.reduced.reduced.basis (has_none_of_first k) (IsDownClosed_elimination T k refl) v,
+    (let T = elimination_setting ws n k S in let l = lawful_elimination ws n k S lawful in (
+      eliminate_to T l F G run.list run.reduced.reduced.normal run.reduced.reduced.basis (has_none_of_first k) (IsDownClosed_elimination T ws k refl) v,
+      eliminate_from T l F G run.list run.reduced.reduced.normal run.reduced.reduced.basis (has_none_of_first k) (IsDownClosed_elimination T ws k refl) v,
     ))
 
 -- a list in one more variable, back in fewer
 pub back_run :
-    {n : ℕ} (S : Setting n) (L G : List (FormalSum (suc n))) (R : List (FormalSum n)) (v : FormalSum n) → IsLawful S → IsRun (elimination_setting (suc n) 1 S) L G → IsRun S (back G) R
+    {n : ℕ} (S : Setting n) (ws : List ℕ) (L G : List (FormalSum (suc n))) (R : List (FormalSum n)) (v : FormalSum n) → IsLawful S → IsRun (elimination_setting ws (suc n) 1 S) L G → IsRun S (back G) R
     → IsMember S.modulus R v ↔ IsMember S.modulus L (with_first v)
-back_run {n} S L G R v lawful run last =
+back_run {n} S ws L G R v lawful run last =
     through (run_generates S lawful (back G) R last v)
-    (let T = elimination_setting (suc n) 1 S in let l = lawful_elimination (suc n) 1 S lawful in
-    (front_to T l L G run.list run.reduced.reduced.normal run.reduced.reduced.basis refl v, front_from T l L G run.list run.reduced.reduced.normal run.reduced.reduced.basis refl v))
+    (let T = elimination_setting ws (suc n) 1 S in let l = lawful_elimination ws (suc n) 1 S lawful in
+    (front_to T l L G run.list run.reduced.reduced.normal run.reduced.reduced.basis ws refl v, front_from T l L G run.list run.reduced.reduced.normal run.reduced.reduced.basis ws refl v))
 
 pub intersect_run :
-    {n : ℕ} (S : Setting n) (F H : List (FormalSum n)) (G : List (FormalSum (suc n))) (R : List (FormalSum n)) (v : FormalSum n) → IsLawful S
-    → IsRun (elimination_setting (suc n) 1 S) (intersection_list S.modulus F H) G → IsRun S (back G) R
+    {n : ℕ} (S : Setting n) (ws : List ℕ) (F H : List (FormalSum n)) (G : List (FormalSum (suc n))) (R : List (FormalSum n)) (v : FormalSum n) → IsLawful S
+    → IsRun (elimination_setting ws (suc n) 1 S) (intersection_list S.modulus F H) G → IsRun S (back G) R
     → IsMember S.modulus R v ↔ (IsMember S.modulus F v × IsMember S.modulus H v)
-intersect_run S F H G R v lawful run last =
-    through (back_run S (intersection_list S.modulus F H) G R v lawful run last)
+intersect_run S ws F H G R v lawful run last =
+    through (back_run S ws (intersection_list S.modulus F H) G R v lawful run last)
     (let pos = positive S lawful in
     (λ a. (intersection_left pos F H v a, intersection_right pos F H v a), λ h. intersection_from pos F H v h.0 h.1))
 
 pub saturate_run :
-    {n : ℕ} (S : Setting n) (f : FormalSum n) (F : List (FormalSum n)) (G : List (FormalSum (suc n))) (R : List (FormalSum n)) (v : FormalSum n) → IsLawful S → HasRank S.rank v
-    → IsRun (elimination_setting (suc n) 1 S) (saturation_list S.modulus S.rank f F) G → IsRun S (back G) R
+    {n : ℕ} (S : Setting n) (ws : List ℕ) (f : FormalSum n) (F : List (FormalSum n)) (G : List (FormalSum (suc n))) (R : List (FormalSum n)) (v : FormalSum n) → IsLawful S → HasRank S.rank v
+    → IsRun (elimination_setting ws (suc n) 1 S) (saturation_list S.modulus S.rank f F) G → IsRun S (back G) R
     → IsMember S.modulus R v ↔ IsInSaturation S.modulus f F v
-saturate_run S f F G R v lawful r run last =
-    through (back_run S (saturation_list S.modulus S.rank f F) G R v lawful run last)
+saturate_run S ws f F G R v lawful r run last =
+    through (back_run S ws (saturation_list S.modulus S.rank f F) G R v lawful run last)
     (let pos = positive S lawful in
     (λ a. let q = saturation_to pos S.rank f F v a in record { power = q.0; positive = q.1; inside = q.2 }, λ h. saturation_from pos S.rank f F v h.power r h.inside))
 
 -- what a syzygy run gives
 pub syzygy_run :
     {n : ℕ} (S : Setting n) (monomials : Exponents n → Exponents n → Ordering) (q : ℕ) (F G : List (FormalSum n)) → IsLawful S → IsMonomialOrder monomials → Each (HasRank q) F
-    → IsRun (pot_setting S.modulus (q + length F) monomials) (marked q 0 F) G
+    → IsRun (pot_setting S.weights S.modulus (q + length F) monomials) (marked q 0 F) G
     → Each (IsSyzygy S.modulus F) (kernel_of q G) × ((a : FormalSum n) → IsSyzygy S.modulus F a → IsMember S.modulus (kernel_of q G) a)
 syzygy_run S monomials q F G lawful o r run =
-    let T = pot_setting S.modulus (q + length F) monomials in
+    let T = pot_setting S.weights S.modulus (q + length F) monomials in
     let l = lawful_position monomials (q + length F) S o lawful in
     let f = Each_at (HasRank q) [] F r in
     (kernel_syzygies T l monomials refl q F G f run.list run.reduced.reduced.normal run.ranks run.reduced.reduced.basis, kernel_all T l monomials refl q F G f run.list run.reduced.reduced.normal run.ranks run.reduced.reduced.basis)
@@ -132,7 +146,7 @@ blocks_rank m i (suc s) F q le h =
 -- the run on the kernel: the syzygies of F
 pub kernel_run :
     {n : ℕ} (S K : Setting n) (monomials : Exponents n → Exponents n → Ordering) (q : ℕ) (F G R : List (FormalSum n)) (a : FormalSum n) → IsLawful S → IsLawful K → K.modulus ≡ S.modulus → IsMonomialOrder monomials → Each (HasRank q) F
-    → IsRun (pot_setting S.modulus (q + length F) monomials) (marked q 0 F) G → IsRun K (kernel_of q G) R
+    → IsRun (pot_setting S.weights S.modulus (q + length F) monomials) (marked q 0 F) G → IsRun K (kernel_of q G) R
     → IsMember S.modulus R a ↔ IsSyzygy S.modulus F a
 kernel_run S K monomials q F G R a lawful k_lawful same o r run last =
     let s = syzygy_run S monomials q F G lawful o r run in
@@ -142,7 +156,7 @@ kernel_run S K monomials q F G R a lawful k_lawful same o r run last =
 pub quotient_run :
     {n : ℕ} (S : Setting n) (monomials : Exponents n → Exponents n → Ordering) (f : FormalSum n) (F G R : List (FormalSum n)) (v : FormalSum n) → IsLawful S → IsMonomialOrder monomials
     → Each (HasRank S.rank) F → HasRank S.rank v
-    → IsRun (pot_setting S.modulus (S.rank + length (multiples_of S.rank f ++ F)) monomials) (marked S.rank 0 (multiples_of S.rank f ++ F)) G
+    → IsRun (pot_setting S.weights S.modulus (S.rank + length (multiples_of S.rank f ++ F)) monomials) (marked S.rank 0 (multiples_of S.rank f ++ F)) G
     → IsRun S (map (first_components S.rank) (kernel_of S.rank G)) R
     → IsMember S.modulus R v ↔ IsMember S.modulus F (product f v)
 quotient_run S monomials f F G R v lawful o r vr run last =
@@ -154,7 +168,7 @@ quotient_run S monomials f F G R v lawful o r vr run last =
 pub colon_run :
     {n : ℕ} (S U : Setting n) (monomials : Exponents n → Exponents n → Ordering) (F C G R : List (FormalSum n)) (v : FormalSum n) → IsLawful S → IsLawful U → U.modulus ≡ S.modulus → IsMonomialOrder monomials
     → Each (HasRank S.rank) F → Each (HasRank S.rank) C → HasRank 1 v
-    → IsRun (pot_setting S.modulus (S.rank * length C + length (stacked S.rank 0 C ∷ blocks S.rank 0 (length C) F)) monomials) (marked (S.rank * length C) 0 (stacked S.rank 0 C ∷ blocks S.rank 0 (length C) F)) G
+    → IsRun (pot_setting S.weights S.modulus (S.rank * length C + length (stacked S.rank 0 C ∷ blocks S.rank 0 (length C) F)) monomials) (marked (S.rank * length C) 0 (stacked S.rank 0 C ∷ blocks S.rank 0 (length C) F)) G
     → IsRun U (map (first_components 1) (kernel_of (S.rank * length C) G)) R
     → IsMember S.modulus R v ↔ Each (λ c. IsMember S.modulus F (product v c)) C
 colon_run S U monomials F C G R v lawful u_lawful same o r cr vr run last =

@@ -5,7 +5,7 @@ use Rattle.monomials.specs.Exponents.{Exponents, cons, tail, unit}
 use Rattle.formal_sums.specs.Combinations.{IsMember}
 use Rattle.formal_sums.specs.FormalSums.{Each, FormalSum, HasRank, IsSame, Key, coefficient, product, scale}
 use Rattle.orders.specs.KeyOrders.{top}
-use Rattle.orders.specs.MonomialOrders.{elimination}
+use Rattle.orders.specs.WeightedOrders.{weighted_elimination}
 use Rattle.bases.specs.Bases.{IsReducedBasis}
 use Rattle.bases.specs.Leads.{IsMonicList}
 use Rattle.bases.specs.Settings.{Setting}
@@ -97,9 +97,9 @@ abbrev pub blocks : {n : ℕ} → ℕ → ℕ → ℕ → List (FormalSum n) →
 blocks m i zero F = []
 blocks m i (suc s) F = map (raised i) F ++ blocks m (m + i) s F
 
--- the setting of S in l variables, by an order that eliminates the first k of them, term over position
-abbrev pub elimination_setting : {n : ℕ} (l k : ℕ) → Setting n → Setting l
-elimination_setting l k S = record { modulus = S.modulus; rank = S.rank; compare = top (elimination k) }
+-- the setting of S in l variables of the weights ws, by an order that eliminates the first k of them, term over position
+abbrev pub elimination_setting : {n : ℕ} (ws : List ℕ) (l k : ℕ) → Setting n → Setting l
+elimination_setting ws l k S = record { modulus = S.modulus; weights = ws; rank = S.rank; compare = top (weighted_elimination ws k) }
 
 -- G is what a run on F gives: the reduced basis of the module of F, in vectors of the rank
 pub record IsRun {n : ℕ} (S : Setting n) (F G : List (FormalSum n)) : Type 0 where

@@ -7,7 +7,7 @@ mod one_more_variable;
 
 pub use marked_bases::{lifts, marked_parts, remainders};
 pub use module_operations::{
-    colons, eliminations, intersections, joined_lists, kernels, products_of_lists, quotients, runs,
-    saturations,
+    colons, eliminations, intersections, joined_lists, kernels, plain_eliminations,
+    products_of_lists, quotients, runs, saturations,
 };
 pub use one_more_variable::embedding;

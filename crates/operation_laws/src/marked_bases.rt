@@ -7,7 +7,7 @@ ghost use Rattle.monomials.specs.Exponents.{Exponents, unit};
 ghost use Rattle.formal_sums.specs.FormalSums.{FormalSum, HasRank, IsOfRank, IsSame, Each, Key, coefficient, scale};
 ghost use Rattle.formal_sums.specs.Combinations.{IsMember, IsSyzygy};
 ghost use Rattle.orders.specs.MonomialOrders.{IsMonomialOrder};
-ghost use Rattle.bases.specs.Bases.{IsCovered, IsGroebnerBasis, IsReducedBasis};
+ghost use Rattle.bases.specs.Bases.{HasFreeTerms, IsGroebnerBasis, IsReducedBasis};
 ghost use Rattle.bases.specs.Leads.{IsMonicList};
 ghost use Rattle.bases.specs.Settings.{Setting, IsLawful};
 ghost use Rattle.syzygy_laws.specs.Syzygies.{marked};
@@ -19,15 +19,15 @@ ghost use Rattle.operation_laws.specs.Lifts.{IsLift, IsRemainder, first_parts_of
 pub fn marked_parts()
     ensures first { (n q : ℕ) (S : Setting n) (monomials : Exponents n → Exponents n → Ordering) (F G : List (FormalSum n))
         → IsLawful S → IsMonomialOrder monomials → Each (HasRank q) F
-        → IsReducedBasis (pot_setting S.modulus (q + length F) monomials) (marked q 0 F) G
-        → IsReducedBasis (pot_setting S.modulus q monomials) F (first_parts_of q G) }
+        → IsReducedBasis (pot_setting S.weights S.modulus (q + length F) monomials) (marked q 0 F) G
+        → IsReducedBasis (pot_setting S.weights S.modulus q monomials) F (first_parts_of q G) }
     ensures kernel { (n q : ℕ) (S : Setting n) (monomials : Exponents n → Exponents n → Ordering) (F G : List (FormalSum n))
         → IsLawful S → IsMonomialOrder monomials → Each (HasRank q) F
-        → IsReducedBasis (pot_setting S.modulus (q + length F) monomials) (marked q 0 F) G
-        → IsReducedBasis (pot_setting S.modulus (length F) monomials) (kernel_of q G) (kernel_of q G) }
+        → IsReducedBasis (pot_setting S.weights S.modulus (q + length F) monomials) (marked q 0 F) G
+        → IsReducedBasis (pot_setting S.weights S.modulus (length F) monomials) (kernel_of q G) (kernel_of q G) }
     ensures syzygies { (n q : ℕ) (S : Setting n) (monomials : Exponents n → Exponents n → Ordering) (F G : List (FormalSum n)) (a : FormalSum n)
         → IsLawful S → IsMonomialOrder monomials → Each (HasRank q) F
-        → IsReducedBasis (pot_setting S.modulus (q + length F) monomials) (marked q 0 F) G
+        → IsReducedBasis (pot_setting S.weights S.modulus (q + length F) monomials) (marked q 0 F) G
         → IsMember S.modulus (kernel_of q G) a ↔ IsSyzygy S.modulus F a }
 {}
 
@@ -38,24 +38,24 @@ pub fn marked_parts()
 pub fn lifts()
     ensures one { (n : ℕ) (S : Setting n) (F K : List (FormalSum n)) (v a b : FormalSum n)
         → IsLawful S → IsGroebnerBasis S K K → ((c : FormalSum n) → IsSyzygy S.modulus F c → IsMember S.modulus K c)
-        → IsLift S.modulus F K v a → IsLift S.modulus F K v b → IsSame S.modulus a b }
+        → IsLift S F K v a → IsLift S F K v b → IsSame S.modulus a b }
     ensures member { (n q : ℕ) (S : Setting n) (monomials : Exponents n → Exponents n → Ordering) (F G : List (FormalSum n)) (v w : FormalSum n)
         → IsLawful S → IsMonomialOrder monomials → Each (HasRank q) F → IsOfRank S.modulus q v
-        → IsReducedBasis (pot_setting S.modulus (q + length F) monomials) (marked q 0 F) G
+        → IsReducedBasis (pot_setting S.weights S.modulus (q + length F) monomials) (marked q 0 F) G
         → IsMember S.modulus (marked q 0 F) (v ++ scale (S.modulus - 1) (unit n) w)
-        → ((k : Key n) → IsCovered G k → IsCongruent S.modulus (coefficient w k) 0)
+        → HasFreeTerms (pot_setting S.weights S.modulus (q + length F) monomials) G w
         → IsMember S.modulus F v ↔ ((k : Key n) → k.0 < q → IsCongruent S.modulus (coefficient w k) 0) }
     ensures found { (n q : ℕ) (S : Setting n) (monomials : Exponents n → Exponents n → Ordering) (F G : List (FormalSum n)) (v w : FormalSum n)
         → IsLawful S → IsMonomialOrder monomials → Each (HasRank q) F → IsOfRank S.modulus q v
-        → IsReducedBasis (pot_setting S.modulus (q + length F) monomials) (marked q 0 F) G
+        → IsReducedBasis (pot_setting S.weights S.modulus (q + length F) monomials) (marked q 0 F) G
         → IsMember S.modulus (marked q 0 F) (v ++ scale (S.modulus - 1) (unit n) w)
-        → ((k : Key n) → IsCovered G k → IsCongruent S.modulus (coefficient w k) 0)
+        → HasFreeTerms (pot_setting S.weights S.modulus (q + length F) monomials) G w
         → ((k : Key n) → k.0 < q → IsCongruent S.modulus (coefficient w k) 0)
-        → IsLift S.modulus F (kernel_of q G) v (scale (S.modulus - 1) (unit n) (lowered q w)) }
+        → IsLift (pot_setting S.weights S.modulus (length F) monomials) F (kernel_of q G) v (scale (S.modulus - 1) (unit n) (lowered q w)) }
     ensures exists { (n q : ℕ) (S : Setting n) (monomials : Exponents n → Exponents n → Ordering) (F G : List (FormalSum n)) (v : FormalSum n)
         → IsLawful S → IsMonomialOrder monomials → Each (HasRank q) F
-        → IsReducedBasis (pot_setting S.modulus (q + length F) monomials) (marked q 0 F) G
-        → IsMember S.modulus F v → (a : FormalSum n) × IsLift S.modulus F (kernel_of q G) v a }
+        → IsReducedBasis (pot_setting S.weights S.modulus (q + length F) monomials) (marked q 0 F) G
+        → IsMember S.modulus F v → (a : FormalSum n) × IsLift (pot_setting S.weights S.modulus (length F) monomials) F (kernel_of q G) v a }
 {}
 
 /// Each vector of the setting's rank has a remainder by a list of vectors of that rank with monic leads
@@ -63,5 +63,5 @@ pub fn lifts()
 pub fn remainders()
     ensures { (n : ℕ) (S : Setting n) (G : List (FormalSum n)) (v : FormalSum n)
         → IsLawful S → IsMonicList S G → ((i : ℕ) → i < length G → IsOfRank S.modulus S.rank (get_or G i []))
-        → IsOfRank S.modulus S.rank v → (w : FormalSum n) × IsRemainder S.modulus G v w }
+        → IsOfRank S.modulus S.rank v → (w : FormalSum n) × IsRemainder S G v w }
 {}

@@ -5,7 +5,8 @@ ghost use Rattle.std.specs.declared.cmp.Ordering.{Ordering};
 ghost use Rattle.monomials.specs.Exponents.{Exponents};
 ghost use Rattle.formal_sums.specs.FormalSums.{FormalSum, IsOfRank, IsSame, HasRank, Each, product};
 ghost use Rattle.formal_sums.specs.Combinations.{combination, IsMember, IsSyzygy};
-ghost use Rattle.orders.specs.MonomialOrders.{IsMonomialOrder};
+ghost use Rattle.orders.specs.KeyOrders.{top};
+ghost use Rattle.orders.specs.MonomialOrders.{IsMonomialOrder, elimination};
 ghost use Rattle.bases.specs.Bases.{IsReducedBasis};
 ghost use Rattle.bases.specs.Settings.{Setting, IsLawful};
 ghost use Rattle.division_laws.specs.Elimination.{has_none_of_first};
@@ -44,37 +45,45 @@ pub fn products_of_lists()
         → 0 < p → IsMember p F u → IsMember p H v → IsMember p (products_of F H) (product u v) }
 {}
 
-/// Elimination gives the combinations of the members without the first k variables.
+/// Without weights a run that eliminates is one in the elimination order by total degrees (IVA chapter 3, section 1).
+pub fn plain_eliminations()
+    ensures { (n l k : ℕ) (S : Setting n)
+        → elimination_setting [] l k S
+        ≡ record { modulus = S.modulus; weights = []; rank = S.rank; compare = top (elimination k) } }
+{}
+
+/// Elimination gives the combinations of the members without the first k variables. Here and below, the run that eliminates may
+/// have whatever weights.
 pub fn eliminations()
-    ensures reduced { (n k : ℕ) (S : Setting n) (F G R : List (FormalSum n)) (v : FormalSum n)
-        → IsLawful S → Each (HasRank S.rank) F → IsReducedBasis (elimination_setting n k S) F G → IsReducedBasis S (eliminated k G) R
+    ensures reduced { (n k : ℕ) (S : Setting n) (ws : List ℕ) (F G R : List (FormalSum n)) (v : FormalSum n)
+        → IsLawful S → Each (HasRank S.rank) F → IsReducedBasis (elimination_setting ws n k S) F G → IsReducedBasis S (eliminated k G) R
         → IsMember S.modulus R v ↔ IsCombinationOfKept S.modulus (has_none_of_first k) F v }
-    ensures members { (n k : ℕ) (S : Setting n) (F G R : List (FormalSum n)) (v : FormalSum n)
-        → IsLawful S → IsRun (elimination_setting n k S) F G → IsRun S (eliminated k G) R
+    ensures members { (n k : ℕ) (S : Setting n) (ws : List ℕ) (F G R : List (FormalSum n)) (v : FormalSum n)
+        → IsLawful S → IsRun (elimination_setting ws n k S) F G → IsRun S (eliminated k G) R
         → IsMember S.modulus R v ↔ IsCombinationOfKept S.modulus (has_none_of_first k) F v }
 {}
 
 /// The intersection of two modules.
 pub fn intersections()
-    ensures members { (n : ℕ) (S : Setting n) (F H R : List (FormalSum n)) (G : List (FormalSum (suc n))) (v : FormalSum n)
-        → IsLawful S → IsRun (elimination_setting (suc n) 1 S) (intersection_list S.modulus F H) G → IsRun S (back G) R
+    ensures members { (n : ℕ) (S : Setting n) (ws : List ℕ) (F H R : List (FormalSum n)) (G : List (FormalSum (suc n))) (v : FormalSum n)
+        → IsLawful S → IsRun (elimination_setting ws (suc n) 1 S) (intersection_list S.modulus F H) G → IsRun S (back G) R
         → IsMember S.modulus R v ↔ (IsMember S.modulus F v × IsMember S.modulus H v) }
-    ensures reduced { (n : ℕ) (S : Setting n) (F H R : List (FormalSum n)) (G : List (FormalSum (suc n))) (v : FormalSum n)
+    ensures reduced { (n : ℕ) (S : Setting n) (ws : List ℕ) (F H R : List (FormalSum n)) (G : List (FormalSum (suc n))) (v : FormalSum n)
         → IsLawful S → Each (HasRank S.rank) F → Each (HasRank S.rank) H
-        → IsReducedBasis (elimination_setting (suc n) 1 S) (intersection_list S.modulus F H) G → IsReducedBasis S (back G) R
+        → IsReducedBasis (elimination_setting ws (suc n) 1 S) (intersection_list S.modulus F H) G → IsReducedBasis S (back G) R
         → IsMember S.modulus R v ↔ (IsMember S.modulus F v × IsMember S.modulus H v) }
 {}
 
 /// The saturation of a module by a polynomial.
 pub fn saturations()
-    ensures members { (n : ℕ) (S : Setting n) (f : FormalSum n) (F R : List (FormalSum n)) (G : List (FormalSum (suc n))) (v : FormalSum n)
+    ensures members { (n : ℕ) (S : Setting n) (ws : List ℕ) (f : FormalSum n) (F R : List (FormalSum n)) (G : List (FormalSum (suc n))) (v : FormalSum n)
         → IsLawful S → HasRank S.rank v
-        → IsRun (elimination_setting (suc n) 1 S) (saturation_list S.modulus S.rank f F) G → IsRun S (back G) R
+        → IsRun (elimination_setting ws (suc n) 1 S) (saturation_list S.modulus S.rank f F) G → IsRun S (back G) R
         → IsMember S.modulus R v ↔ IsInSaturation S.modulus f F v }
     ensures powers { (n k : ℕ) (f v : FormalSum n) → product (power_times f k (basis_vector 0)) v ≡ power_times f k v }
-    ensures reduced { (n : ℕ) (S : Setting n) (f : FormalSum n) (F R : List (FormalSum n)) (G : List (FormalSum (suc n))) (v : FormalSum n)
+    ensures reduced { (n : ℕ) (S : Setting n) (ws : List ℕ) (f : FormalSum n) (F R : List (FormalSum n)) (G : List (FormalSum (suc n))) (v : FormalSum n)
         → IsLawful S → Each (HasRank S.rank) F → IsOfRank S.modulus S.rank v
-        → IsReducedBasis (elimination_setting (suc n) 1 S) (saturation_list S.modulus S.rank f F) G → IsReducedBasis S (back G) R
+        → IsReducedBasis (elimination_setting ws (suc n) 1 S) (saturation_list S.modulus S.rank f F) G → IsReducedBasis S (back G) R
         → IsMember S.modulus R v ↔ IsInSaturation S.modulus f F v }
 {}
 
@@ -82,11 +91,11 @@ pub fn saturations()
 pub fn kernels()
     ensures reduced { (n q : ℕ) (S K : Setting n) (monomials : Exponents n → Exponents n → Ordering) (F G R : List (FormalSum n)) (a : FormalSum n)
         → IsLawful S → IsLawful K → K.modulus ≡ S.modulus → K.rank ≡ length F → IsMonomialOrder monomials → Each (HasRank q) F
-        → IsReducedBasis (pot_setting S.modulus (q + length F) monomials) (marked q 0 F) G → IsReducedBasis K (kernel_of q G) R
+        → IsReducedBasis (pot_setting S.weights S.modulus (q + length F) monomials) (marked q 0 F) G → IsReducedBasis K (kernel_of q G) R
         → IsMember S.modulus R a ↔ IsSyzygy S.modulus F a }
     ensures members { (n q : ℕ) (S K : Setting n) (monomials : Exponents n → Exponents n → Ordering) (F G R : List (FormalSum n)) (a : FormalSum n)
         → IsLawful S → IsLawful K → K.modulus ≡ S.modulus → IsMonomialOrder monomials → Each (HasRank q) F
-        → IsRun (pot_setting S.modulus (q + length F) monomials) (marked q 0 F) G → IsRun K (kernel_of q G) R
+        → IsRun (pot_setting S.weights S.modulus (q + length F) monomials) (marked q 0 F) G → IsRun K (kernel_of q G) R
         → IsMember S.modulus R a ↔ IsSyzygy S.modulus F a }
 {}
 
@@ -95,14 +104,14 @@ pub fn quotients()
     ensures reduced { (n : ℕ) (S : Setting n) (monomials : Exponents n → Exponents n → Ordering) (f : FormalSum n)
         (F G R : List (FormalSum n)) (v : FormalSum n)
         → IsLawful S → IsMonomialOrder monomials → Each (HasRank S.rank) F → IsOfRank S.modulus S.rank v
-        → IsReducedBasis (pot_setting S.modulus (S.rank + length (multiples_of S.rank f ++ F)) monomials)
+        → IsReducedBasis (pot_setting S.weights S.modulus (S.rank + length (multiples_of S.rank f ++ F)) monomials)
         (marked S.rank 0 (multiples_of S.rank f ++ F)) G
         → IsReducedBasis S (map (first_components S.rank) (kernel_of S.rank G)) R
         → IsMember S.modulus R v ↔ IsMember S.modulus F (product f v) }
     ensures members { (n : ℕ) (S : Setting n) (monomials : Exponents n → Exponents n → Ordering) (f : FormalSum n)
         (F G R : List (FormalSum n)) (v : FormalSum n)
         → IsLawful S → IsMonomialOrder monomials → Each (HasRank S.rank) F → HasRank S.rank v
-        → IsRun (pot_setting S.modulus (S.rank + length (multiples_of S.rank f ++ F)) monomials)
+        → IsRun (pot_setting S.weights S.modulus (S.rank + length (multiples_of S.rank f ++ F)) monomials)
         (marked S.rank 0 (multiples_of S.rank f ++ F)) G
         → IsRun S (map (first_components S.rank) (kernel_of S.rank G)) R
         → IsMember S.modulus R v ↔ IsMember S.modulus F (product f v) }
@@ -114,7 +123,7 @@ pub fn colons()
         → IsLawful S → IsLawful U → U.modulus ≡ S.modulus → U.rank ≡ 1 → IsMonomialOrder monomials
         → Each (HasRank S.rank) F → Each (HasRank S.rank) C → IsOfRank S.modulus 1 v
         → IsReducedBasis
-        (pot_setting S.modulus (S.rank * length C + length (stacked S.rank 0 C ∷ blocks S.rank 0 (length C) F)) monomials)
+        (pot_setting S.weights S.modulus (S.rank * length C + length (stacked S.rank 0 C ∷ blocks S.rank 0 (length C) F)) monomials)
         (marked (S.rank * length C) 0 (stacked S.rank 0 C ∷ blocks S.rank 0 (length C) F)) G
         → IsReducedBasis U (map (first_components 1) (kernel_of (S.rank * length C) G)) R
         → IsMember S.modulus R v ↔ Each (λ c. IsMember S.modulus F (product v c)) C }
@@ -122,7 +131,7 @@ pub fn colons()
         → IsLawful S → IsLawful U → U.modulus ≡ S.modulus → IsMonomialOrder monomials
         → Each (HasRank S.rank) F → Each (HasRank S.rank) C → HasRank 1 v
         → IsRun
-        (pot_setting S.modulus (S.rank * length C + length (stacked S.rank 0 C ∷ blocks S.rank 0 (length C) F)) monomials)
+        (pot_setting S.weights S.modulus (S.rank * length C + length (stacked S.rank 0 C ∷ blocks S.rank 0 (length C) F)) monomials)
         (marked (S.rank * length C) 0 (stacked S.rank 0 C ∷ blocks S.rank 0 (length C) F)) G
         → IsRun U (map (first_components 1) (kernel_of (S.rank * length C) G)) R
         → IsMember S.modulus R v ↔ Each (λ c. IsMember S.modulus F (product v c)) C }

@@ -13,7 +13,7 @@ use Rattle.orders.proofs.KeyOrdering.{greater_trans}
 use Rattle.orders.specs.KeyOrders.{KeyDivides}
 use Rattle.bases.proofs.Leading.{one_not_zero}
 use Rattle.bases.specs.Bases.{IsCovered, IsReducedBasis, IsReducedSet}
-use Rattle.bases.specs.Leads.{IsMonicLead, IsNormal, head_key, leads}
+use Rattle.bases.specs.Leads.{IsLead, IsMonicLead, IsNormal, head_key, leads}
 use Rattle.bases.specs.Settings.{IsLawful, Setting}
 use Rattle.reduced_bases.proofs.Dropping.{KeyDivides_refl}
 
@@ -40,11 +40,13 @@ IsReducedSet_rearranged {n} S F G H r a = record {
       (r.apart (a.place i) (a.place j) k (a.within i hi) (a.within j hj) (λ e. ne (a.own i j hi hj e)) (subst (λ v. KeyDivides (head_key v) k) (a.is j hj) d));
 }
   where
-    covered : (k : Key n) → IsCovered G k → IsCovered H k
-    covered k (j, hj, d) = go (a.all j hj)
+    covered : (k : Key n) → IsCovered S G k → IsCovered S H k
+    covered k (j, hj, lead, d) = go (a.all j hj)
       where
-        go : (i : ℕ) × (i < length H) × (a.place i ≡ j) → IsCovered H k
-        go (i, hi, e) = (i, hi, subst (λ v. KeyDivides (head_key v) k) (sym (a.is i hi ∙ ap (λ x. get_or G x []) e)) d)
+        go : (i : ℕ) × (i < length H) × (a.place i ≡ j) → IsCovered S H k
+        go (i, hi, e) =
+            let q = sym (a.is i hi ∙ ap (λ x. get_or G x []) e) in
+            (i, hi, subst (λ v. IsLead S v (head_key v)) q lead, subst (λ v. KeyDivides (head_key v) k) q d)
 
 -- i and j change places
 exchanged : ℕ → ℕ → ℕ → ℕ

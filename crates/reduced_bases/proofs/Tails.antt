@@ -1,34 +1,20 @@
 -- A Gröbner basis with its tails reduced is a reduced set
-use Rattle.std.proofs.Common.{List, [], arith, get_or, inl, inr, length, refl, subst, sym, ℕ, ◌*◌, ◌++◌, ◌+◌, ◌-◌, ◌<◌, ◌∙◌, ◌∷◌, ◌≡◌, ◌⊎◌}
+use Rattle.std.proofs.Common.{List, [], arith, get_or, inl, inr, length, subst, sym, ℕ, ◌*◌, ◌++◌, ◌+◌, ◌-◌, ◌<◌, ◌∙◌, ◌≡◌, ◌⊎◌}
 use Rattle.residues.proofs.Congruences.{IsCongruent_add, IsCongruent_minus, IsCongruent_of, IsCongruent_refl, IsCongruent_trans}
 use Rattle.residues.specs.Residues.{IsCongruent}
 use Rattle.monomials.specs.Exponents.{unit}
 use Rattle.formal_sums.proofs.Combining.{IsMember_append, IsMember_same}
 use Rattle.formal_sums.proofs.Sameness.{weighted_sum-minus}
-use Rattle.formal_sums.proofs.WeightedSums.{coefficient-append, indicator_other, key_cases}
+use Rattle.formal_sums.proofs.WeightedSums.{coefficient-append, key_cases}
 use Rattle.formal_sums.specs.Combinations.{IsMember}
 use Rattle.formal_sums.specs.FormalSums.{FormalSum, IsSame, Key, coefficient, indicator, scale}
 use Rattle.orders.specs.KeyOrders.{KeyDivides}
-use Rattle.bases.proofs.Leading.{positive}
+use Rattle.bases.proofs.Leading.{IsLead_of_monic, positive}
 use Rattle.bases.proofs.NormalForms.{IsMonicLead_normal}
 use Rattle.bases.specs.Bases.{IsCovered, IsGroebnerBasis, IsReducedSet}
-use Rattle.bases.specs.Leads.{IsLead, leads}
+use Rattle.bases.specs.Leads.{IsLead, IsMonicLead, leads}
 use Rattle.bases.specs.Settings.{IsLawful, Setting}
-use Rattle.reduced_bases.specs.Interreduction.{HasFreeTail, IsMinimalList, IsTailReduced}
-
--- at a covered key that is not k nothing stands
-HasFreeTail_at :
-    {n : ℕ} (G : List (FormalSum n)) (k : Key n) (v : FormalSum n) → HasFreeTail G k v → (l : Key n)
-    → IsCovered G l → (l ≡ k → ⊥) → coefficient v l ≡ 0
-HasFreeTail_at G k [] h l c ne = refl
-HasFreeTail_at G k (t ∷ v) h l c ne =
-    let rest = HasFreeTail_at G k v h.1 l c ne in
-    let first : indicator l t.0 ≡ 0 = indicator_other l t.0 (λ e. apart e h.0) in
-    rw (first, rest) (omega arith)
-  where
-    apart : l ≡ t.0 → (t.0 ≡ k) ⊎ (IsCovered G t.0 → ⊥) → ⊥
-    apart e (inl d) = ne (e ∙ d)
-    apart e (inr free) = free (subst (IsCovered G) e c)
+use Rattle.reduced_bases.specs.Interreduction.{IsMinimalList, IsTailReduced}
 
 -- g plus the difference of h and g is h
 difference_undone : {n : ℕ} (p : ℕ) (g h : FormalSum n) → 0 < p → IsSame p ((h ++ scale (p - 1) (unit n) g) ++ g) h
@@ -45,11 +31,11 @@ difference_undone {n} p g h pos = record {
 module _ {n : ℕ} (S : Setting n) (lawful : IsLawful S) where
   pub IsReducedSet_tails :
       (F G H : List (FormalSum n))
-      → IsGroebnerBasis S F G → IsMinimalList G → IsTailReduced S F G H → IsReducedSet S F H
+      → IsGroebnerBasis S F G → IsMinimalList S G → IsTailReduced S F G H → IsReducedSet S F H
   IsReducedSet_tails F G H basis minimal reduced = record {
     basis = record { members = λ i h. inside i (there i h); covers = covers };
     normal = λ i h. reduced.normal i (there i h);
-    monic = λ i h. IsMonicLead_normal S lawful (get_or H i []) (reduced.normal i (there i h)) (reduced.monic i (there i h));
+    monic = λ i h. monic i (there i h);
     apart = apart;
   }
     where
@@ -63,11 +49,14 @@ module _ {n : ℕ} (S : Setting n) (lawful : IsLawful S) where
           IsMember_same F _ r (difference_undone S.modulus g r (positive S lawful))
           (IsMember_append F (r ++ scale (S.modulus - 1) (unit n) g) g (reduced.differs i h) (basis.members i h))
 
-      covers : (v : FormalSum n) (k : Key n) → IsMember S.modulus F v → IsLead S v k → IsCovered H k
+      monic : (i : ℕ) → i < length G → IsMonicLead S (get_or H i []) (leads H i)
+      monic i h = IsMonicLead_normal S lawful (get_or H i []) (reduced.normal i h) (reduced.monic i h)
+
+      covers : (v : FormalSum n) (k : Key n) → IsMember S.modulus F v → IsLead S v k → IsCovered S H k
       covers v k a lead = go (basis.covers v k a lead)
         where
-          go : IsCovered G k → IsCovered H k
-          go (i, h, d) = (i, subst (λ x. i < x) (sym reduced.lengths) h, subst (λ x. KeyDivides x k) (sym (reduced.leads_kept i h)) d)
+          go : IsCovered S G k → IsCovered S H k
+          go (i, h, lead', d) = (i, subst (λ x. i < x) (sym reduced.lengths) h, IsLead_of_monic S lawful (monic i h), subst (λ x. KeyDivides x k) (sym (reduced.leads_kept i h)) d)
 
       apart :
           (i j : ℕ) (k : Key n)
@@ -79,5 +68,5 @@ module _ {n : ℕ} (S : Setting n) (lawful : IsLawful S) where
           divides = subst (λ x. KeyDivides x k) (reduced.leads_kept j (there j hj)) d
 
           go : (k ≡ leads G i) ⊎ (k ≡ leads G i → ⊥) → IsCongruent S.modulus (coefficient (get_or H i []) k) 0
-          go (inl e) = absurd (minimal i j (there i hi) (there j hj) ne (subst (KeyDivides (leads G j)) e divides))
-          go (inr other) = IsCongruent_of S.modulus _ 0 (HasFreeTail_at G (leads G i) (get_or H i []) (reduced.tails i (there i hi)) k (j, there j hj, divides) other)
+          go (inl e) = absurd (minimal.apart i j (there i hi) (there j hj) ne (subst (KeyDivides (leads G j)) e divides))
+          go (inr other) = reduced.tails i (there i hi) k (j, there j hj, minimal.lead j (there j hj), divides) other

@@ -10,10 +10,10 @@ ghost use Rattle.bases.specs.Leads.{head_key, leads};
 ghost use Rattle.bases.specs.Bases.{IsCovered, IsGroebnerBasis, IsReducedBasis, IsReducedSet};
 ghost use Rattle.reduced_bases.specs.Interreduction.{CoversLeads, IsMinimalList, IsTailReduced};
 
-/// What leads of G cover, a list whose leads cover these covers too.
+/// What leads of G cover, a list whose leads cover these covers too. Zero members cover nothing.
 pub fn covered_leads()
-    ensures { (n : ℕ) (G H : List (FormalSum n)) (k : Key n)
-        → CoversLeads H G → IsCovered G k → IsCovered H k }
+    ensures { (n : ℕ) (S : Setting n) (G H : List (FormalSum n)) (k : Key n)
+        → CoversLeads S H G → IsCovered S G k → IsCovered S H k }
 {}
 
 /// A Gröbner basis stays one as members are dropped whose leads others cover (IVA chapter 2, section 7).
@@ -21,13 +21,13 @@ pub fn dropped_members()
     ensures { (n : ℕ) (S : Setting n) (F G H : List (FormalSum n))
         → IsGroebnerBasis S F G
         → ((i : ℕ) → i < length H → IsMember S.modulus F (get_or H i []))
-        → CoversLeads H G → IsGroebnerBasis S F H }
+        → CoversLeads S H G → IsGroebnerBasis S F H }
 {}
 
 /// One member is dropped: the step of a loop (IVA chapter 2, section 7).
 pub fn dropped_member()
     ensures { (n : ℕ) (S : Setting n) (F G H : List (FormalSum n)) (g : FormalSum n)
-        → IsGroebnerBasis S F (G ++ (g ∷ H)) → IsCovered (G ++ H) (head_key g)
+        → IsGroebnerBasis S F (G ++ (g ∷ H)) → IsCovered S (G ++ H) (head_key g)
         → IsGroebnerBasis S F (G ++ H) }
 {}
 
@@ -35,7 +35,7 @@ pub fn dropped_member()
 /// (IVA chapter 2, section 7).
 pub fn reduced_tails()
     ensures { (n : ℕ) (S : Setting n) (F G H : List (FormalSum n))
-        → IsLawful S → IsGroebnerBasis S F G → IsMinimalList G → IsTailReduced S F G H
+        → IsLawful S → IsGroebnerBasis S F G → IsMinimalList S G → IsTailReduced S F G H
         → IsReducedSet S F H }
 {}
 
@@ -55,7 +55,7 @@ pub fn interreduction()
     ensures { (n : ℕ) (S : Setting n) (F G K H R : List (FormalSum n))
         → IsLawful S → IsGroebnerBasis S F G
         → ((i : ℕ) → i < length K → IsMember S.modulus F (get_or K i []))
-        → CoversLeads K G → IsMinimalList K → IsTailReduced S F K H → IsPermutation H R
+        → CoversLeads S K G → IsMinimalList S K → IsTailReduced S F K H → IsPermutation H R
         → ((i : ℕ) → suc i < length R → S.compare (leads R i) (leads R (suc i)) ≡ Less → ⊥)
         → IsReducedBasis S F R }
 {}

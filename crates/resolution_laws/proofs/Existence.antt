@@ -20,7 +20,7 @@ module _ {n : ℕ} (S : Setting n) (lawful : IsLawful S) (F : List (FormalSum n)
   pub exact_of_pairs :
       (H : List (FormalSum n)) → IsMonicList (induced_setting S F) H
       → ((c : ℕ) → c < length H → IsSyzygy S.modulus F (get_or H c []))
-      → ((i j : ℕ) → i < j → j < length F → (leads F i).0 ≡ (leads F j).0 → IsCovered H (pair_lead_key F i j))
+      → ((i j : ℕ) → i < j → j < length F → (leads F i).0 ≡ (leads F j).0 → IsCovered (induced_setting S F) H (pair_lead_key F i j))
       → IsExact S.modulus F H
   exact_of_pairs H monic syzygies pairs = record {
     syzygies = IsSyzygy_member (positive S lawful) F H syzygies;
@@ -30,28 +30,28 @@ module _ {n : ℕ} (S : Setting n) (lawful : IsLawful S) (F : List (FormalSum n)
     where
       covers :
           (v : FormalSum n) (k : Key n) → IsSyzygy S.modulus F v → IsLead (induced_setting S F) v k
-          → IsPairLead F k → IsCovered H k
+          → IsPairLead F k → IsCovered (induced_setting S F) H k
       covers v k r l (j, lt, hj, at, d) = by (pairs k.0 j lt hj at)
         where
-          by : IsCovered H (pair_lead_key F k.0 j) → IsCovered H k
-          by (i, hi, e) = (i, hi, KeyDivides_trans (leads H i) _ k e d)
+          by : IsCovered (induced_setting S F) H (pair_lead_key F k.0 j) → IsCovered (induced_setting S F) H k
+          by (i, hi, first, e) = (i, hi, first, KeyDivides_trans (leads H i) _ k e d)
 
   -- and they are a Gröbner basis of the syzygies
   pub basis_of_pairs :
       (H : List (FormalSum n)) → IsMonicList (induced_setting S F) H
       → ((c : ℕ) → c < length H → IsSyzygy S.modulus F (get_or H c []))
-      → ((i j : ℕ) → i < j → j < length F → (leads F i).0 ≡ (leads F j).0 → IsCovered H (pair_lead_key F i j))
+      → ((i j : ℕ) → i < j → j < length F → (leads F i).0 ≡ (leads F j).0 → IsCovered (induced_setting S F) H (pair_lead_key F i j))
       → IsGroebnerBasis (induced_setting S F) H H
   basis_of_pairs H monic syzygies pairs = record {
     members = IsMember_itself S.modulus H;
     covers = λ v k m lead. covers k (syzygy_lead S lawful F list v k (IsSyzygy_member (positive S lawful) F H syzygies v m) lead);
   }
     where
-      covers : (k : Key n) → IsPairLead F k → IsCovered H k
+      covers : (k : Key n) → IsPairLead F k → IsCovered (induced_setting S F) H k
       covers k (j, lt, hj, at, d) = by (pairs k.0 j lt hj at)
         where
-          by : IsCovered H (pair_lead_key F k.0 j) → IsCovered H k
-          by (i, hi, e) = (i, hi, KeyDivides_trans (leads H i) _ k e d)
+          by : IsCovered (induced_setting S F) H (pair_lead_key F k.0 j) → IsCovered (induced_setting S F) H k
+          by (i, hi, first, e) = (i, hi, first, KeyDivides_trans (leads H i) _ k e d)
 
 -- ---- one monic vector resolves its module
 pub canonical_vector :

@@ -15,7 +15,7 @@ pub fn exact_by_pairs()
     ensures { (n : ℕ) (S : Setting n) (F H : List (FormalSum n))
         → IsLawful S → IsMonicList S F → IsMonicList (induced_setting S F) H
         → ((c : ℕ) → c < length H → IsSyzygy S.modulus F (get_or H c []))
-        → ((i j : ℕ) → i < j → j < length F → (leads F i).0 ≡ (leads F j).0 → IsCovered H (pair_lead_key F i j))
+        → ((i j : ℕ) → i < j → j < length F → (leads F i).0 ≡ (leads F j).0 → IsCovered (induced_setting S F) H (pair_lead_key F i j))
         → IsExact S.modulus F H }
 {}
 
@@ -24,6 +24,6 @@ pub fn basis_by_pairs()
     ensures { (n : ℕ) (S : Setting n) (F H : List (FormalSum n))
         → IsLawful S → IsMonicList S F → IsMonicList (induced_setting S F) H
         → ((c : ℕ) → c < length H → IsSyzygy S.modulus F (get_or H c []))
-        → ((i j : ℕ) → i < j → j < length F → (leads F i).0 ≡ (leads F j).0 → IsCovered H (pair_lead_key F i j))
+        → ((i j : ℕ) → i < j → j < length F → (leads F i).0 ≡ (leads F j).0 → IsCovered (induced_setting S F) H (pair_lead_key F i j))
         → IsGroebnerBasis (induced_setting S F) H H }
 {}

@@ -80,7 +80,7 @@ module _ {n : ℕ} (S : Setting n) (lawful : IsLawful S) (G M E N : List (Formal
           absurd (one_not_zero S lawful (IsCongruent_trans (IsCongruent_sym (new_monic i h).one) z))
 
   -- no member's lead divides a new lead
-  pub new_lead_apart : HasReducers S.modulus G M → (i : ℕ) → i < length N → IsCovered G (leads N i) → ⊥
+  pub new_lead_apart : HasReducers S G M → (i : ℕ) → i < length N → IsCovered S G (leads N i) → ⊥
   new_lead_apart reducers i h covered = go (find_row (leads N i) residues M)
     where
       residues : List ℕ

@@ -31,9 +31,10 @@ pub record HasPairRows {n : ℕ} (p : ℕ) (G M : List (FormalSum n)) (i j : ℕ
   pub second : (r : ℕ) × (r < length M) × IsSame p (get_or M r []) (scale 1 (quotient (lcm (leads G i).1 (leads G j).1) (leads G j).1) (get_or G j []))
 
 -- each key of a row that a lead of G divides is the lead of a row: the rows have their reducers (Faugère 1999, section 2)
-abbrev pub HasReducers : {n : ℕ} → ℕ → List (FormalSum n) → List (FormalSum n) → Type 0
-HasReducers {n} p G M =
-    (i : ℕ) (k : Key n) → i < length M → (IsCongruent p (coefficient (get_or M i []) k) 0 → ⊥) → IsCovered G k → ContainsLead M k
+abbrev pub HasReducers : {n : ℕ} → Setting n → List (FormalSum n) → List (FormalSum n) → Type 0
+HasReducers {n} S G M =
+    (i : ℕ) (k : Key n)
+    → i < length M → (IsCongruent S.modulus (coefficient (get_or M i []) k) 0 → ⊥) → IsCovered S G k → ContainsLead M k
 
 -- N has the rows of E whose lead is the lead of no row of M, in any order
 pub record IsNewRows {n : ℕ} (M E N : List (FormalSum n)) : Type 0 where

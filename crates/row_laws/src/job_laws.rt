@@ -48,6 +48,6 @@ pub fn new_members()
 /// leads (Faugère 1999, section 2).
 pub fn new_leads()
     ensures { (n : ℕ) (S : Setting n) (G M E N : List (FormalSum n)) (i : ℕ)
-        → IsLawful S → HasReducers S.modulus G M → IsEchelonForm S M E → IsNewRows M E N
-        → i < length N → IsCovered G (leads N i) → ⊥ }
+        → IsLawful S → HasReducers S G M → IsEchelonForm S M E → IsNewRows M E N
+        → i < length N → IsCovered S G (leads N i) → ⊥ }
 {}

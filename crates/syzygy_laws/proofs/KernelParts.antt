@@ -64,17 +64,17 @@ module _ {n : ℕ} (m : ℕ) (G : List (FormalSum n)) where
       kept = subst (λ l. i < l) (length-map (lowered m) (kept_list (is_from_position m) G)) lt
 
   pub kernel_all :
-      (p r : ℕ) (monomials : Exponents n → Exponents n → Ordering) → IsDomain p → IsMonomialOrder monomials
-      → ((i : ℕ) → i < length G → IsNormal (pot_setting p r monomials) (get_or G i [])) → HasAllBehind m G (kernel_of m G)
-  kernel_all p r monomials domain order normal j lt le = go (chosen.all j lt passes)
+      (p r : ℕ) (ws : List ℕ) (monomials : Exponents n → Exponents n → Ordering) → IsDomain p → IsMonomialOrder monomials
+      → ((i : ℕ) → i < length G → IsNormal (pot_setting ws p r monomials) (get_or G i [])) → HasAllBehind m G (kernel_of m G)
+  kernel_all p r ws monomials domain order normal j lt le = go (chosen.all j lt passes)
     where
       le_true : (a b : ℕ) → a ≤ b → nat_le a b ≡ true
       le_true a b h = grind (arith, nat_tests)
 
       passes : all_kept (is_from_position m) (get_or G j []) ≡ true
       passes =
-          all_kept_normal (pot_setting p r monomials) (is_from_position m) (record { domain = domain; order = pot_order r monomials order })
-          (IsDownClosed_position (pot_setting p r monomials) monomials m refl) (get_or G j []) (normal j lt) (le_true m (leads G j).0 le)
+          all_kept_normal (pot_setting ws p r monomials) (is_from_position m) (record { domain = domain; order = pot_order r monomials order })
+          (IsDownClosed_position (pot_setting ws p r monomials) monomials m refl) (get_or G j []) (normal j lt) (le_true m (leads G j).0 le)
 
       go :
           (i : ℕ) × (i < length (kept_list (is_from_position m) G)) × (get_or (kept_list (is_from_position m) G) i [] ≡ get_or G j [])

@@ -13,6 +13,7 @@ use Rattle.orders.proofs.Lexicographic.{nat_cmp-add}
 use Rattle.orders.proofs.Positions.{pot_order}
 use Rattle.orders.specs.KeyOrders.{pot}
 use Rattle.orders.specs.MonomialOrders.{IsMonomialOrder}
+use Rattle.bases.proofs.Leading.{IsLead_of_one}
 use Rattle.bases.specs.Bases.{IsCovered, IsGroebnerBasis}
 use Rattle.bases.specs.Leads.{IsLead, IsMonicLead, IsMonicList, head_key, leads}
 use Rattle.division_laws.proofs.Generating.{generated}
@@ -43,9 +44,9 @@ IsSame_lowered {n} {p} m a b h = record {
 
 -- the lead of a raised vector is the raised lead
 pub IsLead_raised :
-    {n : ℕ} (p m r s : ℕ) (monomials : Exponents n → Exponents n → Ordering) (a : FormalSum n) (k : Key n)
-    → IsLead (pot_setting p r monomials) a k → IsLead (pot_setting p s monomials) (raised m a) (raised_key m k)
-IsLead_raised {n} p m r s monomials a k lead = record {
+    {n : ℕ} (p m r s : ℕ) (ws : List ℕ) (monomials : Exponents n → Exponents n → Ordering) (a : FormalSum n) (k : Key n)
+    → IsLead (pot_setting ws p r monomials) a k → IsLead (pot_setting ws p s monomials) (raised m a) (raised_key m k)
+IsLead_raised {n} p m r s ws monomials a k lead = record {
   nonzero = λ z. lead.nonzero (IsCongruent_trans (IsCongruent_of p _ _ (sym (coefficient-raised m a k))) z);
   above = λ l lt. above l lt (cases_lt l.0 m);
 }
@@ -63,54 +64,67 @@ IsLead_raised {n} p m r s monomials a k lead = record {
 
 -- and a raised monic vector was monic
 IsMonicLead_lowered :
-    {n : ℕ} (p m r s : ℕ) (monomials : Exponents n → Exponents n → Ordering) (a : FormalSum n) (k : Key n)
-    → IsMonicLead (pot_setting p r monomials) (raised m a) (raised_key m k)
-    → IsMonicLead (pot_setting p s monomials) a k
-IsMonicLead_lowered p m r s monomials a k lead = record {
+    {n : ℕ} (p m r s : ℕ) (ws : List ℕ) (monomials : Exponents n → Exponents n → Ordering) (a : FormalSum n) (k : Key n)
+    → IsMonicLead (pot_setting ws p r monomials) (raised m a) (raised_key m k)
+    → IsMonicLead (pot_setting ws p s monomials) a k
+IsMonicLead_lowered p m r s ws monomials a k lead = record {
   one = IsCongruent_trans (IsCongruent_of p _ _ (sym (coefficient-raised m a k))) lead.one;
   above = λ l lt. IsCongruent_trans (IsCongruent_of p _ _ (sym (coefficient-raised m a l))) (lead.above (raised_key m l) (pot-raised monomials m k l ∙ lt));
 }
 
 -- a monic member is not empty, so raising it raises its first key
 pub head_key-raised :
-    {n : ℕ} (p m r : ℕ) (monomials : Exponents n → Exponents n → Ordering) (h : FormalSum n) → 1 < p
-    → IsMonicLead (pot_setting p r monomials) (raised m h) (head_key (raised m h))
+    {n : ℕ} (p m r : ℕ) (ws : List ℕ) (monomials : Exponents n → Exponents n → Ordering) (h : FormalSum n) → 1 < p
+    → IsMonicLead (pot_setting ws p r monomials) (raised m h) (head_key (raised m h))
     → head_key (raised m h) ≡ raised_key m (head_key h)
-head_key-raised p m r monomials [] big lead = absurd (IsCongruent_nonzero p 1 (omega arith) big (IsCongruent_sym lead.one))
-head_key-raised p m r monomials (t ∷ h) big lead = refl
+head_key-raised p m r ws monomials [] big lead = absurd (IsCongruent_nonzero p 1 (omega arith) big (IsCongruent_sym lead.one))
+head_key-raised p m r ws monomials (t ∷ h) big lead = refl
 
-module _ {n : ℕ} (p m : ℕ) (monomials : Exponents n → Exponents n → Ordering) (F G H : List (FormalSum n)) (domain : IsDomain p)
-    (list : IsMonicList (pot_setting p (m + length F) monomials) G) where
+module _ {n : ℕ} (p m : ℕ) (ws : List ℕ) (monomials : Exponents n → Exponents n → Ordering) (F G H : List (FormalSum n)) (domain : IsDomain p)
+    (list : IsMonicList (pot_setting ws p (m + length F) monomials) G) where
   -- the leads of lowered members, raised
   pub leads_lowered :
       (i j : ℕ) → j < length G → raised m (get_or H i []) ≡ get_or G j [] → leads G j ≡ raised_key m (leads H i)
   leads_lowered i j hj e =
       ap head_key (sym e)
-      ∙ head_key-raised p m (m + length F) monomials (get_or H i []) domain.above_one (subst (λ v. IsMonicLead (pot_setting p (m + length F) monomials) v (head_key v)) (sym e) (list.monic j hj))
+      ∙ head_key-raised p m (m + length F) ws monomials (get_or H i []) domain.above_one (subst (λ v. IsMonicLead (pot_setting ws p (m + length F) monomials) v (head_key v)) (sym e) (list.monic j hj))
+
+  -- and a lowered member was monic
+  pub lowered_monic :
+      (i j : ℕ) → j < length G → raised m (get_or H i []) ≡ get_or G j []
+      → IsMonicLead (pot_setting ws p (length F) monomials) (get_or H i []) (leads H i)
+  lowered_monic i j hj e =
+      IsMonicLead_lowered p m (m + length F) (length F) ws monomials (get_or H i []) (leads H i)
+      (subst (λ v. IsMonicLead (pot_setting ws p (m + length F) monomials) v (raised_key m (leads H i))) (sym e)
+      (subst (IsMonicLead (pot_setting ws p (m + length F) monomials) (get_or G j [])) (leads_lowered i j hj e) (list.monic j hj)))
 
   -- what leads of H divide, leads of G divide once it is raised
-  pub IsCovered_raised : LiesInside m G H → (k : Key n) → IsCovered H k → IsCovered G (raised_key m k)
-  IsCovered_raised inside k (i, hi, (x, q)) = go (inside i hi)
+  pub IsCovered_raised :
+      LiesInside m G H → (k : Key n)
+      → IsCovered (pot_setting ws p (length F) monomials) H k → IsCovered (pot_setting ws p (m + length F) monomials) G (raised_key m k)
+  IsCovered_raised inside k (i, hi, lead, (x, q)) = go (inside i hi)
     where
-      go : (j : ℕ) × (j < length G) × (raised m (get_or H i []) ≡ get_or G j []) → IsCovered G (raised_key m k)
-      go (j, hj, e) = (j, hj, (x, ap (shift x) (leads_lowered i j hj e) ∙ ap (raised_key m) q))
+      go : (j : ℕ) × (j < length G) × (raised m (get_or H i []) ≡ get_or G j []) → IsCovered (pot_setting ws p (m + length F) monomials) G (raised_key m k)
+      go (j, hj, e) = (j, hj, IsLead_of_one (pot_setting ws p (m + length F) monomials) domain.above_one (list.monic j hj), (x, ap (shift x) (leads_lowered i j hj e) ∙ ap (raised_key m) q))
 
   -- and back
-  pub IsCovered_lowered : HasAllBehind m G H → (k : Key n) → IsCovered G (raised_key m k) → IsCovered H k
-  IsCovered_lowered all k (j, hj, (x, q)) = go (all j hj (let d : (leads G j).0 ≡ m + k.0 = ap (λ y. y.0) q in omega arith))
+  pub IsCovered_lowered :
+      HasAllBehind m G H → (k : Key n)
+      → IsCovered (pot_setting ws p (m + length F) monomials) G (raised_key m k) → IsCovered (pot_setting ws p (length F) monomials) H k
+  IsCovered_lowered all k (j, hj, lead, (x, q)) = go (all j hj (let d : (leads G j).0 ≡ m + k.0 = ap (λ y. y.0) q in omega arith))
     where
-      go : (i : ℕ) × (i < length H) × (raised m (get_or H i []) ≡ get_or G j []) → IsCovered H k
+      go : (i : ℕ) × (i < length H) × (raised m (get_or H i []) ≡ get_or G j []) → IsCovered (pot_setting ws p (length F) monomials) H k
       go (i, hi, e) =
           let l = leads H i in
           let d : shift x (raised_key m l) ≡ raised_key m k = ap (shift x) (sym (leads_lowered i j hj e)) ∙ q in
           let a : m + l.0 ≡ m + k.0 = ap (λ y. y.0) d in
-          (i, hi, (x, ap₂ (λ y z. (y, z)) (cancel l.0 k.0 a) (ap (λ y. y.1) d)))
+          (i, hi, IsLead_of_one (pot_setting ws p (length F) monomials) domain.above_one (lowered_monic i j hj e), (x, ap₂ (λ y z. (y, z)) (cancel l.0 k.0 a) (ap (λ y. y.1) d)))
         where
           cancel : (a b : ℕ) → m + a ≡ m + b → a ≡ b
           cancel a b e = omega arith
 
-module _ {n : ℕ} (p m : ℕ) (monomials : Exponents n → Exponents n → Ordering) (F G H : List (FormalSum n)) (domain : IsDomain p)
-    (basis : IsGroebnerBasis (pot_setting p (m + length F) monomials) (marked m 0 F) G) where
+module _ {n : ℕ} (p m : ℕ) (ws : List ℕ) (monomials : Exponents n → Exponents n → Ordering) (F G H : List (FormalSum n)) (domain : IsDomain p)
+    (basis : IsGroebnerBasis (pot_setting ws p (m + length F) monomials) (marked m 0 F) G) where
   pos : 0 < p
   pos = let h : 1 < p = domain.above_one in omega arith
 
@@ -129,35 +143,33 @@ module _ {n : ℕ} (p m : ℕ) (monomials : Exponents n → Exponents n → Orde
           by : (a : FormalSum n) × IsSyzygy p F a × IsSame p (raised m a) (raised m h) → IsSyzygy p F h
           by (a, s, q) = IsSyzygy_same pos F a h (IsSame_lowered m a h q) s
 
-  module _ (list : IsMonicList (pot_setting p (m + length F) monomials) G) (all : HasAllBehind m G H) where
+  module _ (list : IsMonicList (pot_setting ws p (m + length F) monomials) G) (all : HasAllBehind m G H) where
     -- the lead of a syzygy is divisible by a lead of H
     pub syzygy_covered :
         (a : FormalSum n) (k : Key n)
-        → IsSyzygy p F a → IsLead (pot_setting p (length F) monomials) a k → IsCovered H k
+        → IsSyzygy p F a → IsLead (pot_setting ws p (length F) monomials) a k → IsCovered (pot_setting ws p (length F) monomials) H k
     syzygy_covered a k s lead =
-        IsCovered_lowered p m monomials F G H domain list all k (basis.covers (raised m a) (raised_key m k) (IsMember_raised m F a s) (IsLead_raised p m (length F) (m + length F) monomials a k lead))
+        IsCovered_lowered p m ws monomials F G H domain list all k (basis.covers (raised m a) (raised_key m k) (IsMember_raised m F a s) (IsLead_raised p m (length F) (m + length F) ws monomials a k lead))
 
     module _ (inside : LiesInside m G H) (ranks : (i : ℕ) → i < length F → HasRank m (get_or F i [])) where
-      pub IsGroebnerBasis_lowered : IsGroebnerBasis (pot_setting p (length F) monomials) H H
+      pub IsGroebnerBasis_lowered : IsGroebnerBasis (pot_setting ws p (length F) monomials) H H
       IsGroebnerBasis_lowered = record {
         members = λ i h. IsMember_itself p H i h;
         covers = λ v k a lead. syzygy_covered v k (IsSyzygy_member pos F H (IsSyzygy_lowered inside ranks) v a) lead;
       }
 
-      monic_lowered : IsMonicList (pot_setting p (length F) monomials) H
+      monic_lowered : IsMonicList (pot_setting ws p (length F) monomials) H
       monic_lowered = record { monic = λ i h. (both i h (inside i h)).0; ranked = λ i h. (both i h (inside i h)).1 }
         where
           both :
               (i : ℕ)
               → i < length H → (j : ℕ) × (j < length G) × (raised m (get_or H i []) ≡ get_or G j [])
-              → IsMonicLead (pot_setting p (length F) monomials) (get_or H i []) (leads H i) × ((leads H i).0 < length F)
+              → IsMonicLead (pot_setting ws p (length F) monomials) (get_or H i []) (leads H i) × ((leads H i).0 < length F)
           both i hi (j, hj, e) =
-              let d : leads G j ≡ raised_key m (leads H i) = leads_lowered p m monomials F G H domain list i j hj e in
+              let d : leads G j ≡ raised_key m (leads H i) = leads_lowered p m ws monomials F G H domain list i j hj e in
               let low : (leads G j).0 < m + length F = list.ranked j hj in
               let q : (leads G j).0 ≡ m + (leads H i).0 = ap (λ y. y.0) d in (
-                IsMonicLead_lowered p m (m + length F) (length F) monomials (get_or H i []) (leads H i)
-                    (subst (λ v. IsMonicLead (pot_setting p (m + length F) monomials) v (raised_key m (leads H i))) (sym e)
-                    (subst (IsMonicLead (pot_setting p (m + length F) monomials) (get_or G j [])) d (list.monic j hj))),
+                lowered_monic p m ws monomials F G H domain list i j hj e,
                 below low q,
               )
             where
@@ -167,6 +179,6 @@ module _ {n : ℕ} (p m : ℕ) (monomials : Exponents n → Exponents n → Orde
       -- each syzygy is generated
       pub syzygy_generated : IsMonomialOrder monomials → (a : FormalSum n) → IsSyzygy p F a → IsMember p H a
       syzygy_generated order =
-          generated (pot_setting p (length F) monomials) (record { domain = domain; order = pot_order (length F) monomials order }) H monic_lowered (IsSyzygy p F)
+          generated (pot_setting ws p (length F) monomials) (record { domain = domain; order = pot_order (length F) monomials order }) H monic_lowered (IsSyzygy p F)
           (λ v c e i h s. IsSyzygy_append F v (scale c e (get_or H i [])) s (IsSyzygy_scale pos F c e (get_or H i []) (IsSyzygy_lowered inside ranks i h)))
           (λ v k s lead. syzygy_covered v k s lead)

@@ -1,19 +1,17 @@
 -- Cofactors of one vector
 use Rattle.std.proofs.Common.{List, [], length, ℕ, ◌++◌, ◌-◌, ◌<◌, ◌≡◌}
 use Rattle.residues.proofs.Congruences.{IsCongruent_minus_of, IsCongruent_of, IsCongruent_trans}
-use Rattle.residues.specs.Residues.{IsCongruent}
 use Rattle.monomials.specs.Exponents.{unit}
 use Rattle.formal_sums.proofs.Combining.{combination-append, combination-scale}
 use Rattle.formal_sums.proofs.OfRank.{IsOfRank_append, IsOfRank_scale}
 use Rattle.formal_sums.proofs.Sameness.{IsSame_append, IsSame_of, IsSame_refl, IsSame_trans, weighted_sum-minus}
 use Rattle.formal_sums.specs.Combinations.{IsMember, IsSyzygy, combination}
-use Rattle.formal_sums.specs.FormalSums.{FormalSum, IsOfRank, IsSame, Key, coefficient, indicator, scale}
+use Rattle.formal_sums.specs.FormalSums.{FormalSum, IsOfRank, IsSame, indicator, scale}
 use Rattle.bases.proofs.Leading.{positive}
-use Rattle.bases.specs.Bases.{IsCovered, IsGroebnerBasis}
+use Rattle.bases.specs.Bases.{HasFreeTerms, IsGroebnerBasis}
 use Rattle.bases.specs.Leads.{IsNormal}
 use Rattle.bases.specs.Settings.{IsLawful, Setting}
 use Rattle.division_laws.proofs.Remainders.{normal_form_unique, remainder_unique}
-use Rattle.division_laws.specs.Remainders.{HasFreeTerms}
 
 -- v - w is 0 where they are the same
 same_minus : {n : ℕ} (p : ℕ) (v w : FormalSum n) → 0 < p → IsSame p v w → IsSame p (v ++ scale (p - 1) (unit n) w) []
@@ -40,10 +38,8 @@ module _ {n : ℕ} (T : Setting n) (lawful : IsLawful T) (F H Z : List (FormalSu
   inside : IsMember T.modulus H (a ++ scale (T.modulus - 1) (unit n) b)
   inside = generate (a ++ scale (T.modulus - 1) (unit n) b) (IsSyzygy_difference T.modulus F a b ra rb (positive T lawful) e)
 
-  pub lift_same :
-      ((k : Key n) → IsCovered Z k → IsCongruent T.modulus (coefficient a k) 0)
-      → ((k : Key n) → IsCovered Z k → IsCongruent T.modulus (coefficient b k) 0) → IsSame T.modulus a b
+  pub lift_same : HasFreeTerms T Z a → HasFreeTerms T Z b → IsSame T.modulus a b
   lift_same fa fb = remainder_unique T lawful H Z basis a b inside fa fb
 
-  pub lift_equal : IsNormal T a → IsNormal T b → HasFreeTerms Z a → HasFreeTerms Z b → a ≡ b
+  pub lift_equal : IsNormal T a → IsNormal T b → HasFreeTerms T Z a → HasFreeTerms T Z b → a ≡ b
   lift_equal na nb fa fb = normal_form_unique T lawful H Z basis a b inside na nb fa fb

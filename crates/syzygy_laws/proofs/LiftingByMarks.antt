@@ -16,10 +16,9 @@ use Rattle.orders.proofs.Positions.{pot_order}
 use Rattle.orders.specs.KeyOrders.{Descends, pot}
 use Rattle.orders.specs.MonomialOrders.{IsMonomialOrder}
 use Rattle.bases.proofs.NormalForms.{head_lead}
-use Rattle.bases.specs.Bases.{IsCovered, IsGroebnerBasis}
+use Rattle.bases.specs.Bases.{HasFreeTerms, IsCovered, IsGroebnerBasis}
 use Rattle.bases.specs.Leads.{HasReducedResidues, IsLead, IsNormal}
-use Rattle.bases.specs.Settings.{IsLawful}
-use Rattle.division_laws.specs.Remainders.{HasFreeTerms}
+use Rattle.bases.specs.Settings.{IsLawful, Setting}
 use Rattle.syzygy_laws.proofs.Kernels.{pot-raised, raised_key}
 use Rattle.syzygy_laws.proofs.Marking.{coefficient-raised, combination-marked, combination_rank, length-marked, raised_none}
 use Rattle.syzygy_laws.specs.Kernels.{pot_setting}
@@ -62,12 +61,12 @@ behind :
 behind monomials m k [] le h = tt
 behind monomials m k (u ∷ w) le h = ((let q = position_greater monomials k u.0 h.0 in omega (arith, q)), behind monomials m k w le h.1)
 
-module _ {n : ℕ} (p m : ℕ) (monomials : Exponents n → Exponents n → Ordering) (F G : List (FormalSum n)) (domain : IsDomain p)
-    (order : IsMonomialOrder monomials) (basis : IsGroebnerBasis (pot_setting p (m + length F) monomials) (marked m 0 F) G) where
+module _ {n : ℕ} (p m : ℕ) (ws : List ℕ) (monomials : Exponents n → Exponents n → Ordering) (F G : List (FormalSum n)) (domain : IsDomain p)
+    (order : IsMonomialOrder monomials) (basis : IsGroebnerBasis (pot_setting ws p (m + length F) monomials) (marked m 0 F) G) where
   pos : 0 < p
   pos = let h : 1 < p = domain.above_one in omega arith
 
-  lawful : IsLawful (pot_setting p (m + length F) monomials)
+  lawful : IsLawful (pot_setting ws p (m + length F) monomials)
   lawful = record { domain = domain; order = pot_order (m + length F) monomials order }
 
   -- what a member of F leaves, plus its cofactors behind it, is a member
@@ -115,7 +114,8 @@ module _ {n : ℕ} (p m : ℕ) (monomials : Exponents n → Exponents n → Orde
   pub normal_form_raised :
       (v w : FormalSum n)
       → IsMember p (marked m 0 F) (v ++ scale (p - 1) (unit n) w)
-      → IsNormal (pot_setting p (m + length F) monomials) w → HasFreeTerms G w → IsMember p F v
+      → IsNormal (pot_setting ws p (m + length F) monomials) w
+      → HasFreeTerms (pot_setting ws p (m + length F) monomials) G w → IsMember p F v
       → (b : FormalSum n) × (w ≡ raised m b)
   normal_form_raised v [] inside normal free member = ([], refl)
   normal_form_raised v (t ∷ w) inside normal free member = go (cases_lt t.0.0 m)
@@ -123,8 +123,8 @@ module _ {n : ℕ} (p m : ℕ) (monomials : Exponents n → Exponents n → Orde
       a : FormalSum n
       a = member.cofactors
 
-      lead : IsLead (pot_setting p (m + length F) monomials) (t ∷ w) t.0
-      lead = head_lead (pot_setting p (m + length F) monomials) lawful t w normal.descends normal.residues
+      lead : IsLead (pot_setting ws p (m + length F) monomials) (t ∷ w) t.0
+      lead = head_lead (pot_setting ws p (m + length F) monomials) lawful t w normal.descends normal.residues
 
       -- in front of position m nothing is added
       front : (k : Key n) → k.0 < m → coefficient ((t ∷ w) ++ raised m a) k ≡ coefficient (t ∷ w) k
@@ -132,14 +132,14 @@ module _ {n : ℕ} (p m : ℕ) (monomials : Exponents n → Exponents n → Orde
           let z : coefficient (raised m a) k ≡ 0 = raised_none m a k low in
           coefficient-append (t ∷ w) (raised m a) k ∙ (rw z (omega arith))
 
-      stays : t.0.0 < m → IsLead (pot_setting p (m + length F) monomials) ((t ∷ w) ++ raised m a) t.0
+      stays : t.0.0 < m → IsLead (pot_setting ws p (m + length F) monomials) ((t ∷ w) ++ raised m a) t.0
       stays low = record {
         nonzero = λ z. lead.nonzero (IsCongruent_trans (IsCongruent_of p _ _ (sym (front t.0 low))) z);
         above = λ l lt. IsCongruent_trans (IsCongruent_of p _ _ (front l (let q = position_less monomials t.0 l lt in omega (arith, q)))) (lead.above l lt);
       }
 
       go : (t.0.0 < m) ⊎ (m ≤ t.0.0) → (b : FormalSum n) × (t ∷ w ≡ raised m b)
-      go (inl low) = absurd (free.0 (basis.covers ((t ∷ w) ++ raised m a) t.0 (rest_member v (t ∷ w) inside a member.positions member.sums) (stays low)))
+      go (inl low) = absurd (lead.nonzero (free t.0 (basis.covers ((t ∷ w) ++ raised m a) t.0 (rest_member v (t ∷ w) inside a member.positions member.sums) (stays low))))
       go (inr le) = raised_of m (t ∷ w) (le, behind monomials m t.0 w le normal.descends.0)
 
 -- minus what stands behind the first positions, lowered, is a list of cofactors
@@ -196,9 +196,9 @@ lift_cofactors {n} p m F v b pos ranks rv member = (IsSame_trans (IsSame_combina
 
 -- in normal form
 pub IsNormal_lowered :
-    {n : ℕ} (p m r s : ℕ) (monomials : Exponents n → Exponents n → Ordering) (b : FormalSum n)
-    → IsNormal (pot_setting p r monomials) (raised m b) → IsNormal (pot_setting p s monomials) b
-IsNormal_lowered {n} p m r s monomials b h = record { descends = descends b h.descends; residues = residues b h.residues }
+    {n : ℕ} (p m r s : ℕ) (ws : List ℕ) (monomials : Exponents n → Exponents n → Ordering) (b : FormalSum n)
+    → IsNormal (pot_setting ws p r monomials) (raised m b) → IsNormal (pot_setting ws p s monomials) b
+IsNormal_lowered {n} p m r s ws monomials b h = record { descends = descends b h.descends; residues = residues b h.residues }
   where
     under :
         (k : Key n) (b : FormalSum n)
@@ -211,13 +211,15 @@ IsNormal_lowered {n} p m r s monomials b h = record { descends = descends b h.de
     descends [] h = tt
     descends (t ∷ b) h = (under t.0 b h.0, descends b h.1)
 
-    residues : (b : FormalSum n) → HasReducedResidues (pot_setting p r monomials) (raised m b) → HasReducedResidues (pot_setting p s monomials) b
+    residues : (b : FormalSum n) → HasReducedResidues (pot_setting ws p r monomials) (raised m b) → HasReducedResidues (pot_setting ws p s monomials) b
     residues [] h = tt
     residues (t ∷ b) h = (h.0, residues b h.1)
 
 -- and without terms that leads of the syzygies divide
 pub HasFreeTerms_lowered :
-    {n : ℕ} (m : ℕ) (G H : List (FormalSum n)) → ((k : Key n) → IsCovered H k → IsCovered G (raised_key m k))
-    → (b : FormalSum n) → HasFreeTerms G (raised m b) → HasFreeTerms H b
-HasFreeTerms_lowered m G H up [] h = tt
-HasFreeTerms_lowered m G H up (t ∷ b) h = (λ c. h.0 (up t.0 c), HasFreeTerms_lowered m G H up b h.1)
+    {n : ℕ} (S T : Setting n) (m : ℕ) (G H : List (FormalSum n)) → S.modulus ≡ T.modulus
+    → ((k : Key n) → IsCovered T H k → IsCovered S G (raised_key m k))
+    → (b : FormalSum n) → HasFreeTerms S G (raised m b) → HasFreeTerms T H b
+HasFreeTerms_lowered S T m G H e up b free k c =
+    subst (λ p. IsCongruent p (coefficient b k) 0) e
+    (IsCongruent_trans (IsCongruent_of S.modulus _ _ (sym (coefficient-raised m b k))) (free (raised_key m k) (up k c)))

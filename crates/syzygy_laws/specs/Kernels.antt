@@ -8,9 +8,9 @@ use Rattle.orders.specs.KeyOrders.{pot}
 use Rattle.bases.specs.Settings.{Setting}
 use Rattle.division_laws.specs.Elimination.{is_from_position}
 
--- the setting of rank r modulo p, by position first (UAG chapter 5, section 2)
-abbrev pub pot_setting : {n : ℕ} → ℕ → ℕ → (Exponents n → Exponents n → Ordering) → Setting n
-pot_setting p r monomials = record { modulus = p; rank = r; compare = pot monomials }
+-- the setting of rank r modulo p with the weights ws, by position first (UAG chapter 5, section 2)
+abbrev pub pot_setting : {n : ℕ} → List ℕ → ℕ → ℕ → (Exponents n → Exponents n → Ordering) → Setting n
+pot_setting ws p r monomials = record { modulus = p; weights = ws; rank = r; compare = pot monomials }
 
 -- each key of v is kept
 abbrev pub all_kept : {n : ℕ} → (Key n → Bool) → FormalSum n → Bool

@@ -1,14 +1,12 @@
 //! Lifts: the cofactors of a member, up to syzygies.
 
 ghost use Rattle.std.specs.Prelude.{ℕ, ◌≡◌, ◌<◌, ◌++◌, ◌-◌, List, length};
-ghost use Rattle.residues.specs.Residues.{IsCongruent};
 ghost use Rattle.monomials.specs.Exponents.{unit};
-ghost use Rattle.formal_sums.specs.FormalSums.{FormalSum, Key, coefficient, scale, IsOfRank, IsSame};
+ghost use Rattle.formal_sums.specs.FormalSums.{FormalSum, scale, IsOfRank, IsSame};
 ghost use Rattle.formal_sums.specs.Combinations.{combination, IsMember, IsSyzygy};
 ghost use Rattle.bases.specs.Settings.{Setting, IsLawful};
 ghost use Rattle.bases.specs.Leads.{IsNormal};
-ghost use Rattle.bases.specs.Bases.{IsCovered, IsGroebnerBasis};
-ghost use Rattle.division_laws.specs.Remainders.{HasFreeTerms};
+ghost use Rattle.bases.specs.Bases.{HasFreeTerms, IsGroebnerBasis};
 
 /// Cofactors of one vector differ by a syzygy; without keys that the leads of a Gröbner basis Z of the syzygies cover
 /// they are the same, and in normal form one list. H generates the syzygies of F, T is a setting of the cofactors
@@ -23,13 +21,11 @@ pub fn lifts()
         → ((c : FormalSum n) → IsSyzygy T.modulus F c → IsMember T.modulus H c)
         → IsOfRank T.modulus (length F) a → IsOfRank T.modulus (length F) b
         → IsSame T.modulus (combination F a) (combination F b)
-        → ((k : Key n) → IsCovered Z k → IsCongruent T.modulus (coefficient a k) 0)
-        → ((k : Key n) → IsCovered Z k → IsCongruent T.modulus (coefficient b k) 0)
-        → IsSame T.modulus a b }
+        → HasFreeTerms T Z a → HasFreeTerms T Z b → IsSame T.modulus a b }
     ensures equal { (n : ℕ) (T : Setting n) (F H Z : List (FormalSum n)) (a b : FormalSum n)
         → IsLawful T → IsGroebnerBasis T H Z
         → ((c : FormalSum n) → IsSyzygy T.modulus F c → IsMember T.modulus H c)
         → IsOfRank T.modulus (length F) a → IsOfRank T.modulus (length F) b
         → IsSame T.modulus (combination F a) (combination F b)
-        → IsNormal T a → IsNormal T b → HasFreeTerms Z a → HasFreeTerms Z b → a ≡ b }
+        → IsNormal T a → IsNormal T b → HasFreeTerms T Z a → HasFreeTerms T Z b → a ≡ b }
 {}

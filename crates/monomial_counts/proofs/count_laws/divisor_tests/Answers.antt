@@ -1,4 +1,4 @@
-use Rattle.monomial_counts.proofs.Once.{divisor_test}
+use Rattle.monomial_counts.proofs.Divisors.{divisor_test}
 use Rattle.monomial_counts.proofs.count_laws.divisor_tests.Goals as goal
 
 pub returns : goal.returns

@@ -2,4 +2,4 @@ use Rattle.reduced_bases.proofs.Dropping.{IsCovered_through}
 use Rattle.reduced_bases.proofs.interreduction_laws.covered_leads.Goals as goal
 
 pub returns : goal.returns
-returns c = λ n G H k covers. IsCovered_through G H k covers
+returns c = λ n S G H k covers. IsCovered_through S G H k covers

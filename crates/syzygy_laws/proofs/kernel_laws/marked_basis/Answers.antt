@@ -6,14 +6,14 @@ use Rattle.syzygy_laws.proofs.kernel_laws.marked_basis.Goals as goal
 
 pub returns : goal.returns
 returns c = record {
-  syzygies = λ n p m monomials F G i ranks basis domain h.
-      IsSyzygy_lowered p m monomials F G (kernel_of m G) domain basis (kernel_inside m G) ranks i h;
-  covers = λ n p m monomials F G a k domain order list normal basis s lead.
-      syzygy_covered p m monomials F G (kernel_of m G) domain basis list (kernel_all m G p (m + length F) monomials domain order normal) a k s lead;
-  basis = λ n p m monomials F G domain order ranks list normal basis.
-      IsGroebnerBasis_lowered p m monomials F G (kernel_of m G) domain basis list
-      (kernel_all m G p (m + length F) monomials domain order normal) (kernel_inside m G) ranks;
-  generate = λ n p m monomials F G a domain order ranks list normal basis s.
-      syzygy_generated p m monomials F G (kernel_of m G) domain basis list
-      (kernel_all m G p (m + length F) monomials domain order normal) (kernel_inside m G) ranks order a s;
+  syzygies = λ n p m ws monomials F G i ranks basis domain h.
+      IsSyzygy_lowered p m ws monomials F G (kernel_of m G) domain basis (kernel_inside m G) ranks i h;
+  covers = λ n p m ws monomials F G a k domain order list normal basis s lead.
+      syzygy_covered p m ws monomials F G (kernel_of m G) domain basis list (kernel_all m G p (m + length F) ws monomials domain order normal) a k s lead;
+  basis = λ n p m ws monomials F G domain order ranks list normal basis.
+      IsGroebnerBasis_lowered p m ws monomials F G (kernel_of m G) domain basis list
+      (kernel_all m G p (m + length F) ws monomials domain order normal) (kernel_inside m G) ranks;
+  generate = λ n p m ws monomials F G a domain order ranks list normal basis s.
+      syzygy_generated p m ws monomials F G (kernel_of m G) domain basis list
+      (kernel_all m G p (m + length F) ws monomials domain order normal) (kernel_inside m G) ranks order a s;
 }

@@ -1,7 +1,0 @@
-use Rattle.std.proofs.Common.{take}
-use Rattle.formal_sums.specs.FormalSums.{Each}
-use Rattle.module_vectors.specs.Vectors.{HasVariables}
-use Rattle.basis_checks.proofs.printing.have_variables.Given as goal
-
-abbrev pub invariant-loop-term : goal.invariant-loop-term
-invariant-loop-term l = Each (HasVariables l.count) (take l.term-index l.terms)

@@ -1,5 +1,0 @@
-use Rattle.module_vectors.specs.Vectors.{AreTermsOver}
-use Rattle.core_histories.proofs.leading.leads.Given as goal
-
-abbrev pub invariant-loop-i : goal.invariant-loop-i
-invariant-loop-i l = AreTermsOver l.ring l.terms.items

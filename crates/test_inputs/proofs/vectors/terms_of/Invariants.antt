@@ -1,5 +1,0 @@
-use Rattle.module_vectors.specs.Vectors.{AreTermsOver}
-use Rattle.test_inputs.proofs.vectors.terms_of.Given as goal
-
-abbrev pub invariant-loop-position : goal.invariant-loop-position
-invariant-loop-position l = AreTermsOver l.ring l.terms.items
