@@ -45,10 +45,12 @@ AreMet n v members earlier (s ∷ steps) = IsMet n v members earlier (product_le
 abbrev pub lead_at : (n : ℕ) → List (List (CodeKey × ℕ)) → ℕ → Key n
 lead_at n members i = head_key (sum_of n (get_or members i []))
 
--- a start by a pair: two members with leads at one position, whose lcm is the lead of the first product
+-- a start by a pair: two members that are not zero, with leads at one position, whose lcm is the lead of the first product
 pub record IsPairStart (n : ℕ) (members : List (List (CodeKey × ℕ))) (i j : ℕ) (first : Step) : Type 0 where
   pub left : i < length members
   pub right : j < length members
+  pub left_some : 0 < length (get_or members i [])
+  pub right_some : 0 < length (get_or members j [])
   pub apart : i ≡ j → ⊥
   pub position : (lead_at n members i).0 ≡ (lead_at n members j).0
   pub lcm : product_lead n members first ≡ key_lcm (lead_at n members i) (lead_at n members j)

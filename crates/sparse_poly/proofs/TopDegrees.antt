@@ -173,7 +173,7 @@ module _ {n : ℕ} (S : Setting n) (lawful : IsLawful S) where
 
 -- polynomials in n variables modulo p, by degree
 abbrev by_degree : (n p : ℕ) → Setting n
-by_degree n p = record { modulus = p; rank = 1; compare = pot grevlex }
+by_degree n p = record { modulus = p; weights = []; rank = 1; compare = pot grevlex }
 
 by_degree_lawful : {n p : ℕ} → IsDomain p → IsLawful (by_degree n p)
 by_degree_lawful {n} domain = record { domain = domain; order = pot_order 1 grevlex (grevlex_order n) }
