@@ -10,8 +10,6 @@ mod numeral;
 mod reader;
 mod step;
 mod stop;
-#[cfg(test)]
-mod tests;
 
 pub use degree::formal_degree;
 pub use grammar_laws::{formal_degrees, one_tree, tokens_of_steps, worths_of_steps};

@@ -13,8 +13,6 @@ mod reading;
 mod ring_line;
 mod ring_needed;
 mod stated;
-#[cfg(test)]
-mod tests;
 mod values;
 
 pub use kind::{Kind, ParseStop};

@@ -32,7 +32,7 @@ fn modulus_of(line: &[u8], token: Token) -> Option<Modulus>
     ensures none { IfNone result (is_modulus (value_of line.now token) ≡ false) }
 {
     let value = number(text(line, token))?;
-    if value > 65521 {
+    if value > 2147483647 {
         return None;
     }
     Modulus::of(value as u64)
