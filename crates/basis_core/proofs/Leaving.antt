@@ -11,7 +11,7 @@ use Rattle.formal_sums.proofs.WeightedSums.{coefficient-append}
 use Rattle.formal_sums.specs.Combinations.{combination}
 use Rattle.formal_sums.specs.FormalSums.{Each, FormalSum, IsOfRank, IsSame, Key, Term, coefficient, scale, shift}
 use Rattle.orders.proofs.KeyOrdering.{less_of_greater}
-use Rattle.bases.proofs.Leading.{one_not_zero, positive}
+use Rattle.bases.proofs.Leading.{positive}
 use Rattle.bases.proofs.NormalForms.{IsMonicLead_normal, head_lead}
 use Rattle.bases.proofs.Places.{combination_above}
 use Rattle.bases.specs.Bases.{IsCovered}
@@ -25,11 +25,11 @@ use Rattle.module_vectors.specs.Rings.{ring_comparison, variables}
 use Rattle.module_vectors.specs.Vectors.{HasPositions, StandsFor, key_of, sum_of, sums_of}
 use Rattle.module_vectors.specs.declared.key.Key.{Key as CodeKey}
 use Rattle.zp_field.specs.Moduli.{IsInverse}
+use Rattle.vector_division.proofs.Freeing.{not_covered}
 use Rattle.vector_division.specs.Divisions.{HasReducedLead}
 use Rattle.vector_division.specs.Reductions.{HaveLeadsUpTo, IsQuotient, cofactors_of}
 use Rattle.vector_division.specs.declared.reduction.Quotient.{Quotient}
 use Rattle.cofactor_track.specs.Members.{IsCombined, IsVectorOf}
-use Rattle.basis_steps.proofs.Growing.{each_at}
 use Rattle.basis_steps.proofs.Making.{makes_combined}
 use Rattle.basis_steps.proofs.Sparing.{monic_list}
 use Rattle.basis_steps.specs.Divisions as plain
@@ -129,11 +129,8 @@ module _ {n : ℕ} (S : Setting n) (lawful : IsLawful S) where
   -- the rest's lead is new
   rest_free :
       (V : List (FormalSum n)) (t : Term n) (w : FormalSum n)
-      → Each (IsMonicMember S) V → HasReducedLead V (t ∷ w) → IsCovered V t.0 → ⊥
-  rest_free V t w ms h (i, lt, d) = h i lt (λ e. none (subst (IsMonicMember S) e (each_at (IsMonicMember S) V i [] ms lt))) d
-    where
-      none : IsMonicMember S [] → ⊥
-      none m = one_not_zero S lawful (IsCongruent_sym m.monic.one)
+      → HasReducedLead V (t ∷ w) → IsCovered S V t.0 → ⊥
+  rest_free V t w h covered = not_covered S V t.0 h covered
 
 module _ (shared : Shared) (ms : List Tracked) (row : Tracked) (qs : List Quotient) where
   abbrev n : ℕ
@@ -237,9 +234,9 @@ module _ (shared : Shared) (ms : List Tracked) (row : Tracked) (qs : List Quotie
                   monic = IsMonicLead_normal S lawful (sum_of n v) nv coefficient_one;
                   ranked = rank_of_positions n shared.rank v (vector_ranked hr);
                 };
-                free = λ covered. rest_free S lawful (vectors G) (key_of n t.0, t.1) (sum_of n u) monic
+                free = λ covered. rest_free S lawful (vectors G) (key_of n t.0, t.1) (sum_of n u)
                     (subst (λ (V : List (FormalSum n)). HasReducedLead V (sum_of n (t ∷ u))) (sym (vectors_of_members n ms)) (subst (λ (x : List (CodeKey × ℕ)). HasReducedLead (sums_of n (vectors_in ms)) (sum_of n x)) is hr.reduced))
-                    (subst (IsCovered (vectors G)) key covered);
+                    (subst (IsCovered S (vectors G)) key covered);
               }
 
       -- it is the combination of the generators by its cofactors

@@ -31,6 +31,7 @@ use Rattle.basis_core.specs.Outcomes.{IsOutcomeOver, OutcomeShown, product_of, p
 use Rattle.basis_core.specs.RowDivision.{IsTracked}
 use Rattle.basis_core.specs.Rows.{IsRowTrail, cofactors_in, vectors_in}
 use Rattle.basis_core.specs.Stops.{earlier_steps, trail_by, trail_of, trail_over}
+use Rattle.basis_core.proofs.Chaining.{nonzero_at}
 use Rattle.basis_core.proofs.Starting.{joined_members}
 use Rattle.basis_core.proofs.MemberKeys.{in_occurs, key_occurs, member_vector, vector_at}
 use Rattle.basis_core.proofs.Tracing.{HasStoppedRow, at_base, contained_each, listed_length, pair_counted, product_is, step_behind}
@@ -256,8 +257,9 @@ module _ (shared : Shared) (ms : List Tracked) (o : OutcomeShown) (row : Tracked
   steps_variables [] k = tt
   steps_variables (s ∷ ss) k = ((k.0).1, steps_variables ss k.1)
 
-  kept_chain : (t : KeptTrail) → t.steps.items ≡ chain → IsChain n (whole t) first later
-  kept_chain t e = record {
+  kept_chain :
+      Each (λ m. 0 < length m.vector) ms → (t : KeptTrail) → t.steps.items ≡ chain → IsChain n (whole t) first later
+  kept_chain some t e = record {
     steps = e ∙ (c.chain_is).steps;
     known = steps_known (first ∷ later) known;
     variables = steps_variables (first ∷ later) known;
@@ -265,6 +267,8 @@ module _ (shared : Shared) (ms : List Tracked) (o : OutcomeShown) (row : Tracked
       record {
         left = omega (arith, left, h.fewer, listed_length ms);
         right = omega (arith, right, h.fewer, listed_length ms);
+        left_some = nonzero_at ms i some (omega (arith, left, h.fewer, listed_length ms));
+        right_some = nonzero_at ms j some (omega (arith, right, h.fewer, listed_length ms));
         apart = λ s. omega (arith, s, base_pair.ordered);
         position = ap (λ v. (head_key v).0) (sym (from_base i left)) ∙ base_pair.position ∙ ap (λ v. (head_key v).0) (from_base j right);
         lcm = lcm_key ∙ (λ k. key_lcm (head_key (from_base i left k)) (head_key (from_base j right k)));
@@ -277,15 +281,17 @@ module _ (shared : Shared) (ms : List Tracked) (o : OutcomeShown) (row : Tracked
     too_great = too_great;
   }
 
-  pub trail_at : (t : KeptTrail) → t.steps.items ≡ chain → t.below.items ≡ [] → t ≡ whole t → IsTrailAt n shared ms o t
-  trail_at t e b w =
+  pub trail_at :
+      Each (λ m. 0 < length m.vector) ms → (t : KeptTrail) → t.steps.items ≡ chain → t.below.items ≡ [] → t ≡ whole t
+      → IsTrailAt n shared ms o t
+  trail_at some t e b w =
       let at : trail_of n (whole t) ≡ trail_by n (whole t) first later = ap (trail_over n (whole t)) (e ∙ (c.chain_is).steps) in
       let all : HoldsTrail shared ms o (trail_of n (whole t)) = subst (HoldsTrail shared ms o) (sym at) (holds t) in
       subst (IsTrailAt n shared ms o) (sym w)
       (record {
         pair = record {
           over = record {
-            trail = (first, later, kept_chain t e);
+            trail = (first, later, kept_chain some t e);
             ring = refl;
             rank = refl;
             generators = refl;

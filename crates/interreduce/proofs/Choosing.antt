@@ -14,13 +14,25 @@ use Rattle.vector_division.proofs.Occurring.{Contains_here, Contains_later}
 use Rattle.interreduce.specs.Leads.{AreApart, AreNeeded, AreNeededSoFar, IsCoveredBy, Rises}
 use Rattle.interreduce.proofs.Leading.{Terms}
 
--- what holds of each number below i, and the number i at the end
-pub pushed_all : (xs : List ℕ) (i : ℕ) → ((k : ℕ) → k < i → Contains xs k) → (k : ℕ) → k < i + 1 → Contains (xs ++ i ∷ []) k
-pushed_all xs i all k lt = go (cases_lt k i)
+-- what holds of each number below i that has the property, and the number i at the end
+pub pushed_all :
+    (P : ℕ → Type 0) (xs : List ℕ) (i : ℕ) → ((k : ℕ) → k < i → P k → Contains xs k) → (k : ℕ) → k < i + 1 → P k
+    → Contains (xs ++ i ∷ []) k
+pushed_all P xs i all k lt p = go (cases_lt k i)
   where
     go : (k < i) ⊎ (i ≤ k) → Contains (xs ++ i ∷ []) k
-    go (inl l) = Contains-append_left xs (i ∷ []) k (all k l)
+    go (inl l) = Contains-append_left xs (i ∷ []) k (all k l p)
     go (inr le) = let e : i ≡ k = omega arith in subst (Contains (xs ++ i ∷ [])) e (Contains-push xs i)
+
+-- the number i is left out, which has it not
+pub passed_all :
+    (P : ℕ → Type 0) (xs : List ℕ) (i : ℕ) → (P i → ⊥) → ((k : ℕ) → k < i → P k → Contains xs k) → (k : ℕ) → k < i + 1
+    → P k → Contains xs k
+passed_all P xs i none all k lt p = go (cases_lt k i)
+  where
+    go : (k < i) ⊎ (i ≤ k) → Contains xs k
+    go (inl l) = all k l p
+    go (inr le) = let e : k ≡ i = omega arith in absurd (none (subst P e p))
 
 -- what holds of each holds of one that stands in the list
 pub each_contained : {X : Type 0} (P : X → Type 0) (xs : List X) (x : X) → Each P xs → Contains xs x → P x
@@ -78,7 +90,7 @@ module _ (n : ℕ) (compare : Key n → Key n → Ordering) (list : List Terms) 
   apart_at (k ∷ kept) (suc i) (suc j) h lt le = apart_at kept i j h.1 (omega arith) (omega arith)
 
   pub needed_start : (order : List ℕ) → Rises n compare list order → AreNeededSoFar n compare list [] order []
-  needed_start order h = record { within = tt; apart = tt; covers = tt; up_to = tt; rises = h }
+  needed_start order h = record { within = tt; leads = tt; apart = tt; covers = tt; up_to = tt; rises = h }
 
   pub needed_skip :
       (done rest kept : List ℕ) (x : ℕ)
@@ -86,6 +98,7 @@ module _ (n : ℕ) (compare : Key n → Key n → Ordering) (list : List Terms) 
       → AreNeededSoFar n compare list (done ++ x ∷ []) rest kept
   needed_skip done rest kept x h c = record {
     within = h.within;
+    leads = h.leads;
     apart = h.apart;
     covers = Each_append _ done (x ∷ []) h.covers (c, tt);
     up_to = Each_map _ _ kept (λ k q. q.1) h.up_to;
@@ -94,10 +107,11 @@ module _ (n : ℕ) (compare : Key n → Key n → Ordering) (list : List Terms) 
 
   pub needed_push :
       IsKeyOrder 0 compare → (done rest kept : List ℕ) (x : ℕ)
-      → AreNeededSoFar n compare list done (x ∷ rest) kept → x < length list → (IsCoveredBy n list kept x → ⊥)
+      → AreNeededSoFar n compare list done (x ∷ rest) kept → x < length list → 0 < length (get_or list x []) → (IsCoveredBy n list kept x → ⊥)
       → AreNeededSoFar n compare list (done ++ x ∷ []) rest (kept ++ x ∷ [])
-  needed_push order done rest kept x h lt free = record {
+  needed_push order done rest kept x h lt some free = record {
     within = Each_append _ kept (x ∷ []) h.within (lt, tt);
+    leads = Each_append _ kept (x ∷ []) h.leads (some, tt);
     apart = apart_push kept x h.apart (below kept (λ k c d. free (k, c, d)) h.up_to);
     covers =
         Each_append _ done (x ∷ []) (Each_map _ _ done (λ i c. covered_more kept x i c) h.covers)
@@ -132,10 +146,11 @@ module _ (n : ℕ) (compare : Key n → Key n → Ordering) (list : List Terms) 
 
   pub needed_all :
       (done kept : List ℕ)
-      → AreNeededSoFar n compare list done [] kept → ((i : ℕ) → i < length list → Contains done i)
+      → AreNeededSoFar n compare list done [] kept → ((i : ℕ) → i < length list → 0 < length (get_or list i []) → Contains done i)
       → AreNeeded n compare list kept
   needed_all done kept h all = record {
     within = h.within;
+    leads = h.leads;
     apart = h.apart;
-    covers = λ i lt. each_contained (λ j. IsCoveredBy n list kept j) done i h.covers (all i lt);
+    covers = λ i lt some. each_contained (λ j. IsCoveredBy n list kept j) done i h.covers (all i lt some);
   }

@@ -1,17 +1,18 @@
 -- Members that are reduced side by side
-use Rattle.std.proofs.Common.{Err, IfErr, List, Ok, [], ap, arith, length, map, refl, subst, suc, sym, zero, ℕ, ◌<◌, ◌∷◌, ◌≡◌}
-use Rattle.std.specs.Prelude.{Contains, IfOk, MatchResult, get_or}
-use Rattle.std.specs.List.{All, AllZip}
+use Rattle.std.proofs.Common.{Err, List, Ok, [], ap, arith, length, sym, map, refl, subst, suc, take, zero, ℕ, ◌++◌, ◌+◌, ◌<◌, ◌∷◌, ◌≡◌}
+use Rattle.std.specs.Prelude.{IfErr, get_or}
+use Rattle.std.specs.List.{AllZip}
+use Rattle.std.proofs.lemmas.List.{get_or-take, length-take-le}
 use Rattle.std.specs.declared.cmp.Ordering.{Ordering}
 use Rattle.std.specs.declared.result.Result.{Result}
-use Rattle.std.specs.declared.vec.Vec.{Vec}
-use Rattle.std.proofs.lemmas.List.Elements.{All-cons, All-contains, All-nil}
 use Rattle.formal_sums.specs.FormalSums.{Key}
 use Rattle.module_vectors.specs.declared.key.Key.{Key as CodeKey}
 use Rattle.module_vectors.specs.declared.ring.Ring.{Ring}
 use Rattle.module_vectors.specs.declared.trail.WorkStop.{WorkStop}
-use Rattle.interreduce.specs.Members.{AreReducedMembers, IsReducedMember, ReducesMember}
-use Rattle.interreduce.specs.Trails.{InterreductionStops}
+use Rattle.module_vectors.specs.declared.trail.WorkStop.TheVariants.{Degree, Memory}
+use Rattle.vector_division.specs.Divisions.{IsDivisionTrail}
+use Rattle.interreduce.specs.Members.{AreReducedMembers, IsFirstRefusal, IsReducedMember, ReducesMember, StopsAtFirst}
+use Rattle.interreduce.specs.Trails.{MemberStops}
 
 module _ (ring : Ring) (compare : (n : ℕ) → Key n → Key n → Ordering) (list : List (List (CodeKey × ℕ))) where
   next_reduced :
@@ -31,31 +32,63 @@ module _ (ring : Ring) (compare : (n : ℕ) → Key n → Key n → Ordering) (l
   all_reduced (i ∷ indices) [] h = absurd h
   all_reduced (i ∷ indices) (v ∷ vs) h = next_reduced i indices v vs h.0 (all_reduced indices vs h.1)
 
-  stop_of_one : (i : ℕ) (r : Result (List (CodeKey × ℕ)) WorkStop) → ReducesMember ring compare list i r → IfErr r (InterreductionStops ring list)
-  stop_of_one i (Ok v) h = tt
-  stop_of_one i (Err e) h = h
+  -- the members before the first refusal are reduced, and it is that of the next one
+  pub first_reduced :
+      (indices : List ℕ) (before : List (List (CodeKey × ℕ))) (stop : WorkStop) (after : List (Result (List (CodeKey × ℕ)) WorkStop))
+      → AllZip (ReducesMember ring compare list) indices (map Ok before ++ Err stop ∷ after)
+      → (length before < length indices) × AreReducedMembers ring compare list (take (length before) indices) before × MemberStops ring list (get_or indices (length before) 0) stop
+  first_reduced [] [] stop after h = absurd h
+  first_reduced [] (v ∷ vs) stop after h = absurd h
+  first_reduced (i ∷ indices) [] stop after h = (omega arith, record { count = refl; each = λ k l. absurd (omega (arith, l)) }, h.0)
+  first_reduced (i ∷ indices) (v ∷ vs) stop after h =
+      let rest = first_reduced indices vs stop after h.1 in
+      (omega (arith, rest.0), next_reduced i (take (length vs) indices) v vs h.0 rest.1, rest.2)
 
-  stops_of :
-      (indices : List ℕ) (rs : List (Result (List (CodeKey × ℕ)) WorkStop)) → AllZip (ReducesMember ring compare list) indices rs
-      → All (λ r. IfErr r (InterreductionStops ring list)) rs
-  stops_of [] [] h = All-nil (λ r. IfErr r (InterreductionStops ring list))
-  stops_of [] (r ∷ rs) h = absurd h
-  stops_of (i ∷ indices) [] h = absurd h
-  stops_of (i ∷ indices) (r ∷ rs) h = All-cons (λ q. IfErr q (InterreductionStops ring list)) r rs (stop_of_one i r h.0) (stops_of indices rs h.1)
+  -- one member more is reduced
+  add_one :
+      (f : ℕ → ℕ) (vs : List (List (CodeKey × ℕ))) (v : List (CodeKey × ℕ)) → ((k : ℕ) → k < length vs → IsReducedMember ring compare list (f k) (get_or vs k []))
+      → IsReducedMember ring compare list (f (length vs)) v → (k : ℕ) → k < length vs + 1 → IsReducedMember ring compare list (f k) (get_or (vs ++ v ∷ []) k [])
+  add_one f [] v each h zero l = h
+  add_one f [] v each h (suc k) l = absurd (omega (arith, l))
+  add_one f (w ∷ vs) v each h zero l = each zero (omega arith)
+  add_one f (w ∷ vs) v each h (suc k) l = add_one (λ j. f (suc j)) vs v (λ j m. each (suc j) (omega (arith, m))) h k (omega (arith, l))
 
-  module _ (indices : List ℕ) (rs : List (Result (List (CodeKey × ℕ)) WorkStop)) (each : AllZip (ReducesMember ring compare list) indices rs) where
+  pub one_more :
+      (f : ℕ → ℕ) (vs : List (List (CodeKey × ℕ))) (i : ℕ) (v : List (CodeKey × ℕ)) → length vs ≡ i
+      → ((k : ℕ) → k < i → IsReducedMember ring compare list (f k) (get_or vs k [])) → IsReducedMember ring compare list (f i) v
+      → (k : ℕ) → k < i + 1 → IsReducedMember ring compare list (f k) (get_or (vs ++ v ∷ []) k [])
+  one_more f vs i v e each h k l =
+      add_one f vs v (λ j m. each j (omega (arith, m, e))) (subst (λ x. IsReducedMember ring compare list (f x) v) (sym e) h) k (omega (arith, l, e))
+
+  -- members that were reduced in turn, and the stop of the next one
+  pub stopped_in_turn :
+      (indices : List ℕ) (vs : List (List (CodeKey × ℕ))) (i : ℕ) (stop : WorkStop) → length vs ≡ i → i < length indices
+      → ((k : ℕ) → k < i → IsReducedMember ring compare list (get_or indices k 0) (get_or vs k []))
+      → MemberStops ring list (get_or indices i 0) stop → StopsAtFirst ring compare list indices stop
+  stopped_in_turn indices vs i Memory e fewer each h = tt
+  stopped_in_turn indices vs i (Degree t) e fewer each h = record {
+    before = vs;
+    fewer = omega (arith, fewer, e);
+    reduced = record {
+      count = sym (length-take-le (length vs) indices (omega (arith, fewer, e)));
+      each = λ k l. subst (λ x. IsReducedMember ring compare list x (get_or vs k [])) (sym (get_or-take (length vs) indices k 0 l)) (each k (omega (arith, l, e)));
+    };
+    division = subst (λ x. IsDivisionTrail ring (get_or list (get_or indices x 0) []) list t) (sym e) h;
+  }
+
+  module _ (indices : List ℕ) (answers : List (Result (List (CodeKey × ℕ)) WorkStop)) (each : AllZip (ReducesMember ring compare list) indices answers) where
     -- what the whole list comes to, by what each member does
-    pub gathered :
-        {Z : Type 0} (r : Result (Vec (List (CodeKey × ℕ)) Z) WorkStop)
-        → MatchResult r (λ v. (vs : List (List (CodeKey × ℕ))) × (rs ≡ map Ok vs) × (v.items ≡ vs)) (λ e. Contains rs (Err e))
-        → IfOk r (λ v. AreReducedMembers ring compare list indices v.items)
-    gathered (Ok v) (vs, all, same) =
-        subst (AreReducedMembers ring compare list indices) (sym same) (all_reduced indices vs (subst (AllZip (ReducesMember ring compare list) indices) all each))
-    gathered (Err e) h = tt
+    pub gathered : (vs : List (List (CodeKey × ℕ))) → answers ≡ map Ok vs → AreReducedMembers ring compare list indices vs
+    gathered vs all = all_reduced indices vs (subst (AllZip (ReducesMember ring compare list) indices) all each)
 
-    pub stopped :
-        {Z : Type 0} (r : Result (Vec (List (CodeKey × ℕ)) Z) WorkStop)
-        → MatchResult r (λ v. (vs : List (List (CodeKey × ℕ))) × (rs ≡ map Ok vs) × (v.items ≡ vs)) (λ e. Contains rs (Err e))
-        → IfErr r (InterreductionStops ring list)
-    stopped (Ok v) h = tt
-    stopped (Err e) h = All-contains (λ q. IfErr q (InterreductionStops ring list)) rs (Err e) (stops_of indices rs each) h
+    stopped : (stop : WorkStop) → IsFirstRefusal answers stop → StopsAtFirst ring compare list indices stop
+    stopped Memory h = tt
+    stopped (Degree t) (before, after, all) =
+        let found = first_reduced indices before (Degree t) after (subst (AllZip (ReducesMember ring compare list) indices) all each) in
+        record { before = before; fewer = found.0; reduced = found.1; division = found.2 }
+
+    pub stops_at_first :
+        {A : Type 0} (items : List (Result (List (CodeKey × ℕ)) WorkStop)) → items ≡ answers
+        → (r : Result A WorkStop) → IfErr r (IsFirstRefusal items) → IfErr r (StopsAtFirst ring compare list indices)
+    stops_at_first items e (Ok v) h = tt
+    stops_at_first items e (Err stop) h = stopped stop (subst (λ z. IsFirstRefusal z stop) e h)

@@ -37,11 +37,9 @@ pub by_lead_weak :
     → IsStrictWeakOrder (λ i j. is_lt (by_lead n compare list i j))
 by_lead_weak n compare list o = ranks_by (by_lead_total compare o) (λ i. (lack_of (get_or list i []), lead_at n list i))
 
-lack_at : (list : List Terms) (i : ℕ) → HaveLeads list → i < length list → lack_of (get_or list i []) ≡ 0
-lack_at [] i h lt = absurd (omega arith)
-lack_at ([] ∷ list) zero h lt = absurd (omega (arith, h.0))
-lack_at ((t ∷ v) ∷ list) zero h lt = refl
-lack_at (v ∷ list) (suc i) h lt = lack_at list i h.1 (omega arith)
+lack_none : (v : Terms) → 0 < length v → lack_of v ≡ 0
+lack_none [] some = absurd (omega (arith, some))
+lack_none (t ∷ v) some = refl
 
 each_from : {X : Type 0} (P : X → Type 0) (xs : List X) → ((k : ℕ) (d : X) → k < length xs → P (get_or xs k d)) → Each P xs
 each_from P [] h = tt
@@ -57,9 +55,9 @@ rises_from n compare list (x ∷ xs) h =
 
 pub sorted_rises :
     (n : ℕ) (compare : Key n → Key n → Ordering) → IsKeyOrder 0 compare → (list : List Terms) (order : List ℕ)
-    → HaveLeads list → Each (λ i. i < length list) order → IsSortedBy (λ i j. is_lt (by_lead n compare list i j)) order
+    → HaveLeads list order → IsSortedBy (λ i j. is_lt (by_lead n compare list i j)) order
     → Rises n compare list order
-sorted_rises n compare laws list order leads within sorted = rises_from n compare list order far
+sorted_rises n compare laws list order leads sorted = rises_from n compare list order far
   where
     far :
         (i j d : ℕ)
@@ -68,9 +66,9 @@ sorted_rises n compare laws list order leads within sorted = rises_from n compar
     far i j d lt le g =
         let x = get_or order i d in
         let y = get_or order j d in
-        let hx : x < length list = Each_member (λ k. k < length list) order i d within (omega arith) in
-        let hy : y < length list = Each_member (λ k. k < length list) order j d within le in
-        let same : by_lead n compare list y x ≡ compare (lead_at n list y) (lead_at n list x) = ap₂ (λ p q. ordering_then (nat_cmp p q) (compare (lead_at n list y) (lead_at n list x))) (lack_at list y leads hy) (lack_at list x leads hx) in
+        let hx : 0 < length (get_or list x []) = Each_member (λ k. 0 < length (get_or list k [])) order i d leads (omega arith) in
+        let hy : 0 < length (get_or list y []) = Each_member (λ k. 0 < length (get_or list k [])) order j d leads le in
+        let same : by_lead n compare list y x ≡ compare (lead_at n list y) (lead_at n list x) = ap₂ (λ p q. ordering_then (nat_cmp p q) (compare (lead_at n list y) (lead_at n list x))) (lack_none (get_or list y []) hy) (lack_none (get_or list x []) hx) in
         let untold : is_lt (by_lead n compare list y x) ≡ false = sorted_far (λ a b. is_lt (by_lead n compare list a b)) (by_lead_weak n compare list laws.total) order sorted i j d (omega arith) le in
         let told : is_lt (by_lead n compare list y x) ≡ true = ap is_lt (same ∙ less_of_greater laws (lead_at n list x) (lead_at n list y) g) in
         cc
@@ -86,11 +84,11 @@ first_key n (t ∷ w) s lt h e = (ap (λ x. key_of n x.0) (sym e), subst (HasVar
 -- the first term of a member has its lead
 pub lead_key :
     (n : ℕ) (list : List Terms) (i : ℕ) (v : Terms) (s : CodeKey × ℕ)
-    → HaveLeads list → HaveVariables n list → i < length list → v ≡ get_or list i [] → s ≡ get_or v 0 s
+    → 0 < length (get_or list i []) → HaveVariables n list → i < length list → v ≡ get_or list i [] → s ≡ get_or v 0 s
     → (lead_at n list i ≡ key_of n s.0) × (length s.0.monomial ≡ n)
-lead_key n [] i v s leads vars lt ev es = absurd (omega arith)
-lead_key n (w ∷ list) zero v s leads vars lt ev es = first_key n w s leads.0 vars.0 (es ∙ ap (λ x. get_or x 0 s) ev)
-lead_key n (w ∷ list) (suc i) v s leads vars lt ev es = lead_key n list i v s leads.1 vars.1 (omega arith) ev es
+lead_key n [] i v s some vars lt ev es = absurd (omega arith)
+lead_key n (w ∷ list) zero v s some vars lt ev es = first_key n w s some vars.0 (es ∙ ap (λ x. get_or x 0 s) ev)
+lead_key n (w ∷ list) (suc i) v s some vars lt ev es = lead_key n list i v s some vars.1 (omega arith) ev es
 
 -- what the test of two keys says of the leads that they are
 pub divides_at :

@@ -3,17 +3,21 @@ use Rattle.std.proofs.Common.{Less, List, Ordering, [], ap, arith, drop, get_or,
 use Rattle.std.proofs.lemmas.List.{get_or-reverse, get_or_default, length-map, length-reverse}
 use Rattle.std.proofs.lemmas.List.Sorted.{IsPermutation-map, IsPermutation-reverse}
 use Rattle.std.specs.Prelude.{Contains}
+use Rattle.residues.proofs.Congruences.{IsCongruent_of, IsCongruent_refl, IsCongruent_trans}
 use Rattle.monomials.specs.Exponents.{unit}
 use Rattle.formal_sums.proofs.Combining.{Each_map, IsMember_append, IsMember_scale, IsMember_through}
 use Rattle.formal_sums.proofs.OfRank.{IsOfRank_member, IsOfRank_of}
 use Rattle.formal_sums.proofs.Sameness.{IsSame_refl}
 use Rattle.formal_sums.specs.Combinations.{IsMember}
-use Rattle.formal_sums.specs.FormalSums.{Each, FormalSum, HasRank, IsOfRank, Key}
+use Rattle.formal_sums.proofs.WeightedSums.{indicator_other}
+use Rattle.formal_sums.specs.FormalSums.{Each, FormalSum, HasRank, IsOfRank, Key, coefficient, indicator}
 use Rattle.orders.proofs.KeyOrdering.{not_itself}
 use Rattle.orders.specs.KeyOrders.{KeyDivides}
+use Rattle.bases.proofs.FreeTerms.{HasFreeTerms_of_terms, lead_of_zero}
 use Rattle.bases.proofs.Leading.{positive}
+use Rattle.bases.proofs.NormalForms.{IsNormal_lead}
 use Rattle.bases.specs.Bases.{IsCovered, IsGroebnerBasis, IsReducedBasis}
-use Rattle.bases.specs.Leads.{IsNormal, head_coefficient, head_key, leads}
+use Rattle.bases.specs.Leads.{IsLead, IsNormal, head_coefficient, head_key, leads}
 use Rattle.bases.specs.Settings.{IsLawful, Setting}
 use Rattle.reduced_bases.proofs.Dropping.{IsGroebnerBasis_dropped}
 use Rattle.reduced_bases.proofs.Sorting.{IsReducedBasis_sorted, IsReducedSet_permuted}
@@ -28,7 +32,7 @@ use Rattle.module_vectors.specs.Vectors.{AreVectorsOver, HasPositions, IsVectorO
 use Rattle.module_vectors.specs.declared.ring.Ring.{Ring}
 use Rattle.vector_division.proofs.Members.{sums_at}
 use Rattle.vector_division.specs.Divisions.{IsFreeOfLeads, IsUncovered}
-use Rattle.interreduce.specs.Leads.{AreNeeded, HaveLeads}
+use Rattle.interreduce.specs.Leads.{AreNeeded}
 use Rattle.interreduce.specs.Members.{AreReducedMembers, IsReducedMember}
 use Rattle.interreduce.proofs.Choosing.{apart_at}
 use Rattle.interreduce.proofs.Leading.{Terms}
@@ -79,7 +83,7 @@ module _ (ring : Ring) (compare : (n : ℕ) → Key n → Key n → Ordering) (l
           subst (IsOfRank ring.modulus.value m) (sym (sums_at (variables ring) list i)) (IsOfRank_of ring.modulus.value m (sum_of (variables ring) (get_or list i [])) (rank_of_positions (variables ring) m (get_or list i []) (Each_member (HasPositions m) list i [] h lt')))
 
   -- ---- the reduced basis
-  module _ (vectors : AreVectorsOver ring compare list) (some : HaveLeads list) (needed : AreNeeded (variables ring) (compare (variables ring)) list kept) (rank : ℕ) (F : List (FormalSum (variables ring)))
+  module _ (vectors : AreVectorsOver ring compare list) (needed : AreNeeded (variables ring) (compare (variables ring)) list kept) (rank : ℕ) (F : List (FormalSum (variables ring)))
       (basis : IsGroebnerBasis (setting ring (variables ring) (compare (variables ring)) rank) F (sums_of (variables ring) list)) where
     abbrev S : Setting (variables ring)
     S = setting ring (variables ring) (compare (variables ring)) rank
@@ -111,23 +115,45 @@ module _ (ring : Ring) (compare : (n : ℕ) → Key n → Key n → Ordering) (l
         let l = in_list k (in_kept k lt) in
         subst (IsMember S.modulus F) (sums_at (variables ring) list i ∙ sym (chosen_at (variables ring) list kept k (in_kept k lt))) (basis.members i (in_sums i l))
 
-    covers : CoversLeads K (sums_of (variables ring) list)
-    covers i lt =
+    empty : (v : Terms) → 0 < length v → sum_of (variables ring) v ≡ [] → ⊥
+    empty [] l e = omega arith
+    empty (t ∷ v) l e = cc
+
+    -- a member begins with its lead
+    lead_in_list : (i : ℕ) → i < length list → 0 < length (get_or list i []) → IsLead S (sum_of (variables ring) (get_or list i [])) (lead_at (variables ring) list i)
+    lead_in_list i lt some =
+        IsNormal_lead S (lawful rank) (sum_of (variables ring) (get_or list i []))
+        (vector_normal ring compare rank (get_or list i []) (Each_member (IsVectorOver ring compare) list i [] vectors lt))
+        (empty (get_or list i []) some)
+
+    some_in_kept : (k : ℕ) → k < length kept → 0 < length (get_or list (get_or kept k 0) [])
+    some_in_kept k lt = Each_member (λ i. 0 < length (get_or list i [])) kept k 0 needed.leads lt
+
+    lead_in_chosen : (k : ℕ) → k < length kept → IsLead S (get_or K k []) (leads K k)
+    lead_in_chosen k lt = subst (λ v. IsLead S v (head_key v)) (sym (chosen_at (variables ring) list kept k lt)) (lead_in_list (get_or kept k 0) (in_list k lt) (some_in_kept k lt))
+
+    covers : CoversLeads S K (sums_of (variables ring) list)
+    covers i lt lead =
         let lt' : i < length list = subst (λ z. i < z) (length-map list (λ v. sum_of (variables ring) v)) lt in
-        go (needed.covers i lt')
+        go (needed.covers i lt' (some_of_lead (get_or list i []) (leads (sums_of (variables ring) list) i) (subst (λ v. IsLead S v (leads (sums_of (variables ring) list) i)) (sums_at (variables ring) list i) lead)))
       where
+        some_of_lead : (v : Terms) (k : Key (variables ring)) → IsLead S (sum_of (variables ring) v) k → 0 < length v
+        some_of_lead [] k l = absurd (lead_of_zero S [] k refl l)
+        some_of_lead (t ∷ v) k l = omega arith
+
         go :
             (j : ℕ) × Contains kept j × KeyDivides (lead_at (variables ring) list j) (lead_at (variables ring) list i)
-            → IsCovered K (leads (sums_of (variables ring) list) i)
+            → IsCovered S K (leads (sums_of (variables ring) list) i)
         go (j, (k, l, e), d) =
             let same : get_or kept k 0 ≡ j = get_or_default kept k 0 j l ∙ e in (
               k,
               subst (λ z. k < z) (sym (length-chosen (variables ring) list kept)) l,
+              lead_in_chosen k l,
               subst₂ KeyDivides (sym (lead_of_chosen k l ∙ ap (lead_at (variables ring) list) same)) (sym (lead_of_sums i)) d,
             )
 
-    minimal : IsMinimalList K
-    minimal i j hi hj ne d = go (order_cases i j ne)
+    apart : (i j : ℕ) → i < length K → j < length K → (i ≡ j → ⊥) → KeyDivides (leads K j) (leads K i) → ⊥
+    apart i j hi hj ne d = go (order_cases i j ne)
       where
         order_cases : (i j : ℕ) → (i ≡ j → ⊥) → (i < j) ⊎ (j < i)
         order_cases zero zero ne = absurd (ne refl)
@@ -149,26 +175,26 @@ module _ (ring : Ring) (compare : (n : ℕ) → Key n → Key n → Ordering) (l
             (lawful rank).order.not_below divides.0 (lead_at (variables ring) list (get_or kept j 0))
             (subst (λ z. compare (variables ring) z (lead_at (variables ring) list (get_or kept j 0)) ≡ Less) (sym divides.1) lower)
 
+    minimal : IsMinimalList S K
+    minimal = record { lead = λ i h. lead_in_chosen i (in_kept i h); apart = apart }
+
     -- no lead of the choice divides what no lead of the list does
-    free : (k : Key (variables ring)) → IsUncovered (sums_of (variables ring) list) k → IsCovered K k → ⊥
-    free k u (j, lt, d) =
+    free : (k : Key (variables ring)) → IsUncovered (sums_of (variables ring) list) k → IsCovered S K k → ⊥
+    free k u (j, lt, lead, d) =
         let l = in_kept j lt in
         let i = get_or kept j 0 in
-        u i (in_sums i (in_list j l)) (λ e. nonzero i (in_list j l) (sym (sums_at (variables ring) list i) ∙ e))
+        u i (in_sums i (in_list j l)) (λ e. lead_of_zero S (sum_of (variables ring) (get_or list i [])) (lead_at (variables ring) list i) (sym (sums_at (variables ring) list i) ∙ e) (lead_in_list i (in_list j l) (some_in_kept j l)))
         (subst (λ z. KeyDivides z k) (lead_of_chosen j l ∙ sym (lead_of_sums i)) d)
-      where
-        empty : (v : Terms) → 0 < length v → sum_of (variables ring) v ≡ [] → ⊥
-        empty [] l e = omega arith
-        empty (t ∷ v) l e = cc
-
-        nonzero : (i : ℕ) → i < length list → sum_of (variables ring) (get_or list i []) ≡ [] → ⊥
-        nonzero i l e = empty (get_or list i []) (Each_member (λ v. 0 < length v) list i [] some l) e
 
     free_tail :
         (k : Key (variables ring)) (v : FormalSum (variables ring))
-        → head_key v ≡ k → IsFreeOfLeads (sums_of (variables ring) list) (drop 1 v) → HasFreeTail K k v
-    free_tail k [] e h = tt
-    free_tail k (t ∷ v) e h = (inl e, Each_map _ _ v (λ u q. inr (free u.0 q)) h)
+        → head_key v ≡ k → IsFreeOfLeads (sums_of (variables ring) list) (drop 1 v) → HasFreeTail S K k v
+    free_tail k [] e h l c ne = IsCongruent_refl S.modulus 0
+    free_tail k (t ∷ v) e h l c ne =
+        let z : indicator l t.0 ≡ 0 = indicator_other l t.0 (λ d. ne (d ∙ e)) in
+        let d : coefficient (t ∷ v) l ≡ coefficient v l = rw z (omega arith) in
+        IsCongruent_trans (IsCongruent_of S.modulus _ _ d)
+        (HasFreeTerms_of_terms S K v (Each_map _ _ v (λ u q. free u.0 q) h) l c)
 
     tails : IsTailReduced S F K (sums_of (variables ring) members)
     tails = record {
@@ -180,7 +206,7 @@ module _ (ring : Ring) (compare : (n : ℕ) → Key n → Key n → Ordering) (l
           (IsMember_scale (positive S (lawful rank)) F (S.modulus - 1) (unit (variables ring)) (get_or K i []) (chosen_member i lt));
       normal = λ i lt. subst (IsNormal S) (sym (sums_at (variables ring) members i)) (vector_normal ring compare rank (get_or members i []) (at i lt).vector);
       monic = λ i lt. ap head_coefficient (sums_at (variables ring) members i) ∙ (at i lt).monic;
-      tails = λ i lt. subst (HasFreeTail K (leads K i)) (sym (sums_at (variables ring) members i)) (free_tail (leads K i) (sum_of (variables ring) (get_or members i [])) ((at i lt).lead ∙ sym (lead_of_chosen i (in_kept i lt))) (at i lt).tail);
+      tails = λ i lt. subst (HasFreeTail S K (leads K i)) (sym (sums_at (variables ring) members i)) (free_tail (leads K i) (sum_of (variables ring) (get_or members i [])) ((at i lt).lead ∙ sym (lead_of_chosen i (in_kept i lt))) (at i lt).tail);
     }
       where
         at : (i : ℕ) → i < length K → IsReducedMember ring compare list (get_or kept i 0) (get_or members i [])

@@ -8,9 +8,9 @@ use Rattle.orders.specs.KeyOrders.{KeyDivides}
 use Rattle.module_vectors.specs.Trails.{lead_at}
 use Rattle.module_vectors.specs.declared.key.Key.{Key as CodeKey}
 
--- each vector has a lead: it is not zero
-abbrev pub HaveLeads : List (List (CodeKey × ℕ)) → Type 0
-HaveLeads list = Each (λ v. 0 < length v) list
+-- each of these members has a lead: it is not zero
+abbrev pub HaveLeads : List (List (CodeKey × ℕ)) → List ℕ → Type 0
+HaveLeads list indices = Each (λ i. 0 < length (get_or list i [])) indices
 
 -- 0 for a vector with a lead, 1 for zero
 abbrev pub lack_of : List (CodeKey × ℕ) → ℕ
@@ -39,15 +39,18 @@ AreApart n compare list (i ∷ kept) =
     Each (λ j. (compare (lead_at n list i) (lead_at n list j) ≡ Less) × (KeyDivides (lead_at n list i) (lead_at n list j) → ⊥)) kept
     × AreApart n compare list kept
 
--- by ascending leads, a minimal choice of members whose leads cover all (IVA chapter 2, section 7)
+-- by ascending leads, a minimal choice of members that are not zero, whose leads cover those of all such members
+-- (IVA chapter 2, section 7)
 pub record AreNeeded (n : ℕ) (compare : Key n → Key n → Ordering) (list : List (List (CodeKey × ℕ))) (kept : List ℕ) : Type 0 where
   pub within : Each (λ i. i < length list) kept
+  pub leads : HaveLeads list kept
   pub apart : AreApart n compare list kept
-  pub covers : (i : ℕ) → i < length list → IsCoveredBy n list kept i
+  pub covers : (i : ℕ) → i < length list → 0 < length (get_or list i []) → IsCoveredBy n list kept i
 
 -- the same of the members up to here, where `rest` are still to come by ascending leads
 pub record AreNeededSoFar (n : ℕ) (compare : Key n → Key n → Ordering) (list : List (List (CodeKey × ℕ))) (done rest kept : List ℕ) : Type 0 where
   pub within : Each (λ i. i < length list) kept
+  pub leads : HaveLeads list kept
   pub apart : AreApart n compare list kept
   pub covers : Each (λ i. IsCoveredBy n list kept i) done
   pub up_to : Each (λ k. Each (λ j. compare (lead_at n list k) (lead_at n list j) ≡ Greater → ⊥) rest) kept

@@ -17,3 +17,8 @@ pub record IsInterreductionTrail (ring : Ring) (list : List (List (CodeKey × �
 abbrev pub InterreductionStops : Ring → List (List (CodeKey × ℕ)) → WorkStop → Type 0
 InterreductionStops ring list Memory = ⊤
 InterreductionStops ring list (Degree t) = IsInterreductionTrail ring list t
+
+-- of member i: Degree comes with a trail of its own division
+abbrev pub MemberStops : Ring → List (List (CodeKey × ℕ)) → ℕ → WorkStop → Type 0
+MemberStops ring list i Memory = ⊤
+MemberStops ring list i (Degree t) = IsDivisionTrail ring (get_or list i []) list t

@@ -1,11 +1,11 @@
 // The reduced list.
-ghost use Rattle.std.specs.Prelude.{◌<◌, ℕ, List, IfErr, IfOk, length};
+ghost use Rattle.std.specs.Prelude.{◌<◌, ◌≡◌, ℕ, List, [], IfErr, IfOk, Ok, get_or, length, map};
 ghost use Rattle.formal_sums.specs.FormalSums.{Each, FormalSum};
 ghost use Rattle.bases.specs.Bases.{IsGroebnerBasis, IsReducedBasis};
 ghost use Rattle.module_vectors.specs.Rings.{setting, variables};
 ghost use Rattle.module_vectors.specs.Vectors.{AreVectorsOver, HasPositions, sums_of};
 ghost use Rattle.interreduce.specs.Leads.{HaveLeads};
-ghost use Rattle.interreduce.specs.Members.{AreReducedMembers, ReducesMember};
+ghost use Rattle.interreduce.specs.Members.{AreReducedMembers, IsFirstRefusal, ReducesMember, StopsAtFirst};
 ghost use Rattle.interreduce.specs.Trails.{InterreductionStops};
 
 use crate::leads::needed_members;
@@ -38,18 +38,39 @@ fn reduced_in_turn<F: Frame, L: Vectors>(
 ) -> Result<Vec<Vect>, WorkStop>
     requires indices { Each (λ i. i < length (L.listed list.now)) indices.now }
     requires vectors { AreVectorsOver (F.over frame.now) (F.compare frame.now) (L.listed list.now) }
-    requires leads { HaveLeads (L.listed list.now) }
+    requires leads { HaveLeads (L.listed list.now) indices.now }
     ensures reduced { IfOk result (λ members. AreReducedMembers (F.over frame.now) (F.compare frame.now) (L.listed list.now) indices.now members.items) }
-    ensures stop { IfErr result (InterreductionStops (F.over frame.now) (L.listed list.now)) }
+    ensures stop { IfErr result (StopsAtFirst (F.over frame.now) (F.compare frame.now) (L.listed list.now) indices.now) }
 {
     let mut members = Vec::with_capacity(alloc, indices.len())?;
     for index in indices {
-        members.push_reserved(reduced_member(alloc, frame, list, *index)?);
+        match reduced_member(alloc, frame, list, *index) {
+            Ok(member) => members.push_reserved(member),
+            Err(stop) => return Err(stop),
+        }
     }
     Ok(members)
 }
 
-// The same by several threads. The answer is the first refusal in the order of the indices, where there is one.
+// All the vectors, or the first refusal in their order.
+fn all_or_first_refusal(
+    alloc: Global,
+    answers: Vec<Result<Vect, WorkStop>>,
+) -> Result<Vec<Vect>, WorkStop>
+    ensures all { IfOk result (λ members. answers.items ≡ map Ok members.items) }
+    ensures stop { IfErr result (IsFirstRefusal answers.items) }
+{
+    let mut members = Vec::with_capacity(alloc, answers.len())?;
+    for answer in answers {
+        match answer {
+            Ok(member) => members.push_reserved(member),
+            Err(stop) => return Err(stop),
+        }
+    }
+    Ok(members)
+}
+
+// The same by several threads.
 fn reduced_side_by_side<R: Threads + Sync, F: Frame + Sync, L: Vectors + Sync>(
     rt: &R,
     alloc: Global,
@@ -59,22 +80,23 @@ fn reduced_side_by_side<R: Threads + Sync, F: Frame + Sync, L: Vectors + Sync>(
 ) -> Result<Vec<Vect>, WorkStop>
     requires indices { Each (λ i. i < length (L.listed list.now)) indices.now }
     requires vectors { AreVectorsOver (F.over frame.now) (F.compare frame.now) (L.listed list.now) }
-    requires leads { HaveLeads (L.listed list.now) }
+    requires leads { HaveLeads (L.listed list.now) indices.now }
     ensures reduced { IfOk result (λ members. AreReducedMembers (F.over frame.now) (F.compare frame.now) (L.listed list.now) indices.now members.items) }
-    ensures stop { IfErr result (InterreductionStops (F.over frame.now) (L.listed list.now)) }
+    ensures stop { IfErr result (StopsAtFirst (F.over frame.now) (F.compare frame.now) (L.listed list.now) indices.now) }
 {
-    indices
+    let answers = indices
         .par_iter()
         .with_min_len(1)
         .map(
             |index: &usize| -> Result<Vect, WorkStop>
                 requires index { index.now < length (L.listed list.now) }
                 requires vectors { AreVectorsOver (F.over frame.now) (F.compare frame.now) (L.listed list.now) }
-                requires leads { HaveLeads (L.listed list.now) }
+                requires some { 0 < length (get_or (L.listed list.now) index.now []) }
                 ensures { ReducesMember (F.over frame.entry.now) (F.compare frame.entry.now) (L.listed list.entry.now) index.now result }
             { reduced_member(alloc, frame, list, *index) },
         )
-        .collect::<Result<Vec<Vect>, WorkStop>>(rt, alloc)?
+        .collect::<Vec<Result<Vect, WorkStop>>>(rt, alloc)?;
+    all_or_first_refusal(alloc, answers)
 }
 
 // The members with these indices, each with its tail reduced, in the same order: by several threads where there is work
@@ -88,9 +110,9 @@ fn reduced_members<R: Threads + Sync, F: Frame + Sync, L: Vectors + Sync>(
 ) -> Result<Vec<Vect>, WorkStop>
     requires indices { Each (λ i. i < length (L.listed list.now)) indices.now }
     requires vectors { AreVectorsOver (F.over frame.now) (F.compare frame.now) (L.listed list.now) }
-    requires leads { HaveLeads (L.listed list.now) }
+    requires leads { HaveLeads (L.listed list.now) indices.now }
     ensures reduced { IfOk result (λ members. AreReducedMembers (F.over frame.now) (F.compare frame.now) (L.listed list.now) indices.now members.items) }
-    ensures stop { IfErr result (InterreductionStops (F.over frame.now) (L.listed list.now)) }
+    ensures stop { IfErr result (StopsAtFirst (F.over frame.now) (F.compare frame.now) (L.listed list.now) indices.now) }
 {
     if is_worth_threads(list, indices) {
         reduced_side_by_side(rt, alloc, frame, list, indices)
@@ -99,9 +121,9 @@ fn reduced_members<R: Threads + Sync, F: Frame + Sync, L: Vectors + Sync>(
     }
 }
 
-/// The list without the members whose leads others divide, each other member monic and with its tail reduced by the list,
-/// by descending leads: of a Gröbner basis the reduced one (IVA chapter 2, section 7). Where there is much work the tails
-/// are divided side by side, in threads.
+/// The list without zero and without the members whose leads others divide, each other member monic and with its tail
+/// reduced by the list, by descending leads: of a Gröbner basis the reduced one (IVA chapter 2, section 7). Where there is
+/// much work the tails are divided side by side, in threads.
 ///
 /// `Degree` comes with a trail of the division of a member by the list, to a product of total degree above 65,535;
 /// `Memory` where a growth was refused.
@@ -112,7 +134,6 @@ pub fn interreduce<R: Threads + Sync, F: Frame + Sync, L: Vectors + Sync>(
     list: &L,
 ) -> Result<VectList, WorkStop>
     requires vectors { AreVectorsOver (F.over frame.now) (F.compare frame.now) (L.listed list.now) }
-    requires nonzero { HaveLeads (L.listed list.now) }
     ensures vectors { IfOk result (AreVectorsOver (F.over frame.now) (F.compare frame.now)) }
     ensures reduced { let n = variables (F.over frame.now) in IfOk result (λ answer. (rank : ℕ) (G : List (FormalSum n))
         → IsGroebnerBasis (setting (F.over frame.now) n (F.compare frame.now n) rank) G (sums_of n (L.listed list.now))

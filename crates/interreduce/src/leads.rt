@@ -22,7 +22,7 @@ fn lead_of<L: Vectors>(list: &L, index: usize) -> Option<LeadTerm<'_>>
     list.at(index).lead()
 }
 
-// Compares two members for a sort with the least lead first. Those without a lead, of which there are none, come last.
+// Compares two members for a sort with the least lead first. Those without a lead come last.
 fn ascending<F: Frame, L: Vectors>(frame: &F, list: &L, i: usize, j: usize) -> Ordering
     requires { AreVectorsOver (F.over frame.now) (F.compare frame.now) (L.listed list.now) }
     ensures { let n = variables (F.over frame.now) in result ≡ by_lead n (F.compare frame.now n) (L.listed list.now) i j }
@@ -39,22 +39,34 @@ fn ascending<F: Frame, L: Vectors>(frame: &F, list: &L, i: usize, j: usize) -> O
     }
 }
 
-// The members by ascending leads.
+// The members that are not zero.
+fn nonzero_members<L: Vectors>(alloc: Global, list: &L) -> Result<Vec<usize>, NoMemory>
+    ensures within { IfOk result (λ found. Each (λ i. i < length (L.listed list.now)) found.items) }
+    ensures leads { IfOk result (λ found. HaveLeads (L.listed list.now) found.items) }
+    ensures all { IfOk result (λ found. (i : ℕ) → i < length (L.listed list.now) → 0 < length (get_or (L.listed list.now) i []) → Contains found.items i) }
+{
+    let mut found = Vec::with_capacity(alloc, list.count())?;
+    for i in 0..list.count() {
+        if !list.at(i).terms().is_empty() {
+            found.push_reserved(i);
+        }
+    }
+    Ok(found)
+}
+
+// The same by ascending leads.
 fn by_ascending_lead<F: Frame, L: Vectors>(
     alloc: Global,
     frame: &F,
     list: &L,
 ) -> Result<Vec<usize>, NoMemory>
-    requires vectors { AreVectorsOver (F.over frame.now) (F.compare frame.now) (L.listed list.now) }
-    requires leads { HaveLeads (L.listed list.now) }
+    requires { AreVectorsOver (F.over frame.now) (F.compare frame.now) (L.listed list.now) }
     ensures within { IfOk result (λ order. Each (λ i. i < length (L.listed list.now)) order.items) }
-    ensures all { IfOk result (λ order. (i : ℕ) → i < length (L.listed list.now) → Contains order.items i) }
+    ensures leads { IfOk result (λ order. HaveLeads (L.listed list.now) order.items) }
+    ensures all { IfOk result (λ order. (i : ℕ) → i < length (L.listed list.now) → 0 < length (get_or (L.listed list.now) i []) → Contains order.items i) }
     ensures rises { let n = variables (F.over frame.now) in IfOk result (λ order. Rises n (F.compare frame.now n) (L.listed list.now) order.items) }
 {
-    let mut order = Vec::with_capacity(alloc, list.count())?;
-    for i in 0..list.count() {
-        order.push_reserved(i);
-    }
+    let mut order = nonzero_members(alloc, list)?;
     order.sort_unstable_by(|i, j| ascending(frame, list, *i, *j));
     Ok(order)
 }
@@ -73,7 +85,7 @@ fn key_divides(divisor: &Key, multiple: &Key) -> bool
 // The key of a member's lead.
 fn lead_key<L: Vectors>(list: &L, index: usize) -> &Key
     requires index { index < length (L.listed list.now) }
-    requires leads { HaveLeads (L.listed list.now) }
+    requires some { 0 < length (get_or (L.listed list.now) index []) }
     ensures { (n : ℕ) → HaveVariables n (L.listed list.now) → (lead_at n (L.listed list.now) index ≡ key_of n result.now) × (length result.now.monomial ≡ n) }
 {
     &list.at(index).terms()[0].0
@@ -83,7 +95,8 @@ fn lead_key<L: Vectors>(list: &L, index: usize) -> &Key
 fn is_covered<L: Vectors>(list: &L, kept: &[usize], j: usize) -> bool
     requires divisors { Each (λ i. i < length (L.listed list.now)) kept.now }
     requires multiple { j < length (L.listed list.now) }
-    requires leads { HaveLeads (L.listed list.now) }
+    requires leads { HaveLeads (L.listed list.now) kept.now }
+    requires some { 0 < length (get_or (L.listed list.now) j []) }
     requires variables { (n : ℕ) × HaveVariables n (L.listed list.now) }
     ensures { (n : ℕ) → HaveVariables n (L.listed list.now) → IsTrue result ↔ IsCoveredBy n (L.listed list.now) kept.now j }
 {
@@ -97,15 +110,14 @@ fn is_covered<L: Vectors>(list: &L, kept: &[usize], j: usize) -> bool
     false
 }
 
-/// The members that are needed, by ascending leads: each one whose lead is divisible by none that was taken before it,
+/// The members that are needed, by ascending leads: each one that is not zero, and whose lead is divisible by none that was taken before it,
 /// so that of members with one lead one stays.
 pub(crate) fn needed_members<F: Frame, L: Vectors>(
     alloc: Global,
     frame: &F,
     list: &L,
 ) -> Result<Vec<usize>, NoMemory>
-    requires vectors { AreVectorsOver (F.over frame.now) (F.compare frame.now) (L.listed list.now) }
-    requires leads { HaveLeads (L.listed list.now) }
+    requires { AreVectorsOver (F.over frame.now) (F.compare frame.now) (L.listed list.now) }
     ensures { let n = variables (F.over frame.now) in IfOk result (λ kept. AreNeeded n (F.compare frame.now n) (L.listed list.now) kept.items) }
 {
     let order = by_ascending_lead(alloc, frame, list)?;

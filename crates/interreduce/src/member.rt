@@ -1,14 +1,13 @@
 // One member with its tail reduced.
-ghost use Rattle.std.specs.Prelude.{◌≡◌, ◌<◌, ◌++◌, IfErr, IfOk, drop, length, take};
+ghost use Rattle.std.specs.Prelude.{◌≡◌, ◌<◌, ◌++◌, [], IfErr, IfOk, drop, get_or, length, take};
 ghost use Rattle.std.specs.declared.cmp.Ordering.TheVariants.{Greater};
 ghost use Rattle.formal_sums.specs.FormalSums.{Each};
 ghost use Rattle.bases.specs.Leads.{head_key};
 ghost use Rattle.module_vectors.specs.Rings.{variables};
 ghost use Rattle.module_vectors.specs.Vectors.{AreVectorsOver, IsVectorOver, sum_of};
 ghost use Rattle.vector_division.specs.Divisions.{IsDivisionTrail};
-ghost use Rattle.interreduce.specs.Leads.{HaveLeads};
 ghost use Rattle.interreduce.specs.Members.{IsReducedMember};
-ghost use Rattle.interreduce.specs.Trails.{InterreductionStops};
+ghost use Rattle.interreduce.specs.Trails.{MemberStops};
 
 use module_vectors::{Frame, KeptTrail, NoMemory, Vect, Vectors, WorkStop, lawful_setting};
 use std::alloc::Global;
@@ -57,7 +56,7 @@ fn trail_of_member(
 
 /// Member `index`, monic and with its tail divided by the whole list. What the division leaves stands below the lead.
 ///
-/// `Degree` comes with a trail of the division of a member by the list, `Memory` where a growth was refused.
+/// `Degree` comes with a trail of the division of the member by the list, `Memory` where a growth was refused.
 pub(crate) fn reduced_member<F: Frame, L: Vectors>(
     alloc: Global,
     frame: &F,
@@ -66,9 +65,9 @@ pub(crate) fn reduced_member<F: Frame, L: Vectors>(
 ) -> Result<Vect, WorkStop>
     requires index { index < length (L.listed list.now) }
     requires vectors { AreVectorsOver (F.over frame.now) (F.compare frame.now) (L.listed list.now) }
-    requires leads { HaveLeads (L.listed list.now) }
+    requires some { 0 < length (get_or (L.listed list.now) index []) }
     ensures reduced { IfOk result (IsReducedMember (F.over frame.now) (F.compare frame.now) (L.listed list.now) index) }
-    ensures stop { IfErr result (InterreductionStops (F.over frame.now) (L.listed list.now)) }
+    ensures stop { IfErr result (MemberStops (F.over frame.now) (L.listed list.now) index) }
 {
     lawful_setting(frame);
     let member = list.at(index);

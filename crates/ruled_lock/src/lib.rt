@@ -16,6 +16,3 @@ pub mod lock;
 
 pub use core_trait::Core;
 pub use lock::{Lock, WorkerSeat};
-
-#[cfg(test)]
-mod tests;

@@ -1,15 +1,12 @@
--- The members of a closed run are a Gröbner basis of its generators, with leads
-use Rattle.std.proofs.Common.{List, [], ap, arith, length, subst, sym, ℕ, ◌<◌, ◌∷◌, ◌≡◌, refl}
-use Rattle.residues.proofs.Congruences.{IsCongruent_equal}
+-- The members of a closed run are a Gröbner basis of its generators
+use Rattle.std.proofs.Common.{List, [], ap, subst, sym, ℕ, ◌∷◌, ◌≡◌, refl}
 use Rattle.formal_sums.specs.FormalSums.{Each, FormalSum}
 use Rattle.bases.specs.Bases.{IsGroebnerBasis, IsReducedBasis}
-use Rattle.bases.specs.Settings.{IsLawful, Setting}
 use Rattle.module_vectors.specs.Rings.{ring_comparison, setting, variables}
 use Rattle.module_vectors.specs.Vectors.{AreVectorsOver, HasPositions, sum_of, sums_of}
 use Rattle.module_vectors.specs.declared.key.Key.{Key as CodeKey}
 use Rattle.module_vectors.specs.declared.ring.Ring.{Ring}
 use Rattle.cofactor_track.specs.Members.{AreGenerators}
-use Rattle.basis_steps.specs.Divisions.{IsMonicMember}
 use Rattle.basis_steps.specs.Invariant.{HoldsInvariant}
 use Rattle.basis_steps.specs.States.{IsLawfulRun, vectors}
 use Rattle.basis_steps.proofs.Closing.{members_basis}
@@ -20,7 +17,6 @@ use Rattle.basis_core.specs.Shown.{Shown}
 use Rattle.basis_core.specs.Stops.{stop_of}
 use Rattle.basis_core.specs.Views.{run_of, state_of, variables_of}
 use Rattle.groebner_iface.specs.Runs.{IsReducedBasisOf}
-use Rattle.interreduce.specs.Leads.{HaveLeads}
 use Rattle.run_endings.specs.Endings.{IsClosed}
 
 -- the vectors of the members
@@ -28,19 +24,7 @@ pub sums_of_vectors : (n : ℕ) (ms : List Tracked) → sums_of n (vectors_in ms
 sums_of_vectors n [] = refl
 sums_of_vectors n (m ∷ ms) = ap (λ vs. sum_of n m.vector ∷ vs) (sums_of_vectors n ms)
 
--- a monic vector is not 0
-monic_some : {n : ℕ} (S : Setting n) → IsLawful S → (v : List (CodeKey × ℕ)) → IsMonicMember S (sum_of n v) → 0 < length v
-monic_some S lawful [] h = absurd (let e : ◌≡◌ {A = ℕ} 0 1 = IsCongruent_equal S.modulus 0 1 (let p = lawful.domain.above_one in omega (arith, p)) lawful.domain.above_one h.monic.one in omega (arith, e))
-monic_some S lawful (t ∷ v) h = omega arith
-
-monic_leads : (n : ℕ) (S : Setting n) → IsLawful S → (ms : List Tracked) → Each (IsMonicMember S) (vectors (members_of n ms)) → HaveLeads (vectors_in ms)
-monic_leads n S lawful [] h = tt
-monic_leads n S lawful (m ∷ ms) h = (monic_some S lawful m.vector h.0, monic_leads n S lawful ms h.1)
-
 module _ (s : Shown) (lawful : IsLawfulRun (run_of (variables_of s) s)) (holds : HoldsInvariant (run_of (variables_of s) s) (state_of (variables_of s) s)) where
-  pub members_have_leads : HaveLeads (vectors_in s.members)
-  members_have_leads = monic_leads (variables_of s) (run_of (variables_of s) s).setting lawful.setting s.members holds.members
-
   pub closed_basis :
       IsClosed s
       → IsGroebnerBasis (setting s.shared.ring (variables_of s) (ring_comparison s.shared.ring (variables_of s)) s.shared.rank) (sums_of (variables_of s) s.shared.generators) (sums_of (variables_of s) (vectors_in s.members))

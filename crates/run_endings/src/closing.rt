@@ -1,15 +1,19 @@
 // From the members of a closed run to the reduced basis.
-ghost use Rattle.std.specs.Prelude.{◌≡◌, IfOk, IfErr, ℕ};
+ghost use Rattle.std.specs.Prelude.{◌≡◌, IfOk, IfErr, List, ℕ};
+ghost use Rattle.formal_sums.specs.FormalSums.{Each, FormalSum};
+ghost use Rattle.bases.specs.Bases.{IsGroebnerBasis, IsReducedBasis};
+ghost use Rattle.module_vectors.specs.Rings.{ring_comparison, setting, variables};
+ghost use Rattle.module_vectors.specs.Vectors.{AreVectorsOver, HasPositions, sums_of};
 ghost use Rattle.basis_core.specs.Rows.{vectors_in};
 ghost use Rattle.groebner_iface.specs.Runs.{IsReducedBasisOf};
-ghost use Rattle.interreduce.specs.Trails.{IsInterreductionTrail};
+ghost use Rattle.interreduce.specs.Trails.{InterreductionStops, IsInterreductionTrail};
 ghost use Rattle.run_endings.specs.Endings.{ClosingStops, IsClosed, IsInterreductionStop};
 ghost use Rattle.run_endings.specs.Stops.{IsRunBy, OfState, RunStops};
 
 use crate::RunStop;
-use basis_core::BasisState;
+use basis_core::{BasisState, Members};
 use interreduce::interreduce;
-use module_vectors::{KeptTrail, NoMemory, VectList, WorkStop};
+use module_vectors::{KeptTrail, NoMemory, Ring, VectList, WorkStop};
 use std::alloc::Global;
 use std::thread::Threads;
 
@@ -26,6 +30,24 @@ fn trail_of_run(alloc: Global, state: &BasisState, trail: KeptTrail) -> Result<K
     })
 }
 
+// The reduced list of the members, which are vectors of this ring.
+fn reduced_list<R: Threads + Sync>(
+    rt: &R,
+    alloc: Global,
+    ring: &Ring,
+    members: &Members,
+) -> Result<VectList, WorkStop>
+    requires { AreVectorsOver ring.now (ring_comparison ring.now) (vectors_in members.now.list) }
+    ensures vectors { IfOk result (AreVectorsOver ring.now (ring_comparison ring.now)) }
+    ensures reduced { let n = variables ring.now in IfOk result (λ answer. (rank : ℕ) (G : List (FormalSum n))
+        → IsGroebnerBasis (setting ring.now n (ring_comparison ring.now n) rank) G (sums_of n (vectors_in members.now.list))
+        → IsReducedBasis (setting ring.now n (ring_comparison ring.now n) rank) G (sums_of n answer)) }
+    ensures positions { IfOk result (λ answer. (rank : ℕ) → Each (HasPositions rank) (vectors_in members.now.list) → Each (HasPositions rank) answer) }
+    ensures stop { IfErr result (InterreductionStops ring.now (vectors_in members.now.list)) }
+{
+    interreduce(rt, alloc, ring, members)
+}
+
 // The reduced basis of a closed run. IVA chapter 2, section 7.
 fn reduce_members<R: Threads + Sync>(
     rt: &R,
@@ -39,7 +61,7 @@ fn reduce_members<R: Threads + Sync>(
     state.kept();
     let members = state.members();
     members.kept();
-    match interreduce(rt, alloc, &state.shared().ring, members) {
+    match reduced_list(rt, alloc, &state.shared().ring, members) {
         Ok(basis) => Ok(basis),
         Err(WorkStop::Memory) => Err(WorkStop::Memory),
         Err(WorkStop::Degree(trail)) => Err(WorkStop::Degree(trail_of_run(alloc, state, trail)?)),

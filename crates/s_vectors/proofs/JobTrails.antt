@@ -33,7 +33,7 @@ use Rattle.basis_core.specs.Stops.{IsPairTrail, cofactors_kept, earlier_steps, j
 use Rattle.s_vectors.proofs.Combined.{AreCombined}
 use Rattle.s_vectors.proofs.Lists.{cofactors_are, length-cofactors_in, length-vectors_in, vectors_are}
 use Rattle.s_vectors.proofs.Making.{job_steps, vector_occurs}
-use Rattle.s_vectors.proofs.TopParts.{lead_is, left_within, right_within, same_position, shared_lawful}
+use Rattle.s_vectors.proofs.TopParts.{lead_is, left_within, member_some, right_within, same_position, shared_lawful}
 use Rattle.s_vectors.specs.Divided.{AreOfPair}
 use Rattle.s_vectors.specs.Steps.{ArePairSteps, IsPairChain}
 use Rattle.s_vectors.specs.Trails.{IsJobTrail}
@@ -98,6 +98,7 @@ module _ (m : MembersShown) (x : CodePair) (of : AreOfPair m x) (combined : AreC
         let last : last_step first later ≡ chain.step = ends_with chain.front chain.step first later (sym e ∙ chain.split) in
         let lw = left_within n m.shared m.list x of.monic of.real of.lcm in
         let rw' = right_within n m.shared m.list x of.monic of.real of.lcm in
+        let some = member_some n m.shared m.list x of.monic of.real of.lcm in
         let lcm_key : key_of n x.lcm ≡ key_lcm (lead_at n list x.i) (lead_at n list x.j) = lcm_leads in (
           first,
           later,
@@ -106,7 +107,7 @@ module _ (m : MembersShown) (x : CodePair) (of : AreOfPair m x) (combined : AreC
             known = subst (λ l. Each (λ z. z.0 < length l) (first ∷ later)) (sym members_are) pair.known;
             variables = pair.variables;
             begins = subst₂ (λ s l. IsStart n s t.vector l first later) (sym start_is) (sym members_are) (
-              record { left = lw; right = rw'; apart = λ q. (let o = of.real.ordered in absurd (omega arith)); position = same_position n m.shared m.list x of.monic of.real of.lcm; lcm = pair.linked.0 ∙ lcm_key },
+              record { left = lw; right = rw'; left_some = some x.i lw; right_some = some x.j rw'; apart = λ q. (let o = of.real.ordered in absurd (omega arith)); position = same_position n m.shared m.list x of.monic of.real of.lcm; lcm = pair.linked.0 ∙ lcm_key },
               vector_is,
             );
             met = subst₂ (λ v l. AreMet n (sum_of n v) l (first ∷ []) later) (sym vector_is) (sym members_are) pair.linked.1;

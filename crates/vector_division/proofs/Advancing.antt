@@ -101,7 +101,7 @@ module _
     (h : IsSubtraction n p compare s.1 (get_or list s.0 []) at old new c) (pr : IsProgress n p compare v list qs old)
   where
     abbrev S : Setting n
-    S = record { modulus = p; rank = 0; compare = compare }
+    S = record { modulus = p; weights = []; rank = 0; compare = compare }
 
     lawful : IsLawful S
     lawful = record { domain = domain; order = order }

@@ -54,7 +54,7 @@ module _
     (pr : IsUnderway n p compare v list qs ((key_of n k, r) ∷ total n old))
   where
     abbrev S : Setting n
-    S = record { modulus = p; rank = 0; compare = compare }
+    S = record { modulus = p; weights = []; rank = 0; compare = compare }
 
     lawful : IsLawful S
     lawful = record { domain = domain; order = order }

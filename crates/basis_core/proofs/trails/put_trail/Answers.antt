@@ -63,7 +63,7 @@ returns c =
     let row = has_stopped_row shared ms o c.rows.result.now c.args.trail.steps.items c.args.trail.last c.kept.ensures c.requires.shared c.kept-2.ensures (subst IsJobOver c.job-job.ensures c.kept-3.ensures) c.rows.ensures.over c.rows.ensures.terms c.requires.base c.requires.row in
     let t : KeptTrail = c.in_ok-kept.kept in
     let over = c.in_ok-kept.ensures in
-    trail_at shared ms o (c.requires.row).0 c.args.trail.steps.items c.args.trail.last row c.in_ok-steps.steps.items c.in_ok-steps.i c.in_ok-steps.j traced t over.steps_are over.below
+    trail_at shared ms o (c.requires.row).0 c.args.trail.steps.items c.args.trail.last row c.in_ok-steps.steps.items c.in_ok-steps.i c.in_ok-steps.j traced (members_nonzero shared ms c.requires.monic) t over.steps_are over.below
     (λ i. record t {
       ring = over.ring i;
       rank = over.rank i;

@@ -25,7 +25,7 @@ returns-clause-reduced g c = λ rank G basis.
     let e : c.from_vec.result ≡ reverse members = c.from_vec.ensures ∙ c.reverse.ensures.items in
     let needed : AreNeeded n (compare n) list c.deref.result.now = subst (AreNeeded n (compare n) list) (sym c.deref.ensures.value) c.in_ok-kept.ensures in
     subst (λ z. IsReducedBasis (setting ring n (compare n) rank) G (sums_of n z)) (sym e)
-    (reduced_basis ring compare c.lawful_setting.ensures list c.deref.result.now members c.in_ok-members.ensures.reduced c.requires.vectors c.requires.nonzero needed rank G basis)
+    (reduced_basis ring compare c.lawful_setting.ensures list c.deref.result.now members c.in_ok-members.ensures.reduced c.requires.vectors needed rank G basis)
 
 pub returns-clause-positions : goal.returns-clause-positions
 returns-clause-positions g c = λ rank h.

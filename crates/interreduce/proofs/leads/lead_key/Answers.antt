@@ -10,4 +10,4 @@ returns g c = λ n vars.
     let v = c.at.result.now in
     let s = c.index-terms-0.result in
     subst (λ y. (lead_at n list c.args.index ≡ key_of n y.0) × (length y.0.monomial ≡ n)) c.index-terms-0.is
-    (lead_key n list c.args.index v s c.requires.leads vars c.requires.index c.at.ensures (c.index-terms-0.is ∙ ap (λ l. get_or l 0 s) c.terms.ensures))
+    (lead_key n list c.args.index v s c.requires.some vars c.requires.index c.at.ensures (c.index-terms-0.is ∙ ap (λ l. get_or l 0 s) c.terms.ensures))

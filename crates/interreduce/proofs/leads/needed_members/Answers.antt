@@ -7,7 +7,7 @@ use Rattle.module_vectors.proofs.SumsOfProducts.{Each_member}
 use Rattle.module_vectors.specs.Rings.{variables}
 use Rattle.vector_division.proofs.Looping.{have_variables}
 use Rattle.vector_division.specs.Progress.{HaveVariables}
-use Rattle.interreduce.specs.Leads.{AreNeededSoFar, IsCoveredBy}
+use Rattle.interreduce.specs.Leads.{AreNeededSoFar, HaveLeads, IsCoveredBy}
 use Rattle.interreduce.proofs.Choosing.{needed_all, needed_push, needed_skip}
 use Rattle.interreduce.proofs.leads.needed_members.Goals as goal
 use Rattle.interreduce.proofs.leads.needed_members.Goals.{then-not-is_covered+in_ok-push, else-not-is_covered}
@@ -16,7 +16,7 @@ pub is_covered-requires-clause-variables : goal.is_covered-requires-clause-varia
 is_covered-requires-clause-variables g c =
     let ring = g.F.Frame.over c.args.frame.now in
     let n = variables ring in
-    (n, have_variables n ring.modulus.value (g.F.Frame.compare c.args.frame.now n) (g.L.Vectors.listed c.args.list.now) n refl c.requires.vectors)
+    (n, have_variables n ring.modulus.value (g.F.Frame.compare c.args.frame.now n) (g.L.Vectors.listed c.args.list.now) n refl c.requires)
 
 pub loop-i-preserved : goal.loop-i-preserved
 loop-i-preserved g c =
@@ -29,17 +29,18 @@ loop-i-preserved g c =
     let i = c.loop-i.i-index in
     let lt : i < length order = omega arith in
     let x = get_or order i 0 in
-    let vars : HaveVariables n list = have_variables n ring.modulus.value compare list n refl c.requires.vectors in
+    let vars : HaveVariables n list = have_variables n ring.modulus.value compare list n refl c.requires in
     let so_far : AreNeededSoFar n compare list (take i order) (x ∷ drop (i + 1) order) c.loop-i.kept.items = subst (λ z. AreNeededSoFar n compare list (take i order) z c.loop-i.kept.items) (drop_more order i 0 lt) c.loop-i.invariant in
     let more : take (i + 1) order ≡ take i order ++ x ∷ [] = take_item order i x lt (get_or_default order i 0 x lt) in
     let rest = drop (i + 1) order in
     let within : Each (λ j. j < length list) order = subst (Each (λ j. j < length list)) (sym c.deref-i-items.ensures.value) c.in_ok-order.ensures.within in
+    let leads : HaveLeads list order = subst (HaveLeads list) (sym c.deref-i-items.ensures.value) c.in_ok-order.ensures.leads in
     elim c.if-not-is_covered.branch [
       | then-not-is_covered+in_ok-push w ↦
           let free : IsCoveredBy n list c.loop-i.kept.items x → ⊥ = λ covered. let t : false ≡ true = (w.if-not-is_covered.ensures n vars).1 (subst (λ z. IsCoveredBy n list z x) (sym c.deref.ensures.value) covered) in cc in
           subst (λ z. AreNeededSoFar n compare list (take (i + 1) order) rest z.items) (sym w.kept-is)
           (subst₂ (λ a b. AreNeededSoFar n compare list a rest b) (sym more) (sym w.in_ok-push.ensures.items)
-          (needed_push n compare list laws (take i order) rest c.loop-i.kept.items x so_far (Each_member (λ j. j < length list) order i 0 within lt) free))
+          (needed_push n compare list laws (take i order) rest c.loop-i.kept.items x so_far (Each_member (λ j. j < length list) order i 0 within lt) (Each_member (λ j. 0 < length (get_or list j [])) order i 0 leads lt) free))
       | else-not-is_covered w ↦
           let covered : IsCoveredBy n list c.loop-i.kept.items x = subst (λ z. IsCoveredBy n list z x) c.deref.ensures.value ((w.if-not-is_covered.ensures n vars).0 refl) in
           subst (λ z. AreNeededSoFar n compare list (take (i + 1) order) rest z.items) (sym w.kept-is)
@@ -55,4 +56,4 @@ returns g c =
     let i = c.loop-i.i-index in
     let le : length order ≤ i = c.loop-i-test.false in
     let so_far : AreNeededSoFar n compare list order [] c.loop-i.kept.items = subst₂ (λ a b. AreNeededSoFar n compare list a b c.loop-i.kept.items) (take_all i order le) (drop_all i order le) c.loop-i.invariant in
-    needed_all n compare list order c.loop-i.kept.items so_far (λ j lt. subst (λ z. Contains z j) (sym c.deref-i-items.ensures.value) (c.in_ok-order.ensures.all j lt))
+    needed_all n compare list order c.loop-i.kept.items so_far (λ j lt some. subst (λ z. Contains z j) (sym c.deref-i-items.ensures.value) (c.in_ok-order.ensures.all j lt some))

@@ -7,19 +7,14 @@ use Rattle.cofactor_track.specs.declared.shared.Shared.{Shared as CodeShared}
 use Rattle.basis_core.specs.Members.{Shared}
 use Rattle.basis_core.specs.Rows.{vectors_in}
 use Rattle.basis_core.proofs.Tracking.{vectors_over}
-use Rattle.interreduce.specs.Leads.{HaveLeads}
-use Rattle.run_endings.proofs.Closings.{members_have_leads, members_positions, members_reduced}
+use Rattle.run_endings.proofs.Closings.{members_positions, members_reduced}
 use Rattle.run_endings.proofs.closing.reduce_members.Goals as goal
 
-pub interreduce-requires-clause-vectors : goal.interreduce-requires-clause-vectors
-interreduce-requires-clause-vectors g c = λ _ _.
+pub reduced_list-requires : goal.reduced_list-requires
+reduced_list-requires g c =
     let m = c.members-members.result.now in
     let over : c.deref.result.now.ring ≡ m.shared.ring = ap (λ (x : CodeShared). x.ring) c.deref.ensures ∙ ap (λ (x : Shared). x.ring) (c.shared.ensures ∙ sym c.members-members.ensures.shared) in
-    subst (λ (r : Ring). AreVectorsOver r (ring_comparison r) (vectors_in m.list)) (sym over) (vectors_over m.shared m.list c.kept-2.ensures)
-
-pub interreduce-requires-clause-nonzero : goal.interreduce-requires-clause-nonzero
-interreduce-requires-clause-nonzero g c = λ _ _.
-    subst HaveLeads (sym (ap vectors_in c.members-members.ensures.list)) (members_have_leads c.args.state.now c.kept.ensures.lawful c.kept.ensures.holds)
+    (c.type_bounds.sync-R, subst (λ (r : Ring). AreVectorsOver r (ring_comparison r) (vectors_in m.list)) (sym over) (vectors_over m.shared m.list c.kept-2.ensures))
 
 pub returns-in-Ok-clause-basis : goal.returns-in-Ok-clause-basis
 returns-in-Ok-clause-basis g c =

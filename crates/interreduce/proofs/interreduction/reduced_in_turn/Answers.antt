@@ -1,0 +1,20 @@
+use Rattle.std.proofs.Common.{[], get_or, rules, subst, sym}
+use Rattle.interreduce.specs.Members.{IsReducedMember}
+use Rattle.interreduce.proofs.Gathering.{one_more, stopped_in_turn}
+use Rattle.interreduce.proofs.interreduction.reduced_in_turn.Goals as goal
+
+pub returns-in-Err-clause-stop : goal.returns-in-Err-clause-stop
+returns-in-Err-clause-stop g c =
+    stopped_in_turn (g.F.Frame.over c.args.frame.now) (g.F.Frame.compare c.args.frame.now) (g.L.Vectors.listed c.args.list.now) c.args.indices.now c.loop-index.members.items
+    c.loop-index.index-index c.in-Err.stop c.loop-index.invariant.count c.loop-index-test.true c.loop-index.invariant.each c.in-Err.ensures.stop
+
+pub loop-index-preserved : goal.loop-index-preserved
+loop-index-preserved g c = record {
+  count = search rules;
+  room = search rules;
+  each = λ k l.
+      subst (λ vs. IsReducedMember (g.F.Frame.over c.args.frame.now) (g.F.Frame.compare c.args.frame.now) (g.L.Vectors.listed c.args.list.now) (get_or c.args.indices.now k 0) (get_or vs k []))
+      (sym c.push_reserved.ensures.items)
+      (one_more (g.F.Frame.over c.args.frame.now) (g.F.Frame.compare c.args.frame.now) (g.L.Vectors.listed c.args.list.now) (λ j. get_or c.args.indices.now j 0) c.loop-index.members.items
+      c.loop-index.index-index c.in-Ok.member c.loop-index.invariant.count c.loop-index.invariant.each c.in-Ok.ensures.reduced k l);
+}
