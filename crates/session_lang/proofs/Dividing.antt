@@ -1,25 +1,23 @@
 -- Normal forms by division by a reduced basis
-use Rattle.std.proofs.Common.{List, [], arith, get_or, length, refl, subst, sym, ℕ, ◌*◌, ◌++◌, ◌+◌, ◌-◌, ◌<◌, ◌↔◌, ◌∷◌, ◌≡◌}
-use Rattle.residues.proofs.Congruences.{IsCongruent_add, IsCongruent_minus, IsCongruent_of, IsCongruent_refl, IsCongruent_sym, IsCongruent_trans}
-use Rattle.residues.specs.Residues.{IsCongruent}
+use Rattle.std.proofs.Common.{List, [], arith, refl, subst, ℕ, ◌*◌, ◌++◌, ◌+◌, ◌-◌, ◌<◌, ◌↔◌, ◌∷◌, ◌≡◌}
+use Rattle.residues.proofs.Congruences.{IsCongruent_add, IsCongruent_minus, IsCongruent_of, IsCongruent_refl, IsCongruent_trans}
 use Rattle.monomials.specs.Exponents.{unit}
-use Rattle.formal_sums.proofs.Combining.{Each_map, IsMember_same, IsMember_through}
+use Rattle.formal_sums.proofs.Combining.{IsMember_same, IsMember_through}
 use Rattle.formal_sums.proofs.OfRank.{IsMember_of}
 use Rattle.formal_sums.proofs.Sameness.{IsSame_refl, IsSame_sym, weighted_sum-minus}
 use Rattle.formal_sums.proofs.WeightedSums.{coefficient-append}
 use Rattle.formal_sums.specs.Combinations.{IsMember, combination}
 use Rattle.formal_sums.specs.FormalSums.{FormalSum, IsSame, coefficient, indicator, scale}
-use Rattle.bases.proofs.Leading.{one_not_zero, positive}
+use Rattle.bases.proofs.Leading.{positive}
 use Rattle.bases.specs.Bases.{IsReducedBasis}
-use Rattle.bases.specs.Leads.{leads}
 use Rattle.bases.specs.Settings.{IsLawful, Setting}
 use Rattle.division_laws.proofs.Remainders.{member_of_normal_form, normal_form_of_member}
-use Rattle.division_laws.specs.Remainders.{HasFreeTerms}
 use Rattle.module_vectors.proofs.NormalVectors.{vector_normal}
 use Rattle.module_vectors.specs.Rings.{ring_comparison, setting, variables}
 use Rattle.module_vectors.specs.Vectors.{IsVectorOver, StandsFor, sum_of, sums_of}
 use Rattle.module_vectors.specs.declared.key.Key.{Key as CodeKey}
 use Rattle.module_vectors.specs.declared.ring.Ring.{Ring}
+use Rattle.vector_division.proofs.Freeing.{HasFreeTerms_of_uncovered}
 use Rattle.vector_division.specs.Divisions.{IsFreeOfLeads}
 use Rattle.groebner_iface.specs.Runs.{IsReducedBasisOf}
 use Rattle.session_lang.specs.Answers.{IsInModule, IsNormalForm}
@@ -42,17 +40,6 @@ taken_away {n} p v a r pos h = IsSame_sym (record {
 })
 
 module _ {n : ℕ} (S : Setting n) (lawful : IsLawful S) (F G : List (FormalSum n)) (basis : IsReducedBasis S F G) where
-  -- a member is not zero
-  nonzero : (i : ℕ) → i < length G → get_or G i [] ≡ [] → ⊥
-  nonzero i lt e =
-      one_not_zero S lawful
-      (IsCongruent_trans (IsCongruent_sym (basis.reduced.monic i lt).one)
-      (subst (λ g. IsCongruent S.modulus (coefficient g (leads G i)) 0) (sym e) (IsCongruent_refl S.modulus 0)))
-
-  -- what division by the basis leaves is free of its leads
-  pub free_terms : (v : FormalSum n) → IsFreeOfLeads G v → HasFreeTerms G v
-  free_terms v h = Each_map _ _ v (λ t u covered. u covered.0 covered.1 (nonzero covered.0 covered.1) covered.2) h
-
   -- and differs from what was divided by a member
   pub differing : (v a r : FormalSum n) → IsSame S.modulus v (combination G a ++ r) → IsMember S.modulus F (v ++ scale (S.modulus - 1) (unit n) r)
   differing v a r h =
@@ -70,7 +57,7 @@ module _ (ring : Ring) (rank : ℕ) (list basis : List Terms) (lawful : IsLawful
     reduced = reduced;
     vector = vector;
     differs = differing (setting ring (variables ring) (ring_comparison ring (variables ring)) rank) lawful (sums_of (variables ring) list) (sums_of (variables ring) basis) reduced.basis (sum_of (variables ring) v) a (sum_of (variables ring) w) sum;
-    free = free_terms (setting ring (variables ring) (ring_comparison ring (variables ring)) rank) lawful (sums_of (variables ring) list) (sums_of (variables ring) basis) reduced.basis (sum_of (variables ring) w) free;
+    free = HasFreeTerms_of_uncovered (setting ring (variables ring) (ring_comparison ring (variables ring)) rank) (sums_of (variables ring) basis) (sum_of (variables ring) w) free;
   }
 
 empty_sum : (n : ℕ) (w : Terms) → sum_of n w ≡ [] → w ≡ []

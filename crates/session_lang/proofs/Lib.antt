@@ -11,4 +11,3 @@ mod OneForm
 mod OneAnswer
 mod OneDoing
 mod OneResult
-mod ZeroBasis

@@ -8,11 +8,10 @@ use Rattle.formal_sums.proofs.Sameness.{IsSame_of, weighted_sum-minus}
 use Rattle.formal_sums.specs.Combinations.{IsMember}
 use Rattle.formal_sums.specs.FormalSums.{FormalSum, IsSame, Key, coefficient, indicator, scale}
 use Rattle.bases.proofs.Leading.{positive}
-use Rattle.bases.specs.Bases.{IsGroebnerBasis}
+use Rattle.bases.specs.Bases.{HasFreeTerms, IsGroebnerBasis}
 use Rattle.bases.specs.Leads.{IsNormal}
 use Rattle.bases.specs.Settings.{IsLawful, Setting}
 use Rattle.division_laws.proofs.Remainders.{normal_form_unique}
-use Rattle.division_laws.specs.Remainders.{HasFreeTerms}
 use Rattle.reduced_unique.proofs.Uniqueness.{IsReducedBasis_unique}
 use Rattle.module_vectors.proofs.NormalVectors.{vector_normal, vector_unique}
 use Rattle.module_vectors.specs.Rings.{ring_comparison, setting, variables}
@@ -102,7 +101,7 @@ module _ {n : ℕ} (S : Setting n) (is_lawful : IsLawful S) (F G : List (FormalS
   -- two normal forms of v are one
   forms_same :
       (v y z : FormalSum n) → IsMember S.modulus F (less S.modulus v y) → IsMember S.modulus F (less S.modulus v z)
-      → IsNormal S y → IsNormal S z → HasFreeTerms G y → HasFreeTerms G z → y ≡ z
+      → IsNormal S y → IsNormal S z → HasFreeTerms S G y → HasFreeTerms S G z → y ≡ z
   forms_same v y z my mz ny nz fy fz =
       let p = S.modulus in
       let pos : 0 < p = positive S is_lawful in
@@ -112,9 +111,9 @@ module _ {n : ℕ} (S : Setting n) (is_lawful : IsLawful S) (F G : List (FormalS
       normal_form_unique S is_lawful F G basis y z member ny nz fy fz
 
 module _ (ring : Ring) (rank : ℕ) (list : List Terms) (v w u : Terms) (g : IsNormalForm ring rank list v w) (h : IsNormalForm ring rank list v u) where
-  free : HasFreeTerms (sums_of (variables ring) g.basis) (sum_of (variables ring) u)
+  free : HasFreeTerms (setting ring (variables ring) (ring_comparison ring (variables ring)) rank) (sums_of (variables ring) g.basis) (sum_of (variables ring) u)
   free =
-      subst (λ G. HasFreeTerms (sums_of (variables ring) G) (sum_of (variables ring) u))
+      subst (λ G. HasFreeTerms (setting ring (variables ring) (ring_comparison ring (variables ring)) rank) (sums_of (variables ring) G) (sum_of (variables ring) u))
       (one_reduced ring rank list h.basis g.basis h.reduced g.reduced) h.free
 
   sums_same : sum_of (variables ring) w ≡ sum_of (variables ring) u

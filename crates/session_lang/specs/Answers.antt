@@ -3,8 +3,8 @@ use Rattle.std.specs.Prelude.{List, codes, ℕ, ◌++◌, ◌-◌, ◌∷◌, �
 use Rattle.monomials.specs.Exponents.{unit}
 use Rattle.formal_sums.specs.Combinations.{IsMember, IsSameModule}
 use Rattle.formal_sums.specs.FormalSums.{scale}
-use Rattle.division_laws.specs.Remainders.{HasFreeTerms}
-use Rattle.module_vectors.specs.Rings.{ring_comparison, variables}
+use Rattle.bases.specs.Bases.{HasFreeTerms}
+use Rattle.module_vectors.specs.Rings.{ring_comparison, setting, variables}
 use Rattle.module_vectors.specs.Vectors.{IsVectorOver, sum_of, sums_of}
 use Rattle.module_vectors.specs.declared.key.Key.{Key}
 use Rattle.module_vectors.specs.declared.ring.Ring.{Ring}
@@ -34,7 +34,9 @@ pub record IsNormalForm (ring : Ring) (rank : ℕ) (list : List (List (Key × �
   pub differs :
       let n = variables ring in
       IsMember ring.modulus.value (sums_of n list) (sum_of n v ++ scale (ring.modulus.value - 1) (unit n) (sum_of n w))
-  pub free : HasFreeTerms (sums_of (variables ring) basis) (sum_of (variables ring) w)
+  pub free :
+      let n = variables ring in
+      HasFreeTerms (setting ring n (ring_comparison ring n) rank) (sums_of n basis) (sum_of n w)
 
 -- what is asked of a value that its reduced basis answers
 pub data Asked : Type 0 where

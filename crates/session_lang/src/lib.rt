@@ -17,6 +17,3 @@ mod texts;
 
 pub use line_laws::{no_run_of_refused, one_result, one_statement};
 pub use session::{Session, Step};
-
-#[cfg(test)]
-mod tests;

@@ -4,6 +4,7 @@ ghost use Rattle.std.specs.Io.KnownBytes.{Appends};
 ghost use Rattle.byte_ports.specs.Causes.{HasCause, AppendsFront};
 ghost use Rattle.risen_counts.specs.Counts.{Rose};
 ghost use Rattle.session_lang.specs.Lines.{Line};
+ghost use Rattle.session_lang.specs.Names.{no_names};
 ghost use Rattle.session_top.specs.Lines.{lines_in, HasNoNewline};
 ghost use Rattle.session_top.specs.Meaning.{refusal_word, error_line, last_of, Done};
 ghost use Rattle.basis_core.specs.Views.{run_of, state_of, variables_of};
@@ -198,6 +199,38 @@ fn do_line<R: Threads + Wait + Sync, K: Sink>(
     }
 }
 
+/// Does the lines of a text at a desk at which nothing has a name yet. Where the text is the front of a longer one, the
+/// script is refused behind it.
+fn do_all<R: Threads + Wait + Sync, K: Sink>(
+    rt: &R,
+    alloc: Global,
+    desk: &mut Desk,
+    sink: &mut K,
+    text: &[u8],
+    is_cut: bool,
+) -> Result<(), Early>
+    requires limit { length text.now ≤ SCRIPT_LIMIT }
+    requires names { desk.old.session ≡ no_names }
+    ensures done { OnOk result (LinesMeant (K.taken sink.old) (K.taken sink.new) (lines_in is_cut text.now) (last_of is_cut) Done) }
+    ensures stops { IfErr result (LinesStop (K.taken sink.old) (K.taken sink.new) (limits_in desk.old.engine) (lines_in is_cut text.now) (last_of is_cut)) }
+    ensures write { result ≡ Err Early.WriteFault → Rose (K.faults sink.old) (K.faults sink.new) }
+    ensures later { K.faults sink.old ≤ K.faults sink.new }
+{
+    let mut rest = text;
+    let mut number: u32 = 0;
+    while let Some((line, after)) = next_line(rest, is_cut) {
+        number += 1;
+        match do_line(rt, alloc, desk, sink, number, line) {
+            Ok(()) => rest = after,
+            Err(early) => return Err(early),
+        }
+    }
+    if is_cut {
+        return Err(refuse(sink, 0, Refusal::Length));
+    }
+    Ok(())
+}
+
 /// Does the lines of a text, each basis run as the request says, by workers that pass this gate. Where the text is the front
 /// of a longer one, the script is refused behind it.
 pub fn do_lines<R: Threads + Wait + Sync, K: Sink>(
@@ -221,17 +254,5 @@ pub fn do_lines<R: Threads + Wait + Sync, K: Sink>(
         session: Session::new(alloc),
         out: Vec::new(alloc),
     };
-    let mut rest = text;
-    let mut number: u32 = 0;
-    while let Some((line, after)) = next_line(rest, is_cut) {
-        number += 1;
-        match do_line(rt, alloc, &mut desk, sink, number, line) {
-            Ok(()) => rest = after,
-            Err(early) => return Err(early),
-        }
-    }
-    if is_cut {
-        return Err(refuse(sink, 0, Refusal::Length));
-    }
-    Ok(())
+    do_all(rt, alloc, &mut desk, sink, text, is_cut)
 }

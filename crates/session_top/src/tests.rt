@@ -9,14 +9,16 @@ use std::test::Fail;
 use std::thread::Threads;
 use worker_gate::{Gate, HeldGate, OpenGate, Point};
 
-/// What is told of an ending: of a kept state its budget, and how many pairs are taken and queued; of a kept trail its start,
-/// how many generators, members and steps it has, and the two degrees at its end.
+/// What is told of a trail: its start, how many generators, members and steps it has, and the two degrees at its end.
+type TrailTold = (&'static str, usize, usize, usize, u128, u128);
+
+/// What is told of an ending: of a kept state its budget, and how many pairs are taken and queued.
 #[derive(Clone, Copy, Debug, PartialEq, Eq)]
 struct Told {
     status: u8,
     line: u32,
     state: Option<(u64, u64, usize)>,
-    trail: Option<(&'static str, usize, usize, usize, u128, u128)>,
+    trail: Option<TrailTold>,
 }
 
 /// Words, a script, the ports and what is told of the run. Each call of a port moves so many bytes at most. The calls with
@@ -26,7 +28,6 @@ struct Case {
     words: &'static str,
     script: &'static str,
     piece: usize,
-    room: usize,
     failing_read: u64,
     failing_write: u64,
     text: &'static str,
@@ -34,180 +35,121 @@ struct Case {
 }
 
 /// An ending of which nothing is kept.
-const DONE: Told = Told {
-    status: 0,
-    line: 0,
-    state: None,
-    trail: None,
-};
-
-const CALM: Case = Case {
-    words: "p run",
-    script: "",
-    piece: 5000,
-    room: 1000,
-    failing_read: 0,
-    failing_write: 0,
-    text: "",
-    told: DONE,
-};
-
-/// Words that are not of the form, the first two where nothing fails.
-fn of_words() -> [Case; 3] {
-    let wrong = Case {
-        text: "error words\n",
-        told: Told { status: 2, ..DONE },
-        ..CALM
-    };
-    let cut = Case {
-        words: "p ran",
-        room: 3,
-        text: "err",
-        told: Told { status: 4, ..DONE },
-        ..CALM
-    };
-    [
-        Case {
-            words: "p",
-            ..wrong
-        },
-        Case {
-            words: "p large x",
-            ..wrong
-        },
-        cut,
-    ]
+fn plain(status: u8, line: u32) -> Told {
+    Told {
+        status,
+        line,
+        state: None,
+        trail: None,
+    }
 }
 
-/// A script of 35 bytes, and its text of 19, by ports that move a byte at a time: without a fault that is met, with a read
-/// that fails, and with a write that fails.
-fn of_faults() -> [Case; 6] {
-    let whole = Case {
-        script: "ring 7 x lex\nshow x\nshow x+1\nshow y",
-        piece: 1,
-        failing_read: 37,
-        failing_write: 20,
-        text: "x\nx+1\nerror 4 name\n",
-        told: Told {
-            status: 1,
-            line: 4,
-            ..DONE
-        },
-        ..CALM
-    };
-    let unread = Case {
-        text: "",
-        told: Told { status: 3, ..DONE },
-        ..whole
-    };
-    let unwritten = Case {
-        told: Told { status: 4, ..DONE },
-        ..whole
-    };
-    [
-        whole,
-        Case {
-            failing_read: 1,
-            ..unread
-        },
-        Case {
-            failing_read: 36,
-            ..unread
-        },
-        Case {
-            failing_write: 1,
-            text: "",
-            ..unwritten
-        },
-        Case {
-            failing_write: 3,
-            text: "x\n",
-            ..unwritten
-        },
-        Case {
-            failing_write: 19,
-            text: "x\nx+1\nerror 4 name",
-            ..unwritten
-        },
-    ]
+/// A stop at the third line by a budget of one pair, of which one is taken and one is queued.
+fn budget_stop() -> Told {
+    Told {
+        status: 6,
+        line: 3,
+        state: Some((1, 1, 1)),
+        trail: None,
+    }
 }
 
-/// A run that meets its budget, with its stop line written and cut off; and each kind of stop by a degree: in a run where a
-/// tail is divided, in one where a pair is worked on, before a run has a state, and in a division.
-fn of_stops() -> [Case; 6] {
-    let budget = Case {
+/// A stop at this line by a degree.
+fn degree_stop(line: u32, state: Option<(u64, u64, usize)>, trail: TrailTold) -> Told {
+    Told {
+        status: 7,
+        line,
+        state,
+        trail: Some(trail),
+    }
+}
+
+/// A run over wide ports of which no call fails.
+fn calm(words: &'static str, script: &'static str, text: &'static str, told: Told) -> Case {
+    Case {
+        words,
+        script,
+        piece: 5000,
+        failing_read: 0,
+        failing_write: 0,
+        text,
+        told,
+    }
+}
+
+/// A run over ports that move a byte at a time, and of which these calls fail.
+fn faulty(script: &'static str, read: u64, write: u64, text: &'static str, told: Told) -> Case {
+    Case {
         words: "p run --pairs 1",
-        script: "ring 101 x,y grevlex\nideal I = x^2+y, x*y\ngb I\n",
-        text: "stop pairs 1 queued 1\n",
-        told: Told {
-            status: 6,
-            line: 3,
-            state: Some((1, 1, 1)),
-            trail: None,
-        },
-        ..CALM
-    };
-    let cut = Case {
+        script,
         piece: 1,
-        failing_write: 5,
-        text: "stop",
-        told: Told { status: 4, ..DONE },
-        ..budget
-    };
-    let tail = Case {
-        words: "p run --pairs 9",
-        script: "ring 101 a,b,c lex\nideal D = a-b^1000, b-c^1000\ngb D\n",
-        text: "stop degree 65935\n",
-        told: Told {
-            status: 7,
-            line: 3,
-            state: Some((9, 0, 0)),
-            trail: Some(("term", 2, 2, 65, 64935, 1000)),
-        },
-        ..CALM
-    };
-    let pair = Case {
-        words: "p run --pairs 5",
-        script: "ring 101 a,b,c lex\nideal H = b^2-c^1000, a*b-b^999\ngb H\n",
-        text: "stop degree 65870\n",
-        told: Told {
-            status: 7,
-            line: 3,
-            state: Some((5, 1, 0)),
-            trail: Some(("pair", 2, 2, 67, 64870, 1000)),
-        },
-        ..CALM
-    };
-    let beginning = Case {
-        script: "ring 101 b,c lex\nideal G = b-c^1000, b^1000\n\ngb G\n",
-        text: "stop degree 65935\n",
-        told: Told {
-            status: 7,
-            line: 4,
-            state: None,
-            trail: Some(("term", 2, 1, 65, 64935, 1000)),
-        },
-        ..CALM
-    };
-    let division = Case {
-        script: "ring 101 b,c lex\nideal D = b-c^1000\ngb D\nnf D b^1000\n",
-        text: "gb D 1\nb+100*c^1000\nstop degree 65935\n",
-        told: Told {
-            status: 7,
-            line: 4,
-            state: None,
-            trail: Some(("term", 0, 1, 65, 64935, 1000)),
-        },
-        ..CALM
-    };
-    [budget, cut, tail, pair, beginning, division]
+        failing_read: read,
+        failing_write: write,
+        text,
+        told,
+    }
+}
+
+/// A script of 35 bytes, whose text has 19.
+const LINES: &str = "ring 7 x lex\nshow x\nshow x+1\nshow y";
+
+const BASIS: &str = "ring 101 x,y grevlex\nideal I = x^2+y, x*y\ngb I\n";
+
+/// How many cases there are.
+const CASES: usize = 14;
+
+/// Each case by its number: words that are not of the form; a script without a fault that is met, with a read that fails, with
+/// a write that fails, and with one that fails within the stop line; a run that meets its budget; and each kind of stop by a
+/// degree: in a run where a tail is divided, in one where a pair is worked on, before a run has a state, and in a division.
+fn case_of(number: usize) -> Case {
+    match number {
+        0 => calm("p", "", "error words\n", plain(2, 0)),
+        1 => calm("p large x", "", "error words\n", plain(2, 0)),
+        2 => faulty(LINES, 37, 20, "x\nx+1\nerror 4 name\n", plain(1, 4)),
+        3 => faulty(LINES, 1, 20, "", plain(3, 0)),
+        4 => faulty(LINES, 36, 20, "", plain(3, 0)),
+        5 => faulty(LINES, 37, 1, "", plain(4, 0)),
+        6 => faulty(LINES, 37, 3, "x\n", plain(4, 0)),
+        7 => faulty(LINES, 37, 19, "x\nx+1\nerror 4 name", plain(4, 0)),
+        8 => faulty(BASIS, 0, 5, "stop", plain(4, 0)),
+        9 => calm(
+            "p run --pairs 1",
+            BASIS,
+            "stop pairs 1 queued 1\n",
+            budget_stop(),
+        ),
+        10 => calm(
+            "p run --pairs 9",
+            "ring 101 a,b,c lex\nideal D = a-b^1000, b-c^1000\ngb D\n",
+            "stop degree 65935\n",
+            degree_stop(3, Some((9, 0, 0)), ("term", 2, 2, 65, 64935, 1000)),
+        ),
+        11 => calm(
+            "p run --pairs 5",
+            "ring 101 a,b,c lex\nideal H = b^2-c^1000, a*b-b^999\ngb H\n",
+            "stop degree 65870\n",
+            degree_stop(3, Some((5, 1, 0)), ("pair", 2, 2, 67, 64870, 1000)),
+        ),
+        12 => calm(
+            "p run",
+            "ring 101 b,c lex\nideal G = b-c^1000, b^1000\n\ngb G\n",
+            "stop degree 65935\n",
+            degree_stop(4, None, ("term", 2, 1, 65, 64935, 1000)),
+        ),
+        _ => calm(
+            "p run",
+            "ring 101 b,c lex\nideal D = b-c^1000\ngb D\nnf D b^1000\n",
+            "gb D 1\nb+100*c^1000\nstop degree 65935\n",
+            degree_stop(4, None, ("term", 0, 1, 65, 64935, 1000)),
+        ),
+    }
 }
 
 fn told_of_state(state: &BasisState) -> (u64, u64, usize) {
     (state.budget(), state.taken(), state.queued().len())
 }
 
-fn told_of_trail(trail: &KeptTrail) -> (&'static str, usize, usize, usize, u128, u128) {
+fn told_of_trail(trail: &KeptTrail) -> TrailTold {
     let start = match trail.start {
         TrailStart::Pair(_, _) => "pair",
         TrailStart::Term => "term",
@@ -252,35 +194,50 @@ fn source_of(alloc: Global, case: &Case) -> Result<MemSource, Fail> {
 
 fn sink_of(alloc: Global, case: &Case) -> Result<MemSink, Fail> {
     let failing = [case.failing_write].to_vec(alloc)?;
-    Ok(MemSink::new(alloc, case.room, case.piece.max(1), failing)?)
+    Ok(MemSink::new(alloc, 1000, case.piece.max(1), failing)?)
 }
 
-/// Runs a case, and gives its text and what is told of it.
+/// Runs a script over these ports.
+fn run_over<R: Threads + Wait + Sync, G: Gate + Sync>(
+    rt: &R,
+    alloc: Global,
+    words: &[String],
+    source: &mut MemSource,
+    sink: &mut MemSink,
+    gate: &G,
+) -> Told {
+    told_of(&run(rt, alloc, words, source, sink, gate))
+}
+
+/// Runs a case. Is its text written, and what is told of its ending?
 fn run_case<R: Threads + Wait + Sync, G: Gate + Sync>(
     rt: &R,
     alloc: Global,
     case: &Case,
     gate: &G,
-) -> Result<(String, Told), Fail> {
+) -> Result<(bool, Told), Fail> {
     let words = words_of(alloc, case)?;
     let mut source = source_of(alloc, case)?;
     let mut sink = sink_of(alloc, case)?;
-    let ended = run(rt, alloc, &words, &mut source, &mut sink, gate);
-    Ok((
-        String::from_utf8_lossy(alloc, sink.bytes())?,
-        told_of(&ended),
-    ))
+    let told = run_over(rt, alloc, &words, &mut source, &mut sink, gate);
+    Ok((sink.bytes() == case.text.as_bytes(), told))
+}
+
+/// The number of the first case that has another text or another ending.
+fn first_other<R: Threads + Wait + Sync>(rt: &R, alloc: Global) -> Result<Option<usize>, Fail> {
+    for number in 0..CASES {
+        let case = case_of(number);
+        let (is_written, told) = run_case(rt, alloc, &case, &OpenGate)?;
+        if !is_written || told != case.told {
+            return Ok(Some(number));
+        }
+    }
+    Ok(None)
 }
 
 #[test]
 fn runs_are_told(rt: HostRuntime) -> Result<(), Fail> {
-    for cases in [&of_words()[..], &of_faults()[..], &of_stops()[..]] {
-        for case in cases {
-            let (text, told) = run_case(&rt, rt.alloc(), case, &OpenGate)?;
-            assert_eq!(rt; text.as_str(), case.text, "at {:?}", case.script);
-            assert_eq!(rt; told, case.told, "at {:?}", case.script);
-        }
-    }
+    assert_eq!(rt; first_other(&rt, rt.alloc())?, None);
     Ok(())
 }
 
@@ -288,15 +245,15 @@ fn runs_are_told(rt: HostRuntime) -> Result<(), Fail> {
 #[test]
 fn workers_pass_the_gate(rt: HostRuntime) -> Result<(), Fail> {
     let gate = HeldGate::new(rt.alloc(), Point::JobTaken)?;
-    let case = Case {
-        words: "p run --workers 2",
-        script: "ring 101 x,y grevlex\nideal T = x^2, x*y, y^2\nsize T\n",
-        ..CALM
-    };
-    let (text, told) = run_case(&rt, rt.alloc(), &case, &gate)?;
-    assert_eq!(rt; text.as_str(), "size T 3\n2 3\n");
-    assert_eq!(rt; told, DONE);
-    assert!(rt; gate.met());
+    let case = calm(
+        "p run --workers 2",
+        "ring 101 x,y grevlex\nideal T = x^2, x*y, y^2\nsize T\n",
+        "size T 3\n2 3\n",
+        plain(0, 0),
+    );
+    let (is_written, told) = run_case(&rt, rt.alloc(), &case, &gate)?;
+    assert!(rt; is_written);
+    assert_eq!(rt; told, case.told);
     assert!(rt; !gate.ran_out());
     Ok(())
 }

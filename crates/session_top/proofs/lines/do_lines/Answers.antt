@@ -1,24 +1,13 @@
-use Rattle.std.proofs.Common.{rules, ◌∙◌}
-use Rattle.session_top.proofs.Goings.{going_more, going_stops, going_whole, going_cut}
+use Rattle.std.proofs.Common.{IfErr, subst, ◌≡◌}
+use Rattle.session_top.specs.Limits.{limits_in, limits_of}
+use Rattle.session_top.specs.Lines.{lines_in}
+use Rattle.session_top.specs.Meaning.{last_of}
+use Rattle.session_top.specs.Parts.{LinesStop}
 use Rattle.session_top.proofs.lines.do_lines.Goals as goal
 
-pub loop-line-preserved : goal.loop-line-preserved
-loop-line-preserved g c =
-    record {
-      going = going_more _ _ _ _ _ _ _ _ _ _ (rw c.in-Some.ensures.0 at c.loop-line.invariant.going) c.in-Ok.ensures.done.1 c.in-Ok.ensures.done.2;
-      limits = c.in-Ok.ensures.limits ∙ c.loop-line.invariant.limits;
-      room = search rules;
-      later = search rules;
-    }
-
-pub returns-in-Err-clause-stops : goal.returns-in-Err-clause-stops
-returns-in-Err-clause-stops g c =
-    going_stops _ _ _ _ _ _ _ _ _ _ _ (rw c.in-Some.ensures.0 at c.loop-line.invariant.going) (rw c.loop-line.invariant.limits at c.in-Err.ensures.stops)
-
-pub returns-then-is_cut-clause-stops : goal.returns-then-is_cut-clause-stops
-returns-then-is_cut-clause-stops g c =
-    going_cut _ _ _ _ _ _ _ _ _ c.if-is_cut.true (rw c.in_default.ensures at c.loop-line.invariant.going) c.refuse.ensures.says
-
-pub returns-clause-done : goal.returns-clause-done
-returns-clause-done g c =
-    going_whole _ _ _ _ _ _ c.if-is_cut.false (rw c.in_default.ensures at c.loop-line.invariant.going)
+pub returns-clause-stops : goal.returns-clause-stops
+returns-clause-stops g c =
+    let same : limits_in c.new.result ≡ limits_of c.args.request = λ i. (c.new.ensures.pairs i, c.new.ensures.workers i) in
+    subst
+    (λ l. IfErr c.do_all.result (LinesStop (g.K.Sink.taken c.args.sink.now) (g.K.Sink.taken c.do_all.new.sink) l (lines_in c.args.is_cut c.args.text.now) (last_of c.args.is_cut)))
+    same c.do_all.ensures.stops
