@@ -1,180 +1,164 @@
-// What the readers of a state say, as text.
-ghost use Rattle.std.specs.Prelude.{◌≡◌};
-
+// What the readers of a state say.
+use crate::play::{Play, Turn};
 use basis_core::{BasisState, Ending, Event, Outcome, StopReason};
-use cofactor_track::Member;
-use module_vectors::{NoMemory, WorkStop};
+use check_texts::Sheet;
+use module_vectors::WorkStop;
 use monomial_orders::Mono;
-use poly_text::{push_entries, push_vect};
-use std::alloc::Global;
 
-fn push_text(out: &mut Vec<u8>, text: &str) -> Result<(), NoMemory> {
-    out.extend_from_slice(text.as_bytes())?;
-    Ok(())
+fn write_pair(sheet: &mut Sheet, i: u64, j: u64) {
+    sheet.count(" ", i);
+    sheet.count(",", j);
 }
 
-fn push_count(alloc: Global, out: &mut Vec<u8>, before: &str, count: u64) -> Result<(), NoMemory> {
-    push_text(out, before)?;
-    push_text(out, format!(in alloc; "{count}")?.as_str())
-}
-
-// A member, and its cofactors over the generators.
-fn push_member(alloc: Global, out: &mut Vec<u8>, member: &Member) -> Result<(), NoMemory> {
-    let shared = &member.shared;
-    if push_vect(alloc, out, &shared.ring, shared.rank, &member.vector).is_err() {
-        return Err(NoMemory);
-    }
-    push_text(out, " by ")?;
-    let count = shared.generators.len() as u128;
-    match push_entries(alloc, out, &shared.ring, count, &member.cof) {
-        Ok(()) => Ok(()),
-        Err(_) => Err(NoMemory),
-    }
-}
-
-fn push_pair(alloc: Global, out: &mut Vec<u8>, i: u64, j: u64) -> Result<(), NoMemory> {
-    push_count(alloc, out, " ", i)?;
-    push_count(alloc, out, ",", j)
-}
-
-fn push_pairs(alloc: Global, out: &mut Vec<u8>, pairs: &[(u64, u64)]) -> Result<(), NoMemory> {
+fn write_pairs(sheet: &mut Sheet, pairs: &[(u64, u64)]) {
     if pairs.is_empty() {
-        return push_text(out, " none");
+        sheet.text(" none");
     }
     for pair in pairs {
-        push_pair(alloc, out, pair.0, pair.1)?;
+        write_pair(sheet, pair.0, pair.1);
     }
-    Ok(())
 }
 
-fn push_members(alloc: Global, out: &mut Vec<u8>, state: &BasisState) -> Result<(), NoMemory> {
+fn write_members(sheet: &mut Sheet, state: &BasisState) {
     let members = state.members();
     for i in 0..members.len() {
-        push_count(alloc, out, "  ", i as u64)?;
-        push_text(out, ": ")?;
-        push_member(alloc, out, members.get(i))?;
-        push_text(out, "\n")?;
+        sheet.count("  ", i as u64);
+        sheet.text(": ");
+        sheet.member(members.get(i));
+        sheet.text("\n");
     }
-    Ok(())
 }
 
-fn push_queue(alloc: Global, out: &mut Vec<u8>, state: &BasisState) -> Result<(), NoMemory> {
-    push_text(out, "  queued")?;
+fn write_queued(sheet: &mut Sheet, state: &BasisState) {
+    sheet.text("  queued");
     if state.queued().is_empty() {
-        push_text(out, " none")?;
+        sheet.text(" none");
     }
     for pair in state.queued() {
-        push_pair(alloc, out, pair.i, pair.j)?;
+        write_pair(sheet, pair.i, pair.j);
     }
-    push_text(out, "; out")?;
+}
+
+fn write_out(sheet: &mut Sheet, state: &BasisState) {
+    sheet.text("; out");
     if state.out().is_empty() {
-        push_text(out, " none")?;
+        sheet.text(" none");
     }
     for pair in state.out() {
-        push_pair(alloc, out, pair.i, pair.j)?;
-        push_count(alloc, out, " with ", u64::from(pair.worker))?;
+        write_pair(sheet, pair.i, pair.j);
+        sheet.count(" with ", u64::from(pair.worker));
     }
-    Ok(())
 }
 
-fn push_ended(alloc: Global, out: &mut Vec<u8>, state: &BasisState) -> Result<(), NoMemory> {
-    push_count(alloc, out, "; taken ", state.taken())?;
-    push_count(alloc, out, " of ", state.budget())?;
-    push_text(out, "; ended")?;
+fn write_ended(sheet: &mut Sheet, state: &BasisState) {
+    sheet.count("; taken ", state.taken());
+    sheet.count(" of ", state.budget());
+    sheet.text("; ended");
     for worker in 0..state.workers() {
-        push_text(
-            out,
-            if state.has_ended(worker) {
-                " yes"
-            } else {
-                " no"
-            },
-        )?;
+        sheet.text(if state.has_ended(worker) {
+            " yes"
+        } else {
+            " no"
+        });
     }
-    match state.stop_reason() {
-        None => push_text(out, "\n"),
-        Some(StopReason::Pairs) => push_text(out, "; stop pairs\n"),
-        Some(StopReason::Memory) => push_text(out, "; stop memory\n"),
-        Some(StopReason::Degree(_)) => push_text(out, "; stop degree\n"),
-    }
+    sheet.text(match state.stop_reason() {
+        None => "\n",
+        Some(StopReason::Pairs) => "; stop pairs\n",
+        Some(StopReason::Memory) => "; stop memory\n",
+        Some(StopReason::Degree(_)) => "; stop degree\n",
+    });
 }
 
-fn push_event(alloc: Global, out: &mut Vec<u8>, event: &Event) -> Result<(), NoMemory> {
+fn write_event(sheet: &mut Sheet, event: &Event) {
     match event {
         Event::Take(worker, skipped, job) => {
-            push_count(alloc, out, "take ", u64::from(*worker))?;
-            push_text(out, " skipped")?;
-            push_pairs(alloc, out, skipped)?;
-            push_text(out, " job")?;
-            push_pairs(alloc, out, job)
+            sheet.count(": take ", u64::from(*worker));
+            sheet.text(" skipped");
+            write_pairs(sheet, skipped);
+            sheet.text(" job");
+            write_pairs(sheet, job);
         }
         Event::Put(worker, first, made) => {
-            push_count(alloc, out, "put ", u64::from(*worker))?;
-            push_count(alloc, out, " first ", *first)?;
-            push_count(alloc, out, " made ", *made)
+            sheet.count(": put ", u64::from(*worker));
+            sheet.count(" first ", *first);
+            sheet.count(" made ", *made);
         }
         Event::End(worker, ending) => {
-            push_count(alloc, out, "end ", u64::from(*worker))?;
-            push_text(
-                out,
-                match ending {
-                    Ending::Ended => " ended",
-                    Ending::MoreWork => " more work",
-                },
-            )
+            sheet.count(": end ", u64::from(*worker));
+            sheet.text(match ending {
+                Ending::Ended => " ended",
+                Ending::MoreWork => " more work",
+            });
         }
-        Event::Stop(worker, _) => push_count(alloc, out, "stop ", u64::from(*worker)),
+        Event::Stop(worker, _) => sheet.count(": stop ", u64::from(*worker)),
     }
 }
 
-fn push_history(alloc: Global, out: &mut Vec<u8>, state: &BasisState) -> Result<(), NoMemory> {
-    push_count(alloc, out, "  events ", state.history().len() as u64)?;
+/// Writes what all readers of the state say.
+pub fn write_state(sheet: &mut Sheet, state: &BasisState) {
+    write_members(sheet, state);
+    write_queued(sheet, state);
+    write_out(sheet, state);
+    write_ended(sheet, state);
+    sheet.count("  events ", state.history().len() as u64);
     if let Some(event) = state.history().last() {
-        push_text(out, ": ")?;
-        push_event(alloc, out, event)?;
+        write_event(sheet, event);
     }
-    push_text(out, "\n")
+    sheet.text("\n");
 }
 
-/// Appends what all readers of the state say.
-pub fn push_state(alloc: Global, out: &mut Vec<u8>, state: &BasisState) -> Result<(), NoMemory> {
-    push_members(alloc, out, state)?;
-    push_queue(alloc, out, state)?;
-    push_ended(alloc, out, state)?;
-    push_history(alloc, out, state)
-}
-
-/// Appends how many members the job had, and the rows of its outcome.
-pub fn push_outcome(alloc: Global, out: &mut Vec<u8>, outcome: &Outcome) -> Result<(), NoMemory> {
-    push_count(alloc, out, " of ", outcome.job().base())?;
-    push_text(out, " members, rows")?;
+// Writes how many members the job had, and the rows of its outcome.
+fn write_outcome(sheet: &mut Sheet, outcome: &Outcome) {
+    sheet.count("job of ", outcome.job().base());
+    sheet.text(" members, rows");
     if outcome.rows().is_empty() {
-        push_text(out, " none")?;
+        sheet.text(" none");
     }
     for row in outcome.rows() {
-        push_text(out, " ")?;
-        push_member(alloc, out, row)?;
+        sheet.text(" ");
+        sheet.member(row);
     }
-    Ok(())
 }
 
 fn degree_of(monomial: &Mono) -> u64 {
     u64::try_from(monomial.degree()).unwrap_or(u64::MAX)
 }
 
-/// Why work stopped: of a trail, how many members and steps it has, and the two degrees whose sum is too great.
-pub fn push_stop(alloc: Global, out: &mut Vec<u8>, stop: &WorkStop) -> Result<(), NoMemory> {
-    let trail = match stop {
-        WorkStop::Memory => return push_text(out, "memory"),
-        WorkStop::Degree(trail) => trail,
+/// Writes why work stopped: of a trail, how many members and steps it has, and the two degrees whose sum is too great.
+pub fn write_stop(sheet: &mut Sheet, stop: &WorkStop) {
+    let WorkStop::Degree(trail) = stop else {
+        return sheet.text("memory");
     };
-    push_count(alloc, out, "degree by ", trail.members.len() as u64)?;
-    push_count(alloc, out, " members in ", trail.steps.len() as u64)?;
-    push_text(out, " steps")?;
+    sheet.count("degree by ", trail.members.len() as u64);
+    sheet.count(" members in ", trail.steps.len() as u64);
+    sheet.text(" steps");
     if let Some((index, monomial)) = trail.steps.last() {
-        push_count(alloc, out, ", the last by member ", *index)?;
-        push_count(alloc, out, " with degrees ", degree_of(monomial))?;
-        push_count(alloc, out, " and ", degree_of(&trail.last))?;
+        sheet.count(", the last by member ", *index);
+        sheet.count(" with degrees ", degree_of(monomial));
+        sheet.count(" and ", degree_of(&trail.last));
     }
-    Ok(())
+}
+
+/// Writes what became of a worker's turn.
+pub fn write_turn(sheet: &mut Sheet, play: &Play, worker: u32, turn: Turn) {
+    match turn {
+        Turn::Illegal => sheet.text("may not be"),
+        Turn::NoMemory => sheet.text("memory"),
+        Turn::Empty => sheet.text("empty"),
+        Turn::Stopped => sheet.text("stopped"),
+        Turn::Done => sheet.text("done"),
+        Turn::Ended => sheet.text("ended"),
+        Turn::MoreWork => sheet.text("more work"),
+        Turn::Job => {
+            if let Some(outcome) = play.outcome(worker) {
+                write_outcome(sheet, outcome);
+            }
+        }
+        Turn::Failed => {
+            if let Some(stop) = play.failure() {
+                write_stop(sheet, stop);
+            }
+        }
+    }
+    sheet.text("\n");
 }

@@ -1,158 +1,126 @@
 // What the lines of the input do.
-use crate::described::{push_outcome, push_state, push_stop};
-use crate::driving::drive;
-use core_plays::{Play, Turn, begin};
-use module_vectors::NoMemory;
+use crate::described::{write_state, write_turn};
+use crate::driving::{busy, drive};
+use crate::play::{Play, begin};
+use check_texts::Sheet;
 use std::alloc::Global;
 
-/// What is kept from line to line: the texts of the ring and of the generators, the rank, and a state.
+/// The texts of a ring and of its generators, each behind the one before and a `;`, and the rank.
+#[derive(Drop)]
+pub struct Input {
+    pub ring: String,
+    pub rank: u128,
+    pub generators: String,
+}
+
+/// What is kept from line to line.
 #[derive(Drop)]
 pub struct Desk {
-    ring: String,
-    rank: u128,
-    generators: Vec<String>,
+    input: Input,
     play: Option<Play>,
 }
 
 // The numbers of a line; 0 for each that is not there.
-fn numbers(text: &str) -> (u64, u64) {
-    let mut words = text.split(' ');
-    let mut next = || {
-        words
-            .next()
-            .and_then(|word| word.parse::<u64>().ok())
-            .unwrap_or(0)
-    };
-    (next(), next())
-}
-
-// The answer to an event of this worker.
-fn push_turn(
-    alloc: Global,
-    out: &mut Vec<u8>,
-    play: &Play,
-    worker: u32,
-    turn: &Turn,
-) -> Result<(), NoMemory> {
-    let text = match turn {
-        Turn::Illegal => "may not be",
-        Turn::Job => "job",
-        Turn::Unsolved(_) | Turn::Refused(_) => "",
-        Turn::Empty => "empty",
-        Turn::Stopped => "stopped",
-        Turn::Done => "done",
-        Turn::Ended => "ended",
-        Turn::MoreWork => "more work",
-    };
-    out.extend_from_slice(text.as_bytes())?;
-    match turn {
-        Turn::Job => {
-            if let Some(outcome) = play.outcome(worker) {
-                push_outcome(alloc, out, outcome)?;
-            }
-        }
-        Turn::Unsolved(stop) | Turn::Refused(stop) => push_stop(alloc, out, stop)?,
-        _ => {}
-    }
-    out.push(b'\n')?;
-    push_state(alloc, out, play.state())
+fn numbers_of(text: &str) -> (u64, u64) {
+    let (first, second) = text.split_once(' ').unwrap_or((text, ""));
+    (
+        first.parse::<u64>().unwrap_or(0),
+        second.parse::<u64>().unwrap_or(0),
+    )
 }
 
 fn small(n: u64) -> u32 {
     u32::try_from(n).unwrap_or(u32::MAX)
 }
 
+// Writes a text behind what is there; no text where there is no memory.
+fn set(text: &mut String, more: &str) {
+    if text.push_str(more).is_err() {
+        text.clear();
+    }
+}
+
+fn write_begun(sheet: &mut Sheet, play: &Option<Play>) {
+    if let Some(play) = play {
+        write_state(sheet, play.state());
+    }
+}
+
+impl Input {
+    // `ring P NAME{,NAME} ORDER`
+    fn set_ring(&mut self, text: &str) {
+        self.ring.clear();
+        set(&mut self.ring, text);
+        self.rank = 1;
+        self.generators.clear();
+    }
+
+    // `generator VECTOR`
+    fn add_generator(&mut self, text: &str) {
+        if !self.generators.is_empty() {
+            set(&mut self.generators, ";");
+        }
+        set(&mut self.generators, text);
+    }
+}
+
 impl Desk {
     /// No ring is stated.
     pub fn new(alloc: Global) -> Desk {
         Desk {
-            ring: String::new(alloc),
-            rank: 1,
-            generators: Vec::new(alloc),
+            input: Input {
+                ring: String::new(alloc),
+                rank: 1,
+                generators: String::new(alloc),
+            },
             play: None,
         }
     }
 
     // `begin WORKERS BUDGET`
-    fn begin(&mut self, alloc: Global, text: &str, out: &mut Vec<u8>) -> Result<(), NoMemory> {
-        let (workers, budget) = numbers(text);
-        match begin(
-            alloc,
-            &self.ring,
-            self.rank,
-            &self.generators,
-            budget,
-            small(workers),
-        ) {
-            Ok(Some(state)) => {
-                push_state(alloc, out, &state)?;
-                self.play = Some(Play::new(alloc, state)?);
-            }
-            Ok(None) => out.extend_from_slice(b"no run\n")?,
-            Err(stop) => {
-                push_stop(alloc, out, &stop)?;
-                out.push(b'\n')?;
-            }
-        }
-        Ok(())
+    fn begin(&mut self, alloc: Global, sheet: &mut Sheet, text: &str) {
+        let (workers, budget) = numbers_of(text);
+        self.play = begin(alloc, sheet, &self.input, budget, small(workers));
+        write_begun(sheet, &self.play);
     }
 
     // `take WORKER MOST`, `put WORKER`, `end WORKER`, `stop WORKER`
-    fn event(
-        &mut self,
-        alloc: Global,
-        word: &str,
-        text: &str,
-        out: &mut Vec<u8>,
-    ) -> Result<(), NoMemory> {
-        let (worker, most) = numbers(text);
+    fn event(&mut self, alloc: Global, sheet: &mut Sheet, word: &str, text: &str) {
+        let (worker, most) = numbers_of(text);
         let worker = small(worker);
         let Some(play) = &mut self.play else {
-            return Ok(());
+            return;
         };
         let turn = match word {
-            "take" => play.take(alloc, worker, most)?,
+            "take" => play.take(alloc, worker, most),
             "put" => play.put(alloc, worker),
             "end" => play.end(worker),
             "stop" => play.stop(worker),
-            _ => return Ok(()),
+            _ => return,
         };
-        push_turn(alloc, out, play, worker, &turn)
+        write_turn(sheet, play, worker, turn);
+        write_state(sheet, play.state());
     }
 
-    // `drive`
-    fn drive(&mut self, alloc: Global, out: &mut Vec<u8>) -> Result<(), NoMemory> {
-        match drive(alloc, out, &self.ring, self.rank, &self.generators) {
-            Ok(()) => Ok(()),
-            Err(stop) => {
-                push_stop(alloc, out, &stop)?;
-                out.push(b'\n')?;
-                Ok(())
-            }
-        }
+    // `busy TAKES PUTS`
+    fn busy(&self, alloc: Global, sheet: &mut Sheet, text: &str) {
+        let (takes, puts) = numbers_of(text);
+        busy(alloc, sheet, &self.input, small(takes), small(puts));
     }
 
-    /// Does a line, and appends what it answers.
-    pub fn line(&mut self, alloc: Global, line: &str, out: &mut Vec<u8>) -> Result<(), NoMemory> {
+    /// Does a line, and writes it with what it answers.
+    pub fn line(&mut self, alloc: Global, sheet: &mut Sheet, line: &str) {
+        sheet.text(line);
+        sheet.text("\n");
         let (word, text) = line.split_once(' ').unwrap_or((line, ""));
         match word {
-            "ring" => {
-                self.ring = String::from_str(alloc, line)?;
-                self.rank = 1;
-                self.generators = Vec::new(alloc);
-                Ok(())
-            }
-            "rank" => {
-                self.rank = u128::from(numbers(text).0);
-                Ok(())
-            }
-            "generator" => {
-                self.generators.push(String::from_str(alloc, text)?)?;
-                Ok(())
-            }
-            "begin" => self.begin(alloc, text, out),
-            "drive" => self.drive(alloc, out),
-            _ => self.event(alloc, word, text, out),
+            "ring" => self.input.set_ring(text),
+            "rank" => self.input.rank = u128::from(numbers_of(text).0),
+            "generator" => self.input.add_generator(text),
+            "begin" => self.begin(alloc, sheet, text),
+            "drive" => drive(alloc, sheet, &self.input),
+            "busy" => self.busy(alloc, sheet, text),
+            _ => self.event(alloc, sheet, word, text),
         }
     }
 }

@@ -1,13 +1,14 @@
-// Random lists of legal events, until all workers have ended.
-use crate::leading::leads_text;
+// Lists of events: random legal ones until all workers have ended, and many Takes and Puts.
+use crate::desk::Input;
+use crate::leading::write_leads;
+use crate::play::{Play, Turn, begin};
 use basis_core::BasisState;
-use core_plays::{Play, Turn, begin};
-use module_vectors::{NoMemory, WorkStop};
+use check_texts::Sheet;
 use std::alloc::Global;
 
 const TURNS: u32 = 100_000;
 
-const BUDGET: u64 = 10_000;
+const BUDGET: u64 = 1_000_000;
 
 const SEEDS: u64 = 3;
 
@@ -26,87 +27,99 @@ fn have_all_ended(state: &BasisState) -> bool {
 }
 
 // One event of a worker, or none where what is drawn may not be: a Put of its outcome, an End, or a Take.
-fn random_event(alloc: Global, play: &mut Play, worker: u32, draw: u64) -> Result<(), WorkStop> {
-    let turn = if play.outcome(worker).is_some() {
+fn random_event(alloc: Global, play: &mut Play, worker: u32, draw: u64) -> Turn {
+    if play.outcome(worker).is_some() {
         play.put(alloc, worker)
     } else if draw % 3 == 0 {
         play.end(worker)
     } else {
-        play.take(alloc, worker, draw % 4 + 1)?
-    };
-    match turn {
-        Turn::Unsolved(stop) | Turn::Refused(stop) => Err(stop),
-        _ => Ok(()),
+        play.take(alloc, worker, draw % 4 + 1)
     }
 }
 
-// The minimal leads at the end of a random list of events; `None` where it does not end.
-fn random_run(
-    alloc: Global,
-    state: BasisState,
-    workers: u32,
-    seed: u64,
-) -> Result<Option<Vec<u8>>, WorkStop> {
-    let mut play = Play::new(alloc, state)?;
+// Does random events; false where they do not end, or work stops.
+fn has_ended(alloc: Global, play: &mut Play, workers: u32, seed: u64) -> bool {
     let mut draw = seed;
     for _ in 0..TURNS {
         if have_all_ended(play.state()) {
-            return Ok(Some(leads_text(alloc, play.state())?));
+            return true;
         }
         draw = next_draw(draw);
         let worker = (draw / 65536 % u64::from(workers.max(1))) as u32;
         draw = next_draw(draw);
-        random_event(alloc, &mut play, worker, draw / 65536)?;
-    }
-    Ok(None)
-}
-
-// Appends the leads of a run that differ from those of the first one.
-fn compare(
-    out: &mut Vec<u8>,
-    first: &mut Option<Vec<u8>>,
-    leads: Option<Vec<u8>>,
-) -> Result<(), NoMemory> {
-    let Some(leads) = leads else {
-        out.extend_from_slice(b"  it does not end\n")?;
-        return Ok(());
-    };
-    match first {
-        None => *first = Some(leads),
-        Some(others) => {
-            if others.as_slice() != leads.as_slice() {
-                out.extend_from_slice(b"  other leads: ")?;
-                out.extend_from_slice(&leads)?;
-                out.push(b'\n')?;
-            }
+        match random_event(alloc, play, worker, draw / 65536) {
+            Turn::NoMemory | Turn::Failed => return false,
+            _ => {}
         }
     }
-    Ok(())
+    false
 }
 
-/// Random runs of 1, 2, 3 and 5 workers: appends the minimal leads of the first one, and each that differs.
-pub fn drive(
-    alloc: Global,
-    out: &mut Vec<u8>,
-    line: &str,
-    rank: u128,
-    texts: &[String],
-) -> Result<(), WorkStop> {
-    let mut first = None;
+// The minimal leads at the end of a random list of events.
+fn random_run(alloc: Global, input: &Input, workers: u32, seed: u64) -> Sheet {
+    let mut leads = Sheet::new(alloc);
+    if let Some(mut play) = begin(alloc, &mut leads, input, BUDGET, workers) {
+        if has_ended(alloc, &mut play, workers, seed) {
+            write_leads(alloc, &mut leads, play.state());
+        } else {
+            leads.text("none: it does not end\n");
+        }
+    }
+    leads
+}
+
+// Writes leads where they are not those of the first run.
+fn compare(sheet: &mut Sheet, first: &str, leads: &str) {
+    if leads != first {
+        sheet.text("  other leads: ");
+        sheet.text(leads);
+    }
+}
+
+// Random runs of so many workers.
+fn drive_workers(alloc: Global, sheet: &mut Sheet, input: &Input, first: &str, workers: u32) {
+    for seed in 1..=SEEDS {
+        let leads = random_run(alloc, input, workers, seed);
+        compare(sheet, first, leads.whole());
+    }
+}
+
+/// Random runs of 1, 2, 3 and 5 workers: writes the minimal leads of the first one, and each that differs.
+pub fn drive(alloc: Global, sheet: &mut Sheet, input: &Input) {
+    let first = random_run(alloc, input, 1, 1);
     for workers in [1u32, 2, 3, 5] {
-        for seed in 1..=SEEDS {
-            let Some(state) = begin(alloc, line, rank, texts, BUDGET, workers)? else {
-                out.extend_from_slice(b"  no run\n")?;
-                return Ok(());
-            };
-            let leads = random_run(alloc, state, workers, seed)?;
-            compare(out, &mut first, leads)?;
+        drive_workers(alloc, sheet, input, first.whole(), workers);
+    }
+    sheet.text("  leads ");
+    sheet.text(first.whole());
+}
+
+// So many workers take a pair each, and so many of them hand in; how many jobs there were.
+fn take_and_put(alloc: Global, play: &mut Play, takes: u32, puts: u32) -> u64 {
+    let mut jobs = 0;
+    for worker in 0..takes {
+        if let Turn::Job = play.take(alloc, worker, 1) {
+            jobs = u64::from(worker) + 1;
         }
     }
-    if let Some(leads) = first {
-        out.extend_from_slice(b"  leads ")?;
-        out.extend_from_slice(&leads)?;
-        out.push(b'\n')?;
+    for worker in 0..puts {
+        play.put(alloc, worker);
     }
-    Ok(())
+    jobs
+}
+
+// Writes how many members, jobs and queued pairs there are.
+fn write_counts(sheet: &mut Sheet, state: &BasisState, jobs: u64) {
+    sheet.count("members ", state.members().len() as u64);
+    sheet.count(", jobs ", jobs);
+    sheet.count(", queued ", state.queued().len() as u64);
+    sheet.text("\n");
+}
+
+/// Takes of so many workers, and Puts of so many of them: writes how many members, jobs and queued pairs there are then.
+pub fn busy(alloc: Global, sheet: &mut Sheet, input: &Input, takes: u32, puts: u32) {
+    if let Some(mut play) = begin(alloc, sheet, input, BUDGET, takes.max(1)) {
+        let jobs = take_and_put(alloc, &mut play, takes, puts);
+        write_counts(sheet, play.state(), jobs);
+    }
 }

@@ -1,93 +1,98 @@
 // The leads of the members that no other member's lead divides.
-ghost use Rattle.std.specs.Prelude.{◌≡◌, ◌<◌, IfOk, IfSome, length};
+ghost use Rattle.std.specs.Prelude.{◌≡◌, ◌<◌, IfOk, IfSome, OnOk, length};
 ghost use Rattle.std.specs.Arc.{arc_value};
 ghost use Rattle.module_vectors.specs.Rings.{variables};
 ghost use Rattle.module_vectors.specs.Vectors.{AreTermsOver, HasVariables};
 
 use basis_core::{BasisState, Members};
+use check_texts::{NoValue, Sheet};
 use cofactor_track::Member;
-use module_vectors::{Key, NoMemory, Ring, Vect};
-use poly_text::push_vect;
+use module_vectors::{Key, Ring, Vect};
 use std::alloc::Global;
 
-// The lead of a member.
-fn lead_of(alloc: Global, ring: &Ring, member: &Member) -> Result<Option<(Key, u32)>, NoMemory>
-    requires { (arc_value member.now.shared).ring ≡ ring.now }
-    ensures { IfOk result (λ found. IfSome found (λ t. HasVariables (variables ring.now) t × (t.1 < ring.now.modulus.value))) }
-{
-    let _ring = ring;
-    let Some(lead) = member.vector.lead() else {
-        return Ok(None);
-    };
-    Ok(Some((lead.key.try_copy(alloc)?, lead.residue)))
+// Does the first key divide the second?
+fn divides(left: &Key, right: &Key) -> bool {
+    left.position == right.position
+        && left.monomial.variables() == right.monomial.variables()
+        && left.monomial.divides(&right.monomial)
 }
 
-// The leads of all members.
-fn leads(alloc: Global, ring: &Ring, members: &Members) -> Result<Vec<(Key, u32)>, NoMemory>
-    requires { members.now.shared.ring ≡ ring.now }
-    ensures { IfOk result (λ terms. AreTermsOver ring.now terms.items) }
-{
-    let mut terms = Vec::new(alloc);
-    for i in 0..members.len() {
-        match lead_of(alloc, ring, members.get(i))? {
-            Some(lead) => terms.push(lead)?,
-            None => {}
-        }
+// Does the first member's lead divide the second's?
+fn leads_divide(left: &Member, right: &Member) -> bool {
+    match (left.vector.lead(), right.vector.lead()) {
+        (Some(left), Some(right)) => divides(left.key, right.key),
+        _ => false,
     }
-    Ok(terms)
 }
 
-// Does another one divide this one?
-fn is_divided(ring: &Ring, leads: &[(Key, u32)], index: usize) -> bool
-    requires index { index < length leads.now }
-    requires leads { AreTermsOver ring.now leads.now }
+// Does another member's lead divide this one's?
+fn is_divided(members: &Members, index: usize) -> bool
+    requires { index < length members.now.list }
 {
-    let _ring = ring;
-    let lead = &leads[index].0;
-    for i in 0..leads.len() {
-        let other = &leads[i].0;
-        if i != index && other.position == lead.position && other.monomial.divides(&lead.monomial) {
+    for i in 0..members.len() {
+        if i != index && leads_divide(members.get(i), members.get(index)) {
             return true;
         }
     }
     false
 }
 
-// A term again.
-fn copied(alloc: Global, ring: &Ring, term: &(Key, u32)) -> Result<(Key, u32), NoMemory>
-    requires variables { HasVariables (variables ring.now) term.now }
-    requires residue { term.now.1 < ring.now.modulus.value }
-    ensures { IfOk result (λ t. HasVariables (variables ring.now) t × (t.1 < ring.now.modulus.value)) }
+// The lead of a member.
+fn lead_of(alloc: Global, ring: &Ring, member: &Member) -> Result<Option<(Key, u32)>, NoValue>
+    requires { (arc_value member.now.shared).ring ≡ ring.now }
+    ensures { IfOk result (λ found. IfSome found (λ t. HasVariables (variables ring.now) t × (t.1 < ring.now.modulus.value))) }
 {
     let _ring = ring;
-    Ok((term.0.try_copy(alloc)?, term.1))
+    match member.vector.lead() {
+        Some(lead) => Ok(Some((lead.key.try_copy(alloc)?, lead.residue))),
+        None => Ok(None),
+    }
 }
 
-// Those that no other one divides.
-fn minimal(alloc: Global, ring: &Ring, leads: &[(Key, u32)]) -> Result<Vec<(Key, u32)>, NoMemory>
-    requires { AreTermsOver ring.now leads.now }
+// Appends the lead of a member.
+fn push_lead(
+    alloc: Global,
+    ring: &Ring,
+    member: &Member,
+    terms: &mut Vec<(Key, u32)>,
+) -> Result<(), NoValue>
+    requires ring { (arc_value member.now.shared).ring ≡ ring.now }
+    requires terms { AreTermsOver ring.now terms.old.items }
+    ensures { OnOk result (AreTermsOver ring.now terms.new.items) }
+{
+    match lead_of(alloc, ring, member)? {
+        Some(lead) => Ok(terms.push(lead)?),
+        None => Ok(()),
+    }
+}
+
+// The leads that no other one divides.
+fn minimal(alloc: Global, ring: &Ring, members: &Members) -> Result<Vec<(Key, u32)>, NoValue>
+    requires { members.now.shared.ring ≡ ring.now }
     ensures { IfOk result (λ terms. AreTermsOver ring.now terms.items) }
 {
     let mut terms = Vec::new(alloc);
-    for i in 0..leads.len() {
-        if is_divided(ring, leads, i) {
+    for i in 0..members.len() {
+        if is_divided(members, i) {
             continue;
         }
-        terms.push(copied(alloc, ring, &leads[i])?)?;
+        push_lead(alloc, ring, members.get(i), &mut terms)?;
     }
     Ok(terms)
 }
 
-/// The text of the sum of the minimal leads, as a vector.
-pub fn leads_text(alloc: Global, state: &BasisState) -> Result<Vec<u8>, NoMemory> {
-    let members = state.members();
+// The sum of the minimal leads.
+fn sum_of_leads(alloc: Global, state: &BasisState) -> Result<Vect, NoValue> {
     let ring = &state.shared().ring;
-    let all = leads(alloc, ring, members)?;
-    let terms = minimal(alloc, ring, &all)?;
-    let v = Vect::from_terms(alloc, ring, terms)?;
-    let mut out = Vec::new(alloc);
-    match push_vect(alloc, &mut out, ring, state.shared().rank, &v) {
-        Ok(()) => Ok(out),
-        Err(_) => Err(NoMemory),
+    let terms = minimal(alloc, ring, state.members())?;
+    Ok(Vect::from_terms(alloc, ring, terms)?)
+}
+
+/// Writes the sum of the minimal leads, as a vector.
+pub fn write_leads(alloc: Global, sheet: &mut Sheet, state: &BasisState) {
+    match sum_of_leads(alloc, state) {
+        Ok(v) => sheet.vector(&state.shared().ring, state.shared().rank, &v),
+        Err(NoValue) => sheet.text("none: no memory"),
     }
+    sheet.text("\n");
 }

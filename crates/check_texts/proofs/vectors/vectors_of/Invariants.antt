@@ -1,0 +1,8 @@
+use Rattle.formal_sums.specs.FormalSums.{Each}
+use Rattle.module_vectors.specs.Rings.{ring_comparison}
+use Rattle.module_vectors.specs.Vectors.{AreVectorsOver, HasPositions}
+use Rattle.cofactor_track.specs.Members.{AreGenerators}
+use Rattle.check_texts.proofs.vectors.vectors_of.Given as goal
+
+abbrev pub invariant-loop-part : goal.invariant-loop-part
+invariant-loop-part l = AreGenerators l.ring l.rank l.list × AreVectorsOver l.ring (ring_comparison l.ring) l.list × Each (HasPositions l.rank) l.list
