@@ -1,5 +1,5 @@
 -- Two jobs out at once on (x^2 + y, xy, y^3 + x), event by event
-use Rattle.std.proofs.Common.{List, [], ap, arith, cond, inl, inr, refl, subst, suc, sym, zero, ℕ, ◌+◌, ◌<◌, ◌∷◌, ◌≡◌, ◌⊎◌}
+use Rattle.std.proofs.Common.{List, [], ap, arith, cond, inl, inr, refl, suc, zero, ℕ, ◌+◌, ◌<◌, ◌∷◌, ◌≡◌}
 use Rattle.monomials.specs.Exponents.{cons, head, nil, tail}
 use Rattle.formal_sums.proofs.Comparing.{IsSame_compared}
 use Rattle.formal_sums.proofs.Sameness.{IsSame_of}
@@ -8,17 +8,17 @@ use Rattle.bases.proofs.NormalForms.{IsMonicLead_normal}
 use Rattle.bases.specs.Bases.{IsCovered}
 use Rattle.bases.specs.Representations.{HasLcmRepresentation}
 use Rattle.base_examples.proofs.Bases.{lawful, x_apart, y_apart}
-use Rattle.base_examples.proofs.Histories.{basis_12, leaves_0, leaves_1, monic_2, occurs_at, occurs_cases, occurs_none, queued_of}
+use Rattle.base_examples.proofs.Histories.{basis_12, leaves_0, leaves_1, monic_2, occurs_at, queued_of}
 use Rattle.base_examples.proofs.Vectors.{membership_sum}
 use Rattle.base_examples.specs.Crossings.{budget_met, crossing, crossing_1, crossing_2, crossing_3, crossing_first, crossing_last, cubic, cubic_member, new_members, old_members, one_pair, only_y, square_row, y_member}
-use Rattle.base_examples.specs.Examples.{at, generators, membership_cofactors, setting, square_plus, xy, y_squared}
+use Rattle.base_examples.specs.Examples.{at, generators, setting, square_plus, xy, y_squared}
 use Rattle.base_examples.specs.Histories.{member_0, member_1, state_4, two_members}
 use Rattle.basis_steps.specs.Criteria.{CriterionApplies}
-use Rattle.basis_steps.specs.Divisions.{IsMonicMember, LeavesMember, LeavesNothing, Makes, Occurs}
-use Rattle.basis_steps.specs.Outcomes.{AreJobProducts, HasLeadBelowJob, IsMadeOf, IsOutcome, OccursBefore}
+use Rattle.basis_steps.specs.Divisions.{IsMonicMember, LeavesMember, LeavesNothing, Makes}
+use Rattle.basis_steps.specs.Outcomes.{AreJobProducts, HasLeadBelowJob, IsOutcome}
 use Rattle.basis_steps.specs.Pairs.{Pair, count}
 use Rattle.basis_steps.specs.Queues.{is_new_pair}
-use Rattle.basis_steps.specs.States.{Product, Put, Take, cofactor_lists, vectors}
+use Rattle.basis_steps.specs.States.{Product, Put, Take, vectors}
 use Rattle.basis_steps.specs.Steps.{Begins, Replays, Step, generator_rows}
 
 monic_cubic : IsMonicMember setting cubic
@@ -45,14 +45,14 @@ free_y (suc zero, h, lead, d) = x_apart 1 1 0 1 (omega arith) d
 free_y (suc (suc zero), h, lead, d) = y_apart 0 3 0 1 (omega arith) d
 free_y (suc (suc (suc i)), h, lead, d) = absurd (omega arith)
 
-leaves_cubic : LeavesMember setting two_members cubic_member [] 1 1 cubic_member
-leaves_cubic = record { quotients = tt; reached = tt; at_most = inr refl; inverse = record { same = refl }; vector = IsSame_of 101 _ _ refl; cofactors = IsSame_of 101 _ _ refl; member = monic_cubic; free = free_cubic }
+leaves_cubic : LeavesMember setting (vectors two_members) cubic_member [] 1 1 cubic_member
+leaves_cubic = record { quotients = tt; reached = tt; at_most = inr refl; inverse = record { same = refl }; vector = IsSame_of 101 _ _ refl; multiple = IsSame_of 101 _ _ refl; products = IsSame_of 101 _ _ refl; member = monic_cubic; free = free_cubic }
 
-leaves_y : LeavesMember setting old_members y_member [] 1 1 y_member
-leaves_y = record { quotients = tt; reached = tt; at_most = inr refl; inverse = record { same = refl }; vector = IsSame_of 101 _ _ refl; cofactors = IsSame_of 101 _ _ refl; member = monic_y; free = free_y }
+leaves_y : LeavesMember setting (vectors old_members) y_member [] 1 1 y_member
+leaves_y = record { quotients = tt; reached = tt; at_most = inr refl; inverse = record { same = refl }; vector = IsSame_of 101 _ _ refl; multiple = IsSame_of 101 _ _ refl; products = IsSame_of 101 _ _ refl; member = monic_y; free = free_y }
 
 -- y^2 is y times the newest member
-leaves_nothing : LeavesNothing setting new_members square_row ((at 3 0 1, 1) ∷ [])
+leaves_nothing : LeavesNothing setting (vectors new_members) square_row ((at 3 0 1, 1) ∷ [])
 leaves_nothing = record { quotients = ((omega arith, inr refl), tt); reached = (inl (occurs_at square_row.vector (at 0 0 2) refl), tt); vector = IsSame_of 101 _ _ refl }
 
 makes_old : Makes setting [] (generator_rows 0 crossing.generators) old_members
@@ -69,11 +69,10 @@ first_queue (suc (suc i)) (suc (suc zero)) lt h = absurd (omega arith)
 first_queue i (suc (suc (suc j))) lt h = absurd (omega arith)
 
 -- the pairs with y
-y_queue : List Pair
+abbrev y_queue : List Pair
 y_queue = (1, 3) ∷ ((2, 3) ∷ ((0, 3) ∷ []))
 
 new_queue : (i j : ℕ) → i < j → j < 4 → count (i, j) y_queue ≡ count (i, j) [] + cond (is_new_pair 3 (vectors new_members) (i, j)) 1 0
-unfolding y_queue
 new_queue i zero lt h = absurd (omega arith)
 new_queue zero (suc zero) lt h = refl
 new_queue (suc i) (suc zero) lt h = absurd (omega arith)
@@ -87,7 +86,6 @@ new_queue (suc (suc (suc i))) (suc (suc (suc zero))) lt h = absurd (omega arith)
 new_queue i (suc (suc (suc (suc j)))) lt h = absurd (omega arith)
 
 same_queue : (i j : ℕ) → i < j → j < 4 → count (i, j) y_queue ≡ count (i, j) y_queue + cond (is_new_pair 4 (vectors new_members) (i, j)) 1 0
-unfolding y_queue
 same_queue i zero lt h = absurd (omega arith)
 same_queue zero (suc zero) lt h = refl
 same_queue (suc i) (suc zero) lt h = absurd (omega arith)
@@ -117,7 +115,7 @@ not_12 waits (inr (suc (suc (suc k)), c)) = let w = c.within in absurd (omega ar
 
 -- ---- the outcome y of the job (1, 2)
 -- y^2 (xy), x (y^3 + x) and x^2 + y
-y_products : List (Product 2)
+abbrev y_products : List (Product 2)
 y_products = (1, cons 0 (cons 2 nil)) ∷ ((2, cons 1 (cons 0 nil)) ∷ ((0, cons 0 (cons 0 nil)) ∷ []))
 
 y_represents : HasLcmRepresentation setting (square_plus ∷ (xy ∷ (cubic ∷ (only_y ∷ [])))) 1 2
@@ -131,52 +129,25 @@ y_low : HasLeadBelowJob setting (vectors old_members) ((1, 2) ∷ []) only_y
 y_low k h = ((1, 2), omega arith, ap (λ l. setting.compare l (at 0 1 3)) (lead_unique setting lawful only_y k (at 0 0 1) h (IsLead_of_monic setting lawful monic_y.monic)))
 
 y_job_products : AreJobProducts 101 (vectors old_members) ((1, 2) ∷ []) y_products
-unfolding y_products
 y_job_products zero h = (omega arith, inl ((1, 2), omega arith, refl))
 y_job_products (suc zero) h = (omega arith, inl ((1, 2), omega arith, refl))
 y_job_products (suc (suc zero)) h = (omega arith, inr (1, omega arith, omega arith, occurs_at ((at 0 1 3, 1) ∷ ((at 0 2 0, 1) ∷ [])) (at 0 2 0) refl))
 y_job_products (suc (suc (suc i))) h = absurd (omega arith)
 
-y_made : IsMadeOf 101 (vectors old_members) y_products only_y
-unfolding y_products
-y_made k h = go (occurs_cases (at 0 0 1, 1) [] k h)
-  where
-    go : (k ≡ at 0 0 1) ⊎ Occurs 101 [] k → OccursBefore 101 (vectors old_members) y_products 3 k
-    go (inl e) = (2, omega arith, omega arith, subst (Occurs 101 ((at 0 2 0, 1) ∷ ((at 0 0 1, 1) ∷ []))) (sym e) (occurs_at ((at 0 2 0, 1) ∷ ((at 0 0 1, 1) ∷ [])) (at 0 0 1) refl))
-    go (inr q) = absurd (occurs_none k q)
-
-y_cofactors_made : IsMadeOf 101 (cofactor_lists old_members) y_products y_member.cofactors
-unfolding y_products
-y_cofactors_made k h = first (occurs_cases (at 0 0 0, 1) ((at 1 0 2, 1) ∷ ((at 2 1 0, 100) ∷ [])) k h)
-  where
-    third : (k ≡ at 2 1 0) ⊎ Occurs 101 [] k → OccursBefore 101 (cofactor_lists old_members) y_products 3 k
-    third (inl e) = (1, omega arith, omega arith, subst (Occurs 101 ((at 2 1 0, 1) ∷ [])) (sym e) (occurs_at ((at 2 1 0, 1) ∷ []) (at 2 1 0) refl))
-    third (inr q) = absurd (occurs_none k q)
-
-    second : (k ≡ at 1 0 2) ⊎ Occurs 101 ((at 2 1 0, 100) ∷ []) k → OccursBefore 101 (cofactor_lists old_members) y_products 3 k
-    second (inl e) = (0, omega arith, omega arith, subst (Occurs 101 ((at 1 0 2, 1) ∷ [])) (sym e) (occurs_at ((at 1 0 2, 1) ∷ []) (at 1 0 2) refl))
-    second (inr q) = third (occurs_cases (at 2 1 0, 100) [] k q)
-
-    first : (k ≡ at 0 0 0) ⊎ Occurs 101 ((at 1 0 2, 1) ∷ ((at 2 1 0, 100) ∷ [])) k → OccursBefore 101 (cofactor_lists old_members) y_products 3 k
-    first (inl e) = (2, omega arith, omega arith, subst (Occurs 101 ((at 0 0 0, 1) ∷ [])) (sym e) (occurs_at ((at 0 0 0, 1) ∷ []) (at 0 0 0) refl))
-    first (inr q) = second (occurs_cases (at 1 0 2, 1) ((at 2 1 0, 100) ∷ []) k q)
-
-y_outcome : IsOutcome crossing old_members ((1, 2) ∷ []) (y_member ∷ []) y_products
+y_outcome : IsOutcome setting (vectors old_members) ((1, 2) ∷ []) (y_member ∷ []) y_products
 y_outcome = record {
   some = omega arith;
   pairs = (record { ordered = omega arith; within = omega arith; position = refl }, tt);
   represented = (y_represents, tt);
   few = omega arith;
   low = (y_low, tt);
-  combined = (IsSame_compared _ _ (record { same = refl }, (record { same = refl }, (record { same = refl }, (record { same = refl }, (record { same = refl }, (record { same = refl }, tt)))))), tt);
+  sums = (record { alone = refl; listed = ((2, omega arith, refl), ((0, omega arith, refl), ((1, omega arith, refl), tt))); sums = IsSame_compared _ _ (record { same = refl }, (record { same = refl }, (record { same = refl }, (record { same = refl }, (record { same = refl }, (record { same = refl }, tt)))))) }, tt);
   job_products = y_job_products;
-  vectors_made = (y_made, tt);
-  cofactors_made = (y_cofactors_made, tt);
 }
 
 -- ---- the outcome y^2 of the job (0, 1)
 -- y (x^2 + y) and x (xy)
-square_products : List (Product 2)
+abbrev square_products : List (Product 2)
 square_products = (0, cons 0 (cons 1 nil)) ∷ ((1, cons 1 (cons 0 nil)) ∷ [])
 
 square_represents : HasLcmRepresentation setting (square_plus ∷ (xy ∷ (cubic ∷ (y_squared ∷ [])))) 0 1
@@ -190,42 +161,19 @@ square_low : HasLeadBelowJob setting (vectors old_members) ((0, 1) ∷ []) y_squ
 square_low k h = ((0, 1), omega arith, ap (λ l. setting.compare l (at 0 2 1)) (lead_unique setting lawful y_squared k (at 0 0 2) h (IsLead_of_monic setting lawful monic_2.monic)))
 
 square_job_products : AreJobProducts 101 (vectors old_members) ((0, 1) ∷ []) square_products
-unfolding square_products
 square_job_products zero h = (omega arith, inl ((0, 1), omega arith, refl))
 square_job_products (suc zero) h = (omega arith, inl ((0, 1), omega arith, refl))
 square_job_products (suc (suc i)) h = absurd (omega arith)
 
-square_made : IsMadeOf 101 (vectors old_members) square_products y_squared
-unfolding square_products
-square_made k h = go (occurs_cases (at 0 0 2, 1) [] k h)
-  where
-    go : (k ≡ at 0 0 2) ⊎ Occurs 101 [] k → OccursBefore 101 (vectors old_members) square_products 2 k
-    go (inl e) = (0, omega arith, omega arith, subst (Occurs 101 ((at 0 2 1, 1) ∷ ((at 0 0 2, 1) ∷ []))) (sym e) (occurs_at ((at 0 2 1, 1) ∷ ((at 0 0 2, 1) ∷ [])) (at 0 0 2) refl))
-    go (inr q) = absurd (occurs_none k q)
-
-square_cofactors_made : IsMadeOf 101 (cofactor_lists old_members) square_products membership_cofactors
-unfolding square_products
-square_cofactors_made k h = go (occurs_cases (at 0 0 1, 1) ((at 1 1 0, 100) ∷ []) k h)
-  where
-    last : (k ≡ at 1 1 0) ⊎ Occurs 101 [] k → OccursBefore 101 (cofactor_lists old_members) square_products 2 k
-    last (inl e) = (1, omega arith, omega arith, subst (Occurs 101 ((at 1 1 0, 1) ∷ [])) (sym e) (occurs_at ((at 1 1 0, 1) ∷ []) (at 1 1 0) refl))
-    last (inr q) = absurd (occurs_none k q)
-
-    go : (k ≡ at 0 0 1) ⊎ Occurs 101 ((at 1 1 0, 100) ∷ []) k → OccursBefore 101 (cofactor_lists old_members) square_products 2 k
-    go (inl e) = (0, omega arith, omega arith, subst (Occurs 101 ((at 0 0 1, 1) ∷ [])) (sym e) (occurs_at ((at 0 0 1, 1) ∷ []) (at 0 0 1) refl))
-    go (inr q) = last (occurs_cases (at 1 1 0, 100) [] k q)
-
-square_outcome : IsOutcome crossing old_members ((0, 1) ∷ []) (square_row ∷ []) square_products
+square_outcome : IsOutcome setting (vectors old_members) ((0, 1) ∷ []) (square_row ∷ []) square_products
 square_outcome = record {
   some = omega arith;
   pairs = (record { ordered = omega arith; within = omega arith; position = refl }, tt);
   represented = (square_represents, tt);
   few = omega arith;
   low = (square_low, tt);
-  combined = (membership_sum, tt);
+  sums = (record { alone = refl; listed = ((0, omega arith, refl), ((1, omega arith, refl), tt)); sums = membership_sum }, tt);
   job_products = square_job_products;
-  vectors_made = (square_made, tt);
-  cofactors_made = (square_cofactors_made, tt);
 }
 
 -- ---- the beginning and the events
@@ -260,15 +208,11 @@ step_2 : Step crossing crossing_1 (Take 1 [] ((1, 2) ∷ [])) crossing_2
 step_2 = (512, record { known = omega arith; works = refl; free = refl; some = omega arith }, inr ((1, 2) ∷ [], record { unstopped = refl; skips = refl; none_applies = (not_12 _, tt); gives = refl; after = refl }))
 
 step_3 : Step crossing crossing_2 (Put 1 (y_member ∷ [])) crossing_3
-unfolding y_queue
 step_3 = record {
-  known = omega arith;
-  works = refl;
   base = 3;
-  had = omega arith;
   rows = y_member ∷ [];
   products = y_products;
-  outcome = y_outcome;
+  may = record { known = omega arith; works = refl; had = omega arith; outcome = y_outcome };
   makes = inr ([], 1, 1, y_member, [], leaves_y, refl, refl);
   queue = y_queue;
   queues = record { sorted = ((refl, (refl, tt)), ((refl, tt), (tt, tt))); same = queued_of 3 (vectors new_members) [] y_queue tt ((omega arith, omega arith), ((omega arith, omega arith), ((omega arith, omega arith), tt))) new_queue };
@@ -276,15 +220,11 @@ step_3 = record {
 }
 
 step_4 : Step crossing crossing_3 (Put 0 []) crossing_last
-unfolding y_queue
 step_4 = record {
-  known = omega arith;
-  works = refl;
   base = 3;
-  had = omega arith;
   rows = square_row ∷ [];
   products = square_products;
-  outcome = square_outcome;
+  may = record { known = omega arith; works = refl; had = omega arith; outcome = square_outcome };
   makes = inl ((at 3 0 1, 1) ∷ [], leaves_nothing, refl);
   queue = y_queue;
   queues = record { sorted = ((refl, (refl, tt)), ((refl, tt), (tt, tt))); same = queued_of 4 (vectors new_members) y_queue y_queue ((omega arith, omega arith), ((omega arith, omega arith), ((omega arith, omega arith), tt))) ((omega arith, omega arith), ((omega arith, omega arith), ((omega arith, omega arith), tt))) same_queue };

@@ -12,17 +12,17 @@ use Rattle.bases.proofs.NormalForms.{IsMonicLead_normal}
 use Rattle.bases.specs.Bases.{IsCovered}
 use Rattle.base_examples.proofs.Bases.{basis_normal, lawful, pair_01, pair_12, x_apart}
 use Rattle.base_examples.proofs.Vectors.{membership_sum}
-use Rattle.base_examples.specs.Examples.{at, basis, generators, membership_cofactors, setting, square_plus, xy, y_squared}
+use Rattle.base_examples.specs.Examples.{at, basis, generators, setting, square_plus, xy, y_squared}
 use Rattle.base_examples.specs.Histories.{after_put, first_state, last_state, member_0, member_1, member_2, more_work, state_1, state_2, state_3, state_4, state_5, state_6, state_7, three_members, two_members, two_workers}
 use Rattle.basis_steps.proofs.Counting.{is_same_pair-true}
 use Rattle.basis_steps.proofs.Keeping.{pair_of_new}
 use Rattle.basis_steps.specs.Criteria.{CriterionApplies}
 use Rattle.basis_steps.specs.Divisions.{IsMonicMember, LeavesMember, Makes, Occurs}
 use Rattle.basis_steps.specs.Invariant.{HaveAllEnded}
-use Rattle.basis_steps.specs.Outcomes.{AreJobProducts, HasLeadBelowJob, IsMadeOf, IsOutcome, OccursBefore}
+use Rattle.basis_steps.specs.Outcomes.{AreJobProducts, HasLeadBelowJob, IsOutcome}
 use Rattle.basis_steps.specs.Pairs.{Pair, count, is_same_pair}
 use Rattle.basis_steps.specs.Queues.{is_new_pair}
-use Rattle.basis_steps.specs.States.{End, Ended, IsLawfulRun, MoreWork, Product, Put, Take, cofactor_lists}
+use Rattle.basis_steps.specs.States.{End, Ended, IsLawfulRun, MoreWork, Product, Put, Take, vectors}
 use Rattle.basis_steps.specs.Steps.{Begins, Replays, Step, generator_rows}
 
 pub run_lawful : IsLawfulRun two_workers
@@ -51,18 +51,18 @@ free_2 (suc zero, h, lead, d) = x_apart 1 1 0 2 (omega arith) d
 free_2 (suc (suc i), h, lead, d) = absurd (omega arith)
 
 pub leaves_0 : LeavesMember setting [] member_0 [] 1 1 member_0
-leaves_0 = record { quotients = tt; reached = tt; at_most = inr refl; inverse = record { same = refl }; vector = IsSame_of 101 _ _ refl; cofactors = IsSame_of 101 _ _ refl; member = monic_0; free = free_0 }
+leaves_0 = record { quotients = tt; reached = tt; at_most = inr refl; inverse = record { same = refl }; vector = IsSame_of 101 _ _ refl; multiple = IsSame_of 101 _ _ refl; products = IsSame_of 101 _ _ refl; member = monic_0; free = free_0 }
 
-pub leaves_1 : LeavesMember setting (member_0 ∷ []) member_1 [] 1 1 member_1
-leaves_1 = record { quotients = tt; reached = tt; at_most = inr refl; inverse = record { same = refl }; vector = IsSame_of 101 _ _ refl; cofactors = IsSame_of 101 _ _ refl; member = monic_1; free = free_1 }
+pub leaves_1 : LeavesMember setting (vectors (member_0 ∷ [])) member_1 [] 1 1 member_1
+leaves_1 = record { quotients = tt; reached = tt; at_most = inr refl; inverse = record { same = refl }; vector = IsSame_of 101 _ _ refl; multiple = IsSame_of 101 _ _ refl; products = IsSame_of 101 _ _ refl; member = monic_1; free = free_1 }
 
-leaves_2 : LeavesMember setting two_members member_2 [] 1 1 member_2
-leaves_2 = record { quotients = tt; reached = tt; at_most = inr refl; inverse = record { same = refl }; vector = IsSame_of 101 _ _ refl; cofactors = IsSame_of 101 _ _ refl; member = monic_2; free = free_2 }
+leaves_2 : LeavesMember setting (vectors two_members) member_2 [] 1 1 member_2
+leaves_2 = record { quotients = tt; reached = tt; at_most = inr refl; inverse = record { same = refl }; vector = IsSame_of 101 _ _ refl; multiple = IsSame_of 101 _ _ refl; products = IsSame_of 101 _ _ refl; member = monic_2; free = free_2 }
 
 makes_two : Makes setting [] (generator_rows 0 generators) two_members
 makes_two = inr ([], 1, 1, member_0, member_1 ∷ [], leaves_0, refl, inr ([], 1, 1, member_1, [], leaves_1, refl, refl))
 
-makes_third : Makes setting two_members (member_2 ∷ []) (member_2 ∷ [])
+makes_third : Makes setting (vectors two_members) (member_2 ∷ []) (member_2 ∷ [])
 makes_third = inr ([], 1, 1, member_2, [], leaves_2, refl, refl)
 
 -- ---- the queues
@@ -160,62 +160,37 @@ pub occurs_at : (v : FormalSum 2) (k : Key 2) → coefficient v k ≡ 1 → Occu
 occurs_at v k e z = IsCongruent_nonzero 101 1 (omega arith) (omega arith) (IsCongruent_trans (IsCongruent_of 101 _ _ (sym e)) z)
 
 -- y (x^2 + y) and x (xy)
-products : List (Product 2)
+abbrev products : List (Product 2)
 products = (0, cons 0 (cons 1 nil)) ∷ ((1, cons 1 (cons 0 nil)) ∷ [])
 
 low : HasLeadBelowJob setting generators ((0, 1) ∷ []) y_squared
 low k h = ((0, 1), omega arith, ap (λ l. setting.compare l (at 0 2 1)) (lead_unique setting lawful y_squared k (at 0 0 2) h (IsLead_of_monic setting lawful monic_2.monic)))
 
 job_products : AreJobProducts 101 generators ((0, 1) ∷ []) products
-unfolding products
 job_products zero h = (omega arith, inl ((0, 1), omega arith, refl))
 job_products (suc zero) h = (omega arith, inl ((0, 1), omega arith, refl))
 job_products (suc (suc i)) h = absurd (omega arith)
 
-vectors_made : IsMadeOf 101 generators products y_squared
-unfolding products
-vectors_made k h = go (occurs_cases (at 0 0 2, 1) [] k h)
-  where
-    go : (k ≡ at 0 0 2) ⊎ Occurs 101 [] k → OccursBefore 101 generators products 2 k
-    go (inl e) = (0, omega arith, omega arith, subst (Occurs 101 ((at 0 2 1, 1) ∷ ((at 0 0 2, 1) ∷ []))) (sym e) (occurs_at ((at 0 2 1, 1) ∷ ((at 0 0 2, 1) ∷ [])) (at 0 0 2) refl))
-    go (inr q) = absurd (occurs_none k q)
-
-cofactors_made : IsMadeOf 101 (cofactor_lists two_members) products membership_cofactors
-unfolding products
-cofactors_made k h = go (occurs_cases (at 0 0 1, 1) ((at 1 1 0, 100) ∷ []) k h)
-  where
-    last : (k ≡ at 1 1 0) ⊎ Occurs 101 [] k → OccursBefore 101 (cofactor_lists two_members) products 2 k
-    last (inl e) = (1, omega arith, omega arith, subst (Occurs 101 ((at 1 1 0, 1) ∷ [])) (sym e) (occurs_at ((at 1 1 0, 1) ∷ []) (at 1 1 0) refl))
-    last (inr q) = absurd (occurs_none k q)
-
-    go : (k ≡ at 0 0 1) ⊎ Occurs 101 ((at 1 1 0, 100) ∷ []) k → OccursBefore 101 (cofactor_lists two_members) products 2 k
-    go (inl e) = (0, omega arith, omega arith, subst (Occurs 101 ((at 0 0 1, 1) ∷ [])) (sym e) (occurs_at ((at 0 0 1, 1) ∷ []) (at 0 0 1) refl))
-    go (inr q) = last (occurs_cases (at 1 1 0, 100) [] k q)
-
-outcome_01 : IsOutcome two_workers two_members ((0, 1) ∷ []) (member_2 ∷ []) products
+outcome_01 : IsOutcome setting (vectors two_members) ((0, 1) ∷ []) (member_2 ∷ []) products
 outcome_01 = record {
   some = omega arith;
   pairs = (record { ordered = omega arith; within = omega arith; position = refl }, tt);
   represented = (pair_01, tt);
   few = omega arith;
   low = (low, tt);
-  combined = (membership_sum, tt);
+  sums = (record { alone = refl; listed = ((0, omega arith, refl), ((1, omega arith, refl), tt)); sums = membership_sum }, tt);
   job_products = job_products;
-  vectors_made = (vectors_made, tt);
-  cofactors_made = (cofactors_made, tt);
 }
 
-outcome_12 : IsOutcome two_workers three_members ((1, 2) ∷ []) [] []
+outcome_12 : IsOutcome setting (vectors three_members) ((1, 2) ∷ []) [] []
 outcome_12 = record {
   some = omega arith;
   pairs = (record { ordered = omega arith; within = omega arith; position = refl }, tt);
   represented = (pair_12, tt);
   few = omega arith;
   low = tt;
-  combined = tt;
+  sums = tt;
   job_products = λ i h. absurd (omega arith);
-  vectors_made = tt;
-  cofactors_made = tt;
 }
 
 -- ---- the beginning and the events
@@ -233,13 +208,10 @@ step_3 = record { may = record { known = omega arith; works = refl; done = λ e.
 
 step_4 : Step two_workers state_3 (Put 0 (member_2 ∷ [])) state_4
 step_4 = record {
-  known = omega arith;
-  works = refl;
   base = 2;
-  had = omega arith;
   rows = member_2 ∷ [];
   products = products;
-  outcome = outcome_01;
+  may = record { known = omega arith; works = refl; had = omega arith; outcome = outcome_01 };
   makes = makes_third;
   queue = (1, 2) ∷ ((0, 2) ∷ []);
   queues = record { sorted = ((refl, tt), (tt, tt)); same = queued_of 2 basis [] ((1, 2) ∷ ((0, 2) ∷ [])) tt ((omega arith, omega arith), ((omega arith, omega arith), tt)) queued_2 };
@@ -264,13 +236,10 @@ step_5 = (
 
 step_6 : Step two_workers state_5 (Put 0 []) state_6
 step_6 = record {
-  known = omega arith;
-  works = refl;
   base = 3;
-  had = omega arith;
   rows = [];
   products = [];
-  outcome = outcome_12;
+  may = record { known = omega arith; works = refl; had = omega arith; outcome = outcome_12 };
   makes = refl;
   queue = [];
   queues = record { sorted = tt; same = queued_of 3 basis [] [] tt tt queued_none };
@@ -294,13 +263,10 @@ both_ended (suc (suc w)) h = absurd (omega arith)
 -- ---- a worker that would end while pairs are queued
 put_early : Step two_workers state_2 (Put 0 (member_2 ∷ [])) after_put
 put_early = record {
-  known = omega arith;
-  works = refl;
   base = 2;
-  had = omega arith;
   rows = member_2 ∷ [];
   products = products;
-  outcome = outcome_01;
+  may = record { known = omega arith; works = refl; had = omega arith; outcome = outcome_01 };
   makes = makes_third;
   queue = (1, 2) ∷ ((0, 2) ∷ []);
   queues = record { sorted = ((refl, tt), (tt, tt)); same = queued_of 2 basis [] ((1, 2) ∷ ((0, 2) ∷ [])) tt ((omega arith, omega arith), ((omega arith, omega arith), tt)) queued_2 };

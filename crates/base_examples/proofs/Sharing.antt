@@ -38,13 +38,13 @@ free_y (suc zero, h, lead, d) = x_apart 1 1 0 2 (omega arith) d
 free_y (suc (suc i), h, lead, d) = absurd (omega arith)
 
 leaves_x : LeavesMember setting [] x_member [] 1 1 x_member
-leaves_x = record { quotients = tt; reached = tt; at_most = inr refl; inverse = record { same = refl }; vector = IsSame_of 101 _ _ refl; cofactors = IsSame_of 101 _ _ refl; member = monic_x; free = free_x }
+leaves_x = record { quotients = tt; reached = tt; at_most = inr refl; inverse = record { same = refl }; vector = IsSame_of 101 _ _ refl; multiple = IsSame_of 101 _ _ refl; products = IsSame_of 101 _ _ refl; member = monic_x; free = free_x }
 
-leaves_xy : LeavesMember setting (x_member ∷ []) member_1 [] 1 1 member_1
-leaves_xy = record { quotients = tt; reached = tt; at_most = inr refl; inverse = record { same = refl }; vector = IsSame_of 101 _ _ refl; cofactors = IsSame_of 101 _ _ refl; member = monic_1; free = free_xy }
+leaves_xy : LeavesMember setting (vectors (x_member ∷ [])) member_1 [] 1 1 member_1
+leaves_xy = record { quotients = tt; reached = tt; at_most = inr refl; inverse = record { same = refl }; vector = IsSame_of 101 _ _ refl; multiple = IsSame_of 101 _ _ refl; products = IsSame_of 101 _ _ refl; member = monic_1; free = free_xy }
 
-leaves_y : LeavesMember setting (x_member ∷ (member_1 ∷ [])) y_member [] 1 1 y_member
-leaves_y = record { quotients = tt; reached = tt; at_most = inr refl; inverse = record { same = refl }; vector = IsSame_of 101 _ _ refl; cofactors = IsSame_of 101 _ _ refl; member = monic_2; free = free_y }
+leaves_y : LeavesMember setting (vectors (x_member ∷ (member_1 ∷ []))) y_member [] 1 1 y_member
+leaves_y = record { quotients = tt; reached = tt; at_most = inr refl; inverse = record { same = refl }; vector = IsSame_of 101 _ _ refl; multiple = IsSame_of 101 _ _ refl; products = IsSame_of 101 _ _ refl; member = monic_2; free = free_y }
 
 makes_all : Makes setting [] (generator_rows 0 sharing.generators) monomial_members
 makes_all = inr ([], 1, 1, x_member, member_1 ∷ (y_member ∷ []), leaves_x, refl, inr ([], 1, 1, member_1, y_member ∷ [], leaves_xy, refl, inr ([], 1, 1, y_member, [], leaves_y, refl, refl)))
@@ -87,11 +87,11 @@ represents_01 = record { cofactors = []; below = tt; sums = IsSame_compared _ _ 
 represents_12 : HasLcmRepresentation setting (vectors monomial_members) 1 2
 represents_12 = record { cofactors = []; below = tt; sums = IsSame_compared _ _ (record { same = refl }, (record { same = refl }, tt)) }
 
-outcome_01 : IsOutcome sharing monomial_members ((0, 1) ∷ []) [] []
-outcome_01 = record { some = omega arith; pairs = (record { ordered = omega arith; within = omega arith; position = refl }, tt); represented = (represents_01, tt); few = omega arith; low = tt; combined = tt; job_products = λ i h. absurd (omega arith); vectors_made = tt; cofactors_made = tt }
+outcome_01 : IsOutcome setting (vectors monomial_members) ((0, 1) ∷ []) [] []
+outcome_01 = record { some = omega arith; pairs = (record { ordered = omega arith; within = omega arith; position = refl }, tt); represented = (represents_01, tt); few = omega arith; low = tt; sums = tt; job_products = λ i h. absurd (omega arith) }
 
-outcome_12 : IsOutcome sharing monomial_members ((1, 2) ∷ []) [] []
-outcome_12 = record { some = omega arith; pairs = (record { ordered = omega arith; within = omega arith; position = refl }, tt); represented = (represents_12, tt); few = omega arith; low = tt; combined = tt; job_products = λ i h. absurd (omega arith); vectors_made = tt; cofactors_made = tt }
+outcome_12 : IsOutcome setting (vectors monomial_members) ((1, 2) ∷ []) [] []
+outcome_12 = record { some = omega arith; pairs = (record { ordered = omega arith; within = omega arith; position = refl }, tt); represented = (represents_12, tt); few = omega arith; low = tt; sums = tt; job_products = λ i h. absurd (omega arith) }
 
 begins : Begins sharing (sharing_state 0 ((1, 2) ∷ ((0, 1) ∷ ((0, 2) ∷ []))) [] 0 none)
 begins = record {
@@ -138,7 +138,7 @@ step_4 : Step sharing (sharing_state 3 [] (((1, 2), 0) ∷ (((0, 1), 1) ∷ []))
 step_4 = record { may = record { known = omega arith; works = refl; done = λ e. (refl, refl) }; answers = refl; after = refl }
 
 step_5 : Step sharing (sharing_state 4 [] (((1, 2), 0) ∷ (((0, 1), 1) ∷ [])) 2 two_left) (Put 1 []) (sharing_state 5 [] (((1, 2), 0) ∷ []) 2 two_left)
-step_5 = record { known = omega arith; works = refl; base = 3; had = omega arith; rows = []; products = []; outcome = outcome_01; makes = refl; queue = []; queues = record { sorted = tt; same = queued_of 3 (vectors monomial_members) [] [] tt tt no_queue }; after = refl }
+step_5 = record { base = 3; rows = []; products = []; may = record { known = omega arith; works = refl; had = omega arith; outcome = outcome_01 }; makes = refl; queue = []; queues = record { sorted = tt; same = queued_of 3 (vectors monomial_members) [] [] tt tt no_queue }; after = refl }
 
 step_6 : Step sharing (sharing_state 5 [] (((1, 2), 0) ∷ []) 2 two_left) (Take 1 [] []) (sharing_state 6 [] (((1, 2), 0) ∷ []) 2 two_left)
 step_6 = (512, record { known = omega arith; works = refl; free = refl; some = omega arith }, inr ([], record { unstopped = refl; skips = refl; none_applies = tt; gives = refl; after = refl }))
@@ -147,7 +147,7 @@ step_7 : Step sharing (sharing_state 6 [] (((1, 2), 0) ∷ []) 2 two_left) (End 
 step_7 = record { may = record { known = omega arith; works = refl; done = λ e. (refl, refl) }; answers = refl; after = refl }
 
 step_8 : Step sharing (sharing_state 7 [] (((1, 2), 0) ∷ []) 2 one_left) (Put 0 []) (sharing_state 8 [] [] 2 one_left)
-step_8 = record { known = omega arith; works = refl; base = 3; had = omega arith; rows = []; products = []; outcome = outcome_12; makes = refl; queue = []; queues = record { sorted = tt; same = queued_of 3 (vectors monomial_members) [] [] tt tt no_queue }; after = refl }
+step_8 = record { base = 3; rows = []; products = []; may = record { known = omega arith; works = refl; had = omega arith; outcome = outcome_12 }; makes = refl; queue = []; queues = record { sorted = tt; same = queued_of 3 (vectors monomial_members) [] [] tt tt no_queue }; after = refl }
 
 step_9 : Step sharing (sharing_state 8 [] [] 2 one_left) (Take 0 [] []) (sharing_state 9 [] [] 2 one_left)
 step_9 = (512, record { known = omega arith; works = refl; free = refl; some = omega arith }, inr ([], record { unstopped = refl; skips = refl; none_applies = tt; gives = refl; after = refl }))

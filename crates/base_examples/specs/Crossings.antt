@@ -19,15 +19,15 @@ crossing = record { setting = setting; generators = square_plus ∷ (xy ∷ (cub
 
 -- y^3 + x, the third generator
 abbrev pub cubic_member : Member 2
-cubic_member = record { vector = cubic; cofactors = (at 2 0 0, 1) ∷ [] }
+cubic_member = record { vector = cubic; multiple = (at 2 0 0, 1) ∷ []; products = [] }
 
 -- y = (x^2 + y) + y^2 (xy) - x (y^3 + x)
 abbrev pub y_member : Member 2
-y_member = record { vector = only_y; cofactors = (at 0 0 0, 1) ∷ ((at 1 0 2, 1) ∷ ((at 2 1 0, 100) ∷ [])) }
+y_member = record { vector = only_y; multiple = []; products = (at 0 0 0, 1) ∷ ((at 1 0 2, 1) ∷ ((at 2 1 0, 100) ∷ [])) }
 
 -- y^2 = y (x^2 + y) - x (xy)
 abbrev pub square_row : Member 2
-square_row = record { vector = y_squared; cofactors = membership_cofactors }
+square_row = record { vector = y_squared; multiple = []; products = membership_cofactors }
 
 -- the members of the generators
 abbrev pub old_members : List (Member 2)

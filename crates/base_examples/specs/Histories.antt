@@ -9,15 +9,15 @@ two_workers = record { setting = setting; generators = generators; budget = 10; 
 
 -- x^2 + y, the first generator
 abbrev pub member_0 : Member 2
-member_0 = record { vector = square_plus; cofactors = (at 0 0 0, 1) ∷ [] }
+member_0 = record { vector = square_plus; multiple = (at 0 0 0, 1) ∷ []; products = [] }
 
 -- xy, the second generator
 abbrev pub member_1 : Member 2
-member_1 = record { vector = xy; cofactors = (at 1 0 0, 1) ∷ [] }
+member_1 = record { vector = xy; multiple = (at 1 0 0, 1) ∷ []; products = [] }
 
 -- y^2 = y (x^2 + y) - x (xy)
 abbrev pub member_2 : Member 2
-member_2 = record { vector = y_squared; cofactors = membership_cofactors }
+member_2 = record { vector = y_squared; multiple = []; products = membership_cofactors }
 
 -- the first two members
 abbrev pub two_members : List (Member 2)

@@ -15,11 +15,11 @@ sharing = record { setting = setting; generators = x_squared ∷ (xy ∷ (y_squa
 
 -- x^2, the first generator
 abbrev pub x_member : Member 2
-x_member = record { vector = x_squared; cofactors = (at 0 0 0, 1) ∷ [] }
+x_member = record { vector = x_squared; multiple = (at 0 0 0, 1) ∷ []; products = [] }
 
 -- y^2, the third generator
 abbrev pub y_member : Member 2
-y_member = record { vector = y_squared; cofactors = (at 2 0 0, 1) ∷ [] }
+y_member = record { vector = y_squared; multiple = (at 2 0 0, 1) ∷ []; products = [] }
 
 -- the members, which stay
 abbrev pub monomial_members : List (Member 2)

@@ -1,27 +1,31 @@
 -- Each event keeps the invariant
-use Rattle.std.proofs.Common.{Bool, List, [], None, Option, Some, ap, append-nil, append_assoc, arith, cond, drop, eq-eqb, eqb-true, false, filter, get_or, inl, inr, leb, length, length-append, ltb, map, nat_eq, not, refl, set, subst, suc, sym, take, true, zero, ℕ, ◌&&◌, ◌++◌, ◌+◌, ◌<◌, ◌==◌, ◌∙◌, ◌∷◌, ◌≡◌, ◌≤◌, ◌⊎◌}
+use Rattle.std.proofs.Common.{Bool, Contains, List, [], None, Option, Some, ap, append-nil, append_assoc, arith, cond, drop, eq-eqb, eqb-true, false, filter, get_or, inl, inr, leb, length, length-append, ltb, map, nat_eq, not, refl, set, subst, suc, sym, take, true, zero, ℕ, ◌&&◌, ◌++◌, ◌+◌, ◌<◌, ◌==◌, ◌∙◌, ◌∷◌, ◌≡◌, ◌≤◌, ◌⊎◌}
 use Rattle.std.proofs.Common.{Less}
 use Rattle.std.proofs.lemmas.Bool.{cases_lt, leb-true, ltb-true}
-use Rattle.std.proofs.lemmas.List.{get_or-set_other, length-set, length-take}
+use Rattle.std.proofs.lemmas.List.{get_or-set_other, length-set, length-take, take-append-drop}
 use Rattle.monomials.proofs.Monomials.{and_left, and_right}
+use Rattle.monomials.specs.Exponents.{unit}
 use Rattle.formal_sums.proofs.WeightedSums.{Each_append}
 use Rattle.formal_sums.specs.Combinations.{IsMember}
 use Rattle.formal_sums.specs.FormalSums.{Each, FormalSum}
+use Rattle.bases.proofs.Leading.{positive}
 use Rattle.bases.specs.Leads.{leads}
 use Rattle.bases.specs.Settings.{Setting}
+use Rattle.basis_steps.proofs.Carrying.{carried, made_append}
 use Rattle.basis_steps.proofs.Counting.{count-append, count-split, count_out_with, count_workers, pairs_out-append}
 use Rattle.basis_steps.proofs.Covering.{gives_covered, put_covered, skips_covered}
 use Rattle.basis_steps.proofs.Growing.{leads_front, length-vectors, vectors-append}
-use Rattle.basis_steps.proofs.Making.{makes_combined, makes_members, makes_new_leads, module_more}
+use Rattle.basis_steps.proofs.Making.{makes_made, makes_members, makes_new_leads, module_more, rows_made}
+use Rattle.basis_steps.specs.Cofactors.{AreMade, IsMade}
 use Rattle.basis_steps.specs.Criteria.{AreCovered, IsPair, Skips, waiting}
-use Rattle.basis_steps.specs.Divisions.{Makes}
-use Rattle.basis_steps.specs.Invariant.{HoldsInvariant}
-use Rattle.basis_steps.specs.Outcomes.{IsOutcome}
+use Rattle.basis_steps.specs.Divisions.{IsMonicMember, Makes}
+use Rattle.basis_steps.specs.Invariant.{HasNewLeads, HoldsInvariant}
+use Rattle.basis_steps.specs.Outcomes.{AreJobProducts, IsOutcome}
 use Rattle.basis_steps.specs.Pairs.{Pair, count}
 use Rattle.basis_steps.specs.Queues.{IsSorted, compare_pairs, is_new_pair, share}
-use Rattle.basis_steps.specs.States.{Degree, End, Ended, Ending, Event, IsLawfulRun, Member, MoreWork, Pairs, Put, Run, State, Stop, StopReason, Take, Trail, job_given, job_of, pairs_out, pairs_taken, vectors, with_others}
+use Rattle.basis_steps.specs.States.{Degree, End, Ended, Ending, Event, IsLawfulRun, Member, MoreWork, Pairs, Product, Put, Run, State, Stop, StopReason, Take, Trail, job_given, job_of, pairs_out, pairs_taken, vectors, with_others}
 use Rattle.basis_steps.specs.Steps.{Ends, FindsStop, MayTake, Puts, Step, Stops, Takes, ended_after, ending_of, first_stop, is_empty, is_stopped, out_with, stop_of_take}
-use Rattle.basis_steps.specs.Trails.{AreFirstRows, IsTrail}
+use Rattle.basis_steps.specs.Trails.{HasGiven, IsInJob, IsInPut, IsTrail, IsTrailOf}
 
 taken-append : {n : ℕ} (es : List (Event n)) (e : Event n) → pairs_taken (es ++ (e ∷ [])) ≡ pairs_taken es ++ job_given e
 taken-append [] e = append-nil (job_given e)
@@ -89,72 +93,86 @@ out_keeps w ended [] h g = tt
 out_keeps w ended (e ∷ out) h g = (get_or-set_other ended w e.1 true true h.0 ∙ g.0, out_keeps w ended out h.1 g.1)
 
 -- the first k stay the first k
-take_front : {A : Type 0} (k : ℕ) (xs ys : List A) → k ≤ length xs → take k (xs ++ ys) ≡ take k xs
+pub take_front : {A : Type 0} (k : ℕ) (xs ys : List A) → k ≤ length xs → take k (xs ++ ys) ≡ take k xs
 take_front zero xs ys h = refl
 take_front (suc k) [] ys h = absurd (omega arith)
 take_front (suc k) (x ∷ xs) ys h = ap (λ l. x ∷ l) (take_front k xs ys (omega arith))
 
--- the first rows of an outcome stay such as members are added and pairs taken
-first_rows_more :
-    {n : ℕ} (r : Run n) (G H : List (Member n)) (taken more : List Pair) (rows : List (Member n))
-    → length G ≤ length H → ((k : ℕ) → k ≤ length G → take k H ≡ take k G) → ((x : Pair) → count x taken ≤ count x more)
-    → (rows ≡ []) ⊎ AreFirstRows r G taken rows → (rows ≡ []) ⊎ AreFirstRows r H more rows
-first_rows_more r G H taken more rows longer same le (inl none) = inl none
-first_rows_more r G H taken more rows longer same le (inr h) = inr (record {
-  base = h.base;
-  known = omega (arith, h.known, longer);
-  job = h.job;
-  given = λ x. omega (arith, h.given x, le x);
-  all = h.all;
-  products = h.products;
-  outcome = subst (λ l. IsOutcome r l h.job h.all h.products) (sym (same h.base h.known)) h.outcome;
-  number = h.number;
-  first = h.first;
-})
+-- what is there is there with more
+contains_more : {X : Type 0} (xs ys : List X) (x : X) → Contains xs x → Contains (xs ++ ys) x
+contains_more [] ys x (i, lt, e) = absurd (omega arith)
+contains_more (y ∷ xs) ys x (zero, lt, e) = (zero, omega arith, e)
+contains_more (y ∷ xs) ys x (suc i, lt, e) = let r = contains_more xs ys x (i, omega arith, e) in (suc r.0, omega (arith, r.1), r.2)
 
--- a trail stays one as members are added and pairs taken
-pub trail_more :
-    {n : ℕ} (r : Run n) (G N : List (Member n)) (taken more : List Pair) (way : Trail n)
-    → ((x : Pair) → count x taken ≤ count x more) → IsTrail r G taken way → IsTrail r (G ++ N) more way
-trail_more r G N taken more way le h =
-    let m = h.members in
-    let same : take m.first (G ++ N) ≡ take m.first G = take_front m.first G N m.there in
-    record {
-      members = record {
-        first = m.first;
-        there = omega (arith, m.there, length-append G N);
-        rows = m.rows;
-        put = first_rows_more r G (G ++ N) taken more m.rows (omega (arith, length-append G N)) (λ k h. take_front k G N h) le m.put;
-        made = m.made;
-        makes = subst (λ l. Makes r.setting l m.rows m.made) (sym same) m.makes;
-        same = m.same ∙ ap (λ l. l ++ m.made) (sym same);
-      };
-      start = omega (arith, h.start, le way.start);
-      pair = h.pair;
-      products = h.products;
-      monomial = h.monomial;
-      above = h.above;
-    }
+-- an item that is there has an index
+pub contained_at : {X : Type 0} (xs : List X) (x d : X) → Contains xs x → (i : ℕ) × (i < length xs) × (get_or xs i d ≡ x)
+contained_at [] x d (i, lt, e) = absurd (omega arith)
+contained_at (y ∷ xs) x d (zero, lt, e) = (zero, omega arith, e)
+contained_at (y ∷ xs) x d (suc i, lt, e) = let r = contained_at xs x d (i, omega arith, e) in (suc r.0, omega (arith, r.1), r.2)
 
-trail_taken :
-    {n : ℕ} (r : Run n) (G : List (Member n)) (taken more : List Pair) (way : Trail n)
-    → ((x : Pair) → count x taken ≤ count x more) → IsTrail r G taken way → IsTrail r G more way
-trail_taken r G taken more way le h = record {
-  members = record {
-    first = h.members.first;
-    there = h.members.there;
-    rows = h.members.rows;
-    put = first_rows_more r G G taken more h.members.rows (omega arith) (λ k h. refl) le h.members.put;
-    made = h.members.made;
-    makes = h.members.makes;
-    same = h.members.same;
-  };
-  start = omega (arith, h.start, le way.start);
+-- a job of some events is one of more
+pub given_more : {n : ℕ} (es more : List (Event n)) (job : List Pair) → HasGiven es job → HasGiven (es ++ more) job
+given_more es more job h = record { worker = h.worker; skipped = h.skipped; there = contains_more es more (Take h.worker h.skipped job) h.there }
+
+-- a trail of a job stays one as members are added
+pub trail_of_more :
+    {n : ℕ} (r : Run n) (G N : List (FormalSum n)) (job : List Pair) (way : Trail n)
+    → IsTrailOf r G job way → IsTrailOf r (G ++ N) job way
+trail_of_more {n} r G N job way h = record {
+  start = h.start;
+  place = elim h.place [ inl q ↦ inl (in_job q) | inr q ↦ inr (in_put q) ];
   pair = h.pair;
   products = h.products;
   monomial = h.monomial;
   above = h.above;
 }
+  where
+    in_job : IsInJob G way → IsInJob (G ++ N) way
+    in_job q = record {
+      base = q.base;
+      had = omega (arith, q.had, length-append G N);
+      members = q.members ∙ sym (take_front q.base G N q.had);
+    }
+
+    in_put : IsInPut r G job way → IsInPut r (G ++ N) job way
+    in_put q =
+        let same : take q.first (G ++ N) ≡ take q.first G = take_front q.first G N q.had in
+        record {
+          base = q.base;
+          rows = q.rows;
+          products = q.products;
+          outcome = subst (λ l. IsOutcome r.setting l job q.rows q.products) (sym (take_front q.base G N (omega (arith, q.after, q.had)))) q.outcome;
+          first = q.first;
+          after = q.after;
+          had = omega (arith, q.had, length-append G N);
+          failed = q.failed;
+          within = q.within;
+          made = q.made;
+          makes = subst (λ l. Makes r.setting l (take q.failed q.rows) q.made) (sym same) q.makes;
+          members = q.members ∙ ap (λ l. l ++ vectors q.made) (sym same);
+          division = q.division;
+          reached = q.reached;
+        }
+
+-- a trail stays one as members and events are added
+pub trail_more :
+    {n : ℕ} (r : Run n) (G N : List (FormalSum n)) (es more : List (Event n)) (way : Trail n)
+    → IsTrail r G es way → IsTrail r (G ++ N) (es ++ more) way
+trail_more r G N es more way h = record { job = h.job; given = given_more es more h.job h.given; way = trail_of_more r G N h.job way h.way }
+
+-- the same with more events alone
+pub trail_events :
+    {n : ℕ} (r : Run n) (G : List (FormalSum n)) (es more : List (Event n)) (way : Trail n)
+    → IsTrail r G es way → IsTrail r G (es ++ more) way
+trail_events r G es more way h = subst (λ l. IsTrail r l (es ++ more) way) (append-nil G) (trail_more r G [] es more way h)
+
+-- each product of a job is of a member
+pub known_products :
+    {n : ℕ} (p : ℕ) (G : List (FormalSum n)) (job : List Pair) (products : List (Product n))
+    → AreJobProducts p G job products → (t : Product n) → Contains products t → t.0 < length G
+known_products {n} p G job products h t c =
+    let e = contained_at products t (0, unit n) c in
+    subst (λ u. u.0 < length G) e.2 (h e.0 e.1).0
 
 -- a pair with a new member
 abbrev IsNew : {n : ℕ} → State n → List (Member n) → Pair → Type 0
@@ -182,6 +200,7 @@ module _ {n : ℕ} (r : Run n) (ok : IsLawfulRun r) (s : State n) (inv : HoldsIn
       record {
         members = inv.members;
         combined = inv.combined;
+        made = inv.made;
         generators = inv.generators;
         new_leads = inv.new_leads;
         covered = inv.covered;
@@ -194,7 +213,7 @@ module _ {n : ℕ} (r : Run n) (ok : IsLawfulRun r) (s : State n) (inv : HoldsIn
         workers = inv.workers;
         at_work = inv.at_work;
         somebody = inv.somebody;
-        trail = λ way e. subst (λ l. IsTrail r s.members l way) (sym same) (inv.trail way e);
+        trail = λ way q. trail_events r (vectors s.members) s.history (e ∷ []) way (inv.trail way q);
       }
 
   pub kept_stopped : (w : ℕ) (skipped job : List Pair) (t : State n) → FindsStop s w skipped job t → HoldsInvariant r t
@@ -217,6 +236,7 @@ module _ {n : ℕ} (r : Run n) (ok : IsLawfulRun r) (s : State n) (inv : HoldsIn
       subst (HoldsInvariant r) (sym h.after) (record {
         members = inv.members;
         combined = inv.combined;
+        made = inv.made;
         generators = inv.generators;
         new_leads = inv.new_leads;
         covered = subst (λ j. AreCovered S G (waiting (drop k left) (s.out ++ out_with w j))) (sym h.gives)
@@ -246,14 +266,22 @@ module _ {n : ℕ} (r : Run n) (ok : IsLawfulRun r) (s : State n) (inv : HoldsIn
   kept_put w made t h =
       let S = r.setting in
       let G = s.members in
+      let V = vectors s.members in
+      let o = h.may.outcome in
       let vs = vectors-append G made in
       let same = taken_same s.history (Put w made) refl in
+      let all : AreMade S.modulus r.generators [] (G ++ made) =
+      made_append S.modulus r.generators [] G made inv.made
+      (makes_made S ok.setting r.generators V h.rows made h.makes
+      (subst (λ l. Each (IsMade S.modulus r.generators l) h.rows) (take-append-drop h.base V)
+      (rows_made S ok.setting r.generators (take h.base V) (drop h.base V) h.rows h.products (known_products S.modulus (take h.base V) (job_of w s.out) h.products o.job_products) o.sums))) in
       subst (HoldsInvariant r) (sym h.after) (record {
-        members = makes_members S ok.setting G h.rows made h.makes inv.members;
-        combined = makes_combined S ok.setting r.generators G h.rows made h.makes h.outcome.combined inv.combined;
-        generators = λ i l. subst (λ v. IsMember S.modulus v (get_or r.generators i [])) (sym vs) (module_more S ok.setting (vectors G) (vectors made) (get_or r.generators i []) (inv.generators i l));
-        new_leads = makes_new_leads S ok.setting G h.rows made h.makes inv.members inv.new_leads;
-        covered = put_covered S ok.setting G h.rows made h.base h.makes h.had s.queue h.queue s.out w h.outcome.pairs h.outcome.represented h.queues inv.covered;
+        members = subst (Each (IsMonicMember S)) (sym vs) (makes_members S ok.setting V h.rows made h.makes inv.members);
+        combined = carried S.modulus (positive S ok.setting) r.generators (G ++ made) all;
+        made = all;
+        generators = λ i l. subst (λ v. IsMember S.modulus v (get_or r.generators i [])) (sym vs) (module_more S ok.setting V (vectors made) (get_or r.generators i []) (inv.generators i l));
+        new_leads = subst HasNewLeads (sym vs) (makes_new_leads S ok.setting V h.rows made h.makes inv.members inv.new_leads);
+        covered = put_covered S ok.setting G h.rows made h.base h.makes s.queue h.queue s.out w o.pairs o.represented h.queues inv.covered;
         real = λ x p. real x (new_cases x) (subst (λ l. 0 < count x h.queue + count x l) same p);
         sorted = h.queues.sorted;
         once = λ x. once x (new_cases x);
@@ -262,8 +290,8 @@ module _ {n : ℕ} (r : Run n) (ok : IsLawfulRun r) (s : State n) (inv : HoldsIn
         within_budget = inv.within_budget;
         workers = inv.workers;
         at_work = λ e. others_each (λ e. get_or s.ended e.1 true ≡ false) w s.out (inv.at_work e);
-        somebody = λ e p. (w, h.known, h.works);
-        trail = λ way e. trail_more r G made (pairs_taken s.history) _ way (λ x. omega (arith, ap (count x) same)) (inv.trail way e);
+        somebody = λ e p. (w, h.may.known, h.may.works);
+        trail = λ way e. subst (λ l. IsTrail r l (s.history ++ (Put w made ∷ [])) way) (sym vs) (trail_more r V (vectors made) s.history (Put w made ∷ []) way (inv.trail way e));
       })
     where
       H : List (FormalSum n)
@@ -314,6 +342,7 @@ module _ {n : ℕ} (r : Run n) (ok : IsLawfulRun r) (s : State n) (inv : HoldsIn
           record {
             members = k.members;
             combined = k.combined;
+            made = k.made;
             generators = k.generators;
             new_leads = k.new_leads;
             covered = k.covered;
@@ -340,6 +369,7 @@ module _ {n : ℕ} (r : Run n) (ok : IsLawfulRun r) (s : State n) (inv : HoldsIn
       subst (HoldsInvariant r) (sym h.after) (record {
         members = k.members;
         combined = k.combined;
+        made = k.made;
         generators = k.generators;
         new_leads = k.new_leads;
         covered = k.covered;
@@ -362,12 +392,11 @@ module _ {n : ℕ} (r : Run n) (ok : IsLawfulRun r) (s : State n) (inv : HoldsIn
       some : (p q : StopReason n) → ◌≡◌ {A = Option (StopReason n)} (Some p) (Some q) → p ≡ q
       some p q e = cc
 
-      moved : (way : Trail n) → IsTrail r s.members (pairs_taken s.history) way → IsTrail r s.members (pairs_taken (s.history ++ (Stop w reason ∷ []))) way
-      moved way q = subst (λ l. IsTrail r s.members l way) (sym (taken_same s.history (Stop w reason) refl)) q
-
-      kept : (o : Option (StopReason n)) → s.stop ≡ o → (way : Trail n) → first_stop o reason ≡ Some (Degree way) → IsTrail r s.members (pairs_taken (s.history ++ (Stop w reason ∷ []))) way
-      kept None d way e = moved way (h.trail way (some reason (Degree way) e))
-      kept (Some q) d way e = moved way (inv.trail way (d ∙ e))
+      kept :
+          (o : Option (StopReason n)) → s.stop ≡ o → (way : Trail n) → first_stop o reason ≡ Some (Degree way)
+          → IsTrail r (vectors s.members) (s.history ++ (Stop w reason ∷ [])) way
+      kept None d way e = trail_events r (vectors s.members) s.history (Stop w reason ∷ []) way (h.may.trail way (some reason (Degree way) e))
+      kept (Some q) d way e = trail_events r (vectors s.members) s.history (Stop w reason ∷ []) way (inv.trail way (d ∙ e))
 
   pub kept_step : (e : Event n) (t : State n) → Step r s e t → HoldsInvariant r t
   kept_step (Take w skipped job) t (most, may, inl f) = kept_stopped w skipped job t f

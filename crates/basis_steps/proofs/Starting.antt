@@ -3,9 +3,12 @@ use Rattle.std.proofs.Common.{Bool, List, None, Some, [], ap, append-nil, arith,
 use Rattle.std.proofs.lemmas.Bool.{le-leb, lt-ltb}
 use Rattle.std.specs.Cmp.Derive.{both_true}
 use Rattle.formal_sums.specs.FormalSums.{FormalSum}
+use Rattle.bases.proofs.Leading.{positive}
+use Rattle.basis_steps.proofs.Carrying.{carried}
 use Rattle.basis_steps.proofs.Dividing.{rows_standard}
 use Rattle.basis_steps.proofs.Keeping.{kept_step, pair_of_new}
-use Rattle.basis_steps.proofs.Making.{generators_combined, generators_inside, makes_combined, makes_members, makes_new_leads}
+use Rattle.basis_steps.proofs.Making.{generators_inside, generators_made, makes_made, makes_members, makes_new_leads}
+use Rattle.basis_steps.specs.Cofactors.{AreMade}
 use Rattle.basis_steps.specs.Criteria.{IsPair}
 use Rattle.basis_steps.specs.Invariant.{HoldsInvariant}
 use Rattle.basis_steps.specs.Pairs.{Pair, count}
@@ -28,7 +31,8 @@ module _ {n : ℕ} (r : Run n) (ok : IsLawfulRun r) where
   pub kept_begin : (s : State n) → Begins r s → HoldsInvariant r s
   kept_begin s h = subst (HoldsInvariant r) (sym whole) (record {
     members = makes_members r.setting ok.setting [] (generator_rows 0 r.generators) s.members h.makes tt;
-    combined = makes_combined r.setting ok.setting r.generators [] (generator_rows 0 r.generators) s.members h.makes (generators_combined r.setting ok.setting r.generators r.generators 0 (λ i. ap (λ j. get_or r.generators j []) (omega arith))) tt;
+    combined = carried r.setting.modulus (positive r.setting ok.setting) r.generators s.members all;
+    made = all;
     generators = λ i l. generators_inside r.setting ok.setting (vectors s.members) r.generators 0 i (rows_standard r.setting ok.setting [] (generator_rows 0 r.generators) s.members h.makes) l;
     new_leads = makes_new_leads r.setting ok.setting [] (generator_rows 0 r.generators) s.members h.makes tt (λ i j l m d. absurd (omega arith));
     covered = λ x p. let one : ◌≡◌ {A = ℕ} (cond (is_new_pair 0 G x) 1 0) 1 = ap (λ c. cond c 1 0) (is_new-true 0 G x (omega arith) p) in inl (omega (arith, one, h.queues.same x));
@@ -46,6 +50,9 @@ module _ {n : ℕ} (r : Run n) (ok : IsLawfulRun r) where
     where
       G : List (FormalSum n)
       G = vectors s.members
+
+      all : AreMade r.setting.modulus r.generators [] s.members
+      all = makes_made r.setting ok.setting r.generators [] (generator_rows 0 r.generators) s.members h.makes (generators_made r.setting ok.setting r.generators r.generators 0 (omega arith) (λ i. ap (λ j. get_or r.generators j []) (omega arith)))
 
       whole : s ≡ record { members = s.members; queue = s.queue; out = []; taken = 0; ended = none_ended r.workers; stop = None; history = [] }
       whole = λ i. record { members = s.members; queue = s.queue; out = h.out i; taken = h.taken i; ended = h.ended i; stop = h.stop i; history = h.history i }

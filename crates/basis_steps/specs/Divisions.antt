@@ -9,16 +9,12 @@ use Rattle.bases.specs.Bases.{IsCovered}
 use Rattle.bases.specs.Leads.{IsMonicLead, head_key}
 use Rattle.bases.specs.Representations.{place}
 use Rattle.bases.specs.Settings.{Setting}
-use Rattle.basis_steps.specs.States.{Member, cofactor_lists, vectors}
+use Rattle.basis_steps.specs.States.{Member}
 
 -- the first key of v is its lead, with coefficient 1, and v has the setting's rank
 pub record IsMonicMember {n : ℕ} (S : Setting n) (v : FormalSum n) : Type 0 where
   pub monic : IsMonicLead S v (head_key v)
   pub ranked : HasRank S.rank v
-
--- the member's vector is the combination of the generators F by its cofactors
-abbrev pub IsCombined : {n : ℕ} → ℕ → List (FormalSum n) → Member n → Type 0
-IsCombined p F m = IsSame p (combination F m.cofactors) m.vector
 
 -- the one key is below the other or the same
 abbrev pub IsKeyAtMost : {n : ℕ} → Setting n → Key n → Key n → Type 0
@@ -47,26 +43,27 @@ AreReached p G v before (t ∷ a) = IsReached p G v before (place G t) × AreRea
 abbrev pub difference : {n : ℕ} → ℕ → FormalSum n → FormalSum n → FormalSum n
 difference {n} p v w = v ++ scale (p - 1) (unit n) w
 
--- division of the row by the members G with the quotients a leaves c times g, and d times what is left is the monic g: no lead of G divides its lead (IVA chapter 2, section 3)
-pub record LeavesMember {n : ℕ} (S : Setting n) (G : List (Member n)) (row : Member n) (a : FormalSum n) (c d : ℕ) (g : Member n) : Type 0 where
-  pub quotients : AreQuotients S (vectors G) (head_key row.vector) a
-  pub reached : AreReached S.modulus (vectors G) row.vector [] a
+-- division of the row by the members G with the quotients a leaves c times g, and d times what is left is the monic g: no lead of G divides its lead; the products that make g are d times the row's less a (IVA chapter 2, section 3)
+pub record LeavesMember {n : ℕ} (S : Setting n) (G : List (FormalSum n)) (row : Member n) (a : FormalSum n) (c d : ℕ) (g : Member n) : Type 0 where
+  pub quotients : AreQuotients S G (head_key row.vector) a
+  pub reached : AreReached S.modulus G row.vector [] a
   pub at_most : IsKeyAtMost S (head_key g.vector) (head_key row.vector)
   pub inverse : IsCongruent S.modulus (c * d) 1
-  pub vector : IsSame S.modulus g.vector (scale d (unit n) (difference S.modulus row.vector (combination (vectors G) a)))
-  pub cofactors : IsSame S.modulus g.cofactors (scale d (unit n) (difference S.modulus row.cofactors (combination (cofactor_lists G) a)))
+  pub vector : IsSame S.modulus g.vector (scale d (unit n) (difference S.modulus row.vector (combination G a)))
+  pub multiple : IsSame S.modulus g.multiple (scale d (unit n) row.multiple)
+  pub products : IsSame S.modulus g.products (scale d (unit n) (difference S.modulus row.products a))
   pub member : IsMonicMember S g.vector
-  pub free : IsCovered S (vectors G) (head_key g.vector) → ⊥
+  pub free : IsCovered S G (head_key g.vector) → ⊥
 
 -- division of the row by the members G with the quotients a leaves 0 (IVA chapter 2, section 3)
-pub record LeavesNothing {n : ℕ} (S : Setting n) (G : List (Member n)) (row : Member n) (a : FormalSum n) : Type 0 where
-  pub quotients : AreQuotients S (vectors G) (head_key row.vector) a
-  pub reached : AreReached S.modulus (vectors G) row.vector [] a
-  pub vector : IsSame S.modulus row.vector (combination (vectors G) a)
+pub record LeavesNothing {n : ℕ} (S : Setting n) (G : List (FormalSum n)) (row : Member n) (a : FormalSum n) : Type 0 where
+  pub quotients : AreQuotients S G (head_key row.vector) a
+  pub reached : AreReached S.modulus G row.vector [] a
+  pub vector : IsSame S.modulus row.vector (combination G a)
 
 -- each row in turn is divided by the members of that moment, older and newer ones and those that the rows before it made, and becomes a member where it is not 0
-abbrev pub Makes : {n : ℕ} → Setting n → List (Member n) → List (Member n) → List (Member n) → Type 0
+abbrev pub Makes : {n : ℕ} → Setting n → List (FormalSum n) → List (Member n) → List (Member n) → Type 0
 Makes S G [] made = made ≡ []
 Makes {n} S G (row ∷ rows) made =
     ((a : FormalSum n) × LeavesNothing S G row a × Makes S G rows made)
-    ⊎ ((a : FormalSum n) × (c : ℕ) × (d : ℕ) × (g : Member n) × (later : List (Member n)) × LeavesMember S G row a c d g × (made ≡ g ∷ later) × Makes S (G ++ (g ∷ [])) rows later)
+    ⊎ ((a : FormalSum n) × (c : ℕ) × (d : ℕ) × (g : Member n) × (later : List (Member n)) × LeavesMember S G row a c d g × (made ≡ g ∷ later) × Makes S (G ++ (g.vector ∷ [])) rows later)

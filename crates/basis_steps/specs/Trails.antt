@@ -1,43 +1,58 @@
 -- How a job came to a product above the degree limit
-use Rattle.std.specs.Prelude.{List, [], get_or, length, take, ℕ, ◌++◌, ◌+◌, ◌<◌, ◌∷◌, ◌≡◌, ◌≤◌, ◌⊎◌}
-use Rattle.monomials.specs.Exponents.{degree}
-use Rattle.formal_sums.specs.FormalSums.{Each}
+use Rattle.std.specs.Prelude.{Contains, List, [], get_or, length, take, ℕ, ◌++◌, ◌+◌, ◌<◌, ◌∷◌, ◌≡◌, ◌≤◌, ◌⊎◌}
+use Rattle.monomials.specs.Weights.{weighted_degree}
+use Rattle.formal_sums.specs.FormalSums.{FormalSum}
 use Rattle.basis_steps.specs.Criteria.{IsPair}
-use Rattle.basis_steps.specs.Divisions.{Makes, Occurs}
+use Rattle.basis_steps.specs.Divisions.{AreReached, Makes, Occurs}
 use Rattle.basis_steps.specs.Outcomes.{AreJobProducts, IsOutcome}
 use Rattle.basis_steps.specs.Pairs.{Pair, count}
-use Rattle.basis_steps.specs.States.{Member, Product, Run, Trail, cofactor_lists, vectors}
+use Rattle.basis_steps.specs.States.{Event, Member, Product, Run, Take, Trail, vectors}
 
--- the rows are the first ones of what a job of taken pairs came back with, whose members were the first ones of G
-pub record AreFirstRows {n : ℕ} (r : Run n) (G : List (Member n)) (taken : List Pair) (rows : List (Member n)) : Type 0 where
+-- one of these Takes gave out the job
+pub record HasGiven {n : ℕ} (history : List (Event n)) (job : List Pair) : Type 0 where
+  pub worker : ℕ
+  pub skipped : List Pair
+  pub there : Contains history (Take worker skipped job)
+
+-- in a job: its members were the first ones of G
+pub record IsInJob {n : ℕ} (G : List (FormalSum n)) (t : Trail n) : Type 0 where
   pub base : ℕ
-  pub known : base ≤ length G
-  pub job : List Pair
-  pub given : (x : Pair) → count x job ≤ count x taken
-  pub all : List (Member n)
-  pub products : List (Product n)
-  pub outcome : IsOutcome r (take base G) job all products
-  pub number : ℕ
-  pub first : rows ≡ take number all
+  pub had : base ≤ length G
+  pub members : t.members ≡ take base G
 
--- the members are the first k of G, which are those of a job; behind them may stand those that a Put made of the first rows of an outcome
-pub record AreTrailMembers {n : ℕ} (r : Run n) (G : List (Member n)) (taken : List Pair) (members : List (Member n)) : Type 0 where
-  pub first : ℕ
-  pub there : first ≤ length G
+-- the row with this number; a row that is 0 past the end
+abbrev pub row_at : {n : ℕ} → List (Member n) → ℕ → Member n
+row_at rows i = get_or rows i (record { vector = []; multiple = []; products = [] })
+
+-- in the Put of the job's outcome, where row `failed` came to the product: its members were the first ones of G, and behind them those that the rows before this one made
+pub record IsInPut {n : ℕ} (r : Run n) (G : List (FormalSum n)) (job : List Pair) (t : Trail n) : Type 0 where
+  pub base : ℕ
   pub rows : List (Member n)
-  pub put : (rows ≡ []) ⊎ AreFirstRows r G taken rows
+  pub products : List (Product n)
+  pub outcome : IsOutcome r.setting (take base G) job rows products
+  pub first : ℕ
+  pub after : base ≤ first
+  pub had : first ≤ length G
+  pub failed : ℕ
+  pub within : failed < length rows
   pub made : List (Member n)
-  pub makes : Makes r.setting (take first G) rows made
-  pub same : members ≡ take first G ++ made
+  pub makes : Makes r.setting (take first G) (take failed rows) made
+  pub members : t.members ≡ take first G ++ vectors made
+  -- the products of the row's division so far, the last of the trail behind them
+  pub division : FormalSum n
+  pub reached : AreReached r.setting.modulus t.members (row_at rows failed).vector [] (division ++ ((t.last, 1) ∷ []))
 
--- the trail is one of the members G and the taken pairs: it starts with a taken pair, each product's lead is that pair's lcm or a monomial of an earlier product, and the last product of two monomials is above the limit
-pub record IsTrail {n : ℕ} (r : Run n) (G : List (Member n)) (taken : List Pair) (t : Trail n) : Type 0 where
-  pub members : AreTrailMembers r G taken t.members
-  pub start : 0 < count t.start taken
-  pub pair : IsPair (vectors t.members) t.start
-  pub products : AreJobProducts r.setting.modulus (vectors t.members) (t.start ∷ []) (t.earlier ++ (t.last ∷ []))
-  pub monomial :
-      (i : ℕ)
-      × (Occurs r.setting.modulus (get_or (vectors t.members) t.last.0 []) (i, t.monomial)
-      ⊎ Occurs r.setting.modulus (get_or (cofactor_lists t.members) t.last.0 []) (i, t.monomial))
-  pub above : r.degree_limit < degree t.last.1 + degree t.monomial
+-- the trail is one of this job, whose members are vectors of G: it starts with a pair of the job, each product's lead is that pair's lcm or a monomial of an earlier product, and the last product of two monomials is above the limit
+pub record IsTrailOf {n : ℕ} (r : Run n) (G : List (FormalSum n)) (job : List Pair) (t : Trail n) : Type 0 where
+  pub start : 0 < count t.start job
+  pub place : IsInJob G t ⊎ IsInPut r G job t
+  pub pair : IsPair t.members t.start
+  pub products : AreJobProducts r.setting.modulus t.members (t.start ∷ []) (t.earlier ++ (t.last ∷ []))
+  pub monomial : (i : ℕ) × Occurs r.setting.modulus (get_or t.members t.last.0 []) (i, t.monomial)
+  pub above : r.degree_limit < weighted_degree r.setting.weights t.last.1 + weighted_degree r.setting.weights t.monomial
+
+-- the trail is one of a job of the history
+pub record IsTrail {n : ℕ} (r : Run n) (G : List (FormalSum n)) (history : List (Event n)) (t : Trail n) : Type 0 where
+  pub job : List Pair
+  pub given : HasGiven history job
+  pub way : IsTrailOf r G job t
