@@ -7,4 +7,3 @@ pub mod Multiples
 pub mod Trails
 -- invariants of loops
 pub mod Merging
-pub mod Gathering

@@ -1,5 +1,5 @@
 -- What a ring says to the definitions of the base
-use Rattle.std.specs.Prelude.{[], length, ℕ}
+use Rattle.std.specs.Prelude.{length, ℕ}
 use Rattle.std.specs.declared.cmp.Ordering.{Ordering}
 use Rattle.formal_sums.specs.FormalSums.{Key}
 use Rattle.bases.specs.Settings.{Setting}
@@ -12,8 +12,8 @@ variables ring = length ring.vars
 
 -- the comparison of keys in n variables
 abbrev pub ring_comparison : Ring → (n : ℕ) → Key n → Key n → Ordering
-ring_comparison ring n = key_comparison ring.module_order ring.order n
+ring_comparison ring n = key_comparison ring.module_order ring.order ring.weights n
 
 -- the ring's modulus, a comparison and a rank, as the theorems on bases take them
 abbrev pub setting : Ring → (n : ℕ) → (Key n → Key n → Ordering) → ℕ → Setting n
-setting ring n compare rank = record { modulus = ring.modulus.value; weights = []; rank = rank; compare = compare }
+setting ring n compare rank = record { modulus = ring.modulus.value; weights = ring.weights; rank = rank; compare = compare }

@@ -1,9 +1,10 @@
 -- A trail: a chain of products that leads to one of too great a degree
-use Rattle.std.specs.Prelude.{Contains, List, Option, Some, None, [], get_or, length, map, sum, ⊤, ℕ, ◌∷◌, ◌++◌, ◌+◌, ◌<◌, ◌≡◌, ◌⊎◌}
+use Rattle.std.specs.Prelude.{Contains, List, [], get_or, length, map, ⊤, ℕ, ◌∷◌, ◌++◌, ◌+◌, ◌<◌, ◌≡◌, ◌⊎◌}
 use Rattle.monomials.specs.Exponents.{exponents_of}
 use Rattle.formal_sums.specs.FormalSums.{Each, FormalSum, Key, shift}
 use Rattle.bases.specs.Leads.{head_key}
 use Rattle.bases.specs.Representations.{key_lcm}
+use Rattle.monomial_orders.specs.Kept.{IsWeighed, Monomial}
 use Rattle.module_vectors.specs.Rings.{variables}
 use Rattle.module_vectors.specs.Vectors.{sum_of}
 use Rattle.module_vectors.specs.Stops.{HasMonomial}
@@ -14,7 +15,7 @@ use Rattle.module_vectors.specs.declared.trail.TrailStart.TheVariants.{Pair, Ter
 
 -- a step (k, t): the product of the monomial t and member k
 abbrev pub Step : Type 0
-Step = ℕ × List ℕ
+Step = ℕ × Monomial
 
 -- the key of a term of the vector
 abbrev pub HasKey : {n : ℕ} → FormalSum n → Key n → Type 0
@@ -26,11 +27,11 @@ member_of n members s = sum_of n (get_or members s.0 [])
 
 -- the lead of a step's product
 abbrev pub product_lead : (n : ℕ) → List (List (CodeKey × ℕ)) → Step → Key n
-product_lead n members s = shift (exponents_of n s.1) (head_key (member_of n members s))
+product_lead n members s = shift (exponents_of n s.1.exponents) (head_key (member_of n members s))
 
 -- k is a key of a step's product
 abbrev pub IsInProduct : (n : ℕ) → List (List (CodeKey × ℕ)) → Key n → Step → Type 0
-IsInProduct n members k s = (l : Key n) × HasKey (member_of n members s) l × (k ≡ shift (exponents_of n s.1) l)
+IsInProduct n members k s = (l : Key n) × HasKey (member_of n members s) l × (k ≡ shift (exponents_of n s.1.exponents) l)
 
 -- k is a key of the vector or of the product of an earlier step
 abbrev pub IsMet : (n : ℕ) → FormalSum n → List (List (CodeKey × ℕ)) → List Step → Key n → Type 0
@@ -66,21 +67,20 @@ abbrev pub last_step : Step → List Step → Step
 last_step s [] = s
 last_step s (t ∷ steps) = last_step t steps
 
--- a monomial of a step's member, or of its cofactors where they are kept
-abbrev pub IsOfStep : List (List (CodeKey × ℕ)) → Option (List (List (CodeKey × ℕ))) → Step → List ℕ → Type 0
-IsOfStep members None s m = HasMonomial (get_or members s.0 []) m
-IsOfStep members (Some cofs) s m = HasMonomial (get_or members s.0 []) m ⊎ HasMonomial (get_or cofs s.0 []) m
+-- a monomial of a step's member
+abbrev pub IsOfStep : List (List (CodeKey × ℕ)) → Step → Monomial → Type 0
+IsOfStep members s m = HasMonomial (get_or members s.0 []) m
 
 -- the steps of a trail that begins with `first`, each of n variables
 pub record IsChain (n : ℕ) (t : KeptTrail) (first : Step) (later : List Step) : Type 0 where
   pub steps : t.steps.items ≡ first ∷ later
   pub known : Each (λ s. s.0 < length t.members) (first ∷ later)
-  pub variables : Each (λ s. length s.1 ≡ n) (first ∷ later)
+  pub variables : Each (λ s. IsWeighed n t.ring.weights s.1) (first ∷ later)
   pub begins : IsStart n t.start t.vector t.members first later
   pub met : AreMet n (sum_of n t.vector) t.members (first ∷ []) later
-  pub last : IsOfStep t.members t.cofs (last_step first later) t.last
-  pub last_variables : length t.last ≡ n
-  pub too_great : 65535 < sum (last_step first later).1 + sum t.last
+  pub last : IsOfStep t.members (last_step first later) t.last
+  pub last_variables : IsWeighed n t.ring.weights t.last
+  pub too_great : 65535 < (last_step first later).1.degree + t.last.degree
 
 -- t is a trail: it has a step, each product is met before it is made, and the last one has too great a degree
 abbrev pub IsTrail : KeptTrail → Type 0

@@ -1,10 +1,11 @@
 // What gives a vector its ring and its order.
-ghost use Rattle.std.specs.Prelude.{◌≡◌, ℕ, length};
+ghost use Rattle.std.specs.Prelude.{◌≡◌, ℕ};
 ghost use Rattle.std.specs.declared.cmp.Ordering.{Ordering};
 ghost use Rattle.formal_sums.specs.FormalSums.{Key as KeyOf};
 ghost use Rattle.orders.specs.KeyOrders.{IsKeyOrder};
+ghost use Rattle.module_vectors.specs.Rings.{variables};
 ghost use Rattle.module_vectors.specs.declared.ring.Ring.{Ring as RingValue};
-ghost use Rattle.module_vectors.specs.Vectors.{key_of};
+ghost use Rattle.module_vectors.specs.Vectors.{IsMonomialOver, key_of};
 
 use crate::{Key, Ring};
 use std::cmp::Ordering;
@@ -22,10 +23,12 @@ pub trait Frame {
     fn ring(&self) -> &Ring
         ensures { result.now ≡ over self.now };
 
-    /// Compares two keys in equally many variables.
+    /// Compares two keys of the ring.
     fn cmp(&self, a: &Key, b: &Key) -> Ordering
-        requires variables { length a.now.monomial ≡ length b.now.monomial }
-        ensures { result ≡ compare self.now (length a.now.monomial) (key_of (length a.now.monomial) a.now) (key_of (length a.now.monomial) b.now) };
+        requires left { IsMonomialOver (over self.now) a.now.monomial }
+        requires right { IsMonomialOver (over self.now) b.now.monomial }
+        ensures { let n = variables (over self.now) in
+            result ≡ compare self.now n (key_of n a.now) (key_of n b.now) };
 
     /// It is total, kept under multiplication, never has a multiple below what it is of, and is well-founded on
     /// keys of bounded position.

@@ -8,7 +8,7 @@ use std::alloc::Global;
 /// A module monomial: a monomial at a position of a free module, counted from 0, of which the first is the greatest.
 #[derive(Drop)]
 pub struct Key {
-    pub position: u128,
+    pub position: u64,
     pub monomial: Mono,
 }
 
@@ -16,7 +16,7 @@ impl Key {
     /// The same key again. `NoMemory` over more than 16 variables alone.
     pub fn try_copy(&self, alloc: Global) -> Result<Key, NoMemory>
         ensures ok { IfOk result (λ key. key ≡ self.now) }
-        ensures no_memory { length self.now.monomial ≤ 16 → IsOk result }
+        ensures no_memory { length self.now.monomial.exponents ≤ 16 → IsOk result }
     {
         Ok(Key {
             position: self.position,
@@ -31,6 +31,6 @@ impl Key {
         if self.position != other.position {
             return false;
         }
-        self.monomial.exponents() == other.monomial.exponents()
+        self.monomial.equal(&other.monomial)
     }
 }

@@ -1,9 +1,9 @@
 // Multiples of a vector by a term.
-ghost use Rattle.std.specs.Prelude.{◌≡◌, ◌<◌, ◌≤◌, ◌+◌, List, ℕ, length, sum, IfOk, IfErr, OnOk};
+ghost use Rattle.std.specs.Prelude.{◌≡◌, ◌<◌, ◌≤◌, ◌+◌, List, ℕ, length, IfOk, IfErr, OnOk};
 ghost use Rattle.monomials.specs.Exponents.{exponents_of};
 ghost use Rattle.formal_sums.specs.FormalSums.{scale};
 ghost use Rattle.module_vectors.specs.Rings.{variables};
-ghost use Rattle.module_vectors.specs.Vectors.{sum_of, IsVectorOver, StandsFor};
+ghost use Rattle.module_vectors.specs.Vectors.{sum_of, IsMonomialOver, IsVectorOver, StandsFor};
 ghost use Rattle.module_vectors.specs.Multiples.{IsMultiple, ProductStops};
 ghost use Rattle.module_vectors.specs.Stops.{Fits, ScaledStops};
 
@@ -22,9 +22,9 @@ fn scaled_term(
 ) -> Result<(Key, u32), VectStop>
     requires factor { c < modulus.now.value }
     requires residue { t.now.1 < modulus.now.value }
-    requires variables { length m.now ≡ length t.now.0.monomial }
-    ensures term { IfOk result (IsMultiple (length m.now) modulus.now.value c m.now t.now) }
-    ensures fits { OnOk result (sum m.now + sum t.now.0.monomial ≤ 65535) }
+    requires variables { length m.now.exponents ≡ length t.now.0.monomial.exponents }
+    ensures term { IfOk result (IsMultiple (length m.now.exponents) modulus.now.value c m.now t.now) }
+    ensures fits { OnOk result (m.now.degree + t.now.0.monomial.degree ≤ 65535) }
     ensures stop { IfErr result (ProductStops m.now t.now.0.monomial) }
 {
     match Mono::mul(alloc, m, &t.0.monomial) {
@@ -54,11 +54,11 @@ pub(crate) fn scaled_terms<F: Frame>(
 ) -> Result<Vec<(Key, u32)>, VectStop>
     requires nonzero { 0 < c }
     requires factor { c < (F.over frame.now).modulus.value }
-    requires variables { length m.now ≡ variables (F.over frame.now) }
+    requires variables { IsMonomialOver (F.over frame.now) m.now }
     requires vector { IsVectorOver (F.over frame.now) (F.compare frame.now) v.now }
     ensures vector { IfOk result (λ u. IsVectorOver (F.over frame.now) (F.compare frame.now) u.items) }
     ensures sum { let n = variables (F.over frame.now) in
-        IfOk result (λ u. StandsFor (F.over frame.now) u.items (scale c (exponents_of n m.now) (sum_of n v.now))) }
+        IfOk result (λ u. StandsFor (F.over frame.now) u.items (scale c (exponents_of n m.now.exponents) (sum_of n v.now))) }
     ensures fits { OnOk result (Fits m.now v.now) }
     ensures stop { IfErr result (ScaledStops c m.now v.now) }
 {

@@ -17,7 +17,7 @@ pub enum TrailStart {
     Product,
 }
 
-/// A chain of products of terms and members that leads to one of total degree above 65,535.
+/// A chain of products of terms and members that leads to one of a degree above 65,535.
 #[derive(Drop)]
 pub struct KeptTrail {
     /// The ring in which the products were made.
@@ -31,11 +31,9 @@ pub struct KeptTrail {
     /// What was divided or multiplied; zero where the trail starts with a pair.
     pub vector: Vect,
     pub members: VectList,
-    /// The cofactors of the members, where they are kept.
-    pub cofs: Option<VectList>,
     /// Each (k, t) stands for the product of the monomial t and member k.
     pub steps: Vec<(u64, Mono)>,
-    /// A monomial of the last step's member or of its cofactors, too great for the last t.
+    /// A monomial of the last step's member, too great for the last t.
     pub last: Mono,
 }
 
@@ -44,7 +42,7 @@ pub struct KeptTrail {
 pub enum WorkStop {
     /// There was no memory.
     Memory,
-    /// A product of total degree above 65,535 was needed.
+    /// A product of a degree above 65,535 was needed.
     Degree(KeptTrail),
 }
 

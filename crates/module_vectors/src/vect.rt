@@ -1,10 +1,12 @@
 // A vector and what is computed of it.
-ghost use Rattle.std.specs.Prelude.{◌≡◌, ◌<◌, ◌++◌, ◌↔◌, IsTrue, [], ◌∷◌, List, ℕ, drop, length, IfOk, IfErr, OnOk, OnErr, MatchOption};
+ghost use Rattle.std.specs.Prelude.{◌≡◌, ◌<◌, ◌++◌, ◌↔◌, [], ◌∷◌, List, ℕ, drop, length};
+ghost use Rattle.std.specs.Prelude.{IsTrue, IfOk, IfErr, OnOk, OnErr, MatchOption};
 ghost use Rattle.monomials.specs.Exponents.{exponents_of, unit};
 ghost use Rattle.formal_sums.specs.FormalSums.{Each, scale};
 ghost use Rattle.formal_sums.specs.Combinations.{combination};
 ghost use Rattle.module_vectors.specs.Rings.{variables};
-ghost use Rattle.module_vectors.specs.Vectors.{sum_of, sums_of, IsVectorOver, AreVectorsOver, AreTermsOver, StandsFor, HasPositions, IsMonicOf, IsTerm};
+ghost use Rattle.module_vectors.specs.Vectors.{sum_of, sums_of, IsMonomialOver, IsVectorOver, AreVectorsOver, AreTermsOver};
+ghost use Rattle.module_vectors.specs.Vectors.{StandsFor, HasPositions, IsMonicOf, IsTerm};
 ghost use Rattle.module_vectors.specs.Products.{sum_of_products};
 ghost use Rattle.module_vectors.specs.Multiples.{rescaled};
 ghost use Rattle.module_vectors.specs.Stops.{Fits, ScaledStops, ProductsStop, ProductsFit, CombinationStops, CombinationFits};
@@ -53,7 +55,7 @@ impl Vect {
         }
     }
 
-    /// The vector of these terms, which may stand in any order, share keys and have residue 0. They are sorted, terms with
+    /// The vector of these terms, which may stand in any order, share keys and have residue 0. They are put in order, terms with
     /// one key are added up, and what is 0 is left out. `NoMemory` where there is none.
     pub fn from_terms<F: Frame>(
         alloc: Global,
@@ -64,9 +66,8 @@ impl Vect {
         ensures vector { IfOk result (λ v. IsVectorOver (F.over frame.now) (F.compare frame.now) v) }
         ensures same { IfOk result (λ v. StandsFor (F.over frame.now) v (sum_of (variables (F.over frame.now)) terms.items)) }
     {
-        let out = Vec::with_capacity(alloc, terms.len())?;
         Ok(Vect {
-            terms: gather(frame, terms, out),
+            terms: gather(alloc, frame, terms)?,
         })
     }
 
@@ -113,7 +114,7 @@ impl Vect {
 
     /// Adds c t v, for a residue c and a monomial t, by one merge that moves each term once. Where c is 0 nothing changes.
     ///
-    /// `Degree` exactly where c is not 0 and t times a monomial of v has a total degree above 65,535; it carries the two.
+    /// `Degree` exactly where c is not 0 and t times a monomial of v has a degree above 65,535; it carries the two.
     /// `Memory` where there is none. After an error the vector is as before.
     pub fn add_scaled<F: Frame>(
         &mut self,
@@ -124,12 +125,12 @@ impl Vect {
         v: &Vect,
     ) -> Result<(), VectStop>
         requires factor { c < (F.over frame.now).modulus.value }
-        requires variables { length t.now ≡ variables (F.over frame.now) }
+        requires variables { IsMonomialOver (F.over frame.now) t.now }
         requires left { IsVectorOver (F.over frame.now) (F.compare frame.now) self.old }
         requires right { IsVectorOver (F.over frame.now) (F.compare frame.now) v.now }
         ensures vector { OnOk result (IsVectorOver (F.over frame.now) (F.compare frame.now) self.new) }
         ensures sum { let n = variables (F.over frame.now) in
-            OnOk result (StandsFor (F.over frame.now) self.new (sum_of n self.old ++ scale c (exponents_of n t.now) (sum_of n v.now))) }
+            OnOk result (StandsFor (F.over frame.now) self.new (sum_of n self.old ++ scale c (exponents_of n t.now.exponents) (sum_of n v.now))) }
         ensures fits { OnOk result (0 < c → Fits t.now v.now) }
         ensures stop { IfErr result (ScaledStops c t.now v.now) }
         ensures err { OnErr result (self.new ≡ self.old) }
@@ -146,7 +147,7 @@ impl Vect {
 
     /// c t v without its first term, for a residue c that is not 0, a monomial t and a vector v that is not zero.
     ///
-    /// `Degree` exactly where t times a monomial of v behind the first has a total degree above 65,535; it carries the
+    /// `Degree` exactly where t times a monomial of v behind the first has a degree above 65,535; it carries the
     /// two. `Memory` where there is none.
     pub fn scaled_tail<F: Frame>(
         alloc: Global,
@@ -157,12 +158,12 @@ impl Vect {
     ) -> Result<Vect, VectStop>
         requires nonzero { 0 < c }
         requires factor { c < (F.over frame.now).modulus.value }
-        requires variables { length t.now ≡ variables (F.over frame.now) }
+        requires variables { IsMonomialOver (F.over frame.now) t.now }
         requires vector { IsVectorOver (F.over frame.now) (F.compare frame.now) v.now }
         requires some { 0 < length v.now }
         ensures vector { IfOk result (λ u. IsVectorOver (F.over frame.now) (F.compare frame.now) u) }
         ensures sum { let n = variables (F.over frame.now) in
-            IfOk result (λ u. StandsFor (F.over frame.now) u (scale c (exponents_of n t.now) (sum_of n (drop 1 v.now)))) }
+            IfOk result (λ u. StandsFor (F.over frame.now) u (scale c (exponents_of n t.now.exponents) (sum_of n (drop 1 v.now)))) }
         ensures fits { OnOk result (Fits t.now (drop 1 v.now)) }
         ensures stop { IfErr result (ScaledStops c t.now (drop 1 v.now)) }
     {
@@ -173,14 +174,14 @@ impl Vect {
 
     /// The sum of products of terms and vectors, by halves: each term is moved about as often as the list can be halved.
     ///
-    /// `Degree` exactly where a product by a residue that is not 0 has a total degree above 65,535; it carries the two
+    /// `Degree` exactly where a product by a residue that is not 0 has a degree above 65,535; it carries the two
     /// monomials. `Memory` where there is none.
     pub fn sum_of_products<F: Frame>(
         alloc: Global,
         frame: &F,
         products: &[Product<'_>],
     ) -> Result<Vect, VectStop>
-        requires factors { Each (λ x. (x.residue < (F.over frame.now).modulus.value) × (length x.monomial.now ≡ variables (F.over frame.now))) products.now }
+        requires factors { Each (λ x. (x.residue < (F.over frame.now).modulus.value) × IsMonomialOver (F.over frame.now) x.monomial.now) products.now }
         requires vectors { Each (λ x. IsVectorOver (F.over frame.now) (F.compare frame.now) x.vector.now) products.now }
         ensures vector { IfOk result (λ v. IsVectorOver (F.over frame.now) (F.compare frame.now) v) }
         ensures sum { IfOk result (λ v. StandsFor (F.over frame.now) v (sum_of_products (variables (F.over frame.now)) products.now)) }
@@ -195,7 +196,7 @@ impl Vect {
     /// The combination of the list's vectors, the cofactor of member i at position i of `cofactors` (UAG chapter 5,
     /// section 1).
     ///
-    /// `Degree` exactly where a cofactor's monomial times one of its member has a total degree above 65,535; it carries the
+    /// `Degree` exactly where a cofactor's monomial times one of its member has a degree above 65,535; it carries the
     /// two. `Memory` where there is none.
     pub fn combine<F: Frame>(
         alloc: Global,
@@ -203,7 +204,7 @@ impl Vect {
         cofactors: &Vect,
         list: &VectList,
     ) -> Result<Vect, VectStop>
-        requires cofactors { Each (IsTerm (variables (F.over frame.now)) (F.over frame.now).modulus.value) cofactors.now }
+        requires cofactors { Each (IsTerm (variables (F.over frame.now)) (F.over frame.now).weights (F.over frame.now).modulus.value) cofactors.now }
         requires positions { HasPositions (length list.now) cofactors.now }
         requires list { AreVectorsOver (F.over frame.now) (F.compare frame.now) list.now }
         ensures vector { IfOk result (λ v. IsVectorOver (F.over frame.now) (F.compare frame.now) v) }

@@ -1,13 +1,14 @@
 -- What the code's comparisons of lists of exponents say of monomials
-use Rattle.std.proofs.Common.{Equal, Greater, Less, List, Ordering, [], ap, ap₂, arith, drop, get_or, inl, inr, length, length-drop, min, refl, suc, sum, sym, take, zero, ℕ, ◌+◌, ◌-◌, ◌<◌, ◌∙◌, ◌∷◌, ◌≡◌, ◌≤◌}
+use Rattle.std.proofs.Common.{Equal, Greater, Less, List, Ordering, [], ap, ap₂, arith, drop, get_or, inl, inr, length, length-drop, max, min, refl, suc, sym, take, zero, ℕ, ◌*◌, ◌+◌, ◌-◌, ◌<◌, ◌∙◌, ◌∷◌, ◌≡◌, ◌≤◌}
 use Rattle.std.proofs.lemmas.Bool.{cases_lt}
 use Rattle.std.proofs.lemmas.Cmp.{nat_cmp_total, ranked, tied_itself}
 use Rattle.std.proofs.lemmas.List.{length-take-le}
-use Rattle.std.proofs.lemmas.List.Sums.{sum_by-cons}
 use Rattle.std.specs.Cmp.Lexicographic.{slice_cmp}
 use Rattle.std.specs.Ordering.{nat_cmp, ordering_then}
-use Rattle.monomials.specs.Exponents.{Exponents, cons, degree, exponents_of, nil}
-use Rattle.orders.specs.MonomialOrders.{elimination, first_variables, grevlex, lex, other_variables, reverse_lex}
+use Rattle.monomials.specs.Exponents.{Exponents, cons, exponents_of, nil}
+use Rattle.monomials.specs.Weights.{weighted_degree}
+use Rattle.orders.specs.MonomialOrders.{first_variables, lex, other_variables, reverse_lex}
+use Rattle.orders.specs.WeightedOrders.{weighted_elimination, weighted_grevlex}
 
 pub lex-slice : (n : ℕ) (xs ys : List ℕ) → length xs ≡ n → length ys ≡ n → slice_cmp nat_cmp xs ys ≡ lex (exponents_of n xs) (exponents_of n ys)
 lex-slice zero [] [] h k = refl
@@ -16,10 +17,6 @@ lex-slice zero (x ∷ xs) ys h k = absurd (cc)
 lex-slice (suc n) [] ys h k = absurd (cc)
 lex-slice (suc n) (x ∷ xs) [] h k = absurd (cc)
 lex-slice (suc n) (x ∷ xs) (y ∷ ys) h k = ap (ordering_then (nat_cmp x y)) (lex-slice n xs ys (omega arith) (omega arith))
-
-pub degree-exponents_of : (xs : List ℕ) → degree (exponents_of (length xs) xs) ≡ sum xs
-degree-exponents_of [] = refl
-degree-exponents_of (x ∷ xs) = omega (arith, degree-exponents_of xs, sum_by-cons (λ x. x) x xs)
 
 pub then_keeps : (o q : Ordering) → (o ≡ Equal → ⊥) → ordering_then o q ≡ o
 then_keeps Less q n = refl
@@ -57,29 +54,32 @@ reverse_lex_at (suc n) (x ∷ xs) (y ∷ ys) (suc k) h g lt e ne =
     let r = reverse_lex_at n xs ys k (omega arith) (omega arith) (omega arith) (λ i a b. e (suc i) (omega arith) (omega arith)) ne in
     rw r (then_keeps (nat_cmp (get_or ys k 0) (get_or xs k 0)) (nat_cmp y x) (λ q. ne (sym (ranked (get_or ys k 0) (get_or xs k 0) Equal (sym q)))))
 
--- what the comparison of two degrees says
-degrees :
-    (xs ys : List ℕ) (d e : ℕ) → length xs ≡ length ys → d ≡ sum xs → e ≡ sum ys
-    → nat_cmp d e ≡ nat_cmp (degree (exponents_of (length xs) xs)) (degree (exponents_of (length xs) ys))
-degrees xs ys d e h hd he =
-    ap₂ nat_cmp (hd ∙ sym (degree-exponents_of xs)) (he ∙ sym (degree-exponents_of ys) ∙ ap (λ n. degree (exponents_of n ys)) (sym h))
-
+-- equal degrees: the last exponent decides
 pub grevlex_tie :
-    (xs ys : List ℕ) (d e : ℕ) (q : Ordering) → length xs ≡ length ys → d ≡ sum xs → e ≡ sum ys → Equal ≡ nat_cmp d e
-    → q ≡ reverse_lex (exponents_of (length xs) xs) (exponents_of (length xs) ys)
-    → q ≡ grevlex (exponents_of (length xs) xs) (exponents_of (length xs) ys)
-grevlex_tie xs ys d e q h hd he t l = l ∙ ap (λ o. ordering_then o (reverse_lex (exponents_of (length xs) xs) (exponents_of (length xs) ys))) (t ∙ degrees xs ys d e h hd he)
+    {n : ℕ} (ws : List ℕ) (v w : Exponents n) (d e : ℕ) (q : Ordering) → d ≡ weighted_degree ws v → e ≡ weighted_degree ws w
+    → Equal ≡ nat_cmp d e → q ≡ reverse_lex v w → q ≡ weighted_grevlex ws v w
+grevlex_tie ws v w d e q hd he t l = l ∙ ap (λ o. ordering_then o (reverse_lex v w)) (t ∙ ap₂ nat_cmp hd he)
 
+-- or the degree decides
 pub grevlex_degree :
-    (xs ys : List ℕ) (d e : ℕ) (q : Ordering) → length xs ≡ length ys → d ≡ sum xs → e ≡ sum ys → q ≡ nat_cmp d e
-    → (q ≡ Equal → ⊥) → q ≡ grevlex (exponents_of (length xs) xs) (exponents_of (length xs) ys)
-grevlex_degree xs ys d e q h hd he t ne =
-    sym (then_keeps q (reverse_lex (exponents_of (length xs) xs) (exponents_of (length xs) ys)) ne) ∙ ap (λ o. ordering_then o (reverse_lex (exponents_of (length xs) xs) (exponents_of (length xs) ys))) (t ∙ degrees xs ys d e h hd he)
+    {n : ℕ} (ws : List ℕ) (v w : Exponents n) (d e : ℕ) (q : Ordering) → d ≡ weighted_degree ws v → e ≡ weighted_degree ws w
+    → q ≡ nat_cmp d e → (q ≡ Equal → ⊥) → q ≡ weighted_grevlex ws v w
+grevlex_degree ws v w d e q hd he t ne =
+    sym (then_keeps q (reverse_lex v w) ne) ∙ ap (λ o. ordering_then o (reverse_lex v w)) (t ∙ ap₂ nat_cmp hd he)
+
+take_nil : (k : ℕ) → ◌≡◌ {A = List ℕ} [] (take k [])
+take_nil zero = refl
+take_nil (suc k) = refl
+
+drop_nil : (k : ℕ) → ◌≡◌ {A = List ℕ} [] (drop k [])
+drop_nil zero = refl
+drop_nil (suc k) = refl
 
 -- the first k variables are the first k exponents
-none_degree : {n : ℕ} (v : Exponents n) → degree (first_variables zero v) ≡ 0
-none_degree nil = refl
-none_degree (cons a v) = omega (arith, none_degree v)
+none_degree : {n : ℕ} (ws : List ℕ) (v : Exponents n) → weighted_degree ws (first_variables zero v) ≡ 0
+none_degree ws nil = refl
+none_degree [] (cons a v) = omega (arith, none_degree [] v)
+none_degree (c ∷ ws) (cons a v) = omega (arith, none_degree ws v)
 
 none_tie : {n : ℕ} (v w : Exponents n) → reverse_lex (first_variables zero v) (first_variables zero w) ≡ Equal
 none_tie nil nil = refl
@@ -90,12 +90,16 @@ others_all nil = refl
 others_all (cons a v) = ap (cons a) (others_all v)
 
 first_degree :
-    (n k : ℕ) (xs : List ℕ) → length xs ≡ n → k ≤ n
-    → degree (first_variables k (exponents_of n xs)) ≡ degree (exponents_of k (take k xs))
-first_degree n zero xs h le = none_degree (exponents_of n xs)
-first_degree zero (suc k) xs h le = absurd (omega arith)
-first_degree (suc n) (suc k) [] h le = absurd (cc)
-first_degree (suc n) (suc k) (x ∷ xs) h le = ap (λ z. x + z) (first_degree n k xs (omega arith) (omega arith))
+    (ws : List ℕ) (n k : ℕ) (xs : List ℕ) → length xs ≡ n → k ≤ n
+    → weighted_degree ws (first_variables k (exponents_of n xs)) ≡ weighted_degree (take k ws) (exponents_of k (take k xs))
+first_degree ws n zero xs h le = none_degree ws (exponents_of n xs)
+first_degree ws zero (suc k) xs h le = absurd (omega arith)
+first_degree ws (suc n) (suc k) [] h le = absurd (cc)
+first_degree [] (suc n) (suc k) (x ∷ xs) h le =
+    let r = first_degree [] n k xs (omega arith) (omega arith) in
+    let f = ap (λ us. weighted_degree us (exponents_of k (take k xs))) (take_nil k) in
+    omega (arith, r, f)
+first_degree (c ∷ ws) (suc n) (suc k) (x ∷ xs) h le = ap (λ z. max 1 c * x + z) (first_degree ws n k xs (omega arith) (omega arith))
 
 first_tie :
     (n k : ℕ) (xs ys : List ℕ) → length xs ≡ n → length ys ≡ n → k ≤ n
@@ -105,18 +109,23 @@ first_tie n zero xs ys h g le = none_tie (exponents_of n xs) (exponents_of n ys)
 first_tie zero (suc k) xs ys h g le = absurd (omega arith)
 first_tie (suc n) (suc k) [] ys h g le = absurd (cc)
 first_tie (suc n) (suc k) (x ∷ xs) [] h g le = absurd (cc)
-first_tie (suc n) (suc k) (x ∷ xs) (y ∷ ys) h g le = ap (λ o. ordering_then o (nat_cmp y x)) (first_tie n k xs ys (omega arith) (omega arith) (omega arith))
+first_tie (suc n) (suc k) (x ∷ xs) (y ∷ ys) h g le =
+    ap (λ o. ordering_then o (nat_cmp y x)) (first_tie n k xs ys (omega arith) (omega arith) (omega arith))
 
 -- the others are what is left
 other_degree :
-    (n k m : ℕ) (xs : List ℕ) → length xs ≡ n → n ≡ k + m
-    → degree (other_variables k (exponents_of n xs)) ≡ degree (exponents_of m (drop k xs))
-other_degree n zero m xs h e =
+    (ws : List ℕ) (n k m : ℕ) (xs : List ℕ) → length xs ≡ n → n ≡ k + m
+    → weighted_degree ws (other_variables k (exponents_of n xs)) ≡ weighted_degree (drop k ws) (exponents_of m (drop k xs))
+other_degree ws n zero m xs h e =
     let d : n ≡ m = omega arith in
-    ap degree (others_all (exponents_of n xs)) ∙ ap (λ j. degree (exponents_of j xs)) d
-other_degree zero (suc k) m xs h e = absurd (omega arith)
-other_degree (suc n) (suc k) m [] h e = absurd (cc)
-other_degree (suc n) (suc k) m (x ∷ xs) h e = omega (arith, other_degree n k m xs (omega arith) (omega arith))
+    ap (weighted_degree ws) (others_all (exponents_of n xs)) ∙ ap (λ j. weighted_degree ws (exponents_of j xs)) d
+other_degree ws zero (suc k) m xs h e = absurd (omega arith)
+other_degree ws (suc n) (suc k) m [] h e = absurd (cc)
+other_degree [] (suc n) (suc k) m (x ∷ xs) h e =
+    let r = other_degree [] n k m xs (omega arith) (omega arith) in
+    let f = ap (λ us. weighted_degree us (exponents_of m (drop k xs))) (drop_nil k) in
+    omega (arith, r, f)
+other_degree (c ∷ ws) (suc n) (suc k) m (x ∷ xs) h e = omega (arith, other_degree ws n k m xs (omega arith) (omega arith))
 
 other_tie :
     (n k m : ℕ) (xs ys : List ℕ) → length xs ≡ n → length ys ≡ n → n ≡ k + m
@@ -142,70 +151,73 @@ other_past k nil le = refl
 other_past zero (cons a v) le = absurd (omega arith)
 other_past (suc k) (cons a v) le = ap (cons 0) (other_past k v (omega arith))
 
-clamped : {n : ℕ} (k at : ℕ) (v w : Exponents n) → at ≡ min k n → elimination k v w ≡ elimination at v w
-clamped {n} k at v w e = elim (cases_lt k n) [
-  | inl lt ↦ let d : k ≡ at = omega arith in ap (λ j. elimination j v w) d
+clamped : {n : ℕ} (ws : List ℕ) (k at : ℕ) (v w : Exponents n) → at ≡ min k n → weighted_elimination ws k v w ≡ weighted_elimination ws at v w
+clamped {n} ws k at v w e = elim (cases_lt k n) [
+  | inl lt ↦ let d : k ≡ at = omega arith in ap (λ j. weighted_elimination ws j v w) d
   | inr le ↦
       let d : n ≡ at = omega arith in
-      ap₂ ordering_then (ap₂ grevlex (first_past k v le) (first_past k w le)) (ap₂ grevlex (other_past k v le) (other_past k w le))
-      ∙ ap (λ j. elimination j v w) d
+      ap₂ ordering_then (ap₂ (weighted_grevlex ws) (first_past k v le) (first_past k w le))
+      (ap₂ (weighted_grevlex ws) (other_past k v le) (other_past k w le))
+      ∙ ap (λ j. weighted_elimination ws j v w) d
 ]
 
 at_split :
-    (n k m : ℕ) (xs ys : List ℕ) → length xs ≡ n → length ys ≡ n → n ≡ k + m
-    → elimination k (exponents_of n xs) (exponents_of n ys)
-    ≡ ordering_then (grevlex (exponents_of k (take k xs)) (exponents_of k (take k ys))) (grevlex (exponents_of m (drop k xs)) (exponents_of m (drop k ys)))
-at_split n k m xs ys h g e =
+    (ws : List ℕ) (n k m : ℕ) (xs ys : List ℕ) → length xs ≡ n → length ys ≡ n → n ≡ k + m
+    → weighted_elimination ws k (exponents_of n xs) (exponents_of n ys)
+    ≡ ordering_then (weighted_grevlex (take k ws) (exponents_of k (take k xs)) (exponents_of k (take k ys)))
+    (weighted_grevlex (drop k ws) (exponents_of m (drop k xs)) (exponents_of m (drop k ys)))
+at_split ws n k m xs ys h g e =
     let le : k ≤ n = omega arith in
     ap₂ ordering_then
-    (ap₂ ordering_then (ap₂ nat_cmp (first_degree n k xs h le) (first_degree n k ys g le)) (first_tie n k xs ys h g le))
-    (ap₂ ordering_then (ap₂ nat_cmp (other_degree n k m xs h e) (other_degree n k m ys g e)) (other_tie n k m xs ys h g e))
+    (ap₂ ordering_then (ap₂ nat_cmp (first_degree ws n k xs h le) (first_degree ws n k ys g le)) (first_tie n k xs ys h g le))
+    (ap₂ ordering_then (ap₂ nat_cmp (other_degree ws n k m xs h e) (other_degree ws n k m ys g e)) (other_tie n k m xs ys h g e))
+
+-- graded comparison of two lists by weights
+abbrev pub graded : List ℕ → List ℕ → List ℕ → Ordering
+graded ws xs ys = weighted_grevlex ws (exponents_of (length xs) xs) (exponents_of (length xs) ys)
 
 -- elimination compares the lists split at k
 pub elimination_slices :
-    (k at : ℕ) (xs ys : List ℕ) → length xs ≡ length ys → at ≡ min k (length xs)
-    → elimination k (exponents_of (length xs) xs) (exponents_of (length xs) ys)
-    ≡ ordering_then
-    (grevlex (exponents_of (length (take at xs)) (take at xs)) (exponents_of (length (take at xs)) (take at ys)))
-    (grevlex (exponents_of (length (drop at xs)) (drop at xs)) (exponents_of (length (drop at xs)) (drop at ys)))
-elimination_slices k at xs ys h e =
+    (ws : List ℕ) (k at : ℕ) (xs ys : List ℕ) → length xs ≡ length ys → at ≡ min k (length xs)
+    → weighted_elimination ws k (exponents_of (length xs) xs) (exponents_of (length xs) ys)
+    ≡ ordering_then (graded (take at ws) (take at xs) (take at ys)) (graded (drop at ws) (drop at xs) (drop at ys))
+elimination_slices ws k at xs ys h e =
     let le : at ≤ length xs = omega arith in
     let f : length (take at xs) ≡ at = length-take-le at xs le in
     let g : length (drop at xs) ≡ length xs - at = length-drop at xs in
-    clamped k at (exponents_of (length xs) xs) (exponents_of (length xs) ys) e
-    ∙ at_split (length xs) at (length xs - at) xs ys refl (sym h) (omega arith)
-    ∙ ap₂ (λ i j. ordering_then (grevlex (exponents_of i (take at xs)) (exponents_of i (take at ys))) (grevlex (exponents_of j (drop at xs)) (exponents_of j (drop at ys)))) (sym f) (sym g)
+    clamped ws k at (exponents_of (length xs) xs) (exponents_of (length xs) ys) e
+    ∙ at_split ws (length xs) at (length xs - at) xs ys refl (sym h) (omega arith)
+    ∙ ap₂ (λ i j. ordering_then (weighted_grevlex (take at ws) (exponents_of i (take at xs)) (exponents_of i (take at ys)))
+    (weighted_grevlex (drop at ws) (exponents_of j (drop at xs)) (exponents_of j (drop at ys)))) (sym f) (sym g)
 
--- elimination compares the parts, given as lists of their own
+-- the parts, given as lists of their own
+pub record AreParts (at : ℕ) (xs front back : List ℕ) : Type 0 where
+  pub front_is : front ≡ take at xs
+  pub back_is : back ≡ drop at xs
+
 elimination_parts :
-    (k at : ℕ) (xs ys fa fb ra rb : List ℕ) → length xs ≡ length ys → at ≡ min k (length xs)
-    → fa ≡ take at xs → fb ≡ take at ys → ra ≡ drop at xs → rb ≡ drop at ys
-    → elimination k (exponents_of (length xs) xs) (exponents_of (length xs) ys)
-    ≡ ordering_then (grevlex (exponents_of (length fa) fa) (exponents_of (length fa) fb)) (grevlex (exponents_of (length ra) ra) (exponents_of (length ra) rb))
-elimination_parts k at xs ys fa fb ra rb h e a b c d =
-    elimination_slices k at xs ys h e
+    (ws : List ℕ) (k at : ℕ) (xs ys fw fa fb bw ra rb : List ℕ) → length xs ≡ length ys → at ≡ min k (length xs)
+    → AreParts at ws fw bw → AreParts at xs fa ra → AreParts at ys fb rb
+    → weighted_elimination ws k (exponents_of (length xs) xs) (exponents_of (length xs) ys) ≡ ordering_then (graded fw fa fb) (graded bw ra rb)
+elimination_parts ws k at xs ys fw fa fb bw ra rb h e w a b =
+    elimination_slices ws k at xs ys h e
     ∙ ap₂ ordering_then
-    (ap₂ (λ x y. grevlex (exponents_of (length x) x) (exponents_of (length x) y)) (sym a) (sym b))
-    (ap₂ (λ x y. grevlex (exponents_of (length x) x) (exponents_of (length x) y)) (sym c) (sym d))
+    (ap₂ (λ x y. graded (take at ws) x y) (sym a.front_is) (sym b.front_is) ∙ ap (λ u. graded u fa fb) (sym w.front_is))
+    (ap₂ (λ x y. graded (drop at ws) x y) (sym a.back_is) (sym b.back_is) ∙ ap (λ u. graded u ra rb) (sym w.back_is))
 
 -- the first part decides
 pub elimination_first :
-    (k at : ℕ) (xs ys fa fb ra rb : List ℕ) (o : Ordering) → length xs ≡ length ys → at ≡ min k (length xs)
-    → fa ≡ take at xs → fb ≡ take at ys → ra ≡ drop at xs → rb ≡ drop at ys
-    → o ≡ grevlex (exponents_of (length fa) fa) (exponents_of (length fa) fb) → (o ≡ Equal → ⊥)
-    → o ≡ elimination k (exponents_of (length xs) xs) (exponents_of (length xs) ys)
-elimination_first k at xs ys fa fb ra rb o h e a b c d q ne =
-    sym (then_keeps o (grevlex (exponents_of (length ra) ra) (exponents_of (length ra) rb)) ne)
-    ∙ ap (λ x. ordering_then x (grevlex (exponents_of (length ra) ra) (exponents_of (length ra) rb))) q
-    ∙ sym (elimination_parts k at xs ys fa fb ra rb h e a b c d)
+    (ws : List ℕ) (k at : ℕ) (xs ys fw fa fb bw ra rb : List ℕ) (o : Ordering) → length xs ≡ length ys → at ≡ min k (length xs)
+    → AreParts at ws fw bw → AreParts at xs fa ra → AreParts at ys fb rb → o ≡ graded fw fa fb → (o ≡ Equal → ⊥)
+    → o ≡ weighted_elimination ws k (exponents_of (length xs) xs) (exponents_of (length xs) ys)
+elimination_first ws k at xs ys fw fa fb bw ra rb o h e w a b q ne =
+    sym (then_keeps o (graded bw ra rb) ne) ∙ ap (λ x. ordering_then x (graded bw ra rb)) q
+    ∙ sym (elimination_parts ws k at xs ys fw fa fb bw ra rb h e w a b)
 
 -- or it ties
 pub elimination_second :
-    (k at : ℕ) (xs ys fa fb ra rb : List ℕ) (o : Ordering) → length xs ≡ length ys → at ≡ min k (length xs)
-    → fa ≡ take at xs → fb ≡ take at ys → ra ≡ drop at xs → rb ≡ drop at ys
-    → Equal ≡ grevlex (exponents_of (length fa) fa) (exponents_of (length fa) fb)
-    → o ≡ grevlex (exponents_of (length ra) ra) (exponents_of (length ra) rb)
-    → o ≡ elimination k (exponents_of (length xs) xs) (exponents_of (length xs) ys)
-elimination_second k at xs ys fa fb ra rb o h e a b c d q w =
-    w ∙ ap (λ x. ordering_then x (grevlex (exponents_of (length ra) ra) (exponents_of (length ra) rb))) q
-    ∙ sym (elimination_parts k at xs ys fa fb ra rb h e a b c d)
+    (ws : List ℕ) (k at : ℕ) (xs ys fw fa fb bw ra rb : List ℕ) (o : Ordering) → length xs ≡ length ys → at ≡ min k (length xs)
+    → AreParts at ws fw bw → AreParts at xs fa ra → AreParts at ys fb rb → Equal ≡ graded fw fa fb → o ≡ graded bw ra rb
+    → o ≡ weighted_elimination ws k (exponents_of (length xs) xs) (exponents_of (length xs) ys)
+elimination_second ws k at xs ys fw fa fb bw ra rb o h e w a b q r =
+    r ∙ ap (λ x. ordering_then x (graded bw ra rb)) q ∙ sym (elimination_parts ws k at xs ys fw fa fb bw ra rb h e w a b)

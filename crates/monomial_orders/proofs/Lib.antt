@@ -1,2 +1,5 @@
 pub mod Comparing
 pub mod PlaceByPlace
+pub mod Totals
+pub mod Over
+pub mod Filling

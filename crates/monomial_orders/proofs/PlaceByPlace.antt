@@ -1,11 +1,7 @@
 -- Lists of exponents place by place
-use Rattle.std.proofs.Common.{List, [], ap, ap₂, arith, drop, get_or, length, max, min, refl, replicate, set, suc, sum, sym, take, zero, ℕ, ◌++◌, ◌+◌, ◌-◌, ◌<◌, ◌∙◌, ◌∷◌, ◌≡◌, ◌≤◌}
-use Rattle.std.proofs.lemmas.List.{get_or-replicate, length-replicate, length-set}
-use Rattle.std.proofs.lemmas.List.Sums.{sum_by-cons, sum_by-set}
-use Rattle.std.proofs.Math.Seq.{take-append_seam}
-use Rattle.std.specs.List.{refill}
-use Rattle.monomials.specs.Exponents.{Divides, IsWithin, cons, exponents_of, head, lcm, quotient, tail, times, unit}
-use Rattle.monomial_orders.specs.Monomials.{IsCofactor, IsMonomial, IsPlaceByPlace, variable}
+use Rattle.std.proofs.Common.{List, [], ap, ap₂, arith, get_or, length, max, min, refl, suc, sym, zero, ℕ, ◌+◌, ◌-◌, ◌<◌, ◌∙◌, ◌∷◌, ◌≡◌, ◌≤◌}
+use Rattle.monomials.specs.Exponents.{Divides, IsWithin, cons, exponents_of, head, lcm, quotient, tail, times}
+use Rattle.monomial_orders.specs.Monomials.{IsCofactor, IsMonomial, IsPlaceByPlace}
 
 -- sums make the product
 pub sums_times :
@@ -42,22 +38,6 @@ differences_quotient (suc n) (x ∷ xs) [] zs hx hy hz h = absurd (omega arith)
 differences_quotient (suc n) (x ∷ xs) (y ∷ ys) [] hx hy hz h = absurd (omega arith)
 differences_quotient (suc n) (x ∷ xs) (y ∷ ys) (z ∷ zs) hx hy hz h =
     ap₂ cons (h 0 (omega arith)) (differences_quotient n xs ys zs (omega arith) (omega arith) (omega arith) (λ k lt. h (suc k) (omega arith)))
-
--- the degrees add up
-pub sums_total :
-    (n : ℕ) (xs ys zs : List ℕ) → length xs ≡ n → length ys ≡ n → length zs ≡ n
-    → ((k : ℕ) → k < n → get_or zs k 0 ≡ get_or xs k 0 + get_or ys k 0) → sum zs ≡ sum xs + sum ys
-sums_total zero [] [] [] hx hy hz h = refl
-sums_total zero [] [] (z ∷ zs) hx hy hz h = absurd (omega arith)
-sums_total zero [] (y ∷ ys) zs hx hy hz h = absurd (omega arith)
-sums_total zero (x ∷ xs) ys zs hx hy hz h = absurd (omega arith)
-sums_total (suc n) [] ys zs hx hy hz h = absurd (omega arith)
-sums_total (suc n) (x ∷ xs) [] zs hx hy hz h = absurd (omega arith)
-sums_total (suc n) (x ∷ xs) (y ∷ ys) [] hx hy hz h = absurd (omega arith)
-sums_total (suc n) (x ∷ xs) (y ∷ ys) (z ∷ zs) hx hy hz h =
-    let r = sums_total n xs ys zs (omega arith) (omega arith) (omega arith) (λ k lt. h (suc k) (omega arith)) in
-    let f : z ≡ x + y = h 0 (omega arith) in
-    omega (arith, r, sum_by-cons (λ x. x) x xs, sum_by-cons (λ x. x) y ys, sum_by-cons (λ x. x) z zs)
 
 -- and the other way round
 pub of_divides :
@@ -125,34 +105,12 @@ exponents_within b zero xs h = tt
 exponents_within b (suc n) [] h = (omega arith, exponents_within b n [] h)
 exponents_within b (suc n) (x ∷ xs) h = (h 0, exponents_within b n xs (λ k. h (suc k)))
 
--- zeros are the monomial 1
-pub zeros_unit : (n : ℕ) → exponents_of n (replicate n 0) ≡ unit n
-zeros_unit zero = refl
-zeros_unit (suc n) = ap (cons 0) (zeros_unit n)
-
-pub zeros_total : (n : ℕ) → sum (replicate n 0) ≡ 0
-zeros_total zero = refl
-zeros_total (suc n) = omega (arith, zeros_total n, sum_by-cons (λ x. x) 0 (replicate n 0))
-
--- a 1 among zeros is a variable
-pub one_variable : (n i : ℕ) → i < n → exponents_of n (set (replicate n 0) i 1) ≡ variable n i
-one_variable zero i lt = absurd (omega arith)
-one_variable (suc n) zero lt = ap (cons 1) (zeros_unit n)
-one_variable (suc n) (suc i) lt = ap (cons 0) (one_variable n i (omega arith))
-
-pub one_total : (n i : ℕ) → i < n → sum (set (replicate n 0) i 1) ≡ 1
-one_total n i lt =
-    omega (arith, sum_by-set (λ x. x) (replicate n 0) i 1 0 (omega (arith, length-replicate {A = ℕ} n 0)), get_or-replicate {A = ℕ} n i 0 0 lt, zeros_total n)
-
 -- the calls' answers
 pub sums_monomial :
     (xs ys zs : List ℕ) → length xs ≡ length ys → IsPlaceByPlace ◌+◌ xs ys zs
     → IsMonomial (length xs) (times (exponents_of (length xs) xs) (exponents_of (length xs) ys)) zs
 sums_monomial xs ys zs e h =
     record { variables = h.variables; exponents = sums_times (length xs) xs ys zs refl (sym e) h.variables h.places }
-
-pub sums_sum : (xs ys zs : List ℕ) → length xs ≡ length ys → IsPlaceByPlace ◌+◌ xs ys zs → sum zs ≡ sum xs + sum ys
-sums_sum xs ys zs e h = sums_total (length xs) xs ys zs refl (sym e) h.variables h.places
 
 pub maxima_monomial :
     (xs ys zs : List ℕ) → length xs ≡ length ys → IsPlaceByPlace max xs ys zs
@@ -172,39 +130,3 @@ differences_cofactor xs ys zs e le h =
       exponents = q;
       product = ap (λ v. times v (exponents_of (length xs) ys)) q ∙ quotient_times (length xs) xs ys refl (sym e) le;
     }
-
-pub differences_sum :
-    (xs ys zs : List ℕ) → length xs ≡ length ys
-    → ((k : ℕ) → k < length xs → get_or ys k 0 ≤ get_or xs k 0) → IsPlaceByPlace ◌-◌ xs ys zs
-    → sum xs ≡ sum zs + sum ys
-differences_sum xs ys zs e le h =
-    sums_total (length xs) zs ys xs h.variables (sym e) refl (λ k lt. let p = h.places k lt in let l = le k lt in omega arith)
-
--- the smaller list has the smaller sum
-pub total_le :
-    (n : ℕ) (xs ys : List ℕ) → length xs ≡ n → length ys ≡ n
-    → ((k : ℕ) → k < n → get_or xs k 0 ≤ get_or ys k 0) → sum xs ≤ sum ys
-total_le zero [] ys hx hy h = omega arith
-total_le zero (x ∷ xs) ys hx hy h = absurd (omega arith)
-total_le (suc n) [] ys hx hy h = absurd (omega arith)
-total_le (suc n) (x ∷ xs) [] hx hy h = absurd (omega arith)
-total_le (suc n) (x ∷ xs) (y ∷ ys) hx hy h =
-    let r = total_le n xs ys (omega arith) (omega arith) (λ k lt. h (suc k) (omega arith)) in
-    let f : x ≤ y = h 0 (omega arith) in
-    omega (arith, r, sum_by-cons (λ x. x) x xs, sum_by-cons (λ x. x) y ys)
-
--- a whole slice written again
-pub refill_whole : (xs ys : List ℕ) → length ys ≡ length xs → refill (length xs) xs ys ≡ ys
-refill_whole xs ys e = ap (λ n. take n (ys ++ drop (length ys) xs)) (sym e) ∙ take-append_seam ys (drop (length ys) xs)
-
-pub zeros_monomial : (n : ℕ) (zs : List ℕ) → zs ≡ replicate n 0 → IsMonomial n (unit n) zs
-zeros_monomial n zs e = record {
-  variables = ap length e ∙ length-replicate n 0;
-  exponents = ap (exponents_of n) e ∙ zeros_unit n;
-}
-
-pub one_monomial : (n i : ℕ) (zs : List ℕ) → i < n → zs ≡ set (replicate n 0) i 1 → IsMonomial n (variable n i) zs
-one_monomial n i zs lt e = record {
-  variables = ap length e ∙ length-set (replicate n 0) i 1 ∙ length-replicate n 0;
-  exponents = ap (exponents_of n) e ∙ one_variable n i lt;
-}

@@ -1,4 +1,7 @@
 -- what public clauses cite
+pub mod Kept
 pub mod Monomials
 pub mod Comparisons
 pub mod Laws
+-- what a type keeps
+pub mod Storage

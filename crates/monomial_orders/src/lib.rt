@@ -1,6 +1,6 @@
-//! Monomials as lists of exponents with their total degree, and the orders of monomials and of module monomials.
+//! Monomials as lists of exponents with their degree by weights, and the orders of monomials and of module monomials.
 //!
-//! A monomial is seen as its list of exponents; the comparisons are those of the crate `orders`, and each order
+//! A monomial is seen as its exponents and the degree that is kept; the comparisons are those of the crate `orders`, and each order
 //! comes with its laws: total, kept under multiplication, 1 is least, well-founded.
 #![tactic(auto)]
 
@@ -9,9 +9,13 @@ mod mono;
 mod order;
 mod order_laws;
 mod places;
+mod sixteen;
 mod stop;
+mod storage;
+mod weights;
 
 pub use mono::Mono;
 pub use order::{ModOrder, MonomialOrder, Order};
 pub use order_laws::key_orders;
 pub use stop::{MonoStop, NoMemory};
+pub use weights::Weights;

@@ -1,210 +1,265 @@
 // A monomial.
-ghost use Rattle.std.specs.Prelude.{ℕ, ◌≡◌, ◌≢◌, ◌<◌, ◌≤◌, ◌↔◌, ◌+◌, IsTrue, IsOk, Err, length, max, min, sum, slice_index, IfOk, IfErr, OnOk};
+ghost use Rattle.std.specs.Prelude.{ℕ, List, ◌≡◌, ◌≢◌, ◌<◌, ◌≤◌, ◌↔◌, ◌+◌, ◌*◌, length, max, min, slice_index, take};
+ghost use Rattle.std.specs.Prelude.{IsTrue, IsOk, Err, IfOk, IfErr, IfSome, OnOk};
 ghost use Rattle.monomials.specs.Exponents.{Divides, IsWithin, exponents_of, lcm, times, unit};
+ghost use Rattle.monomials.specs.Weights.{weighted_degree};
+ghost use Rattle.monomial_orders.specs.Kept.{HaveCommonWeights, IsWeighed};
+ghost use Rattle.monomial_orders.specs.Storage.{IsFilled, IsKept, IsStored, monomial_of, places_of, variables_of};
 ghost use Rattle.monomial_orders.specs.Monomials.{IsMonomial, IsPlaceByPlace, IsQuotient, StopsAbove, variable};
 
-use crate::places::{are_apart, differences, divides_places, maxima, one_at, sums, total, zeros};
-use crate::{MonoStop, NoMemory};
-use smallvec::SmallVec;
+use crate::places::total;
+use crate::storage::{
+    Stored, apart, differences, divides, equal, maxima, one_at, store, sums, zeros,
+};
+use crate::{MonoStop, NoMemory, Weights};
 use std::alloc::Global;
 use std::marker::Model;
 
-// The greatest total degree of what `from_exponents` and `mul` make.
+// The greatest degree of what `from_exponents` and `mul` make.
 const MAX_DEGREE: u128 = 65535;
 
-/// A monomial: an exponent for each variable of its ring, and its total degree.
+// The greatest degree that is kept.
+const MAX_KEPT: u128 = 4294967295;
+
+/// A monomial: an exponent for each variable of its ring, and its degree by the ring's weights.
 ///
-/// Contracts see the list of its exponents. Up to 16 variables need no memory of their own.
+/// Contracts see the two. Up to 16 variables need no memory of their own.
 #[derive(Drop)]
 pub struct Mono {
-    exponents: SmallVec<u16, 16>,
-    degree: u128,
+    stored: Stored,
 }
 
 impl Model for Mono {
-    ghost use Rattle.std.specs.Prelude.{ℕ, List};
-    ghost use Rattle.monomial_orders.specs.Monomials.{HasItsDegree};
+    ghost use Rattle.monomial_orders.specs.Kept.{Monomial};
+    ghost use Rattle.monomial_orders.specs.Storage.{IsKept, degree_kept, monomial_of, variables_of};
 
-    ghost Value = { List ℕ };
+    ghost Value = { Monomial };
 
-    ghost view = { λ m. m.exponents.items };
+    ghost view = { λ m. monomial_of (variables_of m.stored) (degree_kept m.stored) m.stored };
 
-    ghost invariant = { λ m. HasItsDegree m.degree m.exponents.items };
+    ghost invariant = { λ m. IsKept (variables_of m.stored) (degree_kept m.stored) m.stored };
+}
+
+// The degree of these exponents of n variables by the weights.
+fn degree_of(weights: &Weights, n: usize, stored: &Stored) -> u128
+    requires weights { length weights.now ≡ n }
+    requires filled { IsFilled n stored.now }
+    ensures value { result ≡ weighted_degree weights.now (exponents_of n (take n (places_of stored.now))) }
+    ensures held { (k : ℕ) → slice_index (places_of stored.now) k ≤ result }
+    ensures small { result ≤ 16711425 * n }
+{
+    let (exponents, _) = stored.as_slice().split_at(n);
+    total(weights.as_slice(), exponents)
 }
 
 impl Mono {
-    /// The monomial with these exponents. `Degree` exactly where the total degree is above 65,535; `Memory` over more than
-    /// 16 variables alone.
-    pub fn from_exponents(alloc: Global, exponents: &[u16]) -> Result<Mono, MonoStop>
-        ensures ok { IfOk result (λ m. m ≡ exponents.now) }
-        ensures small { OnOk result (sum exponents.now ≤ 65535) }
-        ensures above { 65535 < sum exponents.now → result ≡ Err MonoStop.Degree }
-        ensures stop { IfErr result (StopsAbove (sum exponents.now)) }
+    // The monomial that is stored so, with this degree.
+    fn keep(stored: Stored, degree: u128) -> Mono
+        requires { IsKept (variables_of stored) degree stored }
+        ensures { result ≡ monomial_of (variables_of stored) degree stored }
+    {
+        Mono {
+            stored: stored.with_degree(degree),
+        }
+    }
+
+    // How it is stored.
+    fn kept(&self) -> &Stored
+        ensures { IsStored self.now result.now }
+    {
+        &self.stored
+    }
+
+    /// The monomial with these exponents, in a ring of these weights. `Degree` exactly where its degree is above 65,535;
+    /// `Memory` over more than 16 variables alone.
+    pub fn from_exponents(
+        alloc: Global,
+        weights: &Weights,
+        exponents: &[u16],
+    ) -> Result<Mono, MonoStop>
+        requires variables { length weights.now ≡ length exponents.now }
+        ensures ok { IfOk result (λ m. m.exponents ≡ exponents.now) }
+        ensures weighed { IfOk result (IsWeighed (length exponents.now) weights.now) }
+        ensures small { OnOk result (weighted_degree weights.now (exponents_of (length exponents.now) exponents.now) ≤ 65535) }
+        ensures above { 65535 < weighted_degree weights.now (exponents_of (length exponents.now) exponents.now)
+            → result ≡ Err MonoStop.Degree }
+        ensures stop { IfErr result (StopsAbove (weighted_degree weights.now (exponents_of (length exponents.now) exponents.now))) }
         ensures no_memory { length exponents.now ≤ 16 → result ≢ Err MonoStop.Memory }
     {
-        let degree = total(exponents);
+        let degree = total(weights.as_slice(), exponents);
         if degree > MAX_DEGREE {
             return Err(MonoStop::Degree);
         }
-        Ok(Mono {
-            exponents: SmallVec::from_slice(alloc, exponents)?,
-            degree,
-        })
+        let stored = store(alloc, exponents)?;
+        Ok(Mono::keep(stored, degree))
     }
 
-    /// The monomial 1 in n variables.
+    /// The monomial 1 in n variables, of whatever weights.
     pub fn unit(alloc: Global, n: usize) -> Result<Mono, NoMemory>
-        ensures ok { IfOk result (IsMonomial n (unit n)) }
-        ensures degree { IfOk result (λ m. sum m ≡ 0) }
+        ensures ok { IfOk result (λ m. IsMonomial n (unit n) m.exponents) }
+        ensures weighed { IfOk result (λ m. (ws : List ℕ) → IsWeighed n ws m) }
+        ensures degree { IfOk result (λ m. m.degree ≡ 0) }
         ensures no_memory { n ≤ 16 → IsOk result }
     {
-        Ok(Mono {
-            exponents: zeros(alloc, n)?,
-            degree: 0,
-        })
+        let stored = zeros(alloc, n)?;
+        Ok(Mono::keep(stored, 0))
     }
 
-    /// The variable with the index i, from 0, of n.
-    pub fn variable(alloc: Global, n: usize, i: usize) -> Result<Mono, NoMemory>
-        requires { i < n }
-        ensures ok { IfOk result (IsMonomial n (variable n i)) }
-        ensures degree { IfOk result (λ m. sum m ≡ 1) }
-        ensures no_memory { n ≤ 16 → IsOk result }
+    /// The variable with the index i, from 0, in a ring of these weights.
+    pub fn variable(alloc: Global, weights: &Weights, i: usize) -> Result<Mono, NoMemory>
+        requires { i < length weights.now }
+        ensures ok { IfOk result (λ m. IsMonomial (length weights.now) (variable (length weights.now) i) m.exponents) }
+        ensures weighed { IfOk result (IsWeighed (length weights.now) weights.now) }
+        ensures degree { IfOk result (λ m. m.degree ≡ slice_index weights.now i) }
+        ensures no_memory { length weights.now ≤ 16 → IsOk result }
     {
-        Ok(Mono {
-            exponents: one_at(alloc, n, i)?,
-            degree: 1,
-        })
+        let stored = one_at(alloc, weights.len(), i)?;
+        Ok(Mono::keep(stored, u128::from(weights.as_slice()[i])))
     }
 
     /// The number of variables.
     pub fn variables(&self) -> usize
-        ensures { result ≡ length self.now }
+        ensures { result ≡ length self.now.exponents }
     {
-        self.exponents.len()
+        self.kept().variables()
     }
 
     /// The exponents, one for each variable.
     pub fn exponents(&self) -> &[u16]
-        ensures value { result.now ≡ self.now }
+        ensures value { result.now ≡ self.now.exponents }
     {
-        self.exponents.as_slice()
+        let (exponents, _) = self.kept().as_slice().split_at(self.variables());
+        exponents
     }
 
     /// The exponent of the variable with this index, from 0.
     pub fn exponent(&self, i: usize) -> u16
-        requires { i < length self.now }
-        ensures { result ≡ slice_index self.now i }
+        requires { i < length self.now.exponents }
+        ensures { result ≡ slice_index self.now.exponents i }
     {
-        self.exponents.as_slice()[i]
+        self.exponents()[i]
     }
 
-    /// The total degree.
+    /// The degree by the ring's weights.
     pub fn degree(&self) -> u128
-        ensures { result ≡ sum self.now }
+        ensures { result ≡ self.now.degree }
     {
-        self.degree
+        self.kept().degree()
     }
 
     /// Each exponent is at most 65,535. It does nothing: its contract is the law.
     pub fn bounds(&self)
-        ensures within { (n : ℕ) → IsWithin 65535 (exponents_of n self.now) }
-        ensures each { (k : ℕ) → slice_index self.now k ≤ 65535 }
+        ensures within { (n : ℕ) → IsWithin 65535 (exponents_of n self.now.exponents) }
+        ensures each { (k : ℕ) → slice_index self.now.exponents k ≤ 65535 }
+        ensures held { (k : ℕ) → slice_index self.now.exponents k ≤ self.now.degree }
     {
-        let _ = &self.degree;
+        let _ = self.kept();
     }
 
     /// The same monomial again.
     pub fn try_copy(&self, alloc: Global) -> Result<Mono, NoMemory>
         ensures ok { IfOk result (λ m. m ≡ self.now) }
-        ensures no_memory { length self.now ≤ 16 → IsOk result }
+        ensures no_memory { length self.now.exponents ≤ 16 → IsOk result }
     {
-        Ok(Mono {
-            exponents: SmallVec::from_slice(alloc, self.exponents.as_slice())?,
-            degree: self.degree,
-        })
+        let stored = self.kept().try_copy(alloc)?;
+        Ok(Mono { stored })
     }
 
-    /// The product a b. `Degree` exactly where its total degree is above 65,535; `Memory` over more than 16 variables alone.
+    /// The product a b. `Degree` exactly where its degree is above 65,535; `Memory` over more than 16 variables alone.
     pub fn mul(alloc: Global, a: &Mono, b: &Mono) -> Result<Mono, MonoStop>
-        requires variables { length a.now ≡ length b.now }
-        ensures ok { IfOk result
-            (IsMonomial (length a.now) (times (exponents_of (length a.now) a.now) (exponents_of (length a.now) b.now))) }
-        ensures sums { IfOk result (IsPlaceByPlace ◌+◌ a.now b.now) }
-        ensures degree { IfOk result (λ m. sum m ≡ sum a.now + sum b.now) }
-        ensures small { OnOk result (sum a.now + sum b.now ≤ 65535) }
-        ensures above { 65535 < sum a.now + sum b.now → result ≡ Err MonoStop.Degree }
-        ensures stop { IfErr result (StopsAbove (sum a.now + sum b.now)) }
-        ensures no_memory { length a.now ≤ 16 → result ≢ Err MonoStop.Memory }
+        requires variables { length a.now.exponents ≡ length b.now.exponents }
+        ensures ok { let n = length a.now.exponents in
+            IfOk result (λ m. IsMonomial n (times (exponents_of n a.now.exponents) (exponents_of n b.now.exponents)) m.exponents) }
+        ensures sums { IfOk result (λ m. IsPlaceByPlace ◌+◌ a.now.exponents b.now.exponents m.exponents) }
+        ensures degree { IfOk result (λ m. m.degree ≡ a.now.degree + b.now.degree) }
+        ensures weighed { let n = length a.now.exponents in
+            IfOk result (λ m. (ws : List ℕ) → IsWeighed n ws a.now → IsWeighed n ws b.now → IsWeighed n ws m) }
+        ensures small { OnOk result (a.now.degree + b.now.degree ≤ 65535) }
+        ensures above { 65535 < a.now.degree + b.now.degree → result ≡ Err MonoStop.Degree }
+        ensures stop { IfErr result (StopsAbove (a.now.degree + b.now.degree)) }
+        ensures no_memory { length a.now.exponents ≤ 16 → result ≢ Err MonoStop.Memory }
     {
         let degree = a.degree().saturating_add(b.degree());
         if degree > MAX_DEGREE {
             return Err(MonoStop::Degree);
         }
-        Ok(Mono {
-            exponents: sums(alloc, a.exponents(), b.exponents())?,
-            degree,
-        })
+        let stored = sums(alloc, a.variables(), a.kept(), b.kept())?;
+        Ok(Mono::keep(stored, degree))
     }
 
-    /// The least common multiple of a and b, of any degree.
-    pub fn lcm(alloc: Global, a: &Mono, b: &Mono) -> Result<Mono, NoMemory>
-        requires variables { length a.now ≡ length b.now }
-        ensures ok { IfOk result
-            (IsMonomial (length a.now) (lcm (exponents_of (length a.now) a.now) (exponents_of (length a.now) b.now))) }
-        ensures maxima { IfOk result (IsPlaceByPlace max a.now b.now) }
-        ensures no_memory { length a.now ≤ 16 → IsOk result }
+    /// The least common multiple of a and b in a ring of these weights. A degree of 2^32 or more, which only more than 257 variables
+    /// can have, has no room and answers `NoMemory`.
+    pub fn lcm(alloc: Global, weights: &Weights, a: &Mono, b: &Mono) -> Result<Mono, NoMemory>
+        requires variables { length a.now.exponents ≡ length b.now.exponents }
+        requires weights { length weights.now ≡ length a.now.exponents }
+        ensures ok { let n = length a.now.exponents in
+            IfOk result (λ m. IsMonomial n (lcm (exponents_of n a.now.exponents) (exponents_of n b.now.exponents)) m.exponents) }
+        ensures weighed { IfOk result (IsWeighed (length a.now.exponents) weights.now) }
+        ensures maxima { IfOk result (λ m. IsPlaceByPlace max a.now.exponents b.now.exponents m.exponents) }
+        ensures no_memory { length a.now.exponents ≤ 16 → IsOk result }
     {
-        let exponents = maxima(alloc, a.exponents(), b.exponents())?;
-        let degree = total(exponents.as_slice());
-        Ok(Mono { exponents, degree })
+        let n = a.variables();
+        let stored = maxima(alloc, n, a.kept(), b.kept())?;
+        let degree = degree_of(weights, n, &stored);
+        if degree > MAX_KEPT {
+            return Err(NoMemory);
+        }
+        Ok(Mono::keep(stored, degree))
     }
 
     /// The quotient a / b, or `None` exactly where b does not divide a.
     pub fn quotient(alloc: Global, a: &Mono, b: &Mono) -> Result<Option<Mono>, NoMemory>
-        requires variables { length a.now ≡ length b.now }
-        ensures ok { IfOk result (IsQuotient (length a.now) a.now b.now) }
-        ensures no_memory { length a.now ≤ 16 → IsOk result }
+        requires variables { length a.now.exponents ≡ length b.now.exponents }
+        requires weights { HaveCommonWeights (length a.now.exponents) a.now b.now }
+        ensures ok { IfOk result (IsQuotient (length a.now.exponents) a.now b.now) }
+        ensures weighed { let n = length a.now.exponents in
+            IfOk result (λ answer. IfSome answer (λ m. (ws : List ℕ) → IsWeighed n ws a.now → IsWeighed n ws b.now → IsWeighed n ws m)) }
+        ensures no_memory { length a.now.exponents ≤ 16 → IsOk result }
     {
         if !b.divides(a) {
             return Ok(None);
         }
-        Ok(Some(Mono {
-            exponents: differences(alloc, a.exponents(), b.exponents())?,
-            degree: a.degree() - b.degree(),
-        }))
+        let stored = differences(alloc, a.variables(), a.kept(), b.kept())?;
+        Ok(Some(Mono::keep(stored, a.degree() - b.degree())))
     }
 
     /// Does this monomial divide b?
     pub fn divides(&self, b: &Mono) -> bool
-        requires variables { length self.now ≡ length b.now }
-        ensures value { IsTrue result
-            ↔ Divides (exponents_of (length self.now) self.now) (exponents_of (length self.now) b.now) }
+        requires variables { length self.now.exponents ≡ length b.now.exponents }
+        ensures value { let n = length self.now.exponents in
+            IsTrue result ↔ Divides (exponents_of n self.now.exponents) (exponents_of n b.now.exponents) }
         ensures places { IsTrue result
-            ↔ ((k : ℕ) → k < length self.now → slice_index self.now k ≤ slice_index b.now k) }
+            ↔ ((k : ℕ) → k < length self.now.exponents → slice_index self.now.exponents k ≤ slice_index b.now.exponents k) }
     {
-        divides_places(self.exponents(), b.exponents())
+        divides(self.variables(), self.kept(), b.kept())
     }
 
     /// Have the two no variable in common? Then their product is their least common multiple.
     pub fn coprime(&self, b: &Mono) -> bool
-        requires variables { length self.now ≡ length b.now }
-        ensures value { IsTrue result
-            ↔ (times (exponents_of (length self.now) self.now) (exponents_of (length self.now) b.now)
-            ≡ lcm (exponents_of (length self.now) self.now) (exponents_of (length self.now) b.now)) }
+        requires variables { length self.now.exponents ≡ length b.now.exponents }
+        ensures value { let n = length self.now.exponents in
+            IsTrue result ↔ (times (exponents_of n self.now.exponents) (exponents_of n b.now.exponents)
+            ≡ lcm (exponents_of n self.now.exponents) (exponents_of n b.now.exponents)) }
         ensures places { IsTrue result
-            ↔ ((k : ℕ) → k < length self.now → min (slice_index self.now k) (slice_index b.now k) ≡ 0) }
+            ↔ ((k : ℕ) → k < length self.now.exponents → min (slice_index self.now.exponents k) (slice_index b.now.exponents k) ≡ 0) }
     {
-        are_apart(self.exponents(), b.exponents())
+        apart(self.variables(), self.kept(), b.kept())
     }
 
     /// Are the two one monomial?
     pub fn equal(&self, b: &Mono) -> bool
-        requires variables { length self.now ≡ length b.now }
         ensures value { IsTrue result ↔ (self.now ≡ b.now) }
-        ensures exponents { IsTrue result
-            ↔ (exponents_of (length self.now) self.now ≡ exponents_of (length self.now) b.now) }
+        ensures exponents { let n = length self.now.exponents in
+            (ws : List ℕ) → IsWeighed n ws self.now → IsWeighed n ws b.now
+            → (IsTrue result ↔ (exponents_of n self.now.exponents ≡ exponents_of n b.now.exponents)) }
     {
-        self.exponents() == b.exponents()
+        if self.degree() != b.degree() {
+            return false;
+        }
+        let n = self.variables();
+        if n != b.variables() {
+            return false;
+        }
+        equal(n, self.kept(), b.kept())
     }
 }

@@ -1,147 +1,116 @@
 // Loops over lists of exponents.
-ghost use Rattle.std.specs.Prelude.{ℕ, ◌≡◌, ◌<◌, ◌≤◌, ◌↔◌, ◌+◌, ◌-◌, IsTrue, IsOk, length, max, min, replicate, slice_index, slice_set, sum, IfOk};
+ghost use Rattle.std.specs.Prelude.{ℕ, ◌≡◌, ◌<◌, ◌≤◌, ◌↔◌, ◌+◌, ◌-◌, ◌*◌, IfOk, IsTrue, length, max, min, slice_index};
+ghost use Rattle.monomials.specs.Exponents.{exponents_of};
+ghost use Rattle.monomials.specs.Weights.{weighted_degree};
+ghost use Rattle.monomial_orders.specs.Kept.{AreWeights};
 ghost use Rattle.monomial_orders.specs.Monomials.{IsPlaceByPlace};
 
 use smallvec::SmallVec;
 use std::alloc::{AllocError, Global};
 
-/// n zeros, which need no memory up to 16.
-pub(crate) fn zeros(alloc: Global, n: usize) -> Result<SmallVec<u16, 16>, AllocError>
-    ensures items { IfOk result (λ v. v.items ≡ replicate n 0) }
-    ensures no_memory { n ≤ 16 → IsOk result }
-{
-    if n <= 16 {
-        Ok(SmallVec::from_buf_and_len(alloc, [0; 16], n))
-    } else {
-        SmallVec::from_elem(alloc, 0, n)
-    }
-}
-
-/// n zeros but a 1 at i.
-pub(crate) fn one_at(alloc: Global, n: usize, i: usize) -> Result<SmallVec<u16, 16>, AllocError>
-    requires { i < n }
-    ensures items { IfOk result (λ v. v.items ≡ slice_set (replicate n 0) i 1) }
-    ensures bounded { IfOk result (λ v. (k : ℕ) → slice_index v.items k < 65536) }
-    ensures no_memory { n ≤ 16 → IsOk result }
-{
-    let mut exponents = zeros(alloc, n)?;
-    exponents.as_mut_slice()[i] = 1;
-    Ok(exponents)
-}
-
-/// The sum of the exponents.
-pub(crate) fn total(a: &[u16]) -> u128
-    ensures { result ≡ sum a.now }
+/// The degree by the weights: the sum of weight times exponent.
+pub(crate) fn total(weights: &[u8], a: &[u16]) -> u128
+    requires variables { length weights.now ≡ length a.now }
+    requires positive { AreWeights weights.now }
+    ensures value { result ≡ weighted_degree weights.now (exponents_of (length a.now) a.now) }
+    ensures small { result ≤ 16711425 * length a.now }
 {
     let mut degree: u128 = 0;
-    for exponent in a {
-        degree += u128::from(*exponent);
+    for k in 0..a.len() {
+        degree += u128::from(u32::from(weights[k]) * u32::from(a[k]));
     }
     degree
 }
 
-/// Writes the sums, which have room.
-fn add_places(to: &mut [u16], a: &[u16], b: &[u16])
-    requires variables { length a.now ≡ length b.now }
-    requires place { length to.old ≡ length a.now }
-    requires room { sum a.now + sum b.now ≤ 65535 }
-    ensures places { IsPlaceByPlace ◌+◌ a.now b.now to.new }
-    ensures bounded { (k : ℕ) → slice_index to.new k < 65536 }
+/// The same number of variables, of fewer bits.
+pub(crate) fn count(n: usize) -> u32
+    requires { n < 4294967296 }
+    ensures { result ≡ n }
 {
-    for k in 0..a.len() {
-        to[k] = a[k] + b[k];
-    }
+    n as u32
 }
 
-/// Writes the larger of each two.
-fn max_places(to: &mut [u16], a: &[u16], b: &[u16])
-    requires variables { length a.now ≡ length b.now }
-    requires place { length to.old ≡ length a.now }
-    ensures places { IsPlaceByPlace max a.now b.now to.new }
-    ensures bounded { (k : ℕ) → slice_index to.new k < 65536 }
+/// The same degree, of fewer bits.
+pub(crate) fn narrow(n: u128) -> u32
+    requires { n < 4294967296 }
+    ensures { result ≡ n }
 {
-    for k in 0..a.len() {
-        to[k] = a[k].max(b[k]);
-    }
+    n as u32
 }
 
-/// Writes the differences, where none is negative.
-fn subtract_places(to: &mut [u16], a: &[u16], b: &[u16])
-    requires variables { length a.now ≡ length b.now }
-    requires place { length to.old ≡ length a.now }
-    requires room { (k : ℕ) → k < length a.now → slice_index b.now k ≤ slice_index a.now k }
-    ensures places { IsPlaceByPlace ◌-◌ a.now b.now to.new }
-    ensures bounded { (k : ℕ) → slice_index to.new k < 65536 }
+// What follows serves more than 16 variables, by calls of its own, so that the way over 16 places stays short.
+
+/// The same places again.
+#[cold]
+#[inline(never)]
+pub(crate) fn copy_places(alloc: Global, places: &[u16]) -> Result<SmallVec<u16, 16>, AllocError>
+    ensures { IfOk result (λ again. again.items ≡ places.now) }
 {
-    for k in 0..a.len() {
-        to[k] = a[k] - b[k];
-    }
+    SmallVec::from_slice(alloc, places)
 }
 
 /// The sums, which have room.
-pub(crate) fn sums(alloc: Global, a: &[u16], b: &[u16]) -> Result<SmallVec<u16, 16>, AllocError>
+#[cold]
+#[inline(never)]
+pub(crate) fn add_places(
+    alloc: Global,
+    a: &[u16],
+    b: &[u16],
+) -> Result<SmallVec<u16, 16>, AllocError>
     requires variables { length a.now ≡ length b.now }
-    requires room { sum a.now + sum b.now ≤ 65535 }
-    ensures places { IfOk result (λ v. IsPlaceByPlace ◌+◌ a.now b.now v.items) }
-    ensures bounded { IfOk result (λ v. (k : ℕ) → slice_index v.items k < 65536) }
-    ensures no_memory { length a.now ≤ 16 → IsOk result }
+    requires room { (k : ℕ) → k < length a.now → slice_index a.now k + slice_index b.now k ≤ 65535 }
+    ensures places { IfOk result (λ to. IsPlaceByPlace ◌+◌ a.now b.now to.items) }
+    ensures bounded { IfOk result (λ to. (k : ℕ) → slice_index to.items k < 65536) }
 {
-    let n = a.len();
-    if n <= 16 {
-        // Written in place, so that the exponents are moved once.
-        let mut places = [0; 16];
-        add_places(&mut places[..n], a, b);
-        return Ok(SmallVec::from_buf_and_len(alloc, places, n));
+    let mut to = vec![in alloc; 0; a.len()]?;
+    for k in 0..a.len() {
+        to[k] = a[k] + b[k];
     }
-    let mut exponents = SmallVec::from_elem(alloc, 0, n)?;
-    add_places(exponents.as_mut_slice(), a, b);
-    Ok(exponents)
+    Ok(SmallVec::from_vec(to))
 }
 
 /// The larger of each two.
-pub(crate) fn maxima(alloc: Global, a: &[u16], b: &[u16]) -> Result<SmallVec<u16, 16>, AllocError>
+#[cold]
+#[inline(never)]
+pub(crate) fn max_places(
+    alloc: Global,
+    a: &[u16],
+    b: &[u16],
+) -> Result<SmallVec<u16, 16>, AllocError>
     requires variables { length a.now ≡ length b.now }
-    ensures places { IfOk result (λ v. IsPlaceByPlace max a.now b.now v.items) }
-    ensures bounded { IfOk result (λ v. (k : ℕ) → slice_index v.items k < 65536) }
-    ensures no_memory { length a.now ≤ 16 → IsOk result }
+    ensures places { IfOk result (λ to. IsPlaceByPlace max a.now b.now to.items) }
+    ensures bounded { IfOk result (λ to. (k : ℕ) → slice_index to.items k < 65536) }
 {
-    let n = a.len();
-    if n <= 16 {
-        // Written in place, so that the exponents are moved once.
-        let mut places = [0; 16];
-        max_places(&mut places[..n], a, b);
-        return Ok(SmallVec::from_buf_and_len(alloc, places, n));
+    let mut to = vec![in alloc; 0; a.len()]?;
+    for k in 0..a.len() {
+        to[k] = a[k].max(b[k]);
     }
-    let mut exponents = SmallVec::from_elem(alloc, 0, n)?;
-    max_places(exponents.as_mut_slice(), a, b);
-    Ok(exponents)
+    Ok(SmallVec::from_vec(to))
 }
 
 /// The differences, where none is negative.
-pub(crate) fn differences(
+#[cold]
+#[inline(never)]
+pub(crate) fn subtract_places(
     alloc: Global,
     a: &[u16],
     b: &[u16],
 ) -> Result<SmallVec<u16, 16>, AllocError>
     requires variables { length a.now ≡ length b.now }
     requires room { (k : ℕ) → k < length a.now → slice_index b.now k ≤ slice_index a.now k }
-    ensures places { IfOk result (λ v. IsPlaceByPlace ◌-◌ a.now b.now v.items) }
-    ensures bounded { IfOk result (λ v. (k : ℕ) → slice_index v.items k < 65536) }
-    ensures no_memory { length a.now ≤ 16 → IsOk result }
+    ensures places { IfOk result (λ to. IsPlaceByPlace ◌-◌ a.now b.now to.items) }
+    ensures bounded { IfOk result (λ to. (k : ℕ) → slice_index to.items k < 65536) }
 {
-    let n = a.len();
-    if n <= 16 {
-        // Written in place, so that the exponents are moved once.
-        let mut places = [0; 16];
-        subtract_places(&mut places[..n], a, b);
-        return Ok(SmallVec::from_buf_and_len(alloc, places, n));
+    let mut to = vec![in alloc; 0; a.len()]?;
+    for k in 0..a.len() {
+        to[k] = a[k] - b[k];
     }
-    let mut exponents = SmallVec::from_elem(alloc, 0, n)?;
-    subtract_places(exponents.as_mut_slice(), a, b);
-    Ok(exponents)
+    Ok(SmallVec::from_vec(to))
 }
 
 /// Is each exponent at most the other's?
+#[cold]
+#[inline(never)]
 pub(crate) fn divides_places(a: &[u16], b: &[u16]) -> bool
     requires { length a.now ≡ length b.now }
     ensures { IsTrue result ↔ ((k : ℕ) → k < length a.now → slice_index a.now k ≤ slice_index b.now k) }
@@ -155,6 +124,8 @@ pub(crate) fn divides_places(a: &[u16], b: &[u16]) -> bool
 }
 
 /// Is one of each two exponents 0?
+#[cold]
+#[inline(never)]
 pub(crate) fn are_apart(a: &[u16], b: &[u16]) -> bool
     requires { length a.now ≡ length b.now }
     ensures { IsTrue result ↔ ((k : ℕ) → k < length a.now → min (slice_index a.now k) (slice_index b.now k) ≡ 0) }

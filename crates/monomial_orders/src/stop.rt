@@ -4,7 +4,8 @@ ghost use Rattle.monomial_orders.specs.declared.stop.MonoStop.TheVariants.{Memor
 
 use std::alloc::{AllocError, AllocFailed};
 
-/// There was no memory for a monomial of more than 16 variables.
+/// There was no memory for a monomial of more than 16 variables, or no room for the degree of 2^32 or more of a least common
+/// multiple over more than 257 variables.
 #[derive(Clone, Copy, Debug, PartialEq, Eq)]
 pub struct NoMemory;
 
@@ -23,9 +24,9 @@ impl<T: Drop> From<AllocFailed<T>> for NoMemory {
 /// Why there is no such monomial.
 #[derive(Clone, Copy, Debug, PartialEq, Eq)]
 pub enum MonoStop {
-    /// There was no memory, of more than 16 variables alone.
+    /// There was no memory for a monomial of more than 16 variables.
     Memory,
-    /// The total degree is above 65,535.
+    /// The degree is above 65,535.
     Degree,
 }
 

@@ -12,6 +12,9 @@ use Rattle.std.proofs.lemmas.Bool.Decides.{nat_tests}
 use Rattle.formal_sums.specs.FormalSums.{Each, Key as KeyOf}
 use Rattle.orders.specs.KeyOrders.{Descends, IsKeyOrder}
 use Rattle.orders.proofs.KeyOrdering.{less_of_greater}
+use Rattle.monomials.specs.Exponents.{exponents_of}
+use Rattle.monomial_orders.proofs.Over.{weighed_exact}
+use Rattle.monomial_orders.specs.Kept.{IsWeighed, Monomial}
 use Rattle.module_vectors.specs.Vectors.{HasPositions, key_of, sum_of}
 use Rattle.module_vectors.specs.declared.key.Key.{Key}
 use Rattle.poly_text.specs.Names.{AreNames}
@@ -25,29 +28,34 @@ same_term : (t u : Key × ℕ) → t.0.position ≡ u.0.position → t.0.monomia
 same_term t u p m r =
     ap (λ x. (record t.0 { position = x }, t.1)) p ∙ ap (λ x. (record u.0 { monomial = x }, t.1)) m ∙ ap (λ x. (u.0, x)) r
 
+-- over the same weights the exponents say the monomial
+weighed_same : (n : ℕ) (ws : List ℕ) (a b : Monomial) → IsWeighed n ws a → IsWeighed n ws b → a.exponents ≡ b.exponents → a ≡ b
+weighed_same n ws a b ha hb e = weighed_exact n ws a b ha hb (ap (exponents_of n) e)
+
 -- all terms stand at the position
 abbrev pub AreAt : ℕ → List (Key × ℕ) → Type 0
 AreAt i terms = Each (λ t. t.0.position ≡ i) terms
 
-term_injective : (names : List (List ℕ)) (i : ℕ) (t u : Key × ℕ) → AreNames names → IsPrintable (length names) t → IsPrintable (length names) u
+term_injective : (names : List (List ℕ)) (ws : List ℕ) (i : ℕ) (t u : Key × ℕ) → AreNames names → IsPrintable (length names) ws t → IsPrintable (length names) ws u
     → t.0.position ≡ i → u.0.position ≡ i → term_text names t ≡ term_text names u → t ≡ u
-term_injective names i t u hn ht hu at au e =
-    let both = product_injective t.1 u.1 (powers_texts names t.0.monomial) (powers_texts names u.0.monomial) ht.residue hu.residue
-    (powers_are names t.0.monomial hn.0 ht.exponents) (powers_are names u.0.monomial hn.0 hu.exponents) e in
+term_injective names ws i t u hn ht hu at au e =
+    let both = product_injective t.1 u.1 (powers_texts names t.0.monomial.exponents) (powers_texts names u.0.monomial.exponents) ht.residue hu.residue
+    (powers_are names t.0.monomial.exponents hn.0 ht.exponents) (powers_are names u.0.monomial.exponents hn.0 hu.exponents) e in
     same_term t u (at ∙ sym au)
-    (powers_injective names t.0.monomial u.0.monomial hn.0 hn.1 ht.variables hu.variables ht.exponents hu.exponents both.1)
+    (weighed_same (length names) ws t.0.monomial u.0.monomial ht.weighed hu.weighed
+    (powers_injective names t.0.monomial.exponents u.0.monomial.exponents hn.0 hn.1 ht.weighed.variables hu.weighed.variables ht.exponents hu.exponents both.1))
     both.0
 
-terms_injective : (names : List (List ℕ)) (i : ℕ) (v w : List (Key × ℕ)) → AreNames names → Each (IsPrintable (length names)) v → Each (IsPrintable (length names)) w
+terms_injective : (names : List (List ℕ)) (ws : List ℕ) (i : ℕ) (v w : List (Key × ℕ)) → AreNames names → Each (IsPrintable (length names) ws) v → Each (IsPrintable (length names) ws) w
     → AreAt i v → AreAt i w → map (term_text names) v ≡ map (term_text names) w → v ≡ w
-terms_injective names i [] [] hn hv hw av aw e = refl
-terms_injective names i [] (u ∷ w) hn hv hw av aw e = absurd cc
-terms_injective names i (t ∷ v) [] hn hv hw av aw e = absurd cc
-terms_injective names i (t ∷ v) (u ∷ w) hn hv hw av aw e =
+terms_injective names ws i [] [] hn hv hw av aw e = refl
+terms_injective names ws i [] (u ∷ w) hn hv hw av aw e = absurd cc
+terms_injective names ws i (t ∷ v) [] hn hv hw av aw e = absurd cc
+terms_injective names ws i (t ∷ v) (u ∷ w) hn hv hw av aw e =
     let head : term_text names t ≡ term_text names u = cc in
     let rest : map (term_text names) v ≡ map (term_text names) w = cc in
-    let first = term_injective names i t u hn hv.0 hw.0 av.0 aw.0 head in
-    let more = terms_injective names i v w hn hv.1 hw.1 av.1 aw.1 rest in
+    let first = term_injective names ws i t u hn hv.0 hw.0 av.0 aw.0 head in
+    let more = terms_injective names ws i v w hn hv.1 hw.1 av.1 aw.1 rest in
     cc
 
 -- the texts between the + of a polynomial; zero is a product of the residue 0 and no powers
@@ -63,50 +71,50 @@ summands_some : (names : List (List ℕ)) (v : List (Key × ℕ)) → 0 < length
 summands_some names [] = omega arith
 summands_some names (t ∷ ts) = omega arith
 
-terms_bytes : (names : List (List ℕ)) (v : List (Key × ℕ)) → AreNames names → Each (IsPrintable (length names)) v → Each (Each IsTermByte) (map (term_text names) v)
-terms_bytes names [] hn hv = tt
-terms_bytes names (t ∷ ts) hn hv =
-    (product_bytes t.1 (powers_texts names t.0.monomial) hv.0.residue (powers_are names t.0.monomial hn.0 hv.0.exponents), terms_bytes names ts hn hv.1)
+terms_bytes : (names : List (List ℕ)) (ws : List ℕ) (v : List (Key × ℕ)) → AreNames names → Each (IsPrintable (length names) ws) v → Each (Each IsTermByte) (map (term_text names) v)
+terms_bytes names ws [] hn hv = tt
+terms_bytes names ws (t ∷ ts) hn hv =
+    (product_bytes t.1 (powers_texts names t.0.monomial.exponents) hv.0.residue (powers_are names t.0.monomial.exponents hn.0 hv.0.exponents), terms_bytes names ws ts hn hv.1)
 
-summands_bytes : (names : List (List ℕ)) (v : List (Key × ℕ)) → AreNames names → Each (IsPrintable (length names)) v → Each (Each IsTermByte) (summands names v)
-summands_bytes names [] hn hv = (product_bytes 0 [] (omega arith) tt, tt)
-summands_bytes names (t ∷ ts) hn hv = terms_bytes names (t ∷ ts) hn hv
+summands_bytes : (names : List (List ℕ)) (ws : List ℕ) (v : List (Key × ℕ)) → AreNames names → Each (IsPrintable (length names) ws) v → Each (Each IsTermByte) (summands names v)
+summands_bytes names ws [] hn hv = (product_bytes 0 [] (omega arith) tt, tt)
+summands_bytes names ws (t ∷ ts) hn hv = terms_bytes names ws (t ∷ ts) hn hv
 
 summands_free : (xs : List (List ℕ)) → Each (Each IsTermByte) xs → Each (Free 43) xs
 summands_free xs h = each_map (Each IsTermByte) (Free 43) xs (λ x k. each_map IsTermByte (λ c. c ≢ 43) x (λ c l. l.1) k) h
 
 -- zero is not the text of a term
-not_zero : (names : List (List ℕ)) (t : Key × ℕ) → AreNames names → IsPrintable (length names) t → joined 42 (factor_texts 0 []) ≡ term_text names t → ⊥
-not_zero names t hn ht e =
-    let both = product_injective 0 t.1 [] (powers_texts names t.0.monomial) (omega arith) ht.residue tt (powers_are names t.0.monomial hn.0 ht.exponents) e in
+not_zero : (names : List (List ℕ)) (ws : List ℕ) (t : Key × ℕ) → AreNames names → IsPrintable (length names) ws t → joined 42 (factor_texts 0 []) ≡ term_text names t → ⊥
+not_zero names ws t hn ht e =
+    let both = product_injective 0 t.1 [] (powers_texts names t.0.monomial.exponents) (omega arith) ht.residue tt (powers_are names t.0.monomial.exponents hn.0 ht.exponents) e in
     absurd (omega (arith, both.0, ht.nonzero))
 
-summands_injective : (names : List (List ℕ)) (i : ℕ) (v w : List (Key × ℕ)) → AreNames names → Each (IsPrintable (length names)) v → Each (IsPrintable (length names)) w
+summands_injective : (names : List (List ℕ)) (ws : List ℕ) (i : ℕ) (v w : List (Key × ℕ)) → AreNames names → Each (IsPrintable (length names) ws) v → Each (IsPrintable (length names) ws) w
     → AreAt i v → AreAt i w → summands names v ≡ summands names w → v ≡ w
-summands_injective names i [] [] hn hv hw av aw e = refl
-summands_injective names i [] (u ∷ w) hn hv hw av aw e =
-    let head : joined 42 (factor_texts 0 []) ≡ term_text names u = cc in absurd (not_zero names u hn hw.0 head)
-summands_injective names i (t ∷ v) [] hn hv hw av aw e =
-    let head : joined 42 (factor_texts 0 []) ≡ term_text names t = cc in absurd (not_zero names t hn hv.0 head)
-summands_injective names i (t ∷ v) (u ∷ w) hn hv hw av aw e = terms_injective names i (t ∷ v) (u ∷ w) hn hv hw av aw e
+summands_injective names ws i [] [] hn hv hw av aw e = refl
+summands_injective names ws i [] (u ∷ w) hn hv hw av aw e =
+    let head : joined 42 (factor_texts 0 []) ≡ term_text names u = cc in absurd (not_zero names ws u hn hw.0 head)
+summands_injective names ws i (t ∷ v) [] hn hv hw av aw e =
+    let head : joined 42 (factor_texts 0 []) ≡ term_text names t = cc in absurd (not_zero names ws t hn hv.0 head)
+summands_injective names ws i (t ∷ v) (u ∷ w) hn hv hw av aw e = terms_injective names ws i (t ∷ v) (u ∷ w) hn hv hw av aw e
 
 -- a polynomial's text says its terms
-pub poly_injective : (names : List (List ℕ)) (i : ℕ) (v w : List (Key × ℕ)) → AreNames names → Each (IsPrintable (length names)) v → Each (IsPrintable (length names)) w
+pub poly_injective : (names : List (List ℕ)) (ws : List ℕ) (i : ℕ) (v w : List (Key × ℕ)) → AreNames names → Each (IsPrintable (length names) ws) v → Each (IsPrintable (length names) ws) w
     → AreAt i v → AreAt i w → poly_text names v ≡ poly_text names w → v ≡ w
-poly_injective names i v w hn hv hw av aw e =
-    summands_injective names i v w hn hv hw av aw
+poly_injective names ws i v w hn hv hw av aw e =
+    summands_injective names ws i v w hn hv hw av aw
     (joined_same 43 (summands names v) (summands names w) (summands_some names v) (summands_some names w)
-    (summands_free _ (summands_bytes names v hn hv)) (summands_free _ (summands_bytes names w hn hw)) (sym (poly_is names v) ∙ e ∙ poly_is names w))
+    (summands_free _ (summands_bytes names ws v hn hv)) (summands_free _ (summands_bytes names ws w hn hw)) (sym (poly_is names v) ∙ e ∙ poly_is names w))
 
 -- the byte of a polynomial: no comma and no newline
 abbrev IsPolyByte : ℕ → Type 0
 IsPolyByte c = (42 ≤ c) × (c ≢ 44)
 
-pub poly_bytes : (names : List (List ℕ)) (v : List (Key × ℕ)) → AreNames names → Each (IsPrintable (length names)) v → Each IsPolyByte (poly_text names v)
-poly_bytes names v hn hv =
+pub poly_bytes : (names : List (List ℕ)) (ws : List ℕ) (v : List (Key × ℕ)) → AreNames names → Each (IsPrintable (length names) ws) v → Each IsPolyByte (poly_text names v)
+poly_bytes names ws v hn hv =
     rw (poly_is names v)
     (each_joined IsPolyByte 43 (summands names v) (omega arith, λ e. absurd (omega arith))
-    (each_map (Each IsTermByte) (Each IsPolyByte) (summands names v) (λ x k. each_map IsTermByte IsPolyByte x (λ c l. (l.0, l.2)) k) (summands_bytes names v hn hv)))
+    (each_map (Each IsTermByte) (Each IsPolyByte) (summands names v) (λ x k. each_map IsTermByte IsPolyByte x (λ c l. (l.0, l.2)) k) (summands_bytes names ws v hn hv)))
 
 each_filtered : {X : Type 0} (P : X → Type 0) (test : X → Bool) (xs : List X) → Each P xs → Each P (filter test xs)
 each_filtered P test [] h = tt
@@ -126,31 +134,31 @@ each_entry : (P : List ℕ → Type 0) (f : ℕ → List ℕ) (a n : ℕ) → ((
 each_entry P f a zero h = tt
 each_entry P f a (suc n) h = (h a, each_entry P f (a + 1) n h)
 
-entry_bytes : (names : List (List ℕ)) (v : List (Key × ℕ)) (i : ℕ) → AreNames names → Each (IsPrintable (length names)) v → Each IsPolyByte (poly_text names (terms_at i v))
-entry_bytes names v i hn hv = poly_bytes names (terms_at i v) hn (each_filtered (IsPrintable (length names)) (λ t. t.0.position == i) v hv)
+entry_bytes : (names : List (List ℕ)) (ws : List ℕ) (v : List (Key × ℕ)) (i : ℕ) → AreNames names → Each (IsPrintable (length names) ws) v → Each IsPolyByte (poly_text names (terms_at i v))
+entry_bytes names ws v i hn hv = poly_bytes names ws (terms_at i v) hn (each_filtered (IsPrintable (length names) ws) (λ t. t.0.position == i) v hv)
 
-entries_free : (names : List (List ℕ)) (rank : ℕ) (v : List (Key × ℕ)) → AreNames names → Each (IsPrintable (length names)) v → Each (Free 44) (entry_texts names rank v)
-entries_free names rank v hn hv =
+entries_free : (names : List (List ℕ)) (ws : List ℕ) (rank : ℕ) (v : List (Key × ℕ)) → AreNames names → Each (IsPrintable (length names) ws) v → Each (Free 44) (entry_texts names rank v)
+entries_free names ws rank v hn hv =
     each_entry (Free 44) (λ i. poly_text names (terms_at i v)) 0 rank
-    (λ i. each_map IsPolyByte (λ c. c ≢ 44) (poly_text names (terms_at i v)) (λ c l. l.1) (entry_bytes names v i hn hv))
+    (λ i. each_map IsPolyByte (λ c. c ≢ 44) (poly_text names (terms_at i v)) (λ c l. l.1) (entry_bytes names ws v i hn hv))
 
 -- the texts of the entries say what stands at each position
-entries_injective : (names : List (List ℕ)) (rank : ℕ) (v w : List (Key × ℕ)) → AreNames names → Each (IsPrintable (length names)) v → Each (IsPrintable (length names)) w
+entries_injective : (names : List (List ℕ)) (ws : List ℕ) (rank : ℕ) (v w : List (Key × ℕ)) → AreNames names → Each (IsPrintable (length names) ws) v → Each (IsPrintable (length names) ws) w
     → entries_text names rank v ≡ entries_text names rank w → (i : ℕ) → i < rank → terms_at i v ≡ terms_at i w
-entries_injective names zero v w hn hv hw e i below = absurd (omega arith)
-entries_injective names (suc k) v w hn hv hw e i below =
+entries_injective names ws zero v w hn hv hw e i below = absurd (omega arith)
+entries_injective names ws (suc k) v w hn hv hw e i below =
     let f : ℕ → List ℕ = λ j. poly_text names (terms_at j v) in
     let g : ℕ → List ℕ = λ j. poly_text names (terms_at j w) in
     let inner : joined 44 (entry_texts names (suc k) v) ++ 93 ∷ [] ≡ joined 44 (entry_texts names (suc k) w) ++ 93 ∷ [] = cc in
     let same : joined 44 (entry_texts names (suc k) v) ≡ joined 44 (entry_texts names (suc k) w) = append_cancel_right _ _ (93 ∷ []) inner in
     let all : entry_texts names (suc k) v ≡ entry_texts names (suc k) w
     = joined_same 44 (entry_texts names (suc k) v) (entry_texts names (suc k) w) (omega arith) (omega arith)
-    (entries_free names (suc k) v hn hv) (entries_free names (suc k) w hn hw) same in
+    (entries_free names ws (suc k) v hn hv) (entries_free names ws (suc k) w hn hw) same in
     let here : f i ≡ g i
     = sym (get_or-map-range_with_len f 0 (suc k) i i [] below (omega arith)) ∙ ap (λ xs. get_or xs i []) all
     ∙ get_or-map-range_with_len g 0 (suc k) i i [] below (omega arith) in
-    poly_injective names i (terms_at i v) (terms_at i w) hn
-    (each_filtered (IsPrintable (length names)) (λ t. t.0.position == i) v hv) (each_filtered (IsPrintable (length names)) (λ t. t.0.position == i) w hw)
+    poly_injective names ws i (terms_at i v) (terms_at i w) hn
+    (each_filtered (IsPrintable (length names) ws) (λ t. t.0.position == i) v hv) (each_filtered (IsPrintable (length names) ws) (λ t. t.0.position == i) w hw)
     (at_position_at i v) (at_position_at i w) here
 
 -- nothing stands at the positions past the rank
@@ -209,34 +217,34 @@ sorted_same {n} compare apart (t ∷ v) (u ∷ w) dv dw e =
       first (inr a) (inr b) more = absurd (apart (key_of n u.0) (key_of n t.0) (each_among compare (key_of n u.0) t w dw.0 a) (each_among compare (key_of n t.0) u v dv.0 b))
 
 -- a vector's text says the vector
-pub vector_injective : (names : List (List ℕ)) (rank : ℕ) (compare : KeyOf (length names) → KeyOf (length names) → Ordering) (v w : List (Key × ℕ))
-    → AreNames names → IsKeyOrder rank compare → IsPrintableVector (length names) rank compare v → IsPrintableVector (length names) rank compare w
+pub vector_injective : (names : List (List ℕ)) (ws : List ℕ) (rank : ℕ) (compare : KeyOf (length names) → KeyOf (length names) → Ordering) (v w : List (Key × ℕ))
+    → AreNames names → IsKeyOrder rank compare → IsPrintableVector (length names) ws rank compare v → IsPrintableVector (length names) ws rank compare w
     → vector_text names rank v ≡ vector_text names rank w → v ≡ w
-vector_injective names rank compare v w hn order hv hw e = go (rank == 1) refl e where
+vector_injective names ws rank compare v w hn order hv hw e = go (rank == 1) refl e where
   at_zero : (x : List (Key × ℕ)) → HasPositions rank x → rank ≡ 1 → AreAt 0 x
   at_zero x h one = each_map (λ t. t.0.position < rank) (λ t. t.0.position ≡ 0) x (λ t k. omega arith) h
 
   go : (b : Bool) → (rank == 1) ≡ b → cond b (poly_text names v) (entries_text names rank v) ≡ cond b (poly_text names w) (entries_text names rank w) → v ≡ w
   go true one k =
       let r : rank ≡ 1 = grind (arith, nat_tests) in
-      poly_injective names 0 v w hn hv.each hw.each (at_zero v hv.positions r) (at_zero w hw.positions r) k
+      poly_injective names ws 0 v w hn hv.each hw.each (at_zero v hv.positions r) (at_zero w hw.positions r) k
   go false other k =
       sorted_same compare (λ a b h l. let back = less_of_greater order a b h in cc) v w hv.descends hw.descends
-      (everywhere rank v w hv.positions hw.positions (entries_injective names rank v w hn hv.each hw.each k))
+      (everywhere rank v w hv.positions hw.positions (entries_injective names ws rank v w hn hv.each hw.each k))
 
 -- a vector's text has no newline
-vector_free : (names : List (List ℕ)) (rank : ℕ) (v : List (Key × ℕ)) → AreNames names → Each (IsPrintable (length names)) v → Free 10 (vector_text names rank v)
-vector_free names rank v hn hv = go (rank == 1) where
+vector_free : (names : List (List ℕ)) (ws : List ℕ) (rank : ℕ) (v : List (Key × ℕ)) → AreNames names → Each (IsPrintable (length names) ws) v → Free 10 (vector_text names rank v)
+vector_free names ws rank v hn hv = go (rank == 1) where
   far : (x : List ℕ) → Each IsPolyByte x → Free 10 x
   far x h = each_map IsPolyByte (λ c. c ≢ 10) x (λ c l e. absurd (omega (arith, l.0))) h
 
   go : (b : Bool) → Free 10 (cond b (poly_text names v) (entries_text names rank v))
-  go true = far (poly_text names v) (poly_bytes names v hn hv)
+  go true = far (poly_text names v) (poly_bytes names ws v hn hv)
   go false = (
     (λ e. absurd (omega arith)),
     each_append (λ c. c ≢ 10) (joined 44 (entry_texts names rank v)) (93 ∷ [])
         (each_joined (λ c. c ≢ 10) 44 (entry_texts names rank v) (λ e. absurd (omega arith))
-        (each_entry (Free 10) (λ i. poly_text names (terms_at i v)) 0 rank (λ i. far (poly_text names (terms_at i v)) (entry_bytes names v i hn hv))))
+        (each_entry (Free 10) (λ i. poly_text names (terms_at i v)) 0 rank (λ i. far (poly_text names (terms_at i v)) (entry_bytes names ws v i hn hv))))
         ((λ e. absurd (omega arith)), tt),
   )
 
@@ -245,20 +253,20 @@ no_line [] rest e = cc
 no_line (c ∷ x) rest e = cc
 
 -- a list's text says the list
-pub list_injective : (names : List (List ℕ)) (rank : ℕ) (compare : KeyOf (length names) → KeyOf (length names) → Ordering) (xs ys : List (List (Key × ℕ)))
+pub list_injective : (names : List (List ℕ)) (ws : List ℕ) (rank : ℕ) (compare : KeyOf (length names) → KeyOf (length names) → Ordering) (xs ys : List (List (Key × ℕ)))
     → AreNames names → IsKeyOrder rank compare
-    → Each (IsPrintableVector (length names) rank compare) xs → Each (IsPrintableVector (length names) rank compare) ys
+    → Each (IsPrintableVector (length names) ws rank compare) xs → Each (IsPrintableVector (length names) ws rank compare) ys
     → list_text names rank xs ≡ list_text names rank ys → xs ≡ ys
-list_injective names rank compare [] [] hn order hx hy e = refl
-list_injective names rank compare [] (y ∷ ys) hn order hx hy e = absurd (no_line (vector_text names rank y) (list_text names rank ys) e)
-list_injective names rank compare (x ∷ xs) [] hn order hx hy e = absurd (no_line (vector_text names rank x) (list_text names rank xs) (sym e))
-list_injective names rank compare (x ∷ xs) (y ∷ ys) hn order hx hy e =
+list_injective names ws rank compare [] [] hn order hx hy e = refl
+list_injective names ws rank compare [] (y ∷ ys) hn order hx hy e = absurd (no_line (vector_text names rank y) (list_text names rank ys) e)
+list_injective names ws rank compare (x ∷ xs) [] hn order hx hy e = absurd (no_line (vector_text names rank x) (list_text names rank xs) (sym e))
+list_injective names ws rank compare (x ∷ xs) (y ∷ ys) hn order hx hy e =
     let split = cut 10 (vector_text names rank x) (vector_text names rank y) (10 ∷ list_text names rank xs) (10 ∷ list_text names rank ys)
-    (vector_free names rank x hn hx.0.each) (vector_free names rank y hn hy.0.each) refl refl
+    (vector_free names ws rank x hn hx.0.each) (vector_free names ws rank y hn hy.0.each) refl refl
     (sym (append_assoc (vector_text names rank x) (10 ∷ []) (list_text names rank xs)) ∙ e ∙ append_assoc (vector_text names rank y) (10 ∷ []) (list_text names rank ys)) in
-    let first = vector_injective names rank compare x y hn order hx.0 hy.0 split.0 in
+    let first = vector_injective names ws rank compare x y hn order hx.0 hy.0 split.0 in
     let below : list_text names rank xs ≡ list_text names rank ys = cc in
-    let more = list_injective names rank compare xs ys hn order hx.1 hy.1 below in
+    let more = list_injective names ws rank compare xs ys hn order hx.1 hy.1 below in
     cc
 
 no_sign : (x y : List ℕ) → AreDigits x → x ≡ 45 ∷ y → ⊥

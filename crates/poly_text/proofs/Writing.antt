@@ -75,21 +75,21 @@ powers_taken f names exponents i x b name out new whole same below is_x some is_
     ∙ ap (λ ps. out ++ powers_rest b ps) (sym (powers_more f names exponents i x same below is_x)) ∙ known
 
 -- a whole term
-pub term_with_one : (names : List (List ℕ)) (t : Key × ℕ) (exponents old new : List ℕ) → t.1 ≡ 1 → exponents ≡ t.0.monomial
+pub term_with_one : (names : List (List ℕ)) (t : Key × ℕ) (exponents old new : List ℕ) → t.1 ≡ 1 → exponents ≡ t.0.monomial.exponents
     → new ≡ old ++ powers_rest false (powers_texts names exponents) → new ≡ old ++ term_text names t
 term_with_one names t exponents old new one same known =
     known ∙ ap (λ es. old ++ powers_rest false (powers_texts names es)) same
-    ∙ ap (λ r. old ++ r) (sym (term_of_one (powers_texts names t.0.monomial)))
-    ∙ ap (λ c. old ++ joined 42 (factor_texts c (powers_texts names t.0.monomial))) (sym one)
+    ∙ ap (λ r. old ++ r) (sym (term_of_one (powers_texts names t.0.monomial.exponents)))
+    ∙ ap (λ c. old ++ joined 42 (factor_texts c (powers_texts names t.0.monomial.exponents))) (sym one)
 
-pub term_with_other : (names : List (List ℕ)) (t : Key × ℕ) (exponents old mid new : List ℕ) → (t.1 ≡ 1 → ⊥) → exponents ≡ t.0.monomial
+pub term_with_other : (names : List (List ℕ)) (t : Key × ℕ) (exponents old mid new : List ℕ) → (t.1 ≡ 1 → ⊥) → exponents ≡ t.0.monomial.exponents
     → mid ≡ old ++ decimal t.1 → new ≡ mid ++ powers_rest true (powers_texts names exponents) → new ≡ old ++ term_text names t
 term_with_other names t exponents old mid new other same is_mid known =
     let not_one : (t.1 == 1) ≡ false = grind (arith, nat_tests) in
     known ∙ ap (λ es. mid ++ powers_rest true (powers_texts names es)) same
-    ∙ ap (λ m. m ++ powers_rest true (powers_texts names t.0.monomial)) is_mid
-    ∙ append_assoc old (decimal t.1) (powers_rest true (powers_texts names t.0.monomial))
-    ∙ ap (λ r. old ++ r) (sym (term_of_other t.1 (powers_texts names t.0.monomial) not_one))
+    ∙ ap (λ m. m ++ powers_rest true (powers_texts names t.0.monomial.exponents)) is_mid
+    ∙ append_assoc old (decimal t.1) (powers_rest true (powers_texts names t.0.monomial.exponents))
+    ∙ ap (λ r. old ++ r) (sym (term_of_other t.1 (powers_texts names t.0.monomial.exponents) not_one))
 
 -- a whole polynomial
 pub poly_with : (names : List (List ℕ)) (terms : List (Key × ℕ)) (t : Key × ℕ) (rest : List (Key × ℕ)) (old mid new : List ℕ) → terms ≡ t ∷ rest

@@ -1,5 +1,5 @@
 -- The printed text of a polynomial
-use Rattle.std.specs.Prelude.{filter, flat_map, List, [], codes, map, string_bytes, zero, suc, ℕ, ◌++◌, ◌∷◌, ◌==◌, if◌then◌else◌}
+use Rattle.std.specs.Prelude.{filter, flat_map, List, [], codes, map, zero, suc, ℕ, ◌++◌, ◌∷◌, ◌==◌, if◌then◌else◌}
 use Rattle.std.specs.List.{range_with_len}
 use Rattle.std.specs.Fmt.{decimal}
 use Rattle.module_vectors.specs.declared.key.Key.{Key}
@@ -30,7 +30,7 @@ factor_texts c powers = if c == 1 then powers else decimal c ∷ powers
 
 -- a term: its factors joined by *
 abbrev pub term_text : List (List ℕ) → Key × ℕ → List ℕ
-term_text names t = joined 42 (factor_texts t.1 (powers_texts names t.0.monomial))
+term_text names t = joined 42 (factor_texts t.1 (powers_texts names t.0.monomial.exponents))
 
 -- a polynomial: its terms joined by +, and 0 for none
 abbrev pub poly_text : List (List ℕ) → List (Key × ℕ) → List ℕ

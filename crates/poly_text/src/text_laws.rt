@@ -10,26 +10,26 @@ ghost use Rattle.poly_text.specs.Names.{AreNames};
 ghost use Rattle.poly_text.specs.Printable.{IsPrintableNumber, IsPrintablePolynomial, IsPrintableVector};
 ghost use Rattle.poly_text.specs.Texts.{list_text, poly_text, vector_text};
 
-/// Over distinct names a polynomial's text says its terms and their order.
+/// Over distinct names and given weights a polynomial's text says its terms and their order.
 pub fn polynomials()
-    ensures { (names : List (List ℕ)) (v w : List (Key × ℕ)) → AreNames names
-        → IsPrintablePolynomial (length names) v → IsPrintablePolynomial (length names) w
+    ensures { (names : List (List ℕ)) (ws : List ℕ) (v w : List (Key × ℕ)) → AreNames names
+        → IsPrintablePolynomial (length names) ws v → IsPrintablePolynomial (length names) ws w
         → poly_text names v ≡ poly_text names w → v ≡ w }
 {}
 
 /// Over distinct names, at one rank and in one order of keys, a vector's text says the vector.
 pub fn vectors()
-    ensures { (names : List (List ℕ)) (rank : ℕ) (compare : KeyOf (length names) → KeyOf (length names) → Ordering) (v w : List (Key × ℕ))
+    ensures { (names : List (List ℕ)) (ws : List ℕ) (rank : ℕ) (compare : KeyOf (length names) → KeyOf (length names) → Ordering) (v w : List (Key × ℕ))
         → AreNames names → IsKeyOrder rank compare
-        → IsPrintableVector (length names) rank compare v → IsPrintableVector (length names) rank compare w
+        → IsPrintableVector (length names) ws rank compare v → IsPrintableVector (length names) ws rank compare w
         → vector_text names rank v ≡ vector_text names rank w → v ≡ w }
 {}
 
 /// And a list's text says the list.
 pub fn lists()
-    ensures { (names : List (List ℕ)) (rank : ℕ) (compare : KeyOf (length names) → KeyOf (length names) → Ordering) (xs ys : List (List (Key × ℕ)))
+    ensures { (names : List (List ℕ)) (ws : List ℕ) (rank : ℕ) (compare : KeyOf (length names) → KeyOf (length names) → Ordering) (xs ys : List (List (Key × ℕ)))
         → AreNames names → IsKeyOrder rank compare
-        → Each (IsPrintableVector (length names) rank compare) xs → Each (IsPrintableVector (length names) rank compare) ys
+        → Each (IsPrintableVector (length names) ws rank compare) xs → Each (IsPrintableVector (length names) ws rank compare) ys
         → list_text names rank xs ≡ list_text names rank ys → xs ≡ ys }
 {}
 

@@ -39,7 +39,7 @@ fn append_entry(
 {
     let mut begun = false;
     for term in terms {
-        if term.0.position == position {
+        if u128::from(term.0.position) == position {
             match append_next_term(out, vars, begun, term) {
                 Ok(()) => {}
                 Err(early) => return Err(early),
@@ -110,7 +110,7 @@ fn run_length(terms: &[(Key, u32)], position: u128) -> usize
     ensures { IsStretch position terms.now result }
 {
     for (i, term) in terms.iter().enumerate() {
-        if term.0.position != position {
+        if u128::from(term.0.position) != position {
             return i;
         }
     }

@@ -1,7 +1,8 @@
 -- The products of a polynomial's terms with another, and their sum
-use Rattle.std.proofs.Common.{List, [], ap, ap₂, arith, length, refl, suc, subst, sum, sym, ℕ, ◌++◌, ◌+◌, ◌<◌, ◌∙◌, ◌∷◌, ◌≡◌, ◌≤◌}
+use Rattle.std.proofs.Common.{List, [], ap, ap₂, arith, refl, suc, subst, sym, ℕ, ◌++◌, ◌+◌, ◌<◌, ◌∙◌, ◌∷◌, ◌≡◌, ◌≤◌}
 use Rattle.monomials.specs.Exponents.{exponents_of}
 use Rattle.formal_sums.specs.FormalSums.{Each, product, scale}
+use Rattle.monomial_orders.specs.Kept.{IsWeighed}
 use Rattle.module_vectors.specs.Products.{product_of, sum_of_products}
 use Rattle.module_vectors.specs.Stops.{Fits, HasMonomial, ProductsFit, ProductsStop}
 use Rattle.module_vectors.specs.Vectors.{IsTerm, sum_of}
@@ -24,13 +25,13 @@ AreMultiples_push v (s ∷ terms) (y ∷ xs) t x a b c h = (h.0, h.1, h.2, AreMu
 
 -- their factors are residues and monomials
 pub multiples_factors :
-    (n p : ℕ) (v terms : List (CodeKey × ℕ)) (xs : List Product) → AreMultiples v terms xs
-    → Each (IsTerm n p) terms → Each (λ x. (x.residue < p) × (length x.monomial.now ≡ n)) xs
-multiples_factors n p v [] [] h e = tt
-multiples_factors n p v [] (x ∷ xs) h e = absurd h
-multiples_factors n p v (t ∷ terms) [] h e = absurd h
-multiples_factors n p v (t ∷ terms) (x ∷ xs) h e =
-    ((subst (λ c. c < p) (sym h.0) e.0.reduced, ap length h.1 ∙ e.0.variables), multiples_factors n p v terms xs h.3 e.1)
+    (n : ℕ) (ws : List ℕ) (p : ℕ) (v terms : List (CodeKey × ℕ)) (xs : List Product) → AreMultiples v terms xs
+    → Each (IsTerm n ws p) terms → Each (λ x. (x.residue < p) × IsWeighed n ws x.monomial.now) xs
+multiples_factors n ws p v [] [] h e = tt
+multiples_factors n ws p v [] (x ∷ xs) h e = absurd h
+multiples_factors n ws p v (t ∷ terms) [] h e = absurd h
+multiples_factors n ws p v (t ∷ terms) (x ∷ xs) h e =
+    ((subst (λ c. c < p) (sym h.0) e.0.reduced, subst (IsWeighed n ws) (sym h.1) e.0.weighed), multiples_factors n ws p v terms xs h.3 e.1)
 
 -- their vectors are v
 pub multiples_vectors :
@@ -50,19 +51,19 @@ multiples_sum n v [] (x ∷ xs) h = absurd h
 multiples_sum n v (t ∷ terms) [] h = absurd h
 multiples_sum n v (t ∷ terms) (x ∷ xs) h = ap₂ ◌++◌ one (multiples_sum n v terms xs h.3)
   where
-    one : product_of n x ≡ scale t.1 (exponents_of n t.0.monomial) (sum_of n v)
+    one : product_of n x ≡ scale t.1 (exponents_of n t.0.monomial.exponents) (sum_of n v)
     one =
-        ap (λ c. scale c (exponents_of n x.monomial.now) (sum_of n x.vector.now)) h.0
-        ∙ ap₂ (λ m w. scale t.1 (exponents_of n m) (sum_of n w)) h.1 h.2
+        ap (λ c. scale c (exponents_of n x.monomial.now.exponents) (sum_of n x.vector.now)) h.0
+        ∙ ap₂ (λ m w. scale t.1 (exponents_of n m.exponents) (sum_of n w)) h.1 h.2
 
 pub multiples_fit :
-    (n p : ℕ) (v terms : List (CodeKey × ℕ)) (xs : List Product) → AreMultiples v terms xs
-    → Each (IsTerm n p) terms → ProductsFit xs → ProductFits terms v
-multiples_fit n p v [] [] h e f = tt
-multiples_fit n p v [] (x ∷ xs) h e f = absurd h
-multiples_fit n p v (t ∷ terms) [] h e f = absurd h
-multiples_fit n p v (t ∷ terms) (x ∷ xs) h e f =
-    (subst (λ w. Fits t.0.monomial w) h.2 (subst (λ m. Fits m x.vector.now) h.1 (f.0 (subst (λ c. 0 < c) (sym h.0) e.0.nonzero))), multiples_fit n p v terms xs h.3 e.1 f.1)
+    (n : ℕ) (ws : List ℕ) (p : ℕ) (v terms : List (CodeKey × ℕ)) (xs : List Product) → AreMultiples v terms xs
+    → Each (IsTerm n ws p) terms → ProductsFit xs → ProductFits terms v
+multiples_fit n ws p v [] [] h e f = tt
+multiples_fit n ws p v [] (x ∷ xs) h e f = absurd h
+multiples_fit n ws p v (t ∷ terms) [] h e f = absurd h
+multiples_fit n ws p v (t ∷ terms) (x ∷ xs) h e f =
+    (subst (λ w. Fits t.0.monomial w) h.2 (subst (λ m. Fits m x.vector.now) h.1 (f.0 (subst (λ c. 0 < c) (sym h.0) e.0.nonzero))), multiples_fit n ws p v terms xs h.3 e.1 f.1)
 
 -- each product has a term's monomial and the vector v
 pub multiples_monomial :
@@ -93,9 +94,9 @@ multiples_stop v terms xs (Degree a b) h s =
 -- the same with the factors exchanged
 pub ProductFits_exchanged : (a b : List (CodeKey × ℕ)) → ProductFits a b → ProductFits b a
 ProductFits_exchanged a b h =
-    each_of (λ u. Fits u.0.monomial a) b (λ u d. each_of (λ t. sum u.0.monomial + sum t.0.monomial ≤ 65535) a (λ t c. (let le : sum t.0.monomial + sum u.0.monomial ≤ 65535 = each_at (λ w. sum t.0.monomial + sum w.0.monomial ≤ 65535) b u (each_at (λ w. Fits w.0.monomial b) a t h c) d in omega arith)))
+    each_of (λ u. Fits u.0.monomial a) b (λ u d. each_of (λ t. u.0.monomial.degree + t.0.monomial.degree ≤ 65535) a (λ t c. (let le : t.0.monomial.degree + u.0.monomial.degree ≤ 65535 = each_at (λ w. t.0.monomial.degree + w.0.monomial.degree ≤ 65535) b u (each_at (λ w. Fits w.0.monomial b) a t h c) d in omega arith)))
 
 pub ProductStops_exchanged :
     (a b : List (CodeKey × ℕ)) (stop : VectStop) → ProductStops a b stop → ProductStops b a (exchanged stop)
 ProductStops_exchanged a b Memory h = tt
-ProductStops_exchanged a b (Degree s t) h = (h.1, h.0, (let lt : 65535 < sum s + sum t = h.2 in omega arith))
+ProductStops_exchanged a b (Degree s t) h = (h.1, h.0, (let lt : 65535 < s.degree + t.degree = h.2 in omega arith))

@@ -1,9 +1,10 @@
 -- The steps of a power by squaring: what the product of two powers is, where it fits, and why it stops
-use Rattle.std.proofs.Common.{List, Ordering, ap, arith, refl, subst, sum, sym, ℕ, ◌%◌, ◌*◌, ◌+◌, ◌<◌, ◌≡◌, ◌≤◌}
+use Rattle.std.proofs.Common.{List, Ordering, ap, arith, refl, subst, sym, ℕ, ◌%◌, ◌*◌, ◌+◌, ◌<◌, ◌≡◌, ◌≤◌}
 use Rattle.std.proofs.Math.Nat.{mul-le-mul_right}
 use Rattle.residues.proofs.Congruences.{IsCongruent_add, IsCongruent_mod, IsCongruent_multiply, IsCongruent_refl}
 use Rattle.residues.specs.Residues.{IsCongruent, IsDomain}
-use Rattle.monomials.specs.Exponents.{Exponents, degree, exponents_of}
+use Rattle.monomials.specs.Exponents.{Exponents, exponents_of}
+use Rattle.monomials.specs.Weights.{weighted_degree}
 use Rattle.formal_sums.proofs.Multiplying.{product_comm}
 use Rattle.formal_sums.proofs.Sameness.{IsSame_of, IsSame_sym, IsSame_trans}
 use Rattle.formal_sums.specs.FormalSums.{FormalSum, IsPolynomial, IsSame, Key, product}
@@ -16,7 +17,7 @@ use Rattle.module_vectors.specs.declared.stop.VectStop.TheVariants.{Degree, Memo
 use Rattle.sparse_poly.proofs.Bounding.{HasDegreeWithin_constant, HasDegreeWithin_power, HasDegreeWithin_same}
 use Rattle.sparse_poly.proofs.Powering.{IsSame_product_both, power_add, product_one}
 use Rattle.sparse_poly.proofs.Products.{ProductStops_memory}
-use Rattle.sparse_poly.proofs.Terms.{HasDegreeWithin_of, HasMonomial_of, IsPolynomial_of, IsWithinDegree_of, Occurs_of, degree-exponents_of, each_at, each_variables}
+use Rattle.sparse_poly.proofs.Terms.{HasDegreeWithin_of, HasMonomial_of, IsPolynomial_of, IsWithinDegree_of, Occurs_of, each_at, each_weighed, weighed_of}
 use Rattle.sparse_poly.proofs.TopDegrees.{Occurs_within, PowersFit_of}
 use Rattle.sparse_poly.specs.Degrees.{IsWithinDegree}
 use Rattle.sparse_poly.specs.Powers.{constant, power}
@@ -24,28 +25,29 @@ use Rattle.sparse_poly.specs.Stops.{Occurs, PowerStops, PowersFit, ProductFits, 
 
 -- a stop of a lower power is one of a higher
 pub PowerStops_higher :
-    (n p : ℕ) (v : FormalSum n) (k l : ℕ) (stop : VectStop) → k ≤ l → PowerStops n p v k stop → PowerStops n p v l stop
-PowerStops_higher n p v k l Memory le h = tt
-PowerStops_higher n p v k l (Degree s t) le h =
+    (n : ℕ) (ws : List ℕ) (p : ℕ) (v : FormalSum n) (k l : ℕ) (stop : VectStop) → k ≤ l
+    → PowerStops n ws p v k stop → PowerStops n ws p v l stop
+PowerStops_higher n ws p v k l Memory le h = tt
+PowerStops_higher n ws p v k l (Degree s t) le h =
     let low : h.0 + h.1 ≤ k = h.2 in
-    (h.0, h.1, omega arith, h.3, h.4, h.5)
+    (h.0, h.1, omega arith, h.3, h.4, h.5, h.6, h.7)
 
 -- the powers up to 0 fit
-pub PowersFit_none : {n p : ℕ} → IsDomain p → (v : FormalSum n) (k : ℕ) → IsPolynomial v → k ≡ 0 → PowersFit p v k
-PowersFit_none {n} {p} domain v k h e =
-    PowersFit_of domain v 0 0 k h (omega arith) (λ a b oa ob. (let left : degree a ≤ 0 = Occurs_within (constant n 1) a (HasDegreeWithin_constant n p 1) oa in let right : degree b ≤ 0 = Occurs_within (constant n 1) b (HasDegreeWithin_constant n p 1) ob in omega arith))
+pub PowersFit_none : {n p : ℕ} (ws : List ℕ) → IsDomain p → (v : FormalSum n) (k : ℕ) → IsPolynomial v → k ≡ 0 → PowersFit ws p v k
+PowersFit_none {n} {p} ws domain v k h e =
+    PowersFit_of ws domain v 0 0 k h (omega arith) (λ a b oa ob. (let left : weighted_degree ws a ≤ 0 = Occurs_within (constant n 1) a (HasDegreeWithin_constant n ws p 1) oa in let right : weighted_degree ws b ≤ 0 = Occurs_within (constant n 1) b (HasDegreeWithin_constant n ws p 1) ob in omega arith))
 
 -- v is the power k of a polynomial
-pub record IsPower {n : ℕ} (p : ℕ) (compare : Key n → Key n → Ordering) (base : FormalSum n) (k : ℕ) (v : List (CodeKey × ℕ)) : Type 0 where
-  pub vector : IsVector n p compare v
+pub record IsPower {n : ℕ} (ws : List ℕ) (p : ℕ) (compare : Key n → Key n → Ordering) (base : FormalSum n) (k : ℕ) (v : List (CodeKey × ℕ)) : Type 0 where
+  pub vector : IsVector n ws p compare v
   pub positions : HasPositions 1 v
   pub same : IsSame p (sum_of n v) (power base k)
 
-module _ {n r p : ℕ} {compare : Key n → Key n → Ordering} (order : IsKeyOrder r compare) (domain : IsDomain p) where
+module _ {n r p : ℕ} {compare : Key n → Key n → Ordering} (order : IsKeyOrder r compare) (ws : List ℕ) (domain : IsDomain p) where
   -- a polynomial is its power 1
   pub IsPower_itself :
-      (base : List (CodeKey × ℕ)) → IsVector n p compare base → HasPositions 1 base
-      → IsPower p compare (sum_of n base) 1 base
+      (base : List (CodeKey × ℕ)) → IsVector n ws p compare base → HasPositions 1 base
+      → IsPower ws p compare (sum_of n base) 1 base
   IsPower_itself base vector positions =
       let poly : IsPolynomial (sum_of n base) = IsPolynomial_of n base positions in
       record {
@@ -60,7 +62,7 @@ module _ {n r p : ℕ} {compare : Key n → Key n → Ordering} (order : IsKeyOr
   -- the product of two powers is one
   pub power_product :
       (base : FormalSum n) (i j k : ℕ) (a b v : List (CodeKey × ℕ))
-      → i + j ≡ k → IsPower p compare base i a → IsPower p compare base j b
+      → i + j ≡ k → IsPower ws p compare base i a → IsPower ws p compare base j b
       → IsSame p (sum_of n v) (product (sum_of n a) (sum_of n b)) → IsSame p (sum_of n v) (power base k)
   power_product base i j k a b v e ha hb same =
       IsSame_trans same
@@ -70,45 +72,53 @@ module _ {n r p : ℕ} {compare : Key n → Key n → Ordering} (order : IsKeyOr
   -- where it fits, the powers up to it do
   pub power_fits :
       (base : FormalSum n) (i j k : ℕ) (a b : List (CodeKey × ℕ))
-      → IsPolynomial base → i + j ≡ k → IsPower p compare base i a → IsPower p compare base j b → ProductFits a b
-      → PowersFit p base k
-  power_fits base i j k a b poly e ha hb fits = PowersFit_of domain base i j k poly e both
+      → IsPolynomial base → i + j ≡ k → IsPower ws p compare base i a → IsPower ws p compare base j b → ProductFits a b
+      → PowersFit ws p base k
+  power_fits base i j k a b poly e ha hb fits = PowersFit_of ws domain base i j k poly e both
     where
-      both : (x y : Exponents n) → Occurs p (power base i) x → Occurs p (power base j) y → degree x + degree y ≤ 65535
+      both : (x y : Exponents n) → Occurs p (power base i) x → Occurs p (power base j) y → weighted_degree ws x + weighted_degree ws y ≤ 65535
       both x y ox oy =
-          let t = HasMonomial_of order p a (power base i) x ha.same ox in
-          let u = HasMonomial_of order p b (power base j) y hb.same oy in
-          let dt : degree (exponents_of n t.0.0.monomial) ≡ sum t.0.0.monomial = degree-exponents_of n t.0.0.monomial (each_at (IsTerm n p) a t.0 ha.vector.each t.1).variables in
-          let du : degree (exponents_of n u.0.0.monomial) ≡ sum u.0.0.monomial = degree-exponents_of n u.0.0.monomial (each_at (IsTerm n p) b u.0 hb.vector.each u.1).variables in
-          let et : degree (exponents_of n t.0.0.monomial) ≡ degree x = ap degree t.2 in
-          let eu : degree (exponents_of n u.0.0.monomial) ≡ degree y = ap degree u.2 in
-          let le : sum t.0.0.monomial + sum u.0.0.monomial ≤ 65535 = each_at (λ w. sum t.0.0.monomial + sum w.0.monomial ≤ 65535) b u.0 (each_at (λ w. Fits w.0.monomial b) a t.0 fits t.1) u.1 in
+          let t = HasMonomial_of order ws p a (power base i) x ha.same ox in
+          let u = HasMonomial_of order ws p b (power base j) y hb.same oy in
+          let dt = (each_at (IsTerm n ws p) a t.0 ha.vector.each t.1).weighed.degree in
+          let du = (each_at (IsTerm n ws p) b u.0 hb.vector.each u.1).weighed.degree in
+          let et : weighted_degree ws (exponents_of n t.0.0.monomial.exponents) ≡ weighted_degree ws x = ap (weighted_degree ws) t.2 in
+          let eu : weighted_degree ws (exponents_of n u.0.0.monomial.exponents) ≡ weighted_degree ws y = ap (weighted_degree ws) u.2 in
+          let le : t.0.0.monomial.degree + u.0.0.monomial.degree ≤ 65535 = each_at (λ w. t.0.0.monomial.degree + w.0.monomial.degree ≤ 65535) b u.0 (each_at (λ w. Fits w.0.monomial b) a t.0 fits t.1) u.1 in
           omega arith
 
   -- where it stops, two monomials of these powers do not fit
   pub power_stops :
       (base : FormalSum n) (i j k : ℕ) (a b : List (CodeKey × ℕ)) (stop : VectStop)
-      → i + j ≤ k → IsPower p compare base i a → IsPower p compare base j b → ProductStops a b stop
-      → PowerStops n p base k stop
+      → i + j ≤ k → IsPower ws p compare base i a → IsPower ws p compare base j b → ProductStops a b stop
+      → PowerStops n ws p base k stop
   power_stops base i j k a b Memory le ha hb h = tt
-  power_stops base i j k a b (Degree s t) le ha hb h =
-      (i, j, le, Occurs_of order p a (power base i) s ha.vector ha.positions ha.same h.0, Occurs_of order p b (power base j) t hb.vector hb.positions hb.same h.1, h.2)
+  power_stops base i j k a b (Degree s t) le ha hb h = (
+    i,
+    j,
+    le,
+    Occurs_of order ws p a (power base i) s ha.vector ha.positions ha.same h.0,
+    Occurs_of order ws p b (power base j) t hb.vector hb.positions hb.same h.1,
+    h.2,
+    weighed_of order ws p a s ha.vector h.0,
+    weighed_of order ws p b t hb.vector h.1,
+  )
 
   -- the degree of a power
   pub power_within :
       (base : List (CodeKey × ℕ)) (k d e : ℕ) (v : List (CodeKey × ℕ))
-      → IsVector n p compare base → IsWithinDegree d base → e ≡ k * d → IsVector n p compare v
+      → IsVector n ws p compare base → IsWithinDegree d base → e ≡ k * d → IsVector n ws p compare v
       → IsSame p (sum_of n v) (power (sum_of n base) k) → IsWithinDegree e v
   power_within base k d e v vector within q hv same =
       subst (λ x. IsWithinDegree x v) (sym q)
-      (IsWithinDegree_of order p v (k * d) hv
-      (HasDegreeWithin_same (IsSame_sym same) (HasDegreeWithin_power (sum_of n base) k (HasDegreeWithin_of p base (each_variables n p base vector.each) within))))
+      (IsWithinDegree_of order ws p v (k * d) hv
+      (HasDegreeWithin_same (IsSame_sym same) (HasDegreeWithin_power (sum_of n base) k (HasDegreeWithin_of ws p base (each_weighed n ws p base vector.each) within))))
 
   -- within small degrees it stops for want of memory alone
   pub power_memory :
       (base : List (CodeKey × ℕ)) (i j k d : ℕ) (a b : List (CodeKey × ℕ)) (stop : VectStop)
-      → IsVector n p compare base → IsWithinDegree d base → i + j ≤ k → k * d ≤ 65535
-      → IsPower p compare (sum_of n base) i a → IsPower p compare (sum_of n base) j b → ProductStops a b stop
+      → IsVector n ws p compare base → IsWithinDegree d base → i + j ≤ k → k * d ≤ 65535
+      → IsPower ws p compare (sum_of n base) i a → IsPower ws p compare (sum_of n base) j b → ProductStops a b stop
       → stop ≡ Memory
   power_memory base i j k d a b stop vector within le small ha hb h =
       let most : (i + j) * d ≤ k * d = mul-le-mul_right d le in

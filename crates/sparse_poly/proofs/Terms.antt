@@ -1,17 +1,18 @@
 -- Vectors' terms and the coefficients of the sums that they stand for
-use Rattle.std.proofs.Common.{Greater, List, Ordering, [], ap, arith, eq-zero-or-pos, get_or, inl, inr, length, refl, subst, suc, sum, sym, zero, ℕ, ◌*◌, ◌+◌, ◌<◌, ◌∙◌, ◌∷◌, ◌≡◌, ◌≤◌, ◌⊎◌}
+use Rattle.std.proofs.Common.{Greater, List, Ordering, [], ap, arith, eq-zero-or-pos, get_or, inl, inr, length, refl, subst, suc, sym, zero, ℕ, ◌*◌, ◌+◌, ◌<◌, ◌∙◌, ◌∷◌, ◌≡◌, ◌≤◌, ◌⊎◌}
 use Rattle.std.proofs.lemmas.Bool.{cases_lt}
-use Rattle.std.proofs.lemmas.List.Sums.{sum_by-cons}
 use Rattle.std.specs.Prelude.{Contains}
 use Rattle.residues.proofs.Congruences.{IsCongruent_decide, IsCongruent_nonzero, IsCongruent_of, IsCongruent_sym, IsCongruent_trans}
 use Rattle.residues.specs.Residues.{IsCongruent}
-use Rattle.monomials.specs.Exponents.{degree, exponents_of}
+use Rattle.monomials.specs.Exponents.{exponents_of}
+use Rattle.monomials.specs.Weights.{weighted_degree}
 use Rattle.formal_sums.proofs.WeightedSums.{indicator_other, indicator_same, key_cases}
 use Rattle.formal_sums.specs.FormalSums.{Each, FormalSum, IsPolynomial, IsSame, Key, coefficient, indicator}
 use Rattle.orders.proofs.KeyOrdering.{less_of_greater, not_itself}
 use Rattle.orders.specs.KeyOrders.{Descends, IsKeyOrder}
+use Rattle.monomial_orders.specs.Kept.{IsWeighed, Monomial}
 use Rattle.module_vectors.specs.Stops.{HasMonomial}
-use Rattle.module_vectors.specs.Vectors.{HasPositions, HasVariables, IsTerm, IsVector, key_of, sum_of}
+use Rattle.module_vectors.specs.Vectors.{HasPositions, IsTerm, IsVector, key_of, sum_of}
 use Rattle.module_vectors.specs.declared.key.Key.{Key as CodeKey}
 use Rattle.sparse_poly.proofs.TopDegrees.{coefficient_elsewhere}
 use Rattle.sparse_poly.specs.Degrees.{HasDegreeWithin, IsWithinDegree}
@@ -31,16 +32,11 @@ pub each_of : {X : Type 0} (P : X → Type 0) (xs : List X) → ((x : X) → Con
 each_of P [] f = tt
 each_of P (y ∷ ys) f = (f y (0, omega arith, refl), each_of P ys (λ x c. f x (suc c.0, (let lt = c.1 in omega arith), c.2)))
 
--- the total degree of a list of n exponents
-pub degree-exponents_of : (n : ℕ) (xs : List ℕ) → length xs ≡ n → degree (exponents_of n xs) ≡ sum xs
-degree-exponents_of zero [] e = refl
-degree-exponents_of zero (x ∷ xs) e = absurd (omega arith)
-degree-exponents_of (suc n) [] e = absurd (omega arith)
-degree-exponents_of (suc n) (x ∷ xs) e = ap (λ d. x + d) (degree-exponents_of n xs (omega arith)) ∙ sym (sum_by-cons (λ y. y) x xs)
-
-pub each_variables : (n p : ℕ) (terms : List (CodeKey × ℕ)) → Each (IsTerm n p) terms → Each (HasVariables n) terms
-each_variables n p [] h = tt
-each_variables n p (t ∷ terms) h = (h.0.variables, each_variables n p terms h.1)
+pub each_weighed :
+    (n : ℕ) (ws : List ℕ) (p : ℕ) (terms : List (CodeKey × ℕ)) → Each (IsTerm n ws p) terms
+    → Each (λ t. IsWeighed n ws t.0.monomial) terms
+each_weighed n ws p [] h = tt
+each_weighed n ws p (t ∷ terms) h = (h.0.weighed, each_weighed n ws p terms h.1)
 
 -- a key whose coefficient is not 0 is that of a term
 pub term_at :
@@ -62,20 +58,20 @@ term_at {n} p (s ∷ terms) k h = by (key_cases k (key_of n s.0)) (λ d. term_at
 
 -- a bound on the terms' degrees is one on that of the sum
 pub HasDegreeWithin_of :
-    {n d : ℕ} (p : ℕ) (terms : List (CodeKey × ℕ)) → Each (HasVariables n) terms → IsWithinDegree d terms
-    → HasDegreeWithin p d (sum_of n terms)
-HasDegreeWithin_of {n} {d} p terms vars h = record { above = λ k lt. by k lt (IsCongruent_decide p (coefficient (sum_of n terms) k)) }
+    {n d : ℕ} (ws : List ℕ) (p : ℕ) (terms : List (CodeKey × ℕ)) → Each (λ t. IsWeighed n ws t.0.monomial) terms
+    → IsWithinDegree d terms → HasDegreeWithin ws p d (sum_of n terms)
+HasDegreeWithin_of {n} {d} ws p terms vars h = record { above = λ k lt. by k lt (IsCongruent_decide p (coefficient (sum_of n terms) k)) }
   where
     by :
         (k : Key n)
-        → d < degree k.1 → IsCongruent p (coefficient (sum_of n terms) k) 0 ⊎ (IsCongruent p (coefficient (sum_of n terms) k) 0 → ⊥)
+        → d < weighted_degree ws k.1 → IsCongruent p (coefficient (sum_of n terms) k) 0 ⊎ (IsCongruent p (coefficient (sum_of n terms) k) 0 → ⊥)
         → IsCongruent p (coefficient (sum_of n terms) k) 0
     by k lt (inl z) = z
     by k lt (inr nz) =
         let t = term_at p terms k nz in
-        let e : degree (exponents_of n t.0.0.monomial) ≡ degree k.1 = ap (λ x. degree x.1) t.2 in
-        let s : degree (exponents_of n t.0.0.monomial) ≡ sum t.0.0.monomial = degree-exponents_of n t.0.0.monomial (each_at (HasVariables n) terms t.0 vars t.1) in
-        let le : sum t.0.0.monomial ≤ d = each_at (λ u. sum u.0.monomial ≤ d) terms t.0 h t.1 in
+        let e : weighted_degree ws (exponents_of n t.0.0.monomial.exponents) ≡ weighted_degree ws k.1 = ap (λ x. weighted_degree ws x.1) t.2 in
+        let s = (each_at (λ u. IsWeighed n ws u.0.monomial) terms t.0 vars t.1).degree in
+        let le : t.0.0.monomial.degree ≤ d = each_at (λ u. u.0.monomial.degree ≤ d) terms t.0 h t.1 in
         absurd (omega arith)
 
 -- terms at position 0 are a polynomial
@@ -83,7 +79,7 @@ pub IsPolynomial_of : (n : ℕ) (terms : List (CodeKey × ℕ)) → HasPositions
 IsPolynomial_of n [] h = tt
 IsPolynomial_of n (t ∷ terms) h = let lt : t.0.position < 1 = h.0 in (omega arith, IsPolynomial_of n terms h.1)
 
-module _ {n r : ℕ} {compare : Key n → Key n → Ordering} (order : IsKeyOrder r compare) (p : ℕ) where
+module _ {n r : ℕ} {compare : Key n → Key n → Ordering} (order : IsKeyOrder r compare) (ws : List ℕ) (p : ℕ) where
   absent :
       (k : Key n) (terms : List (CodeKey × ℕ))
       → Each (λ u. compare k u.0 ≡ Greater) (sum_of n terms) → coefficient (sum_of n terms) k ≡ 0
@@ -119,29 +115,29 @@ module _ {n r : ℕ} {compare : Key n → Key n → Ordering} (order : IsKeyOrde
   -- a vector's coefficients at its terms' keys are not 0
   pub term_nonzero :
       (terms : List (CodeKey × ℕ)) (t : CodeKey × ℕ)
-      → IsVector n p compare terms → Contains terms t
+      → IsVector n ws p compare terms → Contains terms t
       → IsCongruent p (coefficient (sum_of n terms) (key_of n t.0)) 0 → ⊥
   term_nonzero terms t h c z =
-      let term = each_at (IsTerm n p) terms t h.each c in
+      let term = each_at (IsTerm n ws p) terms t h.each c in
       IsCongruent_nonzero p t.1 term.nonzero term.reduced
       (IsCongruent_trans (IsCongruent_of p _ _ (sym (coefficient_at terms t c.0 h.descends c.1 c.2))) z)
 
   -- a bound on the degree is one on the terms' degrees
   pub IsWithinDegree_of :
       (terms : List (CodeKey × ℕ)) (d : ℕ)
-      → IsVector n p compare terms → HasDegreeWithin p d (sum_of n terms) → IsWithinDegree d terms
-  IsWithinDegree_of terms d h b = each_of (λ t. sum t.0.monomial ≤ d) terms (λ t c. by t c (cases_lt d (sum t.0.monomial)))
+      → IsVector n ws p compare terms → HasDegreeWithin ws p d (sum_of n terms) → IsWithinDegree d terms
+  IsWithinDegree_of terms d h b = each_of (λ t. t.0.monomial.degree ≤ d) terms (λ t c. by t c (cases_lt d t.0.monomial.degree))
     where
-      by : (t : CodeKey × ℕ) → Contains terms t → (d < sum t.0.monomial) ⊎ (sum t.0.monomial ≤ d) → sum t.0.monomial ≤ d
+      by : (t : CodeKey × ℕ) → Contains terms t → (d < t.0.monomial.degree) ⊎ (t.0.monomial.degree ≤ d) → t.0.monomial.degree ≤ d
       by t c (inl lt) =
-          let e : degree (exponents_of n t.0.monomial) ≡ sum t.0.monomial = degree-exponents_of n t.0.monomial (each_at (IsTerm n p) terms t h.each c).variables in
+          let e = (each_at (IsTerm n ws p) terms t h.each c).weighed.degree in
           absurd (term_nonzero terms t h c (b.above (key_of n t.0) (omega arith)))
       by t c (inr le) = le
 
   -- the terms of a vector that stands for a polynomial are at position 0
   pub HasPositions_of :
       (terms : List (CodeKey × ℕ)) (v : FormalSum n)
-      → IsVector n p compare terms → IsSame p (sum_of n terms) v → IsPolynomial v → HasPositions 1 terms
+      → IsVector n ws p compare terms → IsSame p (sum_of n terms) v → IsPolynomial v → HasPositions 1 terms
   HasPositions_of terms v h same poly = each_of (λ t. t.0.position < 1) terms (λ t c. by t c (eq-zero-or-pos t.0.position))
     where
       by : (t : CodeKey × ℕ) → Contains terms t → (t.0.position ≡ 0) ⊎ (0 < t.0.position) → t.0.position < 1
@@ -150,13 +146,13 @@ module _ {n r : ℕ} {compare : Key n → Key n → Ordering} (order : IsKeyOrde
 
   -- a monomial of a vector at position 0 occurs in what it stands for
   pub Occurs_of :
-      (terms : List (CodeKey × ℕ)) (v : FormalSum n) (m : List ℕ)
-      → IsVector n p compare terms → HasPositions 1 terms → IsSame p (sum_of n terms) v → HasMonomial terms m
-      → Occurs p v (exponents_of n m)
+      (terms : List (CodeKey × ℕ)) (v : FormalSum n) (m : Monomial)
+      → IsVector n ws p compare terms → HasPositions 1 terms → IsSame p (sum_of n terms) v → HasMonomial terms m
+      → Occurs p v (exponents_of n m.exponents)
   Occurs_of terms v m h positions same has z =
       let lt : has.0.0.position < 1 = each_at (λ t. t.0.position < 1) terms has.0 positions has.1 in
-      let e : key_of n has.0.0 ≡ (0, exponents_of n has.0.0.monomial) = ap (λ i. (i, exponents_of n has.0.0.monomial)) (omega arith) in
-      let d : key_of n has.0.0 ≡ (0, exponents_of n m) = e ∙ ap (λ x. (0, exponents_of n x)) has.2 in
+      let e : key_of n has.0.0 ≡ (0, exponents_of n has.0.0.monomial.exponents) = ap (λ i. (i, exponents_of n has.0.0.monomial.exponents)) (omega arith) in
+      let d : key_of n has.0.0 ≡ (0, exponents_of n m.exponents) = e ∙ ap (λ x. (0, exponents_of n x.exponents)) has.2 in
       term_nonzero terms has.0 h has.1
       (IsCongruent_trans (same.by_key (key_of n has.0.0)) (subst (λ k. IsCongruent p (coefficient v k) 0) (sym d) z))
 
@@ -164,7 +160,12 @@ module _ {n r : ℕ} {compare : Key n → Key n → Ordering} (order : IsKeyOrde
   pub HasMonomial_of :
       (terms : List (CodeKey × ℕ)) (v : FormalSum n) (m : _)
       → IsSame p (sum_of n terms) v → Occurs p v m
-      → (t : CodeKey × ℕ) × Contains terms t × (exponents_of n t.0.monomial ≡ m)
+      → (t : CodeKey × ℕ) × Contains terms t × (exponents_of n t.0.monomial.exponents ≡ m)
   HasMonomial_of terms v m same occurs =
       let t = term_at p terms (0, m) (λ z. occurs (IsCongruent_trans (IsCongruent_sym (same.by_key (0, m))) z)) in
       (t.0, t.1, ap (λ k. k.1) t.2)
+
+  -- a monomial of a vector is weighed
+  pub weighed_of :
+      (terms : List (CodeKey × ℕ)) (m : Monomial) → IsVector n ws p compare terms → HasMonomial terms m → IsWeighed n ws m
+  weighed_of terms m h has = subst (IsWeighed n ws) has.2 (each_at (IsTerm n ws p) terms has.0 h.each has.1).weighed

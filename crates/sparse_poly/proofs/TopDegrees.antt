@@ -1,22 +1,25 @@
 -- The greatest degrees of products and powers: in a domain leads multiply, and by degree the lead has the greatest one
-use Rattle.std.proofs.Common.{Equal, Greater, Less, Ordering, [], ap, ap₂, arith, cond, eq-zero-or-pos, inl, inr, refl, subst, suc, sym, zero, ℕ, ◌*◌, ◌+◌, ◌<◌, ◌∙◌, ◌∷◌, ◌≡◌, ◌≤◌, ◌⊎◌}
+use Rattle.std.proofs.Common.{Equal, Greater, Less, List, Ordering, [], ap, ap₂, arith, cond, eq-zero-or-pos, inl, inr, refl, subst, suc, sym, zero, ℕ, ◌*◌, ◌+◌, ◌<◌, ◌∙◌, ◌∷◌, ◌≡◌, ◌≤◌, ◌⊎◌}
 use Rattle.std.proofs.lemmas.Bool.{cases_lt}
 use Rattle.std.proofs.Math.Nat.{mul-le-mul_right}
 use Rattle.std.specs.Cmp.{nat_cmp_is}
 use Rattle.std.specs.Ordering.{ordering_then}
 use Rattle.residues.proofs.Congruences.{IsCongruent_domain, IsCongruent_of, IsCongruent_sym, IsCongruent_trans}
 use Rattle.residues.specs.Residues.{IsCongruent, IsDomain}
-use Rattle.monomials.proofs.Monomials.{degree-times, degree-unit, times_comm}
-use Rattle.monomials.specs.Exponents.{Exponents, degree, times, unit}
+use Rattle.monomials.proofs.Monomials.{times_comm}
+use Rattle.monomials.proofs.Weighing.{weighted_degree-times, weighted_degree-unit}
+use Rattle.monomials.specs.Exponents.{Exponents, times, unit}
+use Rattle.monomials.specs.Weights.{weighted_degree}
 use Rattle.formal_sums.proofs.Linear.{weighted_sum_agree}
 use Rattle.formal_sums.proofs.Multiplying.{weighted_sum-product}
 use Rattle.formal_sums.proofs.WeightedSums.{indicator_other, indicator_same, same_key-shift, weighted_sum_ext, weighted_sum_zero, weighted_sum_zero_mod}
 use Rattle.formal_sums.specs.FormalSums.{FormalSum, IsPolynomial, Key, coefficient, indicator, product, shift, weighted_sum}
-use Rattle.orders.proofs.Graded.{grevlex_order}
 use Rattle.orders.proofs.KeyOrdering.{less_of_greater, not_itself}
 use Rattle.orders.proofs.Positions.{pot_order}
+use Rattle.orders.proofs.Weighted.{weighted_grevlex_order}
 use Rattle.orders.specs.KeyOrders.{pot}
-use Rattle.orders.specs.MonomialOrders.{grevlex, reverse_lex}
+use Rattle.orders.specs.MonomialOrders.{reverse_lex}
+use Rattle.orders.specs.WeightedOrders.{weighted_grevlex}
 use Rattle.bases.proofs.Leading.{one_not_zero, positive}
 use Rattle.bases.proofs.Normalizing.{HasLead, has_lead}
 use Rattle.bases.specs.Leads.{IsLead}
@@ -162,72 +165,72 @@ module _ {n : ℕ} (S : Setting n) (lawful : IsLawful S) where
 
   -- the lead of a power, whose degree is the exponent times that of the lead
   pub IsLead_power :
-      (v : FormalSum n) (a : Exponents n)
+      (ws : List ℕ) (v : FormalSum n) (a : Exponents n)
       → IsPolynomial v → IsLead S v (0, a) → (k : ℕ)
-      → (m : Exponents n) × (degree m ≡ k * degree a) × IsLead S (power v k) (0, m)
-  IsLead_power v a h lead zero = (unit n, degree-unit n ∙ omega arith, IsLead_one)
-  IsLead_power v a h lead (suc k) =
-      let before = IsLead_power v a h lead k in
+      → (m : Exponents n) × (weighted_degree ws m ≡ k * weighted_degree ws a) × IsLead S (power v k) (0, m)
+  IsLead_power ws v a h lead zero = (unit n, weighted_degree-unit n ws ∙ omega arith, IsLead_one)
+  IsLead_power ws v a h lead (suc k) =
+      let before = IsLead_power ws v a h lead k in
       let d = before.1 in
-      (times a before.0, degree-times a before.0 ∙ omega arith, IsLead_product v (power v k) a before.0 h (IsPolynomial_power v k) lead before.2)
+      (times a before.0, weighted_degree-times ws a before.0 ∙ omega arith, IsLead_product v (power v k) a before.0 h (IsPolynomial_power v k) lead before.2)
 
 -- polynomials in n variables modulo p, by degree
-abbrev by_degree : (n p : ℕ) → Setting n
-by_degree n p = record { modulus = p; weights = []; rank = 1; compare = pot grevlex }
+abbrev by_degree : (n : ℕ) (ws : List ℕ) (p : ℕ) → Setting n
+by_degree n ws p = record { modulus = p; weights = ws; rank = 1; compare = pot (weighted_grevlex ws) }
 
-by_degree_lawful : {n p : ℕ} → IsDomain p → IsLawful (by_degree n p)
-by_degree_lawful {n} domain = record { domain = domain; order = pot_order 1 grevlex (grevlex_order n) }
+by_degree_lawful : {n p : ℕ} (ws : List ℕ) → IsDomain p → IsLawful (by_degree n ws p)
+by_degree_lawful {n} ws domain = record { domain = domain; order = pot_order 1 (weighted_grevlex ws) (weighted_grevlex_order n ws) }
 
 -- the lead has the greatest degree
 lead_degree :
-    {n p : ℕ} (v : FormalSum n) (a : Exponents n) → IsPolynomial v → IsLead (by_degree n p) v (0, a)
-    → HasDegreeWithin p (degree a) v
-lead_degree {n} {p} v a h lead = record { above = λ k lt. by k lt (eq-zero-or-pos k.0) }
+    {n p : ℕ} (ws : List ℕ) (v : FormalSum n) (a : Exponents n) → IsPolynomial v → IsLead (by_degree n ws p) v (0, a)
+    → HasDegreeWithin ws p (weighted_degree ws a) v
+lead_degree {n} {p} ws v a h lead = record { above = λ k lt. by k lt (eq-zero-or-pos k.0) }
   where
-    by : (k : Key n) → degree a < degree k.1 → (k.0 ≡ 0) ⊎ (0 < k.0) → IsCongruent p (coefficient v k) 0
+    by : (k : Key n) → weighted_degree ws a < weighted_degree ws k.1 → (k.0 ≡ 0) ⊎ (0 < k.0) → IsCongruent p (coefficient v k) 0
     by k lt (inl z) =
         lead.above k
-        (rw z (ap (λ o. ordering_then o (reverse_lex a k.1)) (sym (nat_cmp_is (degree a) (degree k.1) Less lt))))
+        (rw z (ap (λ o. ordering_then o (reverse_lex a k.1)) (sym (nat_cmp_is (weighted_degree ws a) (weighted_degree ws k.1) Less lt))))
     by k lt (inr pos) = IsCongruent_of p _ 0 (coefficient_elsewhere v h k pos)
 
 -- what occurs has a degree within the bound
 pub Occurs_within :
-    {n p d : ℕ} (v : FormalSum n) (m : Exponents n) → HasDegreeWithin p d v → Occurs p v m → degree m ≤ d
-Occurs_within {n} {p} {d} v m h o = by (cases_lt d (degree m))
+    {n p d : ℕ} {ws : List ℕ} (v : FormalSum n) (m : Exponents n) → HasDegreeWithin ws p d v → Occurs p v m → weighted_degree ws m ≤ d
+Occurs_within {n} {p} {d} {ws} v m h o = by (cases_lt d (weighted_degree ws m))
   where
-    by : (d < degree m) ⊎ (degree m ≤ d) → degree m ≤ d
+    by : (d < weighted_degree ws m) ⊎ (weighted_degree ws m ≤ d) → weighted_degree ws m ≤ d
     by (inl lt) = absurd (o (h.above (0, m) lt))
     by (inr le) = le
 
 -- the monomials of two powers fit
-abbrev pub BothFit : {n : ℕ} → ℕ → FormalSum n → ℕ → ℕ → Type 0
-BothFit {n} p v i j = (a b : Exponents n) → Occurs p (power v i) a → Occurs p (power v j) b → degree a + degree b ≤ 65535
+abbrev pub BothFit : {n : ℕ} → List ℕ → ℕ → FormalSum n → ℕ → ℕ → Type 0
+BothFit {n} ws p v i j = (a b : Exponents n) → Occurs p (power v i) a → Occurs p (power v j) b → weighted_degree ws a + weighted_degree ws b ≤ 65535
 
 -- where those of two powers fit, those of all whose exponents sum to no more do
 pub PowersFit_of :
-    {n p : ℕ} → IsDomain p → (v : FormalSum n) (i j k : ℕ) → IsPolynomial v → i + j ≡ k → BothFit p v i j
-    → PowersFit p v k
-PowersFit_of {n} {p} domain v i j k h e fits = by (has_lead (by_degree n p) (by_degree_lawful domain) v)
+    {n p : ℕ} (ws : List ℕ) → IsDomain p → (v : FormalSum n) (i j k : ℕ) → IsPolynomial v → i + j ≡ k → BothFit ws p v i j
+    → PowersFit ws p v k
+PowersFit_of {n} {p} ws domain v i j k h e fits = by (has_lead (by_degree n ws p) (by_degree_lawful ws domain) v)
   where
-    within : (d : ℕ) → HasDegreeWithin p d v → k * d ≤ 65535 → PowersFit p v k
+    within : (d : ℕ) → HasDegreeWithin ws p d v → k * d ≤ 65535 → PowersFit ws p v k
     within d bound small s t a b le oa ob =
-        let left : degree a ≤ s * d = Occurs_within (power v s) a (HasDegreeWithin_power v s bound) oa in
-        let right : degree b ≤ t * d = Occurs_within (power v t) b (HasDegreeWithin_power v t bound) ob in
+        let left : weighted_degree ws a ≤ s * d = Occurs_within (power v s) a (HasDegreeWithin_power v s bound) oa in
+        let right : weighted_degree ws b ≤ t * d = Occurs_within (power v t) b (HasDegreeWithin_power v t bound) ob in
         let most : (s + t) * d ≤ k * d = mul-le-mul_right d le in
         omega arith
 
-    at_lead : (l : Key n) → IsLead (by_degree n p) v l → (l.0 ≡ 0) ⊎ (0 < l.0) → PowersFit p v k
+    at_lead : (l : Key n) → IsLead (by_degree n ws p) v l → (l.0 ≡ 0) ⊎ (0 < l.0) → PowersFit ws p v k
     at_lead l lead (inl z) =
-        let lead' : IsLead (by_degree n p) v (0, l.1) = subst (IsLead (by_degree n p) v) (ap (λ x. (x, l.1)) z) lead in
-        let left = IsLead_power (by_degree n p) (by_degree_lawful domain) v l.1 h lead' i in
-        let right = IsLead_power (by_degree n p) (by_degree_lawful domain) v l.1 h lead' j in
-        let sum : degree left.0 + degree right.0 ≤ 65535 = fits left.0 right.0 left.2.nonzero right.2.nonzero in
-        let dl : degree left.0 ≡ i * degree l.1 = left.1 in
-        let dr : degree right.0 ≡ j * degree l.1 = right.1 in
-        let all : (i + j) * degree l.1 ≡ k * degree l.1 = ap (λ x. x * degree l.1) e in
-        within (degree l.1) (lead_degree v l.1 h lead') (omega arith)
+        let lead' : IsLead (by_degree n ws p) v (0, l.1) = subst (IsLead (by_degree n ws p) v) (ap (λ x. (x, l.1)) z) lead in
+        let left = IsLead_power (by_degree n ws p) (by_degree_lawful ws domain) ws v l.1 h lead' i in
+        let right = IsLead_power (by_degree n ws p) (by_degree_lawful ws domain) ws v l.1 h lead' j in
+        let sum : weighted_degree ws left.0 + weighted_degree ws right.0 ≤ 65535 = fits left.0 right.0 left.2.nonzero right.2.nonzero in
+        let dl : weighted_degree ws left.0 ≡ i * weighted_degree ws l.1 = left.1 in
+        let dr : weighted_degree ws right.0 ≡ j * weighted_degree ws l.1 = right.1 in
+        let all : (i + j) * weighted_degree ws l.1 ≡ k * weighted_degree ws l.1 = ap (λ x. x * weighted_degree ws l.1) e in
+        within (weighted_degree ws l.1) (lead_degree ws v l.1 h lead') (omega arith)
     at_lead l lead (inr pos) = absurd (lead.nonzero (IsCongruent_of p _ 0 (coefficient_elsewhere v h l pos)))
 
-    by : HasLead (by_degree n p) v → PowersFit p v k
+    by : HasLead (by_degree n ws p) v → PowersFit ws p v k
     by (inl nothing) = within 0 (record { above = λ x lt. nothing.by_key x }) (omega arith)
     by (inr lead) = at_lead lead.0 lead.1 (eq-zero-or-pos lead.0.0)

@@ -1,8 +1,10 @@
 -- When a product or a power needs a monomial whose degree is too great
 use Rattle.std.specs.Prelude.{List, ⊤, ℕ, ◌+◌, ◌≤◌}
 use Rattle.residues.specs.Residues.{IsCongruent}
-use Rattle.monomials.specs.Exponents.{Exponents, degree, exponents_of}
+use Rattle.monomials.specs.Exponents.{Exponents, exponents_of}
+use Rattle.monomials.specs.Weights.{weighted_degree}
 use Rattle.formal_sums.specs.FormalSums.{Each, FormalSum, coefficient}
+use Rattle.monomial_orders.specs.Kept.{IsWeighed}
 use Rattle.module_vectors.specs.declared.key.Key.{Key as CodeKey}
 use Rattle.module_vectors.specs.declared.stop.VectStop.{VectStop}
 use Rattle.module_vectors.specs.declared.stop.VectStop.TheVariants.{Memory, Degree}
@@ -23,12 +25,14 @@ abbrev pub Occurs : {n : ℕ} → ℕ → FormalSum n → Exponents n → Type 0
 Occurs p v m = IsCongruent p (coefficient v (0, m)) 0 → ⊥
 
 -- each monomial of a power times each of another fits, where the exponents sum to at most k
-abbrev pub PowersFit : {n : ℕ} → ℕ → FormalSum n → ℕ → Type 0
-PowersFit {n} p v k =
-    (i j : ℕ) (a b : Exponents n) → i + j ≤ k → Occurs p (power v i) a → Occurs p (power v j) b → degree a + degree b ≤ 65535
+abbrev pub PowersFit : {n : ℕ} → List ℕ → ℕ → FormalSum n → ℕ → Type 0
+PowersFit {n} ws p v k =
+    (i j : ℕ) (a b : Exponents n) → i + j ≤ k → Occurs p (power v i) a → Occurs p (power v j) b
+    → weighted_degree ws a + weighted_degree ws b ≤ 65535
 
 -- Degree comes where monomials of two powers, with exponents that sum to at most k, have too great a degree together
-abbrev pub PowerStops : (n p : ℕ) → FormalSum n → ℕ → VectStop → Type 0
-PowerStops n p v k Memory = ⊤
-PowerStops n p v k (Degree s t) =
-    (i : ℕ) × (j : ℕ) × (i + j ≤ k) × Occurs p (power v i) (exponents_of n s) × Occurs p (power v j) (exponents_of n t) × IsTooGreat s t
+abbrev pub PowerStops : (n : ℕ) → List ℕ → ℕ → FormalSum n → ℕ → VectStop → Type 0
+PowerStops n ws p v k Memory = ⊤
+PowerStops n ws p v k (Degree s t) =
+    (i : ℕ) × (j : ℕ) × (i + j ≤ k) × Occurs p (power v i) (exponents_of n s.exponents) × Occurs p (power v j) (exponents_of n t.exponents)
+    × IsTooGreat s t × IsWeighed n ws s × IsWeighed n ws t

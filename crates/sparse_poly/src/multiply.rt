@@ -10,7 +10,7 @@ ghost use Rattle.sparse_poly.specs.Stops.{ProductFits, ProductStops};
 use module_vectors::{Frame, Key, NoMemory, Product, Vect, VectStop};
 use std::alloc::Global;
 
-/// The product of two polynomials. `Degree` exactly where a monomial of `a` and one of `b` have total degrees that sum to
+/// The product of two polynomials. `Degree` exactly where a monomial of `a` and one of `b` have degrees that sum to
 /// more than 65,535; it carries two such.
 pub fn mul<F: Frame>(alloc: Global, frame: &F, a: &Vect, b: &Vect) -> Result<Vect, VectStop>
     requires left { IsVectorOver (F.over frame.now) (F.compare frame.now) a.now }

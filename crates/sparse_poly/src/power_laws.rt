@@ -1,8 +1,9 @@
 //! Powers of polynomials, and the degrees of products and powers.
 
-ghost use Rattle.std.specs.Prelude.{ℕ, ◌≡◌, ◌+◌, ◌*◌, ◌<◌, ◌≤◌};
+ghost use Rattle.std.specs.Prelude.{ℕ, List, ◌≡◌, ◌+◌, ◌*◌, ◌<◌, ◌≤◌};
 ghost use Rattle.residues.specs.Residues.{IsDomain};
-ghost use Rattle.monomials.specs.Exponents.{Exponents, degree, times};
+ghost use Rattle.monomials.specs.Exponents.{Exponents, times};
+ghost use Rattle.monomials.specs.Weights.{weighted_degree};
 ghost use Rattle.formal_sums.specs.FormalSums.{FormalSum, IsPolynomial, IsSame, product};
 ghost use Rattle.sparse_poly.specs.Degrees.{HasDegreeWithin};
 ghost use Rattle.sparse_poly.specs.Powers.{power};
@@ -24,22 +25,22 @@ pub fn powers()
     ensures polynomial { (n k : ℕ) (v : FormalSum n) → IsPolynomial (power v k) }
 {}
 
-/// The degree of a product is at most the sum of the degrees, and that of a power at most its exponent times the degree.
+/// By whatever weights, the degree of a product is at most the sum of the degrees, and that of a power at most its exponent times the degree.
 pub fn degrees()
-    ensures product { (n p d e : ℕ) (u v : FormalSum n)
-        → HasDegreeWithin p d u → HasDegreeWithin p e v → HasDegreeWithin p (d + e) (product u v) }
-    ensures power { (n p d k : ℕ) (v : FormalSum n)
-        → HasDegreeWithin p d v → HasDegreeWithin p (k * d) (power v k) }
+    ensures product { (n p d e : ℕ) (ws : List ℕ) (u v : FormalSum n)
+        → HasDegreeWithin ws p d u → HasDegreeWithin ws p e v → HasDegreeWithin ws p (d + e) (product u v) }
+    ensures power { (n p d k : ℕ) (ws : List ℕ) (v : FormalSum n)
+        → HasDegreeWithin ws p d v → HasDegreeWithin ws p (k * d) (power v k) }
 {}
 
 /// In a domain the lead of a product of polynomials is the product of the leads (IVA chapter 2, section 2). So where the
-/// monomials of two powers fit, those of all powers fit whose exponents sum to no more.
+/// monomials of two powers fit, by whatever weights, those of all powers fit whose exponents sum to no more.
 pub fn top_degrees()
     ensures product { (n : ℕ) (S : Setting n) (u v : FormalSum n) (a b : Exponents n)
         → IsLawful S → IsPolynomial u → IsPolynomial v → IsLead S u (0, a) → IsLead S v (0, b)
         → IsLead S (product u v) (0, times a b) }
-    ensures powers { (n p i j : ℕ) (v : FormalSum n)
+    ensures powers { (n p i j : ℕ) (ws : List ℕ) (v : FormalSum n)
         → IsDomain p → IsPolynomial v
-        → ((a b : Exponents n) → Occurs p (power v i) a → Occurs p (power v j) b → degree a + degree b ≤ 65535)
-        → PowersFit p v (i + j) }
+        → ((a b : Exponents n) → Occurs p (power v i) a → Occurs p (power v j) b → weighted_degree ws a + weighted_degree ws b ≤ 65535)
+        → PowersFit ws p v (i + j) }
 {}

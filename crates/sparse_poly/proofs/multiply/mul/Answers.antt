@@ -12,26 +12,26 @@ pub returns-then-terms-clause-polynomial : goal.returns-then-terms-clause-polyno
 returns-then-terms-clause-polynomial g c =
     let ring = g.F.Frame.over c.args.frame.now in
     both_ok _ _ (λ v. HasPositions 1 v) c.mul_terms.result
-    (product_positions (g.met.F.Frame.laws c.args.frame.now (variables ring) 1) ring.modulus.value c.args.a.now c.args.b.now c.requires.right_polynomial)
+    (product_positions (g.met.F.Frame.laws c.args.frame.now (variables ring) 1) ring.weights ring.modulus.value c.args.a.now c.args.b.now c.requires.right_polynomial)
     c.mul_terms.ensures.vector c.mul_terms.ensures.product
 
 pub returns-then-terms-clause-within : goal.returns-then-terms-clause-within
 returns-then-terms-clause-within g c d e ha hb =
     let ring = g.F.Frame.over c.args.frame.now in
     both_ok _ _ (IsWithinDegree (d + e)) c.mul_terms.result
-    (product_within (g.met.F.Frame.laws c.args.frame.now (variables ring) 1) ring.modulus.value c.args.a.now c.args.b.now c.requires.left c.requires.right d e ha hb)
+    (product_within (g.met.F.Frame.laws c.args.frame.now (variables ring) 1) ring.weights ring.modulus.value c.args.a.now c.args.b.now c.requires.left c.requires.right d e ha hb)
     c.mul_terms.ensures.vector c.mul_terms.ensures.product
 
 pub returns-in-Ok-clause-polynomial : goal.returns-in-Ok-clause-polynomial
 returns-in-Ok-clause-polynomial g c =
     let ring = g.F.Frame.over c.args.frame.now in
-    product_positions (g.met.F.Frame.laws c.args.frame.now (variables ring) 1) ring.modulus.value c.args.b.now c.args.a.now c.requires.left_polynomial
+    product_positions (g.met.F.Frame.laws c.args.frame.now (variables ring) 1) ring.weights ring.modulus.value c.args.b.now c.args.a.now c.requires.left_polynomial
     c.in-Ok.v c.in-Ok.ensures.vector c.in-Ok.ensures.product
 
 pub returns-in-Ok-clause-product : goal.returns-in-Ok-clause-product
 returns-in-Ok-clause-product g c =
     let ring = g.F.Frame.over c.args.frame.now in
-    product_exchanged (g.met.F.Frame.laws c.args.frame.now (variables ring) 1) ring.modulus.value c.args.a.now c.args.b.now c.requires.left_polynomial c.requires.right_polynomial
+    product_exchanged (g.met.F.Frame.laws c.args.frame.now (variables ring) 1) ring.weights ring.modulus.value c.args.a.now c.args.b.now c.requires.left_polynomial c.requires.right_polynomial
     c.in-Ok.v c.in-Ok.ensures.product
 
 pub returns-in-Ok-clause-fits : goal.returns-in-Ok-clause-fits
@@ -40,9 +40,9 @@ returns-in-Ok-clause-fits g c = ProductFits_exchanged c.args.b.now c.args.a.now 
 pub returns-in-Ok-clause-within : goal.returns-in-Ok-clause-within
 returns-in-Ok-clause-within g c d e ha hb =
     let ring = g.F.Frame.over c.args.frame.now in
-    product_within (g.met.F.Frame.laws c.args.frame.now (variables ring) 1) ring.modulus.value c.args.a.now c.args.b.now c.requires.left c.requires.right d e ha hb
+    product_within (g.met.F.Frame.laws c.args.frame.now (variables ring) 1) ring.weights ring.modulus.value c.args.a.now c.args.b.now c.requires.left c.requires.right d e ha hb
     c.in-Ok.v c.in-Ok.ensures.vector
-    (product_exchanged (g.met.F.Frame.laws c.args.frame.now (variables ring) 1) ring.modulus.value c.args.a.now c.args.b.now c.requires.left_polynomial c.requires.right_polynomial c.in-Ok.v c.in-Ok.ensures.product)
+    (product_exchanged (g.met.F.Frame.laws c.args.frame.now (variables ring) 1) ring.weights ring.modulus.value c.args.a.now c.args.b.now c.requires.left_polynomial c.requires.right_polynomial c.in-Ok.v c.in-Ok.ensures.product)
 
 pub returns-then-terms-clause-memory : goal.returns-then-terms-clause-memory
 returns-then-terms-clause-memory g c d e ha hb small =

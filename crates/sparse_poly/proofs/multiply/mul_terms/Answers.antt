@@ -12,7 +12,7 @@ use Rattle.sparse_poly.proofs.multiply.mul_terms.Goals as goal
 pub sum_of_products-requires-clause-factors : goal.sum_of_products-requires-clause-factors
 sum_of_products-requires-clause-factors g c =
     let ring = g.F.Frame.over c.args.frame.now in
-    rw c.deref.ensures.value (multiples_factors (variables ring) ring.modulus.value c.args.b.now c.terms.result.now c.in-Ok.products.items c.in-Ok.ensures (rw c.terms.ensures c.requires.left.each))
+    rw c.deref.ensures.value (multiples_factors (variables ring) ring.weights ring.modulus.value c.args.b.now c.terms.result.now c.in-Ok.products.items c.in-Ok.ensures (rw c.terms.ensures c.requires.left.each))
 
 pub sum_of_products-requires-clause-vectors : goal.sum_of_products-requires-clause-vectors
 sum_of_products-requires-clause-vectors g c =
@@ -31,7 +31,7 @@ pub returns-in-Ok-clause-fits : goal.returns-in-Ok-clause-fits
 returns-in-Ok-clause-fits g c =
     let ring = g.F.Frame.over c.args.frame.now in
     each_ok _ (λ v. ProductFits c.args.a.now c.args.b.now) c.sum_of_products.result
-    (λ v h. subst (λ a. ProductFits a c.args.b.now) c.terms.ensures (multiples_fit (variables ring) ring.modulus.value c.args.b.now c.terms.result.now c.in-Ok.products.items c.in-Ok.ensures (rw c.terms.ensures c.requires.left.each) (subst ProductsFit c.deref.ensures.value h)))
+    (λ v h. subst (λ a. ProductFits a c.args.b.now) c.terms.ensures (multiples_fit (variables ring) ring.weights ring.modulus.value c.args.b.now c.terms.result.now c.in-Ok.products.items c.in-Ok.ensures (rw c.terms.ensures c.requires.left.each) (subst ProductsFit c.deref.ensures.value h)))
     c.sum_of_products.ensures.fits
 
 pub returns-in-Ok-clause-stop : goal.returns-in-Ok-clause-stop

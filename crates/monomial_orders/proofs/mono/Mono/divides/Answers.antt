@@ -1,9 +1,28 @@
-use Rattle.std.proofs.Common.{length, refl, sym}
+use Rattle.std.proofs.Common.{length, refl, subst, sym}
+use Rattle.monomial_orders.proofs.Filling.{divides_shown, divides_stored, filled_at}
 use Rattle.monomial_orders.proofs.PlaceByPlace.{divides_of, of_divides}
+use Rattle.monomial_orders.specs.Storage.{IsFilled}
 use Rattle.monomial_orders.proofs.mono.Mono.divides.Goals as goal
+
+pub divides-requires-clause-left : goal.divides-requires-clause-left
+divides-requires-clause-left c = subst (λ n. IsFilled n c.kept.result.now) (sym c.variables.ensures) c.kept.ensures.kept.filled
+
+pub divides-requires-clause-right : goal.divides-requires-clause-right
+divides-requires-clause-right c =
+    subst (λ n. IsFilled n c.kept-2.result.now) (sym c.variables.ensures)
+    (filled_at c.args.self.now c.args.b.now c.kept-2.result.now c.requires.variables c.kept-2.ensures)
+
+pub returns-clause-places : goal.returns-clause-places
+returns-clause-places c =
+    let a = c.args.self.now in
+    let b = c.args.b.now in (
+      λ t. divides_shown a b c.kept.result.now c.kept-2.result.now c.requires.variables c.kept.ensures c.kept-2.ensures (c.divides.ensures.0 t),
+      λ h. c.divides.ensures.1 (λ k lt. divides_stored a b c.kept.result.now c.kept-2.result.now c.requires.variables c.kept.ensures c.kept-2.ensures h k),
+    )
 
 pub returns-clause-value : goal.returns-clause-value
 returns-clause-value c =
-    let n = length c.args.self.now in
-    let e = rw (c.exponents.ensures.value, c.exponents-2.ensures.value) at c.divides_places.ensures in
-    (λ t. divides_of n c.args.self.now c.args.b.now refl (sym c.requires.variables) (e.0 t), λ q. e.1 (of_divides n c.args.self.now c.args.b.now refl (sym c.requires.variables) q))
+    let xs = c.args.self.now.exponents in
+    let ys = c.args.b.now.exponents in
+    let e = returns-clause-places c in
+    (λ t. divides_of (length xs) xs ys refl (sym c.requires.variables) (e.0 t), λ q. e.1 (of_divides (length xs) xs ys refl (sym c.requires.variables) q))

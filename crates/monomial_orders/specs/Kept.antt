@@ -1,0 +1,22 @@
+-- What contracts see of a monomial
+use Rattle.std.specs.Prelude.{List, length, slice_index, ℕ, ◌<◌, ◌≡◌}
+use Rattle.monomials.specs.Exponents.{exponents_of}
+use Rattle.monomials.specs.Weights.{weighted_degree}
+
+-- a monomial: its exponents, and the degree that is kept with them
+pub record Monomial : Type 0 where
+  pub exponents : List ℕ
+  pub degree : ℕ
+
+-- m is a monomial in n variables of these weights: an exponent for each, and the degree by the weights
+pub record IsWeighed (n : ℕ) (ws : List ℕ) (m : Monomial) : Type 0 where
+  pub variables : length m.exponents ≡ n
+  pub degree : m.degree ≡ weighted_degree ws (exponents_of n m.exponents)
+
+-- some weights have given both degrees
+abbrev pub HaveCommonWeights : ℕ → Monomial → Monomial → Type 0
+HaveCommonWeights n a b = (ws : List ℕ) × IsWeighed n ws a × IsWeighed n ws b
+
+-- what each list of weights keeps: none is 0
+abbrev pub AreWeights : List ℕ → Type 0
+AreWeights ws = (k : ℕ) → k < length ws → 0 < slice_index ws k
