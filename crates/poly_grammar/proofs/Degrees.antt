@@ -10,9 +10,9 @@ use Rattle.poly_grammar.specs.Steps.{steps}
 use Rattle.poly_grammar.specs.Trees.{Lead, bare, positive, negative, Poly, poly, Terms, last, plus_term, minus_term, Term, term, Factors, alone, times, Factor, plain, power, Atom, numeral, letter, group}
 use Rattle.poly_grammar.proofs.Worths.{worth_is_left}
 
-pub as_degree : (value : Token → ℕ) (xs : List Step) (r : Result (Option ℕ) AllocError) → IfOk r (λ found. found ≡ worth_of_steps (degrees value) xs) → (p : Poly) → xs ≡ steps p → IfOk r (λ found. found ≡ formal_degree value p)
-as_degree value xs (Ok found) h p e = h ∙ ap (worth_of_steps (degrees value)) e ∙ worth_is_left (degrees value) p
-as_degree value xs (Err x) h p e = tt
+pub as_degree : (weight value : Token → ℕ) (xs : List Step) (r : Result (Option ℕ) AllocError) → IfOk r (λ found. found ≡ worth_of_steps (degrees weight value) xs) → (p : Poly) → xs ≡ steps p → IfOk r (λ found. found ≡ formal_degree weight value p)
+as_degree weight value xs (Ok found) h p e = h ∙ ap (worth_of_steps (degrees weight value)) e ∙ worth_is_left (degrees weight value) p
+as_degree weight value xs (Err x) h p e = tt
 
 abbrev Small : Option ℕ → Type 0
 Small o = IfSome o (λ d. d ≤ 1000)
@@ -32,36 +32,36 @@ next_small (Some d) f s h = h d s
 greatest_small : (d e : ℕ) → d ≤ 1000 → e ≤ 1000 → max d e ≤ 1000
 greatest_small d e p q = omega arith
 
-module _ (value : Token → ℕ) where
-  signed_small : (sign : Lead) (d : ℕ) → d ≤ 1000 → Small (signed (degrees value) sign d)
+module _ (weight value : Token → ℕ) where
+  signed_small : (sign : Lead) (d : ℕ) → d ≤ 1000 → Small (signed (degrees weight value) sign d)
   signed_small bare d h = h
   signed_small positive d h = h
   signed_small negative d h = h
 
 mutual
-  poly_small : (value : Token → ℕ) (p : Poly) → Small (worth (degrees value) p)
-  poly_small value (poly sign t ts) = next_small (term_worth (degrees value) t) _ (term_small value t) (λ d h. next_small (signed (degrees value) sign d) _ (signed_small value sign d h) (λ e k. terms_small value e k ts))
+  poly_small : (weight value : Token → ℕ) (p : Poly) → Small (worth (degrees weight value) p)
+  poly_small weight value (poly sign t ts) = next_small (term_worth (degrees weight value) t) _ (term_small weight value t) (λ d h. next_small (signed (degrees weight value) sign d) _ (signed_small weight value sign d h) (λ e k. terms_small weight value e k ts))
 
-  terms_small : (value : Token → ℕ) (d : ℕ) → d ≤ 1000 → (ts : Terms) → Small (terms_worth (degrees value) d ts)
-  terms_small value d h last = h
-  terms_small value d h (plus_term t ts) = next_small (term_worth (degrees value) t) _ (term_small value t) (λ e k. terms_small value (max d e) (greatest_small d e h k) ts)
-  terms_small value d h (minus_term t ts) = next_small (term_worth (degrees value) t) _ (term_small value t) (λ e k. terms_small value (max d e) (greatest_small d e h k) ts)
+  terms_small : (weight value : Token → ℕ) (d : ℕ) → d ≤ 1000 → (ts : Terms) → Small (terms_worth (degrees weight value) d ts)
+  terms_small weight value d h last = h
+  terms_small weight value d h (plus_term t ts) = next_small (term_worth (degrees weight value) t) _ (term_small weight value t) (λ e k. terms_small weight value (max d e) (greatest_small d e h k) ts)
+  terms_small weight value d h (minus_term t ts) = next_small (term_worth (degrees weight value) t) _ (term_small weight value t) (λ e k. terms_small weight value (max d e) (greatest_small d e h k) ts)
 
-  term_small : (value : Token → ℕ) (t : Term) → Small (term_worth (degrees value) t)
-  term_small value (term f fs) = next_small (factor_worth (degrees value) f) _ (factor_small value f) (λ d h. factors_small value d h fs)
+  term_small : (weight value : Token → ℕ) (t : Term) → Small (term_worth (degrees weight value) t)
+  term_small weight value (term f fs) = next_small (factor_worth (degrees weight value) f) _ (factor_small weight value f) (λ d h. factors_small weight value d h fs)
 
-  factors_small : (value : Token → ℕ) (d : ℕ) → d ≤ 1000 → (fs : Factors) → Small (factors_worth (degrees value) d fs)
-  factors_small value d h alone = h
-  factors_small value d h (times f fs) = next_small (factor_worth (degrees value) f) _ (factor_small value f) (λ e k. next_small (bounded (d + e)) _ (bounded_small (d + e)) (λ s l. factors_small value s l fs))
+  factors_small : (weight value : Token → ℕ) (d : ℕ) → d ≤ 1000 → (fs : Factors) → Small (factors_worth (degrees weight value) d fs)
+  factors_small weight value d h alone = h
+  factors_small weight value d h (times f fs) = next_small (factor_worth (degrees weight value) f) _ (factor_small weight value f) (λ e k. next_small (bounded (d + e)) _ (bounded_small (d + e)) (λ s l. factors_small weight value s l fs))
 
-  factor_small : (value : Token → ℕ) (f : Factor) → Small (factor_worth (degrees value) f)
-  factor_small value (plain a) = atom_small value a
-  factor_small value (power a exponent) = next_small (atom_worth (degrees value) a) _ (atom_small value a) (λ d h. bounded_small (d * value exponent))
+  factor_small : (weight value : Token → ℕ) (f : Factor) → Small (factor_worth (degrees weight value) f)
+  factor_small weight value (plain a) = atom_small weight value a
+  factor_small weight value (power a exponent) = next_small (atom_worth (degrees weight value) a) _ (atom_small weight value a) (λ d h. bounded_small (d * value exponent))
 
-  atom_small : (value : Token → ℕ) (a : Atom) → Small (atom_worth (degrees value) a)
-  atom_small value (numeral token) = omega arith
-  atom_small value (letter token) = omega arith
-  atom_small value (group p) = poly_small value p
+  atom_small : (weight value : Token → ℕ) (a : Atom) → Small (atom_worth (degrees weight value) a)
+  atom_small weight value (numeral token) = omega arith
+  atom_small weight value (letter token) = bounded_small (weight token)
+  atom_small weight value (group p) = poly_small weight value p
 
-pub degree_is_small : (value : Token → ℕ) (p : Poly) (d : ℕ) → formal_degree value p ≡ Some d → d ≤ 1000
-degree_is_small value p d e = subst Small e (poly_small value p)
+pub degree_is_small : (weight value : Token → ℕ) (p : Poly) (d : ℕ) → formal_degree weight value p ≡ Some d → d ≤ 1000
+degree_is_small weight value p d e = subst Small e (poly_small weight value p)

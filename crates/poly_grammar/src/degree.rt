@@ -1,9 +1,9 @@
 //! The formal degree of a polynomial.
 
-ghost use Rattle.std.specs.Prelude.{◌≡◌, ◌*◌, reverse, IfOk};
+ghost use Rattle.std.specs.Prelude.{◌≡◌, ◌*◌, ℕ, List, reverse, IfOk};
 ghost use Rattle.poly_grammar.specs.Algebras.{worth_of_steps, worth_step};
 ghost use Rattle.poly_grammar.specs.Degrees.{bounded, degrees, formal_degree};
-ghost use Rattle.poly_grammar.specs.Numerals.{number_of, value_of};
+ghost use Rattle.poly_grammar.specs.Numerals.{number_of, text_of, value_of};
 ghost use Rattle.poly_grammar.specs.Machine.{greater, left_by};
 ghost use Rattle.poly_grammar.specs.Steps.{steps as steps_of};
 ghost use Rattle.poly_grammar.specs.Trees.{Poly};
@@ -11,6 +11,16 @@ ghost use Rattle.poly_grammar.specs.Trees.{Poly};
 use crate::numeral::{number, text};
 use crate::step::Step;
 use std::alloc::{AllocError, Global};
+
+/// The weights of names: of each the degree of the variable that it stands for.
+pub trait NameWeights {
+    /// The weight of a name with this text.
+    ghost weight: { Self → List ℕ → ℕ };
+
+    /// The weight of the name with this text.
+    fn weight(&self, text: &[u8]) -> u32
+        ensures { result ≡ weight self.now text.now };
+}
 
 /// The greatest formal degree that is allowed.
 const GREATEST: u64 = 1000;
@@ -47,12 +57,23 @@ fn push_greater(stack: &mut Vec<u32>) -> Result<bool, AllocError>
 }
 
 /// Does one step on the stack of degrees, and says whether it could be done.
-fn step_degree(line: &[u8], step: Step, stack: &mut Vec<u32>) -> Result<bool, AllocError>
-    ensures { IfOk result (λ done. left_by done stack.new.items ≡ worth_step (degrees (value_of line.now)) step (reverse stack.old.items)) }
+fn step_degree<N: NameWeights>(
+    names: &N,
+    line: &[u8],
+    step: Step,
+    stack: &mut Vec<u32>,
+) -> Result<bool, AllocError>
+    ensures { IfOk result (λ done. left_by done stack.new.items
+        ≡ worth_step (degrees (λ t. N.weight names.now (text_of line.now t)) (value_of line.now)) step (reverse stack.old.items)) }
 {
     match step {
         Step::Number(_) => stack.push(0)?,
-        Step::Name(_) => stack.push(1)?,
+        Step::Name(name) => {
+            let Some(weight) = bounded(u64::from(names.weight(text(line, name)))) else {
+                return Ok(false);
+            };
+            stack.push(weight)?;
+        }
         Step::Power(exponent) => {
             let Some(base) = stack.pop() else {
                 return Ok(false);
@@ -78,12 +99,17 @@ fn step_degree(line: &[u8], step: Step, stack: &mut Vec<u32>) -> Result<bool, Al
 }
 
 /// The degree that steps leave on top.
-fn degree_left(alloc: Global, line: &[u8], steps: &[Step]) -> Result<Option<u32>, AllocError>
-    ensures { IfOk result (λ found. found ≡ worth_of_steps (degrees (value_of line.now)) steps.now) }
+fn degree_left<N: NameWeights>(
+    alloc: Global,
+    names: &N,
+    line: &[u8],
+    steps: &[Step],
+) -> Result<Option<u32>, AllocError>
+    ensures { IfOk result (λ found. found ≡ worth_of_steps (degrees (λ t. N.weight names.now (text_of line.now t)) (value_of line.now)) steps.now) }
 {
     let mut stack = Vec::new(alloc);
     for step in steps {
-        if !step_degree(line, *step, &mut stack)? {
+        if !step_degree(names, line, *step, &mut stack)? {
             return Ok(None);
         }
     }
@@ -92,11 +118,17 @@ fn degree_left(alloc: Global, line: &[u8], steps: &[Step]) -> Result<Option<u32>
 
 /// The formal degree of the polynomial of a line that has these steps, as `read_polynomial` gives them.
 ///
-/// A number has degree 0 and a name 1; a power has its base's degree times the exponent, a product the sum of its
+/// A number has degree 0 and a name its weight; a power has its base's degree times the exponent, a product the sum of its
 /// factors' degrees, a sum the greatest of its terms'. None exactly where the degree of some part is above 1,000.
 /// Answers `AllocError` where a growth was refused.
-pub fn formal_degree(alloc: Global, line: &[u8], steps: &[Step]) -> Result<Option<u32>, AllocError>
-    ensures { (p : Poly) → steps.now ≡ steps_of p → IfOk result (λ found. found ≡ formal_degree (value_of line.now) p) }
+pub fn formal_degree<N: NameWeights>(
+    alloc: Global,
+    names: &N,
+    line: &[u8],
+    steps: &[Step],
+) -> Result<Option<u32>, AllocError>
+    ensures { (p : Poly) → steps.now ≡ steps_of p
+        → IfOk result (λ found. found ≡ formal_degree (λ t. N.weight names.now (text_of line.now t)) (value_of line.now) p) }
 {
-    degree_left(alloc, line, steps)
+    degree_left(alloc, names, line, steps)
 }

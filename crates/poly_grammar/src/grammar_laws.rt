@@ -18,9 +18,9 @@ pub fn worths_of_steps<A>()
     ensures { (g : Algebra A) (p : Poly) → worth_of_steps g (steps p) ≡ worth g p }
 {}
 
-/// A formal degree is at most 1,000.
+/// A formal degree is at most 1,000, whatever the weights.
 pub fn formal_degrees()
-    ensures { (value : Token → ℕ) (p : Poly) (d : ℕ) → formal_degree value p ≡ Some d → d ≤ 1000 }
+    ensures { (weight value : Token → ℕ) (p : Poly) (d : ℕ) → formal_degree weight value p ≡ Some d → d ≤ 1000 }
 {}
 
 /// The names and numbers of a polynomial are those of its steps, in the same order.

@@ -11,7 +11,7 @@ mod reader;
 mod step;
 mod stop;
 
-pub use degree::formal_degree;
+pub use degree::{NameWeights, formal_degree};
 pub use grammar_laws::{formal_degrees, one_tree, tokens_of_steps, worths_of_steps};
 pub use numeral::{number, numerals_fit, text};
 pub use reader::read_polynomial;

@@ -5,13 +5,14 @@ use Rattle.std.proofs.lemmas.Option.{none-some, same_Some}
 use Rattle.std.specs.Option.{option_map}
 use Rattle.std.specs.Prelude.{if◌then◌else◌}
 use Rattle.residues.proofs.Congruences.{IsCongruent_add, IsCongruent_of, IsCongruent_trans}
-use Rattle.monomials.proofs.Monomials.{degree-unit}
-use Rattle.monomials.specs.Exponents.{degree, unit}
+use Rattle.monomials.proofs.Weighing.{weighted_degree-unit}
+use Rattle.monomials.specs.Exponents.{unit}
+use Rattle.monomials.specs.Weights.{weighted_degree}
 use Rattle.formal_sums.proofs.WeightedSums.{coefficient-append, indicator_other}
 use Rattle.formal_sums.specs.FormalSums.{FormalSum, indicator, product, scale}
 use Rattle.monomial_orders.specs.Monomials.{variable}
 use Rattle.poly_grammar.specs.Algebras.{push, worth_step}
-use Rattle.poly_grammar.specs.Degrees.{bounded, degrees}
+use Rattle.poly_grammar.specs.Degrees.{bounded}
 use Rattle.poly_grammar.specs.Numerals.{text_of, value_of}
 use Rattle.poly_grammar.specs.declared.step.Step.{Step}
 use Rattle.poly_grammar.specs.declared.step.Step.TheVariants.{Add, Multiply, Name, Negate, Number, Power, Subtract}
@@ -21,31 +22,33 @@ use Rattle.sparse_poly.proofs.Bounding.{HasDegreeWithin_constant, HasDegreeWithi
 use Rattle.sparse_poly.specs.Degrees.{HasDegreeWithin}
 use Rattle.sparse_poly.specs.Powers.{constant, power}
 use Rattle.poly_value.specs.Parts.{AreWithin}
-use Rattle.poly_value.specs.Values.{place_of, polynomials_of, variable_sum}
+use Rattle.poly_value.specs.Values.{degrees_of, name_weight, place_of, polynomials_of, variable_sum, weight_at}
 
-append_within : {n p d e : ℕ} (v w : FormalSum n) → HasDegreeWithin p d v → HasDegreeWithin p e w → HasDegreeWithin p (max d e) (v ++ w)
-append_within {n} {p} {d} {e} v w h g = record {
+append_within : {n p d e : ℕ} {ws : List ℕ} (v w : FormalSum n) → HasDegreeWithin ws p d v → HasDegreeWithin ws p e w → HasDegreeWithin ws p (max d e) (v ++ w)
+append_within {n} {p} {d} {e} {ws} v w h g = record {
   above = λ k lt.
       let both = IsCongruent_add (h.above k (omega arith)) (g.above k (omega arith)) in
       let z : 0 + 0 ≡ 0 = omega arith in
       IsCongruent_trans (IsCongruent_of p _ _ (coefficient-append v w k)) (IsCongruent_trans both (IsCongruent_of p _ _ z));
 }
 
-scale_within : {n p d : ℕ} (c : ℕ) (v : FormalSum n) → HasDegreeWithin p d v → HasDegreeWithin p d (scale c (unit n) v)
-scale_within {n} {p} {d} c v h =
+scale_within : {n p d : ℕ} {ws : List ℕ} (c : ℕ) (v : FormalSum n) → HasDegreeWithin ws p d v → HasDegreeWithin ws p d (scale c (unit n) v)
+scale_within {n} {p} {d} {ws} c v h =
     let z : 0 + d ≡ d = omega arith in
-    subst (λ e. HasDegreeWithin p e (scale c (unit n) v)) z
-    (subst (HasDegreeWithin p (0 + d)) (append-nil (scale c (unit n) v)) (HasDegreeWithin_product (constant n c) v (HasDegreeWithin_constant n p c) h))
+    subst (λ e. HasDegreeWithin ws p e (scale c (unit n) v)) z
+    (subst (HasDegreeWithin ws p (0 + d)) (append-nil (scale c (unit n) v)) (HasDegreeWithin_product (constant n c) v (HasDegreeWithin_constant n ws p c) h))
 
-degree-variable : (n i : ℕ) → degree (variable n i) ≤ 1
-degree-variable zero i = omega arith
-degree-variable (suc n) zero = let z = degree-unit n in omega arith
-degree-variable (suc n) (suc i) = let z = degree-variable n i in omega arith
+degree-variable : (ws : List ℕ) (n i : ℕ) → weighted_degree ws (variable n i) ≤ weight_at ws (Some i)
+degree-variable ws zero i = omega arith
+degree-variable [] (suc n) zero = let z = weighted_degree-unit n [] in omega arith
+degree-variable (w ∷ ws) (suc n) zero = let z = weighted_degree-unit n ws in omega arith
+degree-variable [] (suc n) (suc i) = let z = degree-variable [] n i in omega arith
+degree-variable (w ∷ ws) (suc n) (suc i) = let z = degree-variable ws n i in omega arith
 
-variable_within : (n p i : ℕ) → HasDegreeWithin p 1 (variable_sum n i)
-variable_within n p i = record {
+variable_within : (n : ℕ) (ws : List ℕ) (p i : ℕ) → HasDegreeWithin ws p (weight_at ws (Some i)) (variable_sum n i)
+variable_within n ws p i = record {
   above = λ k lt.
-      let z : indicator k (0, variable n i) ≡ 0 = indicator_other k (0, variable n i) (λ q. (let d : degree k.1 ≡ degree (variable n i) = ap (λ l. degree l.1) q in let le = degree-variable n i in omega arith)) in
+      let z : indicator k (0, variable n i) ≡ 0 = indicator_other k (0, variable n i) (λ q. (let d : weighted_degree ws k.1 ≡ weighted_degree ws (variable n i) = ap (λ l. weighted_degree ws l.1) q in let le = degree-variable ws n i in omega arith)) in
       IsCongruent_of p _ 0 (rw z (omega arith));
 }
 
@@ -59,31 +62,31 @@ allowed n ds lower e = go (nat_le n 1000) refl e
 
 module _ (ring : Ring) (line : List ℕ) where
   moved :
-      (vs left : List (FormalSum (variables ring))) (ds lower : List ℕ) → Some vs ≡ Some left → ds ≡ lower → AreWithin ring.modulus.value vs ds
-      → AreWithin ring.modulus.value left lower
-  moved vs left ds lower e f h = subst (AreWithin ring.modulus.value left) f (subst (λ x. AreWithin ring.modulus.value x ds) (same_Some vs left e) h)
+      (vs left : List (FormalSum (variables ring))) (ds lower : List ℕ) → Some vs ≡ Some left → ds ≡ lower → AreWithin ring.weights ring.modulus.value vs ds
+      → AreWithin ring.weights ring.modulus.value left lower
+  moved vs left ds lower e f h = subst (AreWithin ring.weights ring.modulus.value left) f (subst (λ x. AreWithin ring.weights ring.modulus.value x ds) (same_Some vs left e) h)
 
   named :
       (o : Option ℕ) (vs left : List (FormalSum (variables ring))) (ds lower : List ℕ) → push vs (option_map (variable_sum (variables ring)) o) ≡ Some left
-      → 1 ∷ ds ≡ lower → AreWithin ring.modulus.value vs ds → AreWithin ring.modulus.value left lower
+      → weight_at ring.weights o ∷ ds ≡ lower → AreWithin ring.weights ring.modulus.value vs ds → AreWithin ring.weights ring.modulus.value left lower
   named None vs left ds lower e f h = absurd (none-some left e)
-  named (Some i) vs left ds lower e f h = moved (variable_sum (variables ring) i ∷ vs) left (1 ∷ ds) lower e f (variable_within (variables ring) ring.modulus.value i, h)
+  named (Some i) vs left ds lower e f h = moved (variable_sum (variables ring) i ∷ vs) left (weight_at ring.weights (Some i) ∷ ds) lower e f (variable_within (variables ring) ring.weights ring.modulus.value i, h)
 
   -- a step keeps the bounds
   pub within_step :
       (step : Step) (vs left : List (FormalSum (variables ring))) (ds lower : List ℕ) → worth_step (polynomials_of ring line) step vs ≡ Some left
-      → worth_step (degrees (value_of line)) step ds ≡ Some lower → AreWithin ring.modulus.value vs ds
-      → AreWithin ring.modulus.value left lower
+      → worth_step (degrees_of ring line) step ds ≡ Some lower → AreWithin ring.weights ring.modulus.value vs ds
+      → AreWithin ring.weights ring.modulus.value left lower
   within_step (Number t) vs left ds lower e f h =
-      moved (constant (variables ring) (value_of line t) ∷ vs) left (0 ∷ ds) lower e (same_Some (0 ∷ ds) lower f) (HasDegreeWithin_constant (variables ring) ring.modulus.value (value_of line t), h)
-  within_step (Name t) vs left ds lower e f h = named (place_of ring.vars (text_of line t)) vs left ds lower e (same_Some (1 ∷ ds) lower f) h
+      moved (constant (variables ring) (value_of line t) ∷ vs) left (0 ∷ ds) lower e (same_Some (0 ∷ ds) lower f) (HasDegreeWithin_constant (variables ring) ring.weights ring.modulus.value (value_of line t), h)
+  within_step (Name t) vs left ds lower e f h = named (place_of ring.vars (text_of line t)) vs left ds lower e (allowed (name_weight ring (text_of line t)) ds lower f).1 h
   within_step (Power t) [] left ds lower e f h = absurd (none-some left e)
   within_step (Power t) (v ∷ vs) left [] lower e f h = absurd h
   within_step (Power t) (v ∷ vs) left (d ∷ ds) lower e f h =
       let k : ℕ = value_of line t in
       let q : k * d ≡ d * k = omega arith in
       moved (power v k ∷ vs) left ((d * k) ∷ ds) lower e (allowed (d * k) ds lower f).1
-      (subst (λ x. HasDegreeWithin ring.modulus.value x (power v k)) q (HasDegreeWithin_power v k h.0), h.1)
+      (subst (λ x. HasDegreeWithin ring.weights ring.modulus.value x (power v k)) q (HasDegreeWithin_power v k h.0), h.1)
   within_step Multiply [] left ds lower e f h = absurd (none-some left e)
   within_step Multiply (b ∷ []) left ds lower e f h = absurd (none-some left e)
   within_step Multiply (b ∷ a ∷ vs) left [] lower e f h = absurd h

@@ -1,12 +1,12 @@
 -- The first place of a text among names
-use Rattle.std.proofs.Common.{◌≡◌, ℕ, suc, ◌+◌, ◌<◌, ◌≤◌, nat_eq, Bool, true, false, Option, Some, None, List, [], ◌∷◌, length, drop, get_or, refl, ap, ◌∙◌, arith}
+use Rattle.std.proofs.Common.{◌≡◌, ℕ, zero, suc, ◌+◌, ◌<◌, ◌≤◌, nat_eq, Bool, true, false, Option, Some, None, List, [], ◌∷◌, length, drop, get_or, refl, ap, ◌∙◌, arith}
 use Rattle.std.proofs.lemmas.List.{drop_all}
 use Rattle.std.proofs.lemmas.Option.{none-some, same_Some}
 use Rattle.std.proofs.Math.Seq.{drop-cons}
 use Rattle.std.specs.Cmp.Lexicographic.{pointwise}
 use Rattle.std.specs.Option.{option_map}
-use Rattle.std.specs.Prelude.{if◌then◌else◌}
-use Rattle.poly_value.specs.Values.{place_of}
+use Rattle.std.specs.Prelude.{if◌then◌else◌, slice_index, slice_index_or}
+use Rattle.poly_value.specs.Values.{place_of, weight_at}
 
 -- the place behind i names
 abbrev pub behind : ℕ → Option ℕ → Option ℕ
@@ -52,3 +52,9 @@ below_here false (Some k) n i h e =
 pub place_below : (vars : List (List ℕ)) (text : List ℕ) (i : ℕ) → place_of vars text ≡ Some i → i < length vars
 place_below [] text i e = absurd (none-some i e)
 place_below (v ∷ vars) text i e = below_here (pointwise nat_eq v text) (place_of vars text) (length vars) i (λ k h. place_below vars text k h) e
+
+-- the weight of a variable is the one at its place
+pub weight_there : (ws : List ℕ) (i w : ℕ) → i < length ws → (0 < slice_index ws i) → w ≡ slice_index_or ws i 0 → w ≡ weight_at ws (Some i)
+weight_there [] i w lt pos e = absurd (omega (arith, lt))
+weight_there (x ∷ ws) zero w lt pos e = let p : 0 < x = pos in let q : w ≡ x = e in omega arith
+weight_there (x ∷ ws) (suc i) w lt pos e = weight_there ws i w (omega (arith, lt)) pos e

@@ -9,7 +9,6 @@ use Rattle.monomials.specs.Exponents.{unit}
 use Rattle.formal_sums.proofs.Sameness.{IsSame_sym, IsSame_trans}
 use Rattle.formal_sums.specs.FormalSums.{FormalSum, scale}
 use Rattle.poly_grammar.specs.Algebras.{Algebra, ◌>>=◌, top, worth_of_steps, worth_step, worths}
-use Rattle.poly_grammar.specs.Degrees.{degrees}
 use Rattle.poly_grammar.specs.Numerals.{value_of}
 use Rattle.poly_grammar.specs.Steps.{numbers_of_steps}
 use Rattle.poly_grammar.specs.declared.step.Step.{Step}
@@ -23,7 +22,7 @@ use Rattle.sparse_poly.specs.Degrees.{HasDegreeWithin}
 use Rattle.poly_value.proofs.Degrees.{allowed, within_step}
 use Rattle.poly_value.proofs.Sums.{joined_part}
 use Rattle.poly_value.specs.Parts.{Advances, AreParts, AreWithin, IsPart, IsReady, PowerFits, ProductFits}
-use Rattle.poly_value.specs.Values.{polynomials_of}
+use Rattle.poly_value.specs.Values.{degrees_of, polynomials_of}
 
 -- the terms of a sum, and a stack of them, the top first
 abbrev pub Terms : Type 0
@@ -129,25 +128,25 @@ pub record IsWorking (ring : Ring) (line : List ℕ) (all left : List Step) (sta
   pub parts : AreParts ring stack values
   pub worth_is : (worths (polynomials_of ring line) left values >>= top) ≡ worth_of_steps (polynomials_of ring line) all
   pub bounds : List ℕ
-  pub within : AreWithin ring.modulus.value values bounds
-  pub degree_is : (worths (degrees (value_of line)) left bounds >>= top) ≡ worth_of_steps (degrees (value_of line)) all
+  pub within : AreWithin ring.weights ring.modulus.value values bounds
+  pub degree_is : (worths (degrees_of ring line) left bounds >>= top) ≡ worth_of_steps (degrees_of ring line) all
   pub numerals : AllByRecursion (λ t. value_of line t < 2 ^ 128) (numbers_of_steps left)
 
 module _ (ring : Ring) (line : List ℕ) (all : List Step) (x : FormalSum (variables ring)) (d : ℕ)
-    (w : worth_of_steps (polynomials_of ring line) all ≡ Some x) (low : worth_of_steps (degrees (value_of line)) all ≡ Some d) where
+    (w : worth_of_steps (polynomials_of ring line) all ≡ Some x) (low : worth_of_steps (degrees_of ring line) all ≡ Some d) where
   pub starts : AllByRecursion (λ t. value_of line t < 2 ^ 128) (numbers_of_steps all) → IsWorking ring line all all []
   starts h = record { values = []; parts = tt; worth_is = refl; bounds = []; within = tt; degree_is = refl; numerals = h }
 
   ready : (more : List Step) (step : Step) (old : List Terms) → IsWorking ring line all (step ∷ more) old → IsReady ring line step old
   ready more step old h =
       let one = has_worth (polynomials_of ring line) step more h.values _ x w h.worth_is in
-      let other = has_worth (degrees (value_of line)) step more h.bounds _ d low h.degree_is in
+      let other = has_worth (degrees_of ring line) step more h.bounds _ d low h.degree_is in
       record { values = h.values; parts = h.parts; worth = (one.0, one.1); bounds = h.bounds; within = h.within; degree = (other.0, other.1); numerals = first_numerals _ step more h.numerals }
 
   working_step : (more : List Step) (step : Step) (old new : List Terms) → IsWorking ring line all (step ∷ more) old → Advances ring line step old new → IsWorking ring line all more new
   working_step more step old new h advances =
       let one = has_worth (polynomials_of ring line) step more h.values _ x w h.worth_is in
-      let other = has_worth (degrees (value_of line)) step more h.bounds _ d low h.degree_is in
+      let other = has_worth (degrees_of ring line) step more h.bounds _ d low h.degree_is in
       record {
         values = one.0;
         parts = advances h.values one.0 h.parts one.1;
@@ -173,8 +172,8 @@ module _ (ring : Ring) (line : List ℕ) (all : List Step) (x : FormalSum (varia
     pub working_on : (new : List Terms) → Advances ring line step old new → IsWorking ring line all (drop (i + 1) all) new
     working_on new advances = working_step (drop (i + 1) all) step old new here advances
 
-sum_within : (ring : Ring) (d : ℕ) (v : FormalSum (variables ring)) (terms : List (Key × ℕ)) → IsPart ring v terms → HasDegreeWithin ring.modulus.value d v
-    → HasDegreeWithin ring.modulus.value d (sum_of (variables ring) terms)
+sum_within : (ring : Ring) (d : ℕ) (v : FormalSum (variables ring)) (terms : List (Key × ℕ)) → IsPart ring v terms → HasDegreeWithin ring.weights ring.modulus.value d v
+    → HasDegreeWithin ring.weights ring.modulus.value d (sum_of (variables ring) terms)
 sum_within ring d v terms h g = HasDegreeWithin_same (IsSame_sym h.stands) g
 
 -- the degrees of a product and a power that can be worked out
@@ -184,8 +183,8 @@ pub product_fits :
 product_fits ring line stack mid rest right left h e f = go h.values h.bounds (subst (λ l. AreParts ring l h.values) (e ∙ ap (λ l. right ∷ l) f) h.parts) h.within h.degree.1
   where
     go :
-        (vs : List (FormalSum (variables ring))) (ds : List ℕ) → AreParts ring (right ∷ left ∷ rest) vs → AreWithin ring.modulus.value vs ds
-        → worth_step (degrees (value_of line)) Multiply ds ≡ Some h.degree.0 → ProductFits ring left.items right.items
+        (vs : List (FormalSum (variables ring))) (ds : List ℕ) → AreParts ring (right ∷ left ∷ rest) vs → AreWithin ring.weights ring.modulus.value vs ds
+        → worth_step (degrees_of ring line) Multiply ds ≡ Some h.degree.0 → ProductFits ring left.items right.items
     go [] ds p q r = absurd p
     go (b ∷ []) ds p q r = absurd p.1
     go (b ∷ a ∷ vs) [] p q r = absurd q
@@ -200,8 +199,8 @@ pub power_fits :
 power_fits ring line token stack rest base n h e is = go h.values h.bounds (subst (λ l. AreParts ring l h.values) e h.parts) h.within h.degree.1
   where
     go :
-        (vs : List (FormalSum (variables ring))) (ds : List ℕ) → AreParts ring (base ∷ rest) vs → AreWithin ring.modulus.value vs ds
-        → worth_step (degrees (value_of line)) (Power token) ds ≡ Some h.degree.0 → PowerFits ring base.items n
+        (vs : List (FormalSum (variables ring))) (ds : List ℕ) → AreParts ring (base ∷ rest) vs → AreWithin ring.weights ring.modulus.value vs ds
+        → worth_step (degrees_of ring line) (Power token) ds ≡ Some h.degree.0 → PowerFits ring base.items n
     go [] ds p q r = absurd p
     go (v ∷ vs) [] p q r = absurd q
     go (v ∷ vs) (d ∷ ds) p q r =

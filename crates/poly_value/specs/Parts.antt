@@ -3,7 +3,6 @@ use Rattle.std.specs.Prelude.{List, Some, Vec, [], ◌*◌, ◌+◌, ◌<◌, �
 use Rattle.std.specs.Global.{Global}
 use Rattle.std.specs.List.{AllByRecursion}
 use Rattle.poly_grammar.specs.Algebras.{worth_step}
-use Rattle.poly_grammar.specs.Degrees.{degrees}
 use Rattle.poly_grammar.specs.Numerals.{value_of}
 use Rattle.poly_grammar.specs.Steps.{numbers_of_steps}
 use Rattle.poly_grammar.specs.declared.step.Step.{Step}
@@ -13,7 +12,7 @@ use Rattle.module_vectors.specs.Vectors.{AreTermsOver, HasPositions, StandsFor, 
 use Rattle.module_vectors.specs.declared.key.Key.{Key}
 use Rattle.module_vectors.specs.declared.ring.Ring.{Ring}
 use Rattle.sparse_poly.specs.Degrees.{HasDegreeWithin}
-use Rattle.poly_value.specs.Values.{polynomials_of}
+use Rattle.poly_value.specs.Values.{degrees_of, polynomials_of}
 
 -- terms of the ring at position 0, in any order and with repeats
 pub record IsSum (ring : Ring) (terms : List (Key × ℕ)) : Type 0 where
@@ -27,12 +26,12 @@ pub record IsPart (ring : Ring) (v : FormalSum (variables ring)) (terms : List (
 
 -- the product of the sums has a degree of at most 65,535, by bounds on theirs
 abbrev pub ProductFits : Ring → List (Key × ℕ) → List (Key × ℕ) → Type 0
-ProductFits ring left right = (d e : ℕ) × HasDegreeWithin ring.modulus.value d (sum_of (variables ring) left)
-    × HasDegreeWithin ring.modulus.value e (sum_of (variables ring) right) × (d + e ≤ 65535)
+ProductFits ring left right = (d e : ℕ) × HasDegreeWithin ring.weights ring.modulus.value d (sum_of (variables ring) left)
+    × HasDegreeWithin ring.weights ring.modulus.value e (sum_of (variables ring) right) × (d + e ≤ 65535)
 
 -- the power of the sum has a degree of at most 65,535, by a bound on that of the sum
 abbrev pub PowerFits : Ring → List (Key × ℕ) → ℕ → Type 0
-PowerFits ring base n = (d : ℕ) × HasDegreeWithin ring.modulus.value d (sum_of (variables ring) base) × (n * d ≤ 65535)
+PowerFits ring base n = (d : ℕ) × HasDegreeWithin ring.weights ring.modulus.value d (sum_of (variables ring) base) × (n * d ≤ 65535)
 
 -- the sums of a stack, the top first, are parts of these values
 abbrev pub AreParts : (ring : Ring) → List (Vec (Key × ℕ) Global) → List (FormalSum (variables ring)) → Type 0
@@ -41,10 +40,10 @@ AreParts ring (terms ∷ stack) (v ∷ vs) = IsPart ring v terms.items × ArePar
 AreParts ring _ _ = ⊥
 
 -- the values have degrees of at most these
-abbrev pub AreWithin : {n : ℕ} → ℕ → List (FormalSum n) → List ℕ → Type 0
-AreWithin p [] [] = Unit {0}
-AreWithin p (v ∷ vs) (d ∷ ds) = HasDegreeWithin p d v × AreWithin p vs ds
-AreWithin p _ _ = ⊥
+abbrev pub AreWithin : {n : ℕ} → List ℕ → ℕ → List (FormalSum n) → List ℕ → Type 0
+AreWithin ws p [] [] = Unit {0}
+AreWithin ws p (v ∷ vs) (d ∷ ds) = HasDegreeWithin ws p d v × AreWithin ws p vs ds
+AreWithin ws p _ _ = ⊥
 
 -- the step can be done on a stack of sums, the top first: it has a worth for their values, a formal degree for theirs, and
 -- its number is below 2^128
@@ -53,8 +52,8 @@ pub record IsReady (ring : Ring) (line : List ℕ) (step : Step) (stack : List (
   pub parts : AreParts ring stack values
   pub worth : (left : List (FormalSum (variables ring))) × (worth_step (polynomials_of ring line) step values ≡ Some left)
   pub bounds : List ℕ
-  pub within : AreWithin ring.modulus.value values bounds
-  pub degree : (left : List ℕ) × (worth_step (degrees (value_of line)) step bounds ≡ Some left)
+  pub within : AreWithin ring.weights ring.modulus.value values bounds
+  pub degree : (left : List ℕ) × (worth_step (degrees_of ring line) step bounds ≡ Some left)
   pub numerals : AllByRecursion (λ t. value_of line t < 2 ^ 128) (numbers_of_steps (step ∷ []))
 
 -- the step leads from one stack of sums, the top first, to the other

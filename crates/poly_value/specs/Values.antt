@@ -1,9 +1,10 @@
 -- What a POLY is worth in a ring: a polynomial as a formal sum of terms
-use Rattle.std.specs.Prelude.{List, None, Option, Some, [], if◌then◌else◌, nat_eq, ℕ, ◌++◌, ◌+◌, ◌-◌, ◌∷◌, ◌≡◌}
+use Rattle.std.specs.Prelude.{List, None, Option, Some, [], get_or, if◌then◌else◌, max, nat_eq, ℕ, ◌++◌, ◌+◌, ◌-◌, ◌∷◌, ◌≡◌}
 use Rattle.std.specs.Cmp.Lexicographic.{pointwise}
 use Rattle.std.specs.Option.{option_map}
 use Rattle.script_tokens.specs.declared.token.Token.{Token}
 use Rattle.poly_grammar.specs.Algebras.{Algebra, worth}
+use Rattle.poly_grammar.specs.Degrees.{degrees}
 use Rattle.poly_grammar.specs.Numerals.{text_of, value_of}
 use Rattle.poly_grammar.specs.Trees.{Poly}
 use Rattle.monomials.specs.Exponents.{unit}
@@ -19,6 +20,19 @@ use Rattle.sparse_poly.specs.Powers.{constant, power}
 abbrev pub place_of : List (List ℕ) → List ℕ → Option ℕ
 place_of [] text = None
 place_of (v ∷ vars) text = if pointwise nat_eq v text then Some 0 else option_map (λ i. i + 1) (place_of vars text)
+
+-- the weight of a variable at a place: a weight that is missing or 0 is read as 1
+abbrev pub weight_at : List ℕ → Option ℕ → ℕ
+weight_at ws None = 1
+weight_at ws (Some i) = max 1 (get_or ws i 1)
+
+-- the weight of the variable with this name
+abbrev pub name_weight : Ring → List ℕ → ℕ
+name_weight ring text = weight_at ring.weights (place_of ring.vars text)
+
+-- the formal degrees of a line by the ring's weights
+abbrev pub degrees_of : Ring → List ℕ → Algebra ℕ
+degrees_of ring line = degrees (λ t. name_weight ring (text_of line t)) (value_of line)
 
 -- the variable with this index
 abbrev pub variable_sum : (n i : ℕ) → FormalSum n

@@ -9,5 +9,5 @@ mod parts;
 mod stack;
 mod value;
 
-pub use names::place;
+pub use names::{RingNames, place};
 pub use value::polynomial_value;

@@ -1,9 +1,10 @@
-//! The places of names.
+//! The places of names, and the weights of the variables that they stand for.
 
 ghost use Rattle.std.specs.Prelude.{◌≡◌};
 ghost use Rattle.poly_value.specs.Values.{place_of};
 
-use module_vectors::Names;
+use module_vectors::{Names, Ring};
+use poly_grammar::NameWeights;
 
 /// The place, from 0, at which the text stands first among the names, or none exactly where it does not.
 pub fn place(names: &Names, text: &[u8]) -> Option<usize>
@@ -16,4 +17,32 @@ pub fn place(names: &Names, text: &[u8]) -> Option<usize>
         }
     }
     None
+}
+
+/// The names of a ring's variables, with the ring's weights.
+#[derive(Drop)]
+pub struct RingNames<'a> {
+    ring: &'a Ring,
+}
+
+impl<'a> RingNames<'a> {
+    /// The names of this ring.
+    pub fn new(ring: &'a Ring) -> RingNames<'a>
+        ensures { result.ring.now ≡ ring.now }
+    {
+        RingNames { ring }
+    }
+}
+
+impl<'a> NameWeights for RingNames<'a> {
+    ghost use Rattle.poly_value.specs.Values.{name_weight};
+
+    ghost weight = { λ names text. name_weight names.ring.now text };
+
+    fn weight(&self, text: &[u8]) -> u32 {
+        match place(&self.ring.vars, text) {
+            Some(i) => u32::from(self.ring.weights.as_slice()[i]),
+            None => 1,
+        }
+    }
 }

@@ -99,7 +99,7 @@ pub fn variable_part<F: Frame>(
 {
     let ring = frame.ring();
     ring.modulus.domain();
-    let monomial = Mono::variable(alloc, ring.vars.len(), i)?;
+    let monomial = Mono::variable(alloc, &ring.weights, i)?;
     let mut terms = Vec::new(alloc);
     terms.push((
         Key {

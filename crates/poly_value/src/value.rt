@@ -4,12 +4,11 @@ ghost use Rattle.std.specs.Prelude.{◌≡◌, ◌<◌, ◌^◌, ℕ, Some, IfOk
 ghost use Rattle.std.specs.List.{AllByRecursion};
 ghost use Rattle.formal_sums.specs.FormalSums.{FormalSum};
 ghost use Rattle.poly_grammar.specs.Algebras.{worth_of_steps};
-ghost use Rattle.poly_grammar.specs.Degrees.{degrees};
 ghost use Rattle.poly_grammar.specs.Numerals.{value_of};
 ghost use Rattle.poly_grammar.specs.Steps.{numbers_of_steps};
 ghost use Rattle.module_vectors.specs.Rings.{variables};
 ghost use Rattle.module_vectors.specs.Vectors.{HasPositions, IsVectorOver, StandsFor};
-ghost use Rattle.poly_value.specs.Values.{polynomials_of};
+ghost use Rattle.poly_value.specs.Values.{degrees_of, polynomials_of};
 
 use crate::parts::normal;
 use crate::stack::{do_step, take_top};
@@ -19,8 +18,8 @@ use std::alloc::Global;
 
 /// The vector of rank 1 that steps are worth, in the order of the frame, where tokens are those of the line.
 ///
-/// The steps have a worth: their names are variables and there are operands for each; their formal degree, and that of
-/// each part, is at most 1,000, and their numbers are below 2^128. Answers `NoMemory` where a growth was refused.
+/// The steps have a worth: their names are variables and there are operands for each; their formal degree by the ring's weights,
+/// and that of each part, is at most 1,000, and their numbers are below 2^128. Answers `NoMemory` where a growth was refused.
 pub fn polynomial_value<F: Frame>(
     alloc: Global,
     frame: &F,
@@ -28,7 +27,7 @@ pub fn polynomial_value<F: Frame>(
     steps: &[Step],
 ) -> Result<Vect, NoMemory>
     requires worth { (x : FormalSum (variables (F.over frame.now))) × (worth_of_steps (polynomials_of (F.over frame.now) line.now) steps.now ≡ Some x) }
-    requires degree { (d : ℕ) × (worth_of_steps (degrees (value_of line.now)) steps.now ≡ Some d) }
+    requires degree { (d : ℕ) × (worth_of_steps (degrees_of (F.over frame.now) line.now) steps.now ≡ Some d) }
     requires numerals { AllByRecursion (λ t. value_of line.now t < 2 ^ 128) (numbers_of_steps steps.now) }
     ensures vector { IfOk result (λ v. IsVectorOver (F.over frame.now) (F.compare frame.now) v) }
     ensures polynomial { IfOk result (λ v. HasPositions 1 v) }

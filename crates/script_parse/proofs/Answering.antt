@@ -1,24 +1,22 @@
 -- From a line's form to the answer
-use Rattle.std.proofs.Common.{◌≡◌, ℕ, ◌<◌, ◌≤◌, ◌⊎◌, inl, inr, true, false, List, [], ◌∷◌, map, length, Option, Some, None, Result, Ok, Err, Vec, Global, refl, sym, ap, subst, ◌∙◌, arith}
+use Rattle.std.proofs.Common.{◌≡◌, ℕ, ◌<◌, ◌≤◌, inl, inr, true, false, List, [], length, Option, Some, None, Result, Ok, Err, Vec, Global, refl, sym, ap, subst, ◌∙◌, arith}
 use Rattle.std.specs.List.{AllByRecursion, list_all}
 use Rattle.std.specs.Prelude.{Contains}
-use Rattle.std.specs.Str.{IsAscii}
-use Rattle.std.specs.Str.Lossy.{utf8_lossy}
-use Rattle.script_tokens.specs.declared.token.Token.{Token}
-use Rattle.poly_grammar.specs.Numerals.{text_of, value_of}
+use Rattle.poly_grammar.specs.Numerals.{value_of}
 use Rattle.poly_grammar.specs.declared.step.Step.{Step}
 use Rattle.zp_field.specs.Moduli.{is_modulus}
-use Rattle.monomial_orders.specs.declared.order.ModOrder.TheVariants.{Pot}
 use Rattle.module_vectors.specs.declared.ring.Ring.{Ring}
 use Rattle.script_parse.specs.Answers.{Answers}
-use Rattle.script_parse.specs.Forms.{AnswersForm, HoldsOf, IsFormOf, IsFormed, IsLineOf, IsPolynomial, IsStated, head_of, known_names, low_degree, rank_fits, repeats, right_kinds}
-use Rattle.script_parse.specs.Refusals.{HasGreatDegree, HasGreatNumeral, HasOtherKind, HasOtherModulus, HasOtherRank, HasUnknownName, Holds, LacksRing, place}
-use Rattle.script_parse.specs.Statements.{order_named}
-use Rattle.script_parse.specs.Written.{IsLine, Written, given_by, nothing, polys_of, ring_line, value_places}
+use Rattle.script_parse.specs.Forms.{IsFormOf, IsLineOf, head_of}
+use Rattle.script_parse.specs.Tests.{AnswersForm, HoldsOf, IsFormed, IsPolynomial, IsStated, known_names, low_degree, rank_fits, repeats, right_kinds}
+use Rattle.script_parse.specs.RingForms.{ring_line_of}
+use Rattle.script_parse.specs.Refusals.{HasFaultyRing, HasGreatDegree, HasGreatNumeral, HasOtherElim, HasOtherKind, HasOtherModulus, HasOtherRank, HasOtherWeights, HasUnknownName, Holds, LacksRing, place}
+use Rattle.script_parse.specs.Statements.{Makes}
+use Rattle.script_parse.specs.Written.{IsLine, RingLine, Written, given_by, nothing, polys_of, ring_line, value_places}
 use Rattle.script_parse.specs.declared.form.Form.{Form}
 use Rattle.script_parse.specs.declared.form.Form.TheVariants as forms
 use Rattle.script_parse.specs.declared.form.Head.{Head}
-use Rattle.script_parse.specs.declared.form.OrderName.{OrderName}
+use Rattle.script_parse.specs.declared.ring_words.RingForm.{RingForm}
 use Rattle.script_parse.specs.declared.kind.Kind.{Kind}
 use Rattle.script_parse.specs.declared.kind.Kind.TheVariants as kinds
 use Rattle.script_parse.specs.declared.kind.ParseStop.{ParseStop}
@@ -28,7 +26,7 @@ use Rattle.script_parse.specs.declared.stated.Statement.{Statement}
 use Rattle.script_parse.specs.declared.stated.Statement.TheVariants as statements
 use Rattle.script_parse.proofs.Testing.{each_known, each_right, great_degree, low_degrees, other_kind, other_rank, right_rank, unknown_name}
 use Rattle.script_parse.proofs.Lines.{one_line}
-use Rattle.script_parse.proofs.Texts.{are_polynomials, own_texts, repeats_not, repeats_says}
+use Rattle.script_parse.proofs.Texts.{are_polynomials, repeats_not}
 
 none_before_syntax : (ring : Option Ring) (infos : List NameInfo) (line : List ℕ) (earlier : Kind) → place earlier < 1 → Holds ring infos line earlier → ⊥
 none_before_syntax ring infos line kinds.Syntax lt h = omega (arith, lt)
@@ -71,7 +69,7 @@ module _ (ring : Option Ring) (infos : List NameInfo) (line : List ℕ) (w : Wri
   of_form kinds.Name h = subst (λ v. HasUnknownName ring infos line v) (one_line line h.0 w h.1 is) h.2
   of_form kinds.OfKind h = subst (λ v. HasOtherKind ring infos line v) (one_line line h.0 w h.1 is) h.2
   of_form kinds.Rank h = subst (λ v. HasOtherRank infos line v) (one_line line h.0 w h.1 is) h.2
-  of_form kinds.Degree h = subst (λ v. HasGreatDegree line v) (one_line line h.0 w h.1 is) h.2
+  of_form kinds.Degree h = subst (λ v. HasGreatDegree ring line v) (one_line line h.0 w h.1 is) h.2
 
   of_line : (kind : Kind) → HoldsOf ring infos line w kind → Holds ring infos line kind
   of_line kinds.Syntax h = absurd h
@@ -93,6 +91,10 @@ module _ (ring : Option Ring) (infos : List NameInfo) (line : List ℕ) (w : Wri
 none_of : {X : Type 0} (xs : List X) (x : X) → xs ≡ [] → Contains xs x → ⊥
 none_of xs x e c = let lt : c.0 < length xs = c.1 in let n : length xs ≡ 0 = ap length e in omega arith
 
+none_great : (ring : Option Ring) (line : List ℕ) (w : Written) → polys_of w ≡ [] → HasGreatDegree ring line w → ⊥
+none_great None line w polys h = h
+none_great (Some ring) line w polys h = none_of (polys_of w) h.0 polys h.1
+
 module _ (ring : Option Ring) (infos : List NameInfo) (line : List ℕ) (w : Written) (polys : polys_of w ≡ []) (values : value_places w ≡ []) (given : given_by w ≡ []) where
   no_unknown : HasUnknownName ring infos line w → ⊥
   no_unknown (inl (t, inl s, no_var, no_val)) = none_of (polys_of w) s.0 polys s.1
@@ -103,8 +105,8 @@ module _ (ring : Option Ring) (infos : List NameInfo) (line : List ℕ) (w : Wri
   no_other_kind (inl (t, s, v)) = none_of (polys_of w) s.0 polys s.1
   no_other_kind (inr (t, c, v)) = none_of (value_places w) t values c
 
-  no_great_degree : HasGreatDegree line w → ⊥
-  no_great_degree h = none_of (polys_of w) h.0 polys h.1
+  no_great_degree : HasGreatDegree ring line w → ⊥
+  no_great_degree h = none_great ring line w polys h
 
 blank_free : (ring : Option Ring) (infos : List NameInfo) (line : List ℕ) (kind : Kind) → HoldsOf ring infos line nothing kind → ⊥
 blank_free ring infos line kinds.Syntax h = h
@@ -123,15 +125,18 @@ blank_at ring infos line _ is h none = absurd h
 pub blank : (ring : Option Ring) (infos : List NameInfo) (line : List ℕ) (form : Form) → form ≡ forms.Nothing → IsFormed line (Ok form) → Answers ring infos line (Ok statements.Nothing)
 blank ring infos line form e h = let f = subst (λ x. IsFormed line (Ok x)) e h in blank_at ring infos line f.0 f.1 f.2 f.4
 
-ring_at : (ring : Option Ring) (infos : List NameInfo) (line : List ℕ) (w : Written) (m : Token) (names : _) (o : OrderName) (result : Result Statement ParseStop) → IsLine line w → IsFormOf (forms.Ring m names o) w → (HasGreatNumeral line → ⊥)
-    → ((first : Token) (more : List Token) → names.items ≡ first ∷ more → AnswersForm ring infos line (ring_line m first more o) result) → Answers ring infos line result
-ring_at ring infos line (ring_line m' first more o') m names o result is h none f =
-    late ring infos line (ring_line m' first more o') is none result (subst (λ x. AnswersForm ring infos line (ring_line x first more o') result) h.0 (subst (λ x. AnswersForm ring infos line (ring_line m first more x) result) h.2 (f first more h.1)))
-ring_at ring infos line _ m names o result is h none f = absurd h
+ring_at :
+    (ring : Option Ring) (infos : List NameInfo) (line : List ℕ) (w : Written) (form : RingForm) (result : Result Statement ParseStop) → IsLine line w
+    → IsFormOf (forms.Ring form) w → (HasGreatNumeral line → ⊥) → AnswersForm ring infos line (ring_line (ring_line_of form)) result → Answers ring infos line result
+ring_at ring infos line (ring_line r) form result is h none f =
+    late ring infos line (ring_line r) is none result (subst (λ x. AnswersForm ring infos line (ring_line x) result) h f)
+ring_at ring infos line _ form result is h none f = absurd h
 
-pub ring_answered : (ring : Option Ring) (infos : List NameInfo) (line : List ℕ) (form : Form) (m : Token) (names : _) (o : OrderName) (result : Result Statement ParseStop) → form ≡ forms.Ring m names o → IsFormed line (Ok form)
-    → ((first : Token) (more : List Token) → names.items ≡ first ∷ more → AnswersForm ring infos line (ring_line m first more o) result) → Answers ring infos line result
-ring_answered ring infos line form m names o result e h f = let g = subst (λ x. IsFormed line (Ok x)) e h in ring_at ring infos line g.0 m names o result g.1 g.2 g.4 f
+pub ring_answered :
+    (ring : Option Ring) (infos : List NameInfo) (line : List ℕ) (form : Form) (words : RingForm) (result : Result Statement ParseStop) → form ≡ forms.Ring words
+    → IsFormed line (Ok form) → AnswersForm ring infos line (ring_line (ring_line_of words)) result → Answers ring infos line result
+ring_answered ring infos line form words result e h f =
+    let g = subst (λ x. IsFormed line (Ok x)) e h in ring_at ring infos line g.0 words result g.1 g.2 g.4 f
 
 pub line_answered : (ring : Option Ring) (infos : List NameInfo) (line : List ℕ) (form : Form) (head : Head) (pieces : Vec (Vec Step Global) Global) (result : Result Statement ParseStop) → form ≡ forms.Line head pieces → IsFormed line (Ok form)
     → ((w : Written) → IsLineOf head pieces.items w → AnswersForm ring infos line w result) → Answers ring infos line result
@@ -148,8 +153,16 @@ pub line_of : (line : List ℕ) (form : Form) (head : Head) (pieces : Vec (Vec S
 line_of line form head pieces e h = let g = subst (λ x. IsFormed line (Ok x)) e h in (g.0, g.2)
 
 -- the ring lines
-module _ (ring : Option Ring) (infos : List NameInfo) (line : List ℕ) (m first : Token) (more : List Token) (o : OrderName) (names : List Token) (are : names ≡ first ∷ more) where
-  before_ring : (earlier : Kind) → place earlier < 3 → HoldsOf ring infos line (ring_line m first more o) earlier → ⊥
+pub no_fault :
+    (line : List ℕ) (r : RingLine) (n : ℕ) → n ≡ length r.names → n ≤ 15 → repeats line r.names ≡ false → (HasOtherElim line n r.order → ⊥)
+    → (HasOtherWeights line n r.weights → ⊥) → HasFaultyRing line r → ⊥
+no_fault line r n e few once elim_fits weights_fit (inl many) = omega (arith, e, few, many)
+no_fault line r n e few once elim_fits weights_fit (inr (inl twice)) = repeats_not line r.names once twice
+no_fault line r n e few once elim_fits weights_fit (inr (inr (inl h))) = elim_fits (subst (λ k. HasOtherElim line k r.order) (sym e) h)
+no_fault line r n e few once elim_fits weights_fit (inr (inr (inr h))) = weights_fit (subst (λ k. HasOtherWeights line k r.weights) (sym e) h)
+
+module _ (ring : Option Ring) (infos : List NameInfo) (line : List ℕ) (r : RingLine) where
+  before_ring : (earlier : Kind) → place earlier < 3 → HoldsOf ring infos line (ring_line r) earlier → ⊥
   before_ring kinds.Syntax lt h = h
   before_ring kinds.Numeral lt h = h
   before_ring kinds.Ring lt h = omega (arith, lt)
@@ -159,57 +172,47 @@ module _ (ring : Option Ring) (infos : List NameInfo) (line : List ℕ) (m first
   before_ring kinds.Rank lt h = omega (arith, lt)
   before_ring kinds.Degree lt h = omega (arith, lt)
 
-  lacks : (15 < length names) ⊎ (repeats line names ≡ true) → LacksRing ring line (ring_line m first more o)
-  lacks (inl many) = inl (subst (λ l. 15 < length l) are many)
-  lacks (inr twice) = inr (repeats_says line (first ∷ more) (subst (λ l. repeats line l ≡ true) are twice))
+  -- a faulty line makes no ring
+  pub no_ring : HasFaultyRing line r → AnswersForm ring infos line (ring_line r) (Err (Refused kinds.Ring))
+  no_ring h = (h, before_ring)
 
-  pub no_ring : (15 < length names) ⊎ (repeats line names ≡ true) → AnswersForm ring infos line (ring_line m first more o) (Err (Refused kinds.Ring))
-  no_ring h = (lacks h, before_ring)
+  before_modulus : (HasFaultyRing line r → ⊥) → (earlier : Kind) → place earlier < 4 → HoldsOf ring infos line (ring_line r) earlier → ⊥
+  before_modulus fine kinds.Syntax lt h = h
+  before_modulus fine kinds.Numeral lt h = h
+  before_modulus fine kinds.Ring lt h = fine h
+  before_modulus fine kinds.Modulus lt h = omega (arith, lt)
+  before_modulus fine kinds.Name lt h = omega (arith, lt)
+  before_modulus fine kinds.OfKind lt h = omega (arith, lt)
+  before_modulus fine kinds.Rank lt h = omega (arith, lt)
+  before_modulus fine kinds.Degree lt h = omega (arith, lt)
 
-  fine : length names ≤ 15 → repeats line names ≡ false → LacksRing ring line (ring_line m first more o) → ⊥
-  fine few once (inl many) = let n : 15 < length names = subst (λ l. 15 < length l) (sym are) many in omega arith
-  fine few once (inr twice) = repeats_not line (first ∷ more) (subst (λ l. repeats line l ≡ false) are once) twice
+  pub no_modulus : (HasFaultyRing line r → ⊥) → is_modulus (value_of line r.modulus) ≡ false → AnswersForm ring infos line (ring_line r) (Err (Refused kinds.Modulus))
+  no_modulus fine other = (other, before_modulus fine)
 
-  before_modulus : length names ≤ 15 → repeats line names ≡ false → (earlier : Kind) → place earlier < 4 → HoldsOf ring infos line (ring_line m first more o) earlier → ⊥
-  before_modulus few once kinds.Syntax lt h = h
-  before_modulus few once kinds.Numeral lt h = h
-  before_modulus few once kinds.Ring lt h = fine few once h
-  before_modulus few once kinds.Modulus lt h = omega (arith, lt)
-  before_modulus few once kinds.Name lt h = omega (arith, lt)
-  before_modulus few once kinds.OfKind lt h = omega (arith, lt)
-  before_modulus few once kinds.Rank lt h = omega (arith, lt)
-  before_modulus few once kinds.Degree lt h = omega (arith, lt)
+  ring_free : (HasFaultyRing line r → ⊥) → is_modulus (value_of line r.modulus) ≡ true → (kind : Kind) → HoldsOf ring infos line (ring_line r) kind → ⊥
+  ring_free fine known kinds.Syntax h = h
+  ring_free fine known kinds.Numeral h = h
+  ring_free fine known kinds.Ring h = fine h
+  ring_free fine known kinds.Modulus h = absurd cc
+  ring_free fine known kinds.Name h = no_unknown ring infos line (ring_line r) refl refl refl h
+  ring_free fine known kinds.OfKind h = no_other_kind ring infos line (ring_line r) refl refl refl h
+  ring_free fine known kinds.Rank h = h
+  ring_free fine known kinds.Degree h = no_great_degree ring infos line (ring_line r) refl refl refl h
 
-  pub no_modulus : length names ≤ 15 → repeats line names ≡ false → is_modulus (value_of line m) ≡ false → AnswersForm ring infos line (ring_line m first more o) (Err (Refused kinds.Modulus))
-  no_modulus few once other = (other, before_modulus few once)
-
-  ring_free : length names ≤ 15 → repeats line names ≡ false → is_modulus (value_of line m) ≡ true → (kind : Kind) → HoldsOf ring infos line (ring_line m first more o) kind → ⊥
-  ring_free few once known kinds.Syntax h = h
-  ring_free few once known kinds.Numeral h = h
-  ring_free few once known kinds.Ring h = fine few once h
-  ring_free few once known kinds.Modulus h = absurd cc
-  ring_free few once known kinds.Name h = no_unknown ring infos line (ring_line m first more o) refl refl refl h
-  ring_free few once known kinds.OfKind h = no_other_kind ring infos line (ring_line m first more o) refl refl refl h
-  ring_free few once known kinds.Rank h = h
-  ring_free few once known kinds.Degree h = no_great_degree ring infos line (ring_line m first more o) refl refl refl h
-
-  pub ring_made : (made : Ring) → length names ≤ 15 → repeats line names ≡ false → AllByRecursion (λ t. IsAscii (text_of line t)) names
-      → made.modulus.value ≡ value_of line m → is_modulus made.modulus.value ≡ true → made.vars ≡ map (λ t. utf8_lossy (text_of line t)) names → made.order ≡ order_named o → made.module_order ≡ Pot
-      → AnswersForm ring infos line (ring_line m first more o) (Ok (statements.Ring made))
-  ring_made made few once ascii value table vars order pot = (
-    record { modulus_is = value; names_are = vars ∙ own_texts line names ascii ∙ ap (λ l. map (text_of line) l) are; order_is = order; module_order_is = pot },
-    ring_free few once (ap is_modulus (sym value) ∙ table),
-  )
+  pub ring_made :
+      (made : Ring) → (HasFaultyRing line r → ⊥) → is_modulus made.modulus.value ≡ true → Makes line r made
+      → AnswersForm ring infos line (ring_line r) (Ok (statements.Ring made))
+  ring_made made fine table makes = (makes, ring_free fine (ap is_modulus (sym makes.modulus_is) ∙ table))
 
 -- ---- the lines that need a ring
 
 needs_ring : (ring : Option Ring) (line : List ℕ) (w : Written) (head : Head) → head_of w ≡ Some head → LacksRing ring line w → ring ≡ None
 needs_ring ring line nothing head e h = absurd h
-needs_ring ring line (ring_line m first more o) head e h = absurd cc
+needs_ring ring line (ring_line r) head e h = absurd cc
 needs_ring ring line _ head e h = h
 
 no_other_modulus : (line : List ℕ) (w : Written) (head : Head) → head_of w ≡ Some head → HasOtherModulus line w → ⊥
-no_other_modulus line (ring_line m first more o) head e h = absurd cc
+no_other_modulus line (ring_line r) head e h = absurd cc
 no_other_modulus line _ head e h = h
 
 module _ (o : Option Ring) (ring : Ring) (infos : List NameInfo) (line : List ℕ) (w : Written) (head : Head) (pieces : List (Vec Step Global)) (stated : o ≡ Some ring) (is : IsLineOf head pieces w) where
@@ -218,7 +221,7 @@ module _ (o : Option Ring) (ring : Ring) (infos : List NameInfo) (line : List �
     name : 5 < n → known_names ring.vars infos line head pieces ≡ true
     kind : 6 < n → right_kinds ring.vars infos line head pieces ≡ true
     rank : 7 < n → rank_fits infos line head (length pieces) ≡ true
-    degree : 8 < n → list_all (λ v. low_degree line v.items) pieces ≡ true
+    degree : 8 < n → list_all (λ v. low_degree ring line v.items) pieces ≡ true
 
   none_before : (n : ℕ) → Passed n → (earlier : Kind) → place earlier < n → HoldsOf (Some ring) infos line w earlier → ⊥
   none_before n p kinds.Syntax lt h = h
@@ -242,7 +245,7 @@ module _ (o : Option Ring) (ring : Ring) (infos : List NameInfo) (line : List �
   pub rank_refused : known_names ring.vars infos line head pieces ≡ true → right_kinds ring.vars infos line head pieces ≡ true → rank_fits infos line head (length pieces) ≡ false → AnswersForm o infos line w (Err (Refused kinds.Rank))
   rank_refused n k e = refused kinds.Rank (record { name = λ lt. n; kind = λ lt. k; rank = λ lt. absurd (omega (arith, lt)); degree = λ lt. absurd (omega (arith, lt)) }) (other_rank ring infos line w head pieces is e)
 
-  pub degree_refused : known_names ring.vars infos line head pieces ≡ true → right_kinds ring.vars infos line head pieces ≡ true → rank_fits infos line head (length pieces) ≡ true → list_all (λ v. low_degree line v.items) pieces ≡ false
+  pub degree_refused : known_names ring.vars infos line head pieces ≡ true → right_kinds ring.vars infos line head pieces ≡ true → rank_fits infos line head (length pieces) ≡ true → list_all (λ v. low_degree ring line v.items) pieces ≡ false
       → AnswersForm o infos line w (Err (Refused kinds.Degree))
   degree_refused n k r e = refused kinds.Degree (record { name = λ lt. n; kind = λ lt. k; rank = λ lt. r; degree = λ lt. absurd (omega (arith, lt)) }) (great_degree ring infos line w head pieces is e)
 
@@ -256,7 +259,7 @@ module _ (o : Option Ring) (ring : Ring) (infos : List NameInfo) (line : List �
   place_small kinds.Rank = omega arith
   place_small kinds.Degree = omega arith
 
-  pub line_stated : known_names ring.vars infos line head pieces ≡ true → right_kinds ring.vars infos line head pieces ≡ true → rank_fits infos line head (length pieces) ≡ true → list_all (λ v. low_degree line v.items) pieces ≡ true
+  pub line_stated : known_names ring.vars infos line head pieces ≡ true → right_kinds ring.vars infos line head pieces ≡ true → rank_fits infos line head (length pieces) ≡ true → list_all (λ v. low_degree ring line v.items) pieces ≡ true
       → (result : Result Statement ParseStop) → IsStated ring line head pieces result → AnswersForm o infos line w result
   line_stated n k r d result h = subst (λ x. AnswersForm x infos line w result) (sym stated) (by_result result h)
     where

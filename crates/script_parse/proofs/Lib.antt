@@ -2,6 +2,8 @@ pub mod Answering
 pub mod Lines
 pub mod OneAnswer
 pub mod Pieces
+pub mod RingLines
+pub mod RingNumbers
 pub mod Stating
 pub mod Testing
 pub mod Texts

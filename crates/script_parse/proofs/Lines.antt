@@ -1,12 +1,12 @@
 -- A line's word and what stands behind it
-use Rattle.std.proofs.Common.{◌≡◌, ℕ, List, [], ◌∷◌, ◌++◌, map, cond, nat_eq, Option, Some, None, Vec, Global, Result, Ok, Err, IfSome, refl, sym, ap, ap₂, subst, ◌∙◌, length, arith}
+use Rattle.std.proofs.Common.{◌≡◌, ℕ, List, [], ◌∷◌, map, cond, nat_eq, Option, Some, None, Vec, Global, Result, Ok, Err, IfSome, refl, sym, ap, ap₂, subst, ◌∙◌}
 use Rattle.std.specs.Prelude.{codes}
 use Rattle.std.specs.Cmp.Lexicographic.{pointwise}
-use Rattle.std.proofs.lemmas.List.{map_push, same_from_push}
+use Rattle.std.proofs.lemmas.Option.{none-some}
 use Rattle.script_tokens.specs.declared.token.Token.{Token}
 use Rattle.script_tokens.specs.declared.token.TokenKind.{TokenKind}
 use Rattle.script_tokens.specs.declared.token.TokenKind.TheVariants as kinds
-use Rattle.poly_grammar.specs.Lexemes.{Lexeme, comma, equals, lexeme, lexeme_as, name, number}
+use Rattle.poly_grammar.specs.Lexemes.{Lexeme, equals, lexeme, lexeme_as, name}
 use Rattle.poly_grammar.specs.Numerals.{text_of}
 use Rattle.poly_grammar.specs.declared.stop.ReadStop.{ReadStop}
 use Rattle.poly_grammar.specs.declared.stop.ReadStop.TheVariants.{Memory, Syntax}
@@ -15,8 +15,9 @@ use Rattle.poly_grammar.specs.Trees.{Poly}
 use Rattle.poly_grammar.specs.declared.step.Step.{Step}
 use Rattle.poly_grammar.proofs.Unique.{one_tree}
 use Rattle.poly_grammar.specs.Machine.{Gives}
-use Rattle.script_parse.specs.Forms.{AreReadAs, IsRead, IsReadBehind, head_of, names_behind, names_of, with_name}
-use Rattle.script_parse.specs.Written.{AreEntries, ArePolys, IsOnePoly, Written, ask_line, divide_line, equal_line, ideal_line, nothing, ring_line, show_line, Word, division_word, equal_word, ideal_word, question_word, ring_word, show_word, polys_of, word_text, word_of, IsBehind, IsLine, IsWritten, IsWrittenAs, comma_names, order_word}
+use Rattle.script_parse.specs.Forms.{AreReadAs, IsRead, IsReadBehind, head_of}
+use Rattle.script_parse.specs.RingForms.{ring_line_of, ring_of}
+use Rattle.script_parse.specs.Written.{AreEntries, ArePolys, IsOnePoly, Written, ask_line, divide_line, equal_line, ideal_line, nothing, ring_line, show_line, Word, division_word, equal_word, ideal_word, question_word, ring_word, show_word, polys_of, word_text, word_of, IsBehind, IsLine, IsRingLine, IsWritten, IsWrittenAs}
 use Rattle.script_parse.specs.declared.form.Division.{Division}
 use Rattle.script_parse.specs.declared.form.Division.TheVariants.{Member, NormalForm}
 use Rattle.script_parse.specs.declared.form.Head.{Head}
@@ -25,38 +26,27 @@ use Rattle.script_parse.specs.declared.form.Question.{Question}
 use Rattle.script_parse.specs.declared.form.Question.TheVariants.{Gb, Gens, Size}
 use Rattle.script_parse.specs.declared.form.Form.{Form}
 use Rattle.script_parse.specs.declared.form.Form.TheVariants as forms
-use Rattle.script_parse.specs.declared.form.OrderName.{OrderName}
-use Rattle.script_parse.specs.declared.form.OrderName.TheVariants.{Lex, Grevlex}
+use Rattle.script_parse.specs.declared.ring_words.RingForm.{RingForm}
 use Rattle.script_parse.proofs.Pieces.{one_list, one_vector}
+use Rattle.script_parse.proofs.RingLines.{one_ring, ring_again, ring_back}
 use Rattle.script_tokens.proofs.Cuts.{one_cut}
 
 named : (k : TokenKind) (t : Token) → k ≡ kinds.Name → lexeme_as k t ≡ name t
 named k t e = rw e refl
 
-number_is : (k : TokenKind) (t m : Token) → lexeme_as k t ≡ number m → (k ≡ kinds.Number) × (t ≡ m)
-number_is kinds.Number t m e = (refl, cc)
-number_is _ t m e = absurd cc
-
 pub name_is : (k : TokenKind) (t m : Token) → lexeme_as k t ≡ name m → (k ≡ kinds.Name) × (t ≡ m)
 name_is kinds.Name t m e = (refl, cc)
 name_is _ t m e = absurd cc
 
--- no text is that of two orders: they differ in length
-pub one_order : (text : List ℕ) (a b : OrderName) → text ≡ order_word a → text ≡ order_word b → a ≡ b
-one_order text Lex Lex e f = refl
-one_order text Grevlex Grevlex e f = refl
-one_order text Lex Grevlex e f = let n : 3 ≡ 7 = ap length (sym e ∙ f) in absurd (omega (arith, n))
-one_order text Grevlex Lex e f = let n : 7 ≡ 3 = ap length (sym e ∙ f) in absurd (omega (arith, n))
-
 -- the word that a text is
-abbrev says : List ℕ → List ℕ → Word → Option Word → Option Word
-says text word w other = cond (pointwise nat_eq text word) (Some w) other
+abbrev said : List ℕ → List ℕ → Word → Option Word → Option Word
+said text word w other = cond (pointwise nat_eq text word) (Some w) other
 
 abbrev word_named : List ℕ → Option Word
 word_named text =
-    says text (codes "ring") ring_word (says text (codes "show") show_word (says text (codes "ideal") ideal_word (says text (codes "gens") (question_word Gens)
-    (says text (codes "gb") (question_word Gb) (says text (codes "size") (question_word Size) (says text (codes "nf") (division_word NormalForm)
-    (says text (codes "member") (division_word Member) (says text (codes "equal") equal_word None))))))))
+    said text (codes "ring") ring_word (said text (codes "show") show_word (said text (codes "ideal") ideal_word (said text (codes "gens") (question_word Gens)
+    (said text (codes "gb") (question_word Gb) (said text (codes "size") (question_word Size) (said text (codes "nf") (division_word NormalForm)
+    (said text (codes "member") (division_word Member) (said text (codes "equal") equal_word None))))))))
 
 word_again : (w : Word) → word_named (word_text w) ≡ Some w
 word_again ring_word = refl
@@ -106,76 +96,18 @@ word_read line word ts behind t (Err Syntax) kind text is h = λ w written.
     let same : s.word ≡ word = one_word (text_of line t) s.word word s.text text in
     h w (s.word_is ∙ ap Some same) s.rest
 
-behind_step : (t : Token) (xs : List Lexeme) (o : Option (List Token)) → IfSome o (λ ts. xs ≡ comma_names ts) → IfSome (with_name t o) (λ ts. comma ∷ name t ∷ xs ≡ comma_names ts)
-behind_step t xs None h = tt
-behind_step t xs (Some ts) h = ap (λ l. comma ∷ name t ∷ l) h
+-- a ring line that is found, or none
+pub ring_found : (line : List ℕ) (xs : List Lexeme) (form : RingForm) → ring_of line xs ≡ Some (ring_line_of form) → IsReadBehind ring_word line xs (Ok (forms.Ring form))
+ring_found line xs form e = (ring_line (ring_line_of form), refl, subst (λ o. IfSome o (IsRingLine line xs)) e (ring_back line xs), refl)
 
-names_back : (xs : List Lexeme) → IfSome (names_behind xs) (λ ts. xs ≡ comma_names ts)
-names_back [] = refl
-names_back (comma ∷ name t ∷ xs) = behind_step t xs (names_behind xs) (names_back xs)
-names_back _ = tt
-
-names_again : (ts : List Token) → names_behind (comma_names ts) ≡ Some ts
-names_again [] = refl
-names_again (t ∷ ts) = ap (with_name t) (names_again ts)
-
-abbrev AreNames : List Lexeme → List Token → Type 0
-AreNames xs names = (first : Token) × (more : List Token) × (xs ≡ name first ∷ comma_names more) × (names ≡ first ∷ more)
-
-first_step : (t : Token) (xs : List Lexeme) (o : Option (List Token)) → IfSome o (λ ts. xs ≡ comma_names ts) → IfSome (with_name t o) (λ names. AreNames (name t ∷ xs) names)
-first_step t xs None h = tt
-first_step t xs (Some ts) h = (t, ts, ap (λ l. name t ∷ l) h, refl)
-
-are_names : (xs : List Lexeme) → IfSome (names_of xs) (λ names. AreNames xs names)
-are_names (name t ∷ xs) = first_step t xs (names_behind xs) (names_back xs)
-are_names _ = tt
-
-module _ (line : List ℕ) (ts behind middle : List Token) (m last : Token) (is : ts ≡ m ∷ behind) (ends : behind ≡ middle ++ last ∷ []) where
-  parts : map lexeme ts ≡ lexeme m ∷ (map lexeme middle ++ lexeme last ∷ [])
-  parts = ap (λ l. map lexeme l) (is ∙ ap (λ l. m ∷ l) ends) ∙ ap (λ l. lexeme m ∷ l) (map_push lexeme middle last)
-
-  -- what is found behind `ring` is a ring line
-  pub ring_found : (order : OrderName) (names : Vec Token Global) → m.kind ≡ kinds.Number → last.kind ≡ kinds.Name → text_of line last ≡ order_word order → names_of (map lexeme middle) ≡ Some names.items
-      → IsReadBehind ring_word line (map lexeme ts) (Ok (forms.Ring m names order))
-  ring_found order names number_kind name_kind says found =
-      let a = subst (λ o. IfSome o (λ names. AreNames (map lexeme middle) names)) found (are_names (map lexeme middle)) in
-      let e : lexeme m ≡ number m = rw number_kind refl in
-      let f : lexeme last ≡ name last = named last.kind last name_kind in
-      (ring_line m a.0 a.1 order, refl, (last, says, parts ∙ ap (λ x. x ∷ (map lexeme middle ++ lexeme last ∷ [])) e ∙ ap (λ x. number m ∷ (map lexeme middle ++ x ∷ [])) f ∙ ap (λ l. number m ∷ (l ++ name last ∷ [])) a.2), (refl, a.3, refl))
-
-  -- what stands behind `ring` has these parts
-  record Parts (first : Token) (more : List Token) (order : OrderName) : Type 0 where
-    pub number_kind : m.kind ≡ kinds.Number
-    pub name_kind : last.kind ≡ kinds.Name
-    pub says : text_of line last ≡ order_word order
-    pub names : map lexeme middle ≡ name first ∷ comma_names more
-
-  ring_parts : (modulus first : Token) (more : List Token) (order : OrderName) → IsBehind line (map lexeme ts) (ring_line modulus first more order) → Parts first more order
-  ring_parts modulus first more order h =
-      let all : lexeme m ∷ (map lexeme middle ++ lexeme last ∷ []) ≡ number modulus ∷ name first ∷ (comma_names more ++ name h.0 ∷ []) = sym parts ∙ h.2 in
-      let head : lexeme m ≡ number modulus = cc in
-      let rest : map lexeme middle ++ lexeme last ∷ [] ≡ (name first ∷ comma_names more) ++ name h.0 ∷ [] = cc in
-      let split = same_from_push (map lexeme middle) (name first ∷ comma_names more) (lexeme last) (name h.0) rest in
-      let number_facts = number_is m.kind m modulus head in
-      let name_facts = name_is last.kind last h.0 split.1 in
-      record { number_kind = number_facts.0; name_kind = name_facts.0; says = ap (text_of line) name_facts.1 ∙ h.1; names = split.0 }
-
-  pub no_order : ((order : OrderName) → last.kind ≡ kinds.Name → text_of line last ≡ order_word order → ⊥) → (w : Written) → word_of w ≡ Some ring_word → IsBehind line (map lexeme ts) w → ⊥
-  no_order none nothing e h = h
-  no_order none (ring_line modulus first more order) e h = let p = ring_parts modulus first more order h in none order p.name_kind p.says
-  no_order none _ e h = absurd cc
-
-  pub no_names : (stop : ReadStop) → Gives {X = Vec Token Global} (λ found. found.items) (Err stop) (names_of (map lexeme middle)) → IsReadBehind ring_word line (map lexeme ts) (Err stop)
-  no_names Memory none = tt
-  no_names Syntax none = go
-    where
-      go : (w : Written) → word_of w ≡ Some ring_word → IsBehind line (map lexeme ts) w → ⊥
-      go nothing e h = h
-      go (ring_line modulus first more order) e h =
-          let p = ring_parts modulus first more order h in
-          let s : names_of (map lexeme middle) ≡ Some (first ∷ more) = ap names_of p.names ∙ ap (with_name first) (names_again more) in
-          let n : names_of (map lexeme middle) ≡ None = none in absurd cc
-      go _ e h = absurd cc
+pub ring_none : (line : List ℕ) (xs : List Lexeme) (stop : ReadStop) → Gives ring_line_of (Err stop) (ring_of line xs) → IsReadBehind ring_word line xs (Err stop)
+ring_none line xs Memory h = tt
+ring_none line xs Syntax h = go
+  where
+    go : (w : Written) → word_of w ≡ Some ring_word → IsBehind line xs w → ⊥
+    go nothing e k = k
+    go (ring_line r) e k = none-some r (sym h ∙ ring_again line xs r k)
+    go _ e k = absurd cc
 
 -- a parser of polynomials gives a line
 pub line_read :
@@ -226,17 +158,7 @@ module _ (line : List ℕ) (xs rest : List Lexeme) (t : Token) (is : xs ≡ name
 same_behind : (line : List ℕ) (xs : List Lexeme) (v w : Written) (word : Word) → word_of v ≡ Some word → word_of w ≡ Some word → IsBehind line xs v → IsBehind line xs w → v ≡ w
 same_behind line xs nothing w word e f h k = absurd h
 same_behind line xs v nothing word e f h k = absurd k
-same_behind line xs (ring_line m first more o) (ring_line m' first' more' o') word e f h k =
-    let all : number m ∷ name first ∷ (comma_names more ++ name h.0 ∷ []) ≡ number m' ∷ name first' ∷ (comma_names more' ++ name k.0 ∷ []) = sym h.2 ∙ k.2 in
-    let ms : m ≡ m' = cc in
-    let firsts : first ≡ first' = cc in
-    let rest : comma_names more ++ name h.0 ∷ [] ≡ comma_names more' ++ name k.0 ∷ [] = cc in
-    let split = same_from_push (comma_names more) (comma_names more') (name h.0) (name k.0) rest in
-    let mores : Some more ≡ Some more' = sym (names_again more) ∙ ap names_behind split.0 ∙ names_again more' in
-    let lasts : h.0 ≡ k.0 = cc (split.1) in
-    let orders : o ≡ o' = one_order (text_of line h.0) o o' h.1 (ap (text_of line) lasts ∙ k.1) in
-    let more_is : more ≡ more' = cc (mores) in
-    rw (ms, firsts, more_is, orders) refl
+same_behind line xs (ring_line r) (ring_line s) word e f h k = ap ring_line (one_ring line xs r s h k)
 same_behind line xs (show_line p) (show_line q) word e f h k = ap show_line (one_tree p q (sym h.spelled ∙ k.spelled))
 same_behind line xs (ideal_line g ps) (ideal_line g' ps') word e f h k =
     let all : name g ∷ equals ∷ h.0 ≡ name g' ∷ equals ∷ k.0 = sym h.1 ∙ k.1 in

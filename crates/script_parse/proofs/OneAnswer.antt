@@ -82,10 +82,15 @@ says_same : (ring : Option Ring) (line : List ℕ) (w : Written) (a b : Statemen
 says_same ring line nothing statements.Nothing statements.Nothing h k = tt
 says_same ring line nothing statements.Nothing _ h k = absurd k
 says_same ring line nothing _ b h k = absurd h
-says_same ring line (ring_line m first more o) (statements.Ring r) (statements.Ring s) h k =
-    (h.modulus_is ∙ sym k.modulus_is, h.names_are ∙ sym k.names_are, h.order_is ∙ sym k.order_is, h.module_order_is ∙ sym k.module_order_is)
-says_same ring line (ring_line m first more o) (statements.Ring r) _ h k = absurd k
-says_same ring line (ring_line m first more o) _ b h k = absurd h
+says_same ring line (ring_line r) (statements.Ring a) (statements.Ring b) h k = (
+  h.modulus_is ∙ sym k.modulus_is,
+  h.names_are ∙ sym k.names_are,
+  h.order_is ∙ sym k.order_is,
+  h.module_order_is ∙ sym k.module_order_is,
+  h.weights_are ∙ sym k.weights_are,
+)
+says_same ring line (ring_line r) (statements.Ring a) _ h k = absurd k
+says_same ring line (ring_line r) _ b h k = absurd h
 says_same (Some ring) line (show_line p) (statements.Show v) (statements.Show w) h k = same_value ring line p v w h.0 k.0 h.2 k.2
 says_same (Some ring) line (show_line p) (statements.Show v) _ h k = absurd k
 says_same (Some ring) line (show_line p) _ b h k = absurd h

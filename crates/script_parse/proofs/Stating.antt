@@ -5,8 +5,7 @@ use Rattle.std.specs.List.{AllByRecursion, list_all}
 use Rattle.std.specs.Prelude.{is_some, string_bytes}
 use Rattle.script_tokens.specs.declared.token.Token.{Token}
 use Rattle.poly_grammar.specs.Algebras.{Algebra, worth, worth_of_steps}
-use Rattle.poly_grammar.specs.Degrees.{degrees}
-use Rattle.poly_grammar.specs.Numerals.{text_of, value_of}
+use Rattle.poly_grammar.specs.Numerals.{text_of}
 use Rattle.poly_grammar.specs.Steps.{steps}
 use Rattle.poly_grammar.specs.Trees.{Poly}
 use Rattle.poly_grammar.specs.declared.step.Step.{Step}
@@ -16,8 +15,9 @@ use Rattle.module_vectors.specs.Rings.{ring_comparison, variables}
 use Rattle.module_vectors.specs.Vectors.{HasPositions, IsVectorOver}
 use Rattle.module_vectors.specs.declared.key.Key.{Key}
 use Rattle.module_vectors.specs.declared.ring.Ring.{Ring}
-use Rattle.poly_value.specs.Values.{place_of, polynomials_of}
-use Rattle.script_parse.specs.Forms.{AreWorths, HaveNumerals, IsLineOf, IsWorkable, IsWorth, StandsForEntries, is_known, is_no_value, known_names, knows, low_degree, names_pass, right_kinds}
+use Rattle.poly_value.specs.Values.{degrees_of, place_of, polynomials_of}
+use Rattle.script_parse.specs.Forms.{IsLineOf}
+use Rattle.script_parse.specs.Tests.{AreWorths, HaveNumerals, IsWorkable, IsWorth, StandsForEntries, is_known, is_no_value, known_names, knows, low_degree, names_pass, right_kinds}
 use Rattle.script_parse.specs.Refusals.{rank_named}
 use Rattle.script_parse.specs.Statements.{ArePolynomialsOf, IsPolynomialOf, IsVectorOf, Says}
 use Rattle.script_parse.specs.Written.{Written, divide_line, ideal_line, show_line}
@@ -27,7 +27,7 @@ use Rattle.script_parse.specs.declared.form.Head.TheVariants as heads
 use Rattle.script_parse.specs.declared.named.NameInfo.{NameInfo}
 use Rattle.script_parse.specs.declared.stated.Statement.TheVariants as statements
 use Rattle.script_parse.proofs.Testing.{both_true}
-use Rattle.script_parse.proofs.Working.{has_worth}
+use Rattle.script_parse.proofs.Working.{has_worth, weight_of}
 
 -- ---- what passed the tests can be worked out
 
@@ -56,18 +56,18 @@ low (Some d) e = (d, refl)
 
 able : (ring : Ring) (infos : List NameInfo) (line : List ℕ) (pieces : List (Vec Step Global))
     → list_all (λ v. names_pass (is_known ring.vars infos) line v.items) pieces ≡ true → list_all (λ v. names_pass (is_no_value infos) line v.items) pieces ≡ true
-    → list_all (λ v. low_degree line v.items) pieces ≡ true → AllByRecursion (HaveNumerals line) pieces → AllByRecursion (IsWorkable ring line) pieces
+    → list_all (λ v. low_degree ring line v.items) pieces ≡ true → AllByRecursion (HaveNumerals line) pieces → AllByRecursion (IsWorkable ring line) pieces
 able ring infos line [] n k d h = tt
 able ring infos line (v ∷ pieces) n k d h =
     let ns = both_true (names_pass (is_known ring.vars infos) line v.items) (list_all (λ v. names_pass (is_known ring.vars infos) line v.items) pieces) n in
     let ks = both_true (names_pass (is_no_value infos) line v.items) (list_all (λ v. names_pass (is_no_value infos) line v.items) pieces) k in
-    let ds = both_true (low_degree line v.items) (list_all (λ v. low_degree line v.items) pieces) d in
-    let degree = low (worth_of_steps (degrees (value_of line)) v.items) ds.0 in
-    let worth = has_worth (variables ring) ring.modulus.value ring.vars line v.items degree.0 (only_variables ring.vars infos line v.items ns.0 ks.0) degree.1 in
+    let ds = both_true (low_degree ring line v.items) (list_all (λ v. low_degree ring line v.items) pieces) d in
+    let degree = low (worth_of_steps (degrees_of ring line) v.items) ds.0 in
+    let worth = has_worth (variables ring) ring.modulus.value ring.vars line (weight_of ring line) v.items degree.0 (only_variables ring.vars infos line v.items ns.0 ks.0) degree.1 in
     (record { worth = worth; degree = degree; numerals = h.0 }, able ring infos line pieces ns.1 ks.1 ds.1 h.1)
 
 pub workable : (ring : Ring) (infos : List NameInfo) (line : List ℕ) (head : Head) (pieces : List (Vec Step Global))
-    → known_names ring.vars infos line head pieces ≡ true → right_kinds ring.vars infos line head pieces ≡ true → list_all (λ v. low_degree line v.items) pieces ≡ true
+    → known_names ring.vars infos line head pieces ≡ true → right_kinds ring.vars infos line head pieces ≡ true → list_all (λ v. low_degree ring line v.items) pieces ≡ true
     → AllByRecursion (HaveNumerals line) pieces → AllByRecursion (IsWorkable ring line) pieces
 workable ring infos line head pieces n k d h = able ring infos line pieces (both_true _ (list_all (λ v. names_pass (is_known ring.vars infos) line v.items) pieces) n).1 (both_true _ (list_all (λ v. names_pass (is_no_value infos) line v.items) pieces) k).1 d h
 

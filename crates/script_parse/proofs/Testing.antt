@@ -17,13 +17,14 @@ use Rattle.poly_grammar.specs.declared.step.Step.TheVariants.{Name}
 use Rattle.poly_grammar.proofs.Names.{steps_have_names}
 use Rattle.poly_value.specs.Values.{place_of}
 use Rattle.module_vectors.specs.declared.ring.Ring.{Ring}
-use Rattle.script_parse.specs.Forms.{IsLineOf, given_name, head_of, is_known, is_no_value, is_no_variable, known_names, low_degree, names_pass, places, rank_fits, right_kinds, same_rank}
+use Rattle.script_parse.specs.Forms.{IsLineOf, head_of}
+use Rattle.script_parse.specs.Tests.{given_name, is_known, is_no_value, is_no_variable, known_names, low_degree, names_pass, places, rank_fits, right_kinds, same_rank}
 use Rattle.script_parse.specs.Refusals.{HasGreatDegree, HasOtherKind, HasOtherRank, HasUnknownName, IsNamed, StandsInPoly, rank_named}
 use Rattle.script_parse.specs.Written.{Written, ask_line, divide_line, equal_line, given_by, ideal_line, nothing, polys_of, ring_line, show_line, value_places}
 use Rattle.script_parse.specs.declared.form.Head.{Head}
 use Rattle.script_parse.specs.declared.form.Head.TheVariants as heads
 use Rattle.script_parse.specs.declared.named.NameInfo.{NameInfo}
-use Rattle.script_parse.proofs.Working.{degree_of_steps}
+use Rattle.script_parse.proofs.Working.{degree_of_steps, weight_of}
 
 -- a text has a place among names exactly where it is one of them
 contains_later : (xs : List (List ℕ)) (x word : List ℕ) → Contains xs word → Contains (x ∷ xs) word
@@ -122,7 +123,7 @@ poly_names test line p = pass_names test line (steps p) ∙ ap (λ l. list_all (
 
 places_are : (w : Written) (head : Head) → head_of w ≡ Some head → places head ≡ value_places w
 places_are nothing head e = absurd cc
-places_are (ring_line m first more o) head e = absurd cc
+places_are (ring_line r) head e = absurd cc
 places_are (show_line p) head e = let is : heads.Show ≡ head = cc in ap places (sym is)
 places_are (ideal_line given ps) head e = let is : heads.Ideal given ≡ head = cc in ap places (sym is)
 places_are (ask_line question value) head e = let is : heads.Ask question value ≡ head = cc in ap places (sym is)
@@ -131,7 +132,7 @@ places_are (equal_line left right) head e = let is : heads.Equal left right ≡ 
 
 given_are : (w : Written) (head : Head) → head_of w ≡ Some head → given_name head ≡ given_by w
 given_are nothing head e = absurd cc
-given_are (ring_line m first more o) head e = absurd cc
+given_are (ring_line r) head e = absurd cc
 given_are (show_line p) head e = let is : heads.Show ≡ head = cc in ap given_name (sym is)
 given_are (ideal_line given ps) head e = let is : heads.Ideal given ≡ head = cc in ap given_name (sym is)
 given_are (ask_line question value) head e = let is : heads.Ask question value ≡ head = cc in ap given_name (sym is)
@@ -167,7 +168,7 @@ few n m e f lt = let le : n ≤ 1000 = grind (arith, nat_tests) in omega arith
 
 other_rank_of : (names : List NameInfo) (line : List ℕ) (w : Written) (head : Head) (count : ℕ) → head_of w ≡ Some head → count ≡ length (polys_of w) → rank_fits names line head count ≡ false → HasOtherRank names line w
 other_rank_of names line nothing head count e n f = absurd cc
-other_rank_of names line (ring_line m first more o) head count e n f = absurd cc
+other_rank_of names line (ring_line r) head count e n f = absurd cc
 other_rank_of names line (show_line p) head count e n f =
     let is : head ≡ heads.Show = cc in let no : true ≡ false = subst (λ h. rank_fits names line h count ≡ false) is f in absurd cc
 other_rank_of names line (ideal_line given ps) head count e n f =
@@ -194,8 +195,8 @@ right_rank_of names line (equal_line left right) head count e n f h =
     h.4 (ranks_same (rank_named names (text_of line left)) (rank_named names (text_of line right)) h.0 h.1 (subst (λ d. rank_fits names line d count ≡ true) is f) h.2 h.3)
 right_rank_of names line _ head count e n f h = h
 
-low_poly : (line : List ℕ) (p : Poly) → low_degree line (steps p) ≡ is_some (formal_degree (value_of line) p)
-low_poly line p = ap is_some (degree_of_steps line (steps p) p (formal_degree (value_of line) p) refl refl)
+low_poly : (ring : Ring) (line : List ℕ) (p : Poly) → low_degree ring line (steps p) ≡ is_some (formal_degree (weight_of ring line) (value_of line) p)
+low_poly ring line p = ap is_some (degree_of_steps ring line (steps p) p (formal_degree (weight_of ring line) (value_of line) p) refl refl)
 
 no_number : (o : Option ℕ) → is_some o ≡ false → o ≡ None
 no_number None e = refl
@@ -318,15 +319,15 @@ module _ (ring : Ring) (names : List NameInfo) (line : List ℕ) (w : Written) (
   pub right_rank : rank_fits names line head (length pieces) ≡ true → HasOtherRank names line w → ⊥
   right_rank e = right_rank_of names line w head (length pieces) is.head_is count e
 
-  degrees_in : list_all (λ v. low_degree line v.items) pieces ≡ list_all (λ p. is_some (formal_degree (value_of line) p)) (polys_of w)
-  degrees_in = same_tests (low_degree line) (λ p. is_some (formal_degree (value_of line) p)) (low_poly line) pieces (polys_of w) is.steps_are
+  degrees_in : list_all (λ v. low_degree ring line v.items) pieces ≡ list_all (λ p. is_some (formal_degree (weight_of ring line) (value_of line) p)) (polys_of w)
+  degrees_in = same_tests (low_degree ring line) (λ p. is_some (formal_degree (weight_of ring line) (value_of line) p)) (low_poly ring line) pieces (polys_of w) is.steps_are
 
-  pub great_degree : list_all (λ v. low_degree line v.items) pieces ≡ false → HasGreatDegree line w
+  pub great_degree : list_all (λ v. low_degree ring line v.items) pieces ≡ false → HasGreatDegree (Some ring) line w
   great_degree e =
-      let f = some_fails (λ p. is_some (formal_degree (value_of line) p)) (polys_of w) (sym degrees_in ∙ e) in
-      (f.0, f.1, no_number (formal_degree (value_of line) f.0) f.2)
+      let f = some_fails (λ p. is_some (formal_degree (weight_of ring line) (value_of line) p)) (polys_of w) (sym degrees_in ∙ e) in
+      (f.0, f.1, no_number (formal_degree (weight_of ring line) (value_of line) f.0) f.2)
 
-  pub low_degrees : list_all (λ v. low_degree line v.items) pieces ≡ true → HasGreatDegree line w → ⊥
+  pub low_degrees : list_all (λ v. low_degree ring line v.items) pieces ≡ true → HasGreatDegree (Some ring) line w → ⊥
   low_degrees e h =
-      let low = all_pass (λ p. is_some (formal_degree (value_of line) p)) (polys_of w) h.0 (sym degrees_in ∙ e) h.1 in
-      let none : is_some (formal_degree (value_of line) h.0) ≡ false = ap is_some h.2 in absurd cc
+      let low = all_pass (λ p. is_some (formal_degree (weight_of ring line) (value_of line) p)) (polys_of w) h.0 (sym degrees_in ∙ e) h.1 in
+      let none : is_some (formal_degree (weight_of ring line) (value_of line) h.0) ≡ false = ap is_some h.2 in absurd cc

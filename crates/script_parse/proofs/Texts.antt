@@ -21,14 +21,15 @@ use Rattle.poly_grammar.specs.Steps.{numbers_of_steps, steps}
 use Rattle.poly_grammar.specs.Trees.{Poly, Reads, spelling}
 use Rattle.poly_grammar.specs.declared.step.Step.{Step}
 use Rattle.poly_grammar.proofs.NumbersOfSteps.{steps_have_numbers}
-use Rattle.script_parse.specs.Forms.{IsFormOf, IsPolynomial, IsWellFormed, head_names, head_of, repeats, stands_among}
+use Rattle.script_parse.specs.Forms.{IsFormOf, head_of}
+use Rattle.script_parse.specs.Tests.{IsPolynomial, IsWellFormed, head_names, repeats, stands_among}
 use Rattle.script_parse.specs.Refusals.{HasGreatNumeral, HasRepeat}
-use Rattle.script_parse.specs.Written.{AreEntries, ArePolys, IsWritten, Written, ask_line, comma_names, divide_line, equal_line, ideal_line, nothing, polys_of, ring_line, show_line}
+use Rattle.script_parse.specs.Written.{AreEntries, AreNames, ArePolys, IsWritten, Written, ask_line, comma_list, divide_line, equal_line, ideal_line, nothing, polys_of, ring_line, show_line}
 use Rattle.script_parse.specs.declared.form.Form.{Form}
 use Rattle.script_parse.specs.declared.form.Form.TheVariants as forms
 use Rattle.script_parse.specs.declared.form.Head.{Head}
 use Rattle.script_parse.specs.declared.form.Head.TheVariants as heads
-use Rattle.script_parse.specs.declared.form.OrderName.{OrderName}
+use Rattle.script_parse.specs.declared.ring_words.RingForm.{RingForm}
 
 letter_ascii : (b : ℕ) → is_ascii_alphabetic b ≡ true → b < 128
 letter_ascii b e = grind arith
@@ -64,9 +65,14 @@ numbers_fit : (line : List ℕ) (ts : List Token) → AllByRecursion (NumeralFit
 numbers_fit line [] h = tt
 numbers_fit line (t ∷ ts) h = number_joins line t.kind t (map lexeme ts) h.0 (numbers_fit line ts h.1)
 
-names_behind_commas : (ts : List Token) (xs : List Lexeme) → names_in (comma_names ts ++ xs) ≡ ts ++ names_in xs
-names_behind_commas [] xs = refl
-names_behind_commas (t ∷ ts) xs = ap (λ l. t ∷ l) (names_behind_commas ts xs)
+-- the names of NAME {, NAME} and of what stands behind it
+names_of_list : (ts : List Token) (ys : List Lexeme) → names_in (comma_list name ts ++ ys) ≡ ts ++ names_in ys
+names_of_list [] ys = refl
+names_of_list (t ∷ ts) ys = ap (λ l. t ∷ l) (names_of_list ts ys)
+
+names_of_names : (xs ys : List Lexeme) (ts : List Token) → AreNames xs ts → names_in (xs ++ ys) ≡ ts ++ names_in ys
+names_of_names xs ys [] h = absurd h
+names_of_names xs ys (t ∷ ts) h = ap (λ l. names_in (l ++ ys)) h ∙ ap (λ l. t ∷ l) (names_of_list ts ys)
 
 all_front : (P : Token → Type 0) (xs ys : List Token) → AllByRecursion P (xs ++ ys) → AllByRecursion P xs
 all_front P [] ys h = tt
@@ -79,7 +85,7 @@ all_back P (x ∷ xs) ys h = all_back P xs ys h.1
 -- the names of a line's head are among its names
 head_among : (P : Token → Type 0) (line : List ℕ) (xs : List Lexeme) (w : Written) (head : Head) → head_of w ≡ Some head → IsWritten line xs w → AllByRecursion P (names_in xs) → AllByRecursion P (head_names head)
 head_among P line xs nothing head e h all = absurd cc
-head_among P line xs (ring_line m first more o) head e h all = absurd cc
+head_among P line xs (ring_line r) head e h all = absurd cc
 head_among P line xs (show_line p) head e h all =
     let is : heads.Show ≡ head = cc in subst (λ d. AllByRecursion P (head_names d)) is tt
 head_among P line xs (ideal_line given ps) head e h all =
@@ -148,16 +154,22 @@ are_polynomials (v ∷ pieces) (p ∷ ps) e =
     let tail : map (λ v. v.items) pieces ≡ map steps ps = cc in
     ((p, head), are_polynomials pieces ps tail)
 
-sound_ring : (line : List ℕ) (found : List Token) (w : Written) (modulus : Token) (names : Vec Token Global) (order : OrderName) → HasTokens line found → IsWritten line (map lexeme found) w → IsFormOf (forms.Ring modulus names order) w → AllByRecursion (λ u. IsAscii (text_of line u)) names.items
-sound_ring line found (ring_line m first more o) modulus names order cut h is =
-    let all = subst (λ l. AllByRecursion (λ u. IsAscii (text_of line u)) (names_in l)) (h.1.2 ∙ ap (λ l. name h.1.0 ∷ l) h.2.2) (names_ascii line found (have_texts line found cut)) in
-    let behind = subst (λ l. AllByRecursion (λ u. IsAscii (text_of line u)) l) (names_behind_commas more (name h.2.0 ∷ [])) all.1.1 in
-    subst (λ l. AllByRecursion (λ u. IsAscii (text_of line u)) l) (sym is.1) (all.1.0, all_front (λ u. IsAscii (text_of line u)) more (h.2.0 ∷ []) behind)
-sound_ring line found _ modulus names order cut h is = absurd is
+sound_ring :
+    (line : List ℕ) (found : List Token) (w : Written) (form : RingForm) → HasTokens line found → IsWritten line (map lexeme found) w → IsFormOf (forms.Ring form) w
+    → AllByRecursion (λ u. IsAscii (text_of line u)) form.names.items
+sound_ring line found (ring_line r) form cut h is =
+    let ring = h.2 in
+    let behind = ring.order ++ (ring.top ++ ring.weights) in
+    let names : names_in (map lexeme found) ≡ h.1.0 ∷ (r.names ++ names_in behind) =
+    ap names_in h.1.2 ∙ ap (λ l. h.1.0 ∷ names_in l) ring.spelled ∙ ap (λ l. h.1.0 ∷ l) (names_of_names ring.names behind r.names ring.names_are) in
+    let all = subst (λ l. AllByRecursion (λ u. IsAscii (text_of line u)) l) names (names_ascii line found (have_texts line found cut)) in
+    let own : r.names ≡ form.names.items = ap (λ q. q.names) (sym is) in
+    subst (λ l. AllByRecursion (λ u. IsAscii (text_of line u)) l) own (all_front (λ u. IsAscii (text_of line u)) r.names (names_in behind) all.1)
+sound_ring line found _ form cut h is = absurd is
 
 pub sound : (line : List ℕ) (found : List Token) (w : Written) (form : Form) → HasTokens line found → IsWritten line (map lexeme found) w → IsFormOf form w → AllByRecursion (NumeralFits line) found → IsWellFormed line form
 sound line found w forms.Nothing cut h is fits = tt
-sound line found w (forms.Ring modulus names order) cut h is fits = sound_ring line found w modulus names order cut h is
+sound line found w (forms.Ring form) cut h is fits = sound_ring line found w form cut h is
 sound line found w (forms.Line head pieces) cut h is fits = (
   head_among (λ u. IsAscii (text_of line u)) line (map lexeme found) w head is.head_is h (names_ascii line found (have_texts line found cut)),
   in_pieces (λ u. value_of line u < 2 ^ 128) pieces.items (polys_of w) is.steps_are (in_line (λ u. value_of line u < 2 ^ 128) line (map lexeme found) w h (numbers_fit line found fits)),

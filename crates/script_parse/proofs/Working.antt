@@ -4,6 +4,7 @@ use Rattle.std.proofs.lemmas.List.{append-nil, length-map, map-append}
 use Rattle.std.specs.List.{AllByRecursion, list_all}
 use Rattle.std.specs.Option.{option_map}
 use Rattle.std.specs.Prelude.{is_some, not, ◌&&◌}
+use Rattle.script_tokens.specs.declared.token.Token.{Token}
 use Rattle.poly_grammar.specs.Algebras.{push, top, worth_of_steps, worths}
 use Rattle.poly_grammar.specs.Degrees.{bounded, degrees, formal_degree}
 use Rattle.poly_grammar.specs.Numerals.{text_of, value_of}
@@ -29,28 +30,30 @@ use Rattle.module_vectors.specs.declared.ring.Ring.{Ring}
 use Rattle.module_vectors.proofs.Merges.{sum_of-append}
 use Rattle.module_vectors.proofs.NormalVectors.{vector_positions}
 use Rattle.module_vectors.proofs.Scaling.{take_item}
-use Rattle.poly_value.specs.Values.{place_of, polynomials, polynomials_of}
-use Rattle.script_parse.specs.Forms.{AreWorths, HasEntryTerms, IsWorkable, IsWorth, moved_to, knows, low_degree}
+use Rattle.poly_value.specs.Values.{degrees_of, name_weight, place_of, polynomials, polynomials_of}
+use Rattle.script_parse.specs.Tests.{AreWorths, HasEntryTerms, IsWorkable, IsWorth, moved_to, knows, low_degree}
 use Rattle.script_parse.specs.Statements.{entries_from}
 
 -- where the degrees can be worked out and the names are known, so can the polynomials
-module _ (n p : ℕ) (vars : List (List ℕ)) (line : List ℕ) where
+module _ (n p : ℕ) (vars : List (List ℕ)) (line : List ℕ) (weight : Token → ℕ) where
   abbrev Runs : List Step → List (FormalSum n) → List ℕ → Type 0
   Runs xs vs ds = (left : List (FormalSum n)) × (worths (polynomials n p vars (text_of line) (value_of line)) xs vs ≡ Some left) × (length left ≡ length ds)
 
   abbrev Goes : List Step → Type 0
-  Goes xs = (ds left : List ℕ) (vs : List (FormalSum n)) → length vs ≡ length ds → knows vars line xs ≡ true → worths (degrees (value_of line)) xs ds ≡ Some left → Runs xs vs left
+  Goes xs = (ds left : List ℕ) (vs : List (FormalSum n)) → length vs ≡ length ds → knows vars line xs ≡ true → worths (degrees weight (value_of line)) xs ds ≡ Some left → Runs xs vs left
 
   pushed : (xs : List Step) (o : Option ℕ) (ds left : List ℕ) (v : FormalSum n) (vs : List (FormalSum n)) → Goes xs → length vs ≡ length ds → knows vars line xs ≡ true
-      → option_and_then (worths (degrees (value_of line)) xs) (push ds o) ≡ Some left → Runs xs (v ∷ vs) left
+      → option_and_then (worths (degrees weight (value_of line)) xs) (push ds o) ≡ Some left → Runs xs (v ∷ vs) left
   pushed xs None ds left v vs go e known h = absurd cc
   pushed xs (Some d) ds left v vs go e known h = go (d ∷ ds) left (v ∷ vs) (omega (arith, e)) known h
 
-  named : (xs : List Step) (o : Option ℕ) (f : ℕ → FormalSum n) (ds left : List ℕ) (vs : List (FormalSum n)) → Goes xs → length vs ≡ length ds → is_some o ≡ true → knows vars line xs ≡ true
-      → worths (degrees (value_of line)) xs (1 ∷ ds) ≡ Some left
+  named :
+      (xs : List Step) (o w : Option ℕ) (f : ℕ → FormalSum n) (ds left : List ℕ) (vs : List (FormalSum n)) → Goes xs → length vs ≡ length ds → is_some o ≡ true → knows vars line xs ≡ true
+      → option_and_then (worths (degrees weight (value_of line)) xs) (push ds w) ≡ Some left
       → (end : List (FormalSum n)) × (option_and_then (worths (polynomials n p vars (text_of line) (value_of line)) xs) (push vs (option_map f o)) ≡ Some end) × (length end ≡ length left)
-  named xs None f ds left vs go e some known h = absurd cc
-  named xs (Some i) f ds left vs go e some known h = go (1 ∷ ds) left (f i ∷ vs) (omega (arith, e)) known h
+  named xs None w f ds left vs go e some known h = absurd cc
+  named xs (Some i) None f ds left vs go e some known h = absurd cc
+  named xs (Some i) (Some d) f ds left vs go e some known h = go (d ∷ ds) left (f i ∷ vs) (omega (arith, e)) known h
 
   both_true : (a b : Bool) → cond a b false ≡ true → (a ≡ true) × (b ≡ true)
   both_true true b h = (refl, h)
@@ -61,7 +64,7 @@ module _ (n p : ℕ) (vars : List (List ℕ)) (line : List ℕ) where
   goes (Number t ∷ xs) ds left vs e known h = goes xs (0 ∷ ds) left (_ ∷ vs) (omega (arith, e)) known h
   goes (Name t ∷ xs) ds left vs e known h =
       let k = both_true (is_some (place_of vars (text_of line t))) (knows vars line xs) known in
-      named xs (place_of vars (text_of line t)) _ ds left vs (goes xs) e k.0 k.1 h
+      named xs (place_of vars (text_of line t)) (bounded (weight t)) _ ds left vs (goes xs) e k.0 k.1 h
   goes (Power t ∷ xs) [] left vs e known h = absurd cc
   goes (Power t ∷ xs) (d ∷ ds) left [] e known h = absurd (omega (arith, e))
   goes (Power t ∷ xs) (d ∷ ds) left (v ∷ vs) e known h = pushed xs (bounded (d * value_of line t)) ds left _ vs (goes xs) (omega (arith, e)) known h
@@ -93,14 +96,20 @@ module _ (n p : ℕ) (vars : List (List ℕ)) (line : List ℕ) where
   has_top o [] k e l = absurd (omega (arith, l))
   has_top o (x ∷ rest) k e l = (x, rw e refl)
 
-  pub has_worth : (xs : List Step) (d : ℕ) → knows vars line xs ≡ true → worth_of_steps (degrees (value_of line)) xs ≡ Some d → (x : FormalSum n) × (worth_of_steps (polynomials n p vars (text_of line) (value_of line)) xs ≡ Some x)
+  pub has_worth : (xs : List Step) (d : ℕ) → knows vars line xs ≡ true → worth_of_steps (degrees weight (value_of line)) xs ≡ Some d → (x : FormalSum n) × (worth_of_steps (polynomials n p vars (text_of line) (value_of line)) xs ≡ Some x)
   has_worth xs d known h =
-      let t = on_top (worths (degrees (value_of line)) xs []) d h in
+      let t = on_top (worths (degrees weight (value_of line)) xs []) d h in
       let r = goes xs [] (d ∷ t.0) [] refl known t.1 in
       has_top (worths (polynomials n p vars (text_of line) (value_of line)) xs []) r.0 (length t.0) r.1 (r.2)
 
-pub degree_of_steps : (line : List ℕ) (xs : List Step) (p : Poly) (o : Option ℕ) → xs ≡ steps p → o ≡ formal_degree (value_of line) p → worth_of_steps (degrees (value_of line)) xs ≡ o
-degree_of_steps line xs p o is e = ap (worth_of_steps (degrees (value_of line))) is ∙ worth_is_left (degrees (value_of line)) p ∙ sym e
+-- the weights of a line's names
+abbrev pub weight_of : Ring → List ℕ → Token → ℕ
+weight_of ring line t = name_weight ring (text_of line t)
+
+pub degree_of_steps :
+    (ring : Ring) (line : List ℕ) (xs : List Step) (p : Poly) (o : Option ℕ) → xs ≡ steps p → o ≡ formal_degree (weight_of ring line) (value_of line) p
+    → worth_of_steps (degrees_of ring line) xs ≡ o
+degree_of_steps ring line xs p o is e = ap (worth_of_steps (degrees_of ring line)) is ∙ worth_is_left (degrees_of ring line) p ∙ sym e
 
 -- ---- tests of a list's items one by one
 
@@ -118,8 +127,10 @@ all_ends f xs i x lt e h fails = ap (λ b. b && list_all f (drop (i + 1) xs)) (s
 pub all_goes : {X : Type 0} (f : X → Bool) (xs : List X) (i : ℕ) (x : X) → i < length xs → x ≡ get_or xs i x → list_all f (drop i xs) ≡ list_all f xs → f x ≡ true → list_all f (drop (i + 1) xs) ≡ list_all f xs
 all_goes f xs i x lt e h passes = ap (λ b. b && list_all f (drop (i + 1) xs)) (sym passes) ∙ sym (ap (list_all f) (dropped xs i x lt e)) ∙ h
 
-pub low_is : (line : List ℕ) (xs : List Step) (p : Poly) (o : Option ℕ) (r : Bool) → xs ≡ steps p → o ≡ formal_degree (value_of line) p → is_some o ≡ not r → low_degree line xs ≡ not r
-low_is line xs p o r is e f = ap is_some (degree_of_steps line xs p o is e) ∙ f
+pub low_is :
+    (ring : Ring) (line : List ℕ) (xs : List Step) (p : Poly) (o : Option ℕ) (r : Bool) → xs ≡ steps p → o ≡ formal_degree (weight_of ring line) (value_of line) p
+    → is_some o ≡ not r → low_degree ring line xs ≡ not r
+low_is ring line xs p o r is e f = ap is_some (degree_of_steps ring line xs p o is e) ∙ f
 
 -- ---- lists of worths
 
@@ -161,13 +172,14 @@ move_step p xs ys i y lt e hy =
 moved_sum : (n i : ℕ) (terms : List (Key × ℕ)) → sum_of n (moved_to i terms) ≡ product (sum_of n terms) (((i, unit n), 1) ∷ [])
 moved_sum n i [] = refl
 moved_sum n i (t ∷ terms) =
-    let m : exponents_of n t.0.monomial ≡ times (exponents_of n t.0.monomial) (unit n) = sym (times-unit (exponents_of n t.0.monomial)) ∙ times_comm (unit n) (exponents_of n t.0.monomial) in
+    let e = exponents_of n t.0.monomial.exponents in
+    let m : e ≡ times e (unit n) = sym (times-unit e) ∙ times_comm (unit n) e in
     let c : t.1 ≡ t.1 * 1 = omega arith in
     ap₂ ◌∷◌ (ap₂ (λ x y. ((i, x), y)) m c) (moved_sum n i terms)
 
-moved_over : (ring : Ring) (i : ℕ) (terms : List (Key × ℕ)) → Each (IsTerm (variables ring) ring.modulus.value) terms → AreTermsOver ring (moved_to i terms)
+moved_over : (ring : Ring) (i : ℕ) (terms : List (Key × ℕ)) → Each (IsTerm (variables ring) ring.weights ring.modulus.value) terms → AreTermsOver ring (moved_to i terms)
 moved_over ring i [] h = tt
-moved_over ring i (t ∷ terms) h = ((h.0.variables, h.0.reduced), moved_over ring i terms h.1)
+moved_over ring i (t ∷ terms) h = ((h.0.weighed, h.0.reduced), moved_over ring i terms h.1)
 
 moved_positions : (i : ℕ) (terms : List (Key × ℕ)) → HasPositions (i + 1) (moved_to i terms)
 moved_positions i [] = tt
@@ -234,7 +246,7 @@ entries_go ring line pieces i v old new u lt e f h able w =
     }
 
 pub lawful : (ring : Ring) (rank : ℕ) → IsLawful (setting ring (variables ring) (ring_comparison ring (variables ring)) rank)
-lawful ring rank = record { domain = is_modulus-domain ring.modulus.value ring.modulus.table; order = key_comparison_order ring.module_order ring.order (variables ring) rank }
+lawful ring rank = record { domain = is_modulus-domain ring.modulus.value ring.modulus.table; order = key_comparison_order ring.module_order ring.order ring.weights (variables ring) rank }
 
 sum_rank : (n m : ℕ) (terms : List (Key × ℕ)) → HasPositions m terms → HasRank m (sum_of n terms)
 sum_rank n m [] h = tt

@@ -1,39 +1,20 @@
 -- What the code holds of a line as it is written, and what its parsers give
-use Rattle.std.specs.Prelude.{Bool, Err, List, None, Ok, Option, Result, Some, Vec, [], drop, false, if◌then◌else◌, is_some, length, map, nat_eq, nat_le, not, take, true, ⊤, ℕ, ◌&&◌, ◌+◌, ◌++◌, ◌<◌, ◌^◌, ◌||◌, ◌∷◌, ◌≡◌}
+use Rattle.std.specs.Prelude.{Err, List, None, Ok, Option, Result, Some, Vec, [], drop, map, take, ⊤, ℕ, ◌+◌, ◌++◌, ◌∷◌, ◌≡◌}
 use Rattle.std.specs.Global.{Global}
-use Rattle.std.specs.Cmp.Lexicographic.{pointwise}
-use Rattle.std.specs.List.{AllByRecursion, list_all}
-use Rattle.std.specs.Str.{IsAscii}
+use Rattle.std.specs.List.{AllByRecursion}
 use Rattle.script_tokens.specs.declared.token.Token.{Token}
-use Rattle.poly_grammar.specs.Algebras.{worth_of_steps}
-use Rattle.poly_grammar.specs.Degrees.{degrees}
-use Rattle.poly_grammar.specs.Lexemes.{Lexeme, comma, lexeme, name}
-use Rattle.poly_grammar.specs.Numerals.{text_of, value_of}
-use Rattle.poly_grammar.specs.Steps.{numbers_of_steps, steps}
+use Rattle.poly_grammar.specs.Lexemes.{Lexeme, comma, lexeme}
+use Rattle.poly_grammar.specs.Steps.{steps}
 use Rattle.poly_grammar.specs.Trees.{Poly, Reads}
 use Rattle.poly_grammar.specs.declared.step.Step.{Step}
-use Rattle.poly_grammar.specs.declared.step.Step.TheVariants as acts
 use Rattle.poly_grammar.specs.declared.stop.ReadStop.{ReadStop}
 use Rattle.poly_grammar.specs.declared.stop.ReadStop.TheVariants.{Memory, Syntax}
-use Rattle.formal_sums.specs.FormalSums.{FormalSum}
-use Rattle.poly_value.specs.Values.{place_of, polynomials_of}
-use Rattle.module_vectors.specs.Rings.{ring_comparison, variables}
-use Rattle.module_vectors.specs.Vectors.{AreTermsOver, HasPositions, IsVectorOver, StandsFor}
-use Rattle.module_vectors.specs.declared.key.Key.{Key}
-use Rattle.module_vectors.specs.declared.ring.Ring.{Ring}
-use Rattle.script_parse.specs.Refusals.{HasGreatDegree, HasGreatNumeral, HasOtherKind, HasOtherModulus, HasOtherRank, HasUnknownName, LacksRing, place, rank_named}
-use Rattle.script_parse.specs.Statements.{Says, entries_from}
-use Rattle.script_parse.specs.Written.{IsBehind, IsLine, IsWritten, Word, Written, ask_line, divide_line, equal_line, ideal_line, nothing, polys_of, ring_line, show_line, word_of}
+use Rattle.script_parse.specs.RingForms.{ring_line_of}
+use Rattle.script_parse.specs.Written.{IsBehind, IsWritten, Word, Written, ask_line, divide_line, equal_line, ideal_line, nothing, polys_of, ring_line, show_line, word_of}
 use Rattle.script_parse.specs.declared.form.Form.{Form}
 use Rattle.script_parse.specs.declared.form.Form.TheVariants as forms
 use Rattle.script_parse.specs.declared.form.Head.{Head}
 use Rattle.script_parse.specs.declared.form.Head.TheVariants as heads
-use Rattle.script_parse.specs.declared.kind.Kind.{Kind}
-use Rattle.script_parse.specs.declared.kind.Kind.TheVariants as kinds
-use Rattle.script_parse.specs.declared.kind.ParseStop.{ParseStop}
-use Rattle.script_parse.specs.declared.kind.ParseStop.TheVariants as stops
-use Rattle.script_parse.specs.declared.named.NameInfo.{NameInfo}
-use Rattle.script_parse.specs.declared.stated.Statement.{Statement}
 
 -- the word and the names of a line that needs a ring
 abbrev pub head_of : Written → Option Head
@@ -52,30 +33,9 @@ pub record IsLineOf (head : Head) (pieces : List (Vec Step Global)) (w : Written
 -- what the code holds of a line
 abbrev pub IsFormOf : Form → Written → Type 0
 IsFormOf forms.Nothing nothing = Unit {0}
-IsFormOf (forms.Ring modulus names order) (ring_line m first more o) = (modulus ≡ m) × (names.items ≡ first ∷ more) × (order ≡ o)
+IsFormOf (forms.Ring form) (ring_line r) = ring_line_of form ≡ r
 IsFormOf (forms.Line head pieces) w = IsLineOf head pieces.items w
 IsFormOf _ _ = ⊥
-
--- a name before other names, if these are names
-abbrev pub with_name : Token → Option (List Token) → Option (List Token)
-with_name t None = None
-with_name t (Some ts) = Some (t ∷ ts)
-
--- the names of lexemes that are { , NAME }
-abbrev pub names_behind : List Lexeme → Option (List Token)
-names_behind [] = Some []
-names_behind (comma ∷ name t ∷ xs) = with_name t (names_behind xs)
-names_behind _ = None
-
--- the names of lexemes that are NAME { , NAME }
-abbrev pub names_of : List Lexeme → Option (List Token)
-names_of (name t ∷ xs) = with_name t (names_behind xs)
-names_of _ = None
-
--- names before other names
-abbrev pub with_names : List Token → Option (List Token) → Option (List Token)
-with_names front None = None
-with_names front (Some ts) = Some (front ++ ts)
 
 -- a parser of what stands behind a word gives what is written so, and refuses what is not
 abbrev pub IsReadBehind : Word → List ℕ → List Lexeme → Result Form ReadStop → Type 0
@@ -88,164 +48,6 @@ abbrev pub IsRead : List ℕ → List Lexeme → Result Form ReadStop → Type 0
 IsRead line xs (Ok form) = (w : Written) × IsWritten line xs w × IsFormOf form w
 IsRead line xs (Err Memory) = Unit {0}
 IsRead line xs (Err Syntax) = (w : Written) → IsWritten line xs w → ⊥
-
--- of a line written as w, the kind holds behind the tests of its tokens
-abbrev pub HoldsOf : Option Ring → List NameInfo → List ℕ → Written → Kind → Type 0
-HoldsOf ring names line w kinds.Syntax = ⊥
-HoldsOf ring names line w kinds.Numeral = ⊥
-HoldsOf ring names line w kinds.Ring = LacksRing ring line w
-HoldsOf ring names line w kinds.Modulus = HasOtherModulus line w
-HoldsOf ring names line w kinds.Name = HasUnknownName ring names line w
-HoldsOf ring names line w kinds.OfKind = HasOtherKind ring names line w
-HoldsOf ring names line w kinds.Rank = HasOtherRank names line w
-HoldsOf ring names line w kinds.Degree = HasGreatDegree line w
-
--- what is answered to a line written as w whose numbers are below 2^128
-abbrev pub AnswersForm : Option Ring → List NameInfo → List ℕ → Written → Result Statement ParseStop → Type 0
-AnswersForm ring names line w (Ok statement) = Says ring line w statement × ((kind : Kind) → HoldsOf ring names line w kind → ⊥)
-AnswersForm ring names line w (Err stops.Memory) = Unit {0}
-AnswersForm ring names line w (Err (stops.Refused kind)) = HoldsOf ring names line w kind × ((earlier : Kind) → place earlier < place kind → HoldsOf ring names line w earlier → ⊥)
-
--- the names of a head in a value's place
-abbrev pub places : Head → List Token
-places (heads.Ask question value) = value ∷ []
-places (heads.Divide division value) = value ∷ []
-places (heads.Equal left right) = left ∷ right ∷ []
-places _ = []
-
--- the name of a head to be given
-abbrev pub given_name : Head → List Token
-given_name (heads.Ideal given) = given ∷ []
-given_name _ = []
-
--- all names of a head
-abbrev pub head_names : Head → List Token
-head_names (heads.Ideal given) = given ∷ []
-head_names head = places head
-
--- the steps are those of some POLY
-abbrev pub IsPolynomial : Vec Step Global → Type 0
-IsPolynomial v = (p : Poly) × (v.items ≡ steps p)
-
--- their numbers are below 2^128
-abbrev pub HaveNumerals : List ℕ → Vec Step Global → Type 0
-HaveNumerals line v = AllByRecursion (λ t. value_of line t < 2 ^ 128) (numbers_of_steps v.items)
-
--- the names of a form are ASCII, and its numbers are below 2^128
-abbrev pub IsWellFormed : List ℕ → Form → Type 0
-IsWellFormed line forms.Nothing = Unit {0}
-IsWellFormed line (forms.Ring modulus names order) = AllByRecursion (λ t. IsAscii (text_of line t)) names.items
-IsWellFormed line (forms.Line head pieces) =
-    AllByRecursion (λ t. IsAscii (text_of line t)) (head_names head) × AllByRecursion (HaveNumerals line) pieces.items
-
--- the form of a line whose numbers are below 2^128, or the kind of these two that holds first
-abbrev pub IsFormed : List ℕ → Result Form ParseStop → Type 0
-IsFormed line (Ok form) = (w : Written) × IsLine line w × IsFormOf form w × IsWellFormed line form × (HasGreatNumeral line → ⊥)
-IsFormed line (Err stops.Memory) = Unit {0}
-IsFormed line (Err (stops.Refused kinds.Syntax)) = (w : Written) → IsLine line w → ⊥
-IsFormed line (Err (stops.Refused kinds.Numeral)) = HasGreatNumeral line × ((w : Written) × IsLine line w)
-IsFormed line (Err (stops.Refused kind)) = ⊥
-
--- whether one of the tokens has this text
-abbrev pub stands_among : List ℕ → List ℕ → List Token → Bool
-stands_among line word [] = false
-stands_among line word (t ∷ ts) = if pointwise nat_eq (text_of line t) word then true else stands_among line word ts
-
--- whether a text stands twice
-abbrev pub repeats : List ℕ → List Token → Bool
-repeats line [] = false
-repeats line (t ∷ ts) = if stands_among line (text_of line t) ts then true else repeats line ts
-
--- whether each name among the steps is a variable
-abbrev pub knows : List (List ℕ) → List ℕ → List Step → Bool
-knows vars line [] = true
-knows vars line (acts.Name t ∷ xs) = if is_some (place_of vars (text_of line t)) then knows vars line xs else false
-knows vars line (_ ∷ xs) = knows vars line xs
-
--- whether each name among the steps passes the test
-abbrev pub names_pass : (List ℕ → Bool) → List ℕ → List Step → Bool
-names_pass test line [] = true
-names_pass test line (acts.Name t ∷ xs) = if test (text_of line t) then names_pass test line xs else false
-names_pass test line (_ ∷ xs) = names_pass test line xs
-
--- whether a text is a variable or the name of a value
-abbrev pub is_known : List (List ℕ) → List NameInfo → List ℕ → Bool
-is_known vars names text = is_some (place_of vars text) || is_some (rank_named names text)
-
--- whether it is not the name of a value
-abbrev pub is_no_value : List NameInfo → List ℕ → Bool
-is_no_value names text = not (is_some (rank_named names text))
-
--- whether it is no variable
-abbrev pub is_no_variable : List (List ℕ) → List ℕ → Bool
-is_no_variable vars text = not (is_some (place_of vars text))
-
--- whether the names of a line, by its head and the steps of its POLYs, are known, and the one to be given is no variable
-abbrev pub known_names : List (List ℕ) → List NameInfo → List ℕ → Head → List (Vec Step Global) → Bool
-known_names vars names line head pieces =
-    (list_all (λ t. is_known vars names (text_of line t)) (places head) && list_all (λ t. is_no_variable vars (text_of line t)) (given_name head))
-    && list_all (λ v. names_pass (is_known vars names) line v.items) pieces
-
--- whether no name in a POLY is a value and none in a value's place a variable
-abbrev pub right_kinds : List (List ℕ) → List NameInfo → List ℕ → Head → List (Vec Step Global) → Bool
-right_kinds vars names line head pieces =
-    list_all (λ t. is_no_variable vars (text_of line t)) (places head) && list_all (λ v. names_pass (is_no_value names) line v.items) pieces
-
--- whether ranks are the same, where there are two
-abbrev pub same_rank : Option ℕ → Option ℕ → Bool
-same_rank (Some r) (Some s) = nat_eq r s
-same_rank _ _ = true
-
--- whether the ranks of a head fit, with so many polynomials
-abbrev pub rank_fits : List NameInfo → List ℕ → Head → ℕ → Bool
-rank_fits names line (heads.Ideal given) count = nat_le count 1000
-rank_fits names line (heads.Divide division value) count = same_rank (rank_named names (text_of line value)) (Some count)
-rank_fits names line (heads.Equal left right) count = same_rank (rank_named names (text_of line left)) (rank_named names (text_of line right))
-rank_fits names line _ count = true
-
--- whether steps have a formal degree of at most 1,000
-abbrev pub low_degree : List ℕ → List Step → Bool
-low_degree line xs = is_some (worth_of_steps (degrees (value_of line)) xs)
-
--- a polynomial that can be worked out
-pub record IsWorkable (ring : Ring) (line : List ℕ) (v : Vec Step Global) : Type 0 where
-  pub worth : (x : FormalSum (variables ring)) × (worth_of_steps (polynomials_of ring line) v.items ≡ Some x)
-  pub degree : (d : ℕ) × (worth_of_steps (degrees (value_of line)) v.items ≡ Some d)
-  pub numerals : AllByRecursion (λ t. value_of line t < 2 ^ 128) (numbers_of_steps v.items)
-
--- the normal vector of rank 1 that steps are worth
-pub record IsWorth (ring : Ring) (line : List ℕ) (xs : List Step) (u : List (Key × ℕ)) : Type 0 where
-  pub vector : IsVectorOver ring (ring_comparison ring) u
-  pub polynomial : HasPositions 1 u
-  pub value : (x : FormalSum (variables ring)) → worth_of_steps (polynomials_of ring line) xs ≡ Some x → StandsFor ring u x
-
--- one such vector for each
-abbrev pub AreWorths : Ring → List ℕ → List (Vec Step Global) → List (List (Key × ℕ)) → Type 0
-AreWorths ring line [] [] = Unit {0}
-AreWorths ring line (v ∷ pieces) (u ∷ us) = IsWorth ring line v.items u × AreWorths ring line pieces us
-AreWorths ring line _ _ = ⊥
-
--- the terms, at this position
-abbrev pub moved_to : ℕ → List (Key × ℕ) → List (Key × ℕ)
-moved_to i terms = map (λ t. (record { position = i; monomial = t.0.monomial }, t.1)) terms
-
--- terms stand for the vector that has what the steps are worth for its entries
-pub record StandsForEntries (ring : Ring) (line : List ℕ) (pieces : List (Vec Step Global)) (terms : List (Key × ℕ)) : Type 0 where
-  pub entries : List (FormalSum (variables ring))
-  pub worths_are : map (λ v. worth_of_steps (polynomials_of ring line) v.items) pieces ≡ map Some entries
-  pub stands : StandsFor ring terms (entries_from 0 entries)
-
--- terms in any order that do
-pub record HasEntryTerms (ring : Ring) (line : List ℕ) (pieces : List (Vec Step Global)) (terms : List (Key × ℕ)) : Type 0 where
-  pub over : AreTermsOver ring terms
-  pub positions : HasPositions (length pieces) terms
-  pub stands : StandsForEntries ring line pieces terms
-
--- what is stated of a line with this head and these polynomials is what it says
-abbrev pub IsStated : Ring → List ℕ → Head → List (Vec Step Global) → Result Statement ParseStop → Type 0
-IsStated ring line head pieces (Ok statement) = (w : Written) → IsLineOf head pieces w → Says (Some ring) line w statement
-IsStated ring line head pieces (Err stops.Memory) = Unit {0}
-IsStated ring line head pieces (Err (stops.Refused kind)) = ⊥
 
 -- what is read are such POLYs, by their steps, and what is refused are none
 abbrev pub AreReadAs : (List Poly → Type 0) → Result (Vec (Vec Step Global) Global) ReadStop → Type 0

@@ -3,5 +3,7 @@ pub mod Answers
 pub mod Refusals
 pub mod Statements
 pub mod Written
--- invariants of loops
+-- what inner calls give
 pub mod Forms
+pub mod RingForms
+pub mod Tests

@@ -10,10 +10,13 @@ use Rattle.poly_grammar.specs.Numerals.{text_of, value_of}
 use Rattle.poly_grammar.specs.Trees.{Poly, spelling}
 use Rattle.zp_field.specs.Moduli.{is_modulus}
 use Rattle.module_vectors.specs.declared.ring.Ring.{Ring}
-use Rattle.script_parse.specs.Written.{IsLine, Written, divide_line, equal_line, given_by, ideal_line, nothing, polys_of, ring_line, value_places}
+use Rattle.poly_value.specs.Values.{name_weight}
+use Rattle.script_parse.specs.Written.{IsLine, RingLine, Written, divide_line, equal_line, given_by, ideal_line, nothing, polys_of, ring_line, value_places}
 use Rattle.script_parse.specs.declared.kind.Kind.{Kind}
 use Rattle.script_parse.specs.declared.kind.Kind.TheVariants as kinds
 use Rattle.script_parse.specs.declared.named.NameInfo.{NameInfo}
+use Rattle.script_parse.specs.declared.ring_words.OrderName.{OrderName}
+use Rattle.script_parse.specs.declared.ring_words.OrderName.TheVariants.{Elim}
 
 -- a NUM of the line has a value of 2^128 or more
 pub record HasGreatNumeral (line : List ℕ) : Type 0 where
@@ -29,15 +32,36 @@ abbrev pub HasRepeat : List (List ℕ) → Type 0
 HasRepeat [] = ⊥
 HasRepeat (x ∷ xs) = Contains xs x ⊎ HasRepeat xs
 
--- a ring line has more than 15 variables or one twice; another line that is not blank has no ring stated before it
+-- the number is not from 1 to the last one
+abbrev pub IsOutside : ℕ → ℕ → Type 0
+IsOutside last k = (k ≡ 0) ⊎ (last < k)
+
+-- an order `elim K` has K outside 1..n
+abbrev pub HasOtherElim : List ℕ → ℕ → OrderName → Type 0
+HasOtherElim line n (Elim k) = IsOutside n (value_of line k)
+HasOtherElim line n _ = ⊥
+
+-- weights that are stated are not n, or one of them is outside 1..255
+abbrev pub HasOtherWeights : List ℕ → ℕ → List Token → Type 0
+HasOtherWeights line n [] = ⊥
+HasOtherWeights line n ts = (length ts ≡ n → ⊥) ⊎ ((t : Token) × Contains ts t × IsOutside 255 (value_of line t))
+
+-- a ring line has more than 15 variables, a variable twice, `elim K` with K outside 1..n, a number of weights other than n, or
+-- a weight outside 1..255, where n is the number of its variables
+abbrev pub HasFaultyRing : List ℕ → RingLine → Type 0
+HasFaultyRing line r =
+    (15 < length r.names) ⊎ HasRepeat (map (text_of line) r.names) ⊎ HasOtherElim line (length r.names) r.order
+    ⊎ HasOtherWeights line (length r.names) r.weights
+
+-- a ring line is faulty; another line that is not blank has no ring stated before it
 abbrev pub LacksRing : Option Ring → List ℕ → Written → Type 0
 LacksRing ring line nothing = ⊥
-LacksRing ring line (ring_line modulus first more order) = (15 < length (first ∷ more)) ⊎ HasRepeat (map (text_of line) (first ∷ more))
+LacksRing ring line (ring_line r) = HasFaultyRing line r
 LacksRing ring line _ = ring ≡ None
 
 -- the first number of a ring line is not in the table
 abbrev pub HasOtherModulus : List ℕ → Written → Type 0
-HasOtherModulus line (ring_line modulus first more order) = is_modulus (value_of line modulus) ≡ false
+HasOtherModulus line (ring_line r) = is_modulus (value_of line r.modulus) ≡ false
 HasOtherModulus line _ = ⊥
 
 -- the rank of the value with this name; were there more, of the first of them
@@ -79,9 +103,11 @@ HasOtherRank names line (equal_line left right) =
     (r s : ℕ) × (rank_named names (text_of line left) ≡ Some r) × (rank_named names (text_of line right) ≡ Some s) × (r ≡ s → ⊥)
 HasOtherRank names line _ = ⊥
 
--- the formal degree of a POLY or of a part of it is above 1,000
-abbrev pub HasGreatDegree : List ℕ → Written → Type 0
-HasGreatDegree line w = (p : Poly) × Contains (polys_of w) p × (formal_degree (value_of line) p ≡ None)
+-- the formal degree, by the ring's weights, of a POLY or of a part of it is above 1,000
+abbrev pub HasGreatDegree : Option Ring → List ℕ → Written → Type 0
+HasGreatDegree None line w = ⊥
+HasGreatDegree (Some ring) line w =
+    (p : Poly) × Contains (polys_of w) p × (formal_degree (λ t. name_weight ring (text_of line t)) (value_of line) p ≡ None)
 
 -- the kind holds of the line, where this ring is stated and values have these names
 abbrev pub Holds : Option Ring → List NameInfo → List ℕ → Kind → Type 0
@@ -92,7 +118,7 @@ Holds ring names line kinds.Modulus = (w : Written) × IsLine line w × HasOther
 Holds ring names line kinds.Name = (w : Written) × IsLine line w × HasUnknownName ring names line w
 Holds ring names line kinds.OfKind = (w : Written) × IsLine line w × HasOtherKind ring names line w
 Holds ring names line kinds.Rank = (w : Written) × IsLine line w × HasOtherRank names line w
-Holds ring names line kinds.Degree = (w : Written) × IsLine line w × HasGreatDegree line w
+Holds ring names line kinds.Degree = (w : Written) × IsLine line w × HasGreatDegree ring line w
 
 -- the place of a kind in the order in which they are tried
 abbrev pub place : Kind → ℕ

@@ -1,12 +1,14 @@
 -- What a line states
-use Rattle.std.specs.Prelude.{List, Option, Some, [], length, map, string_bytes, ℕ, ◌++◌, ◌+◌, ◌∷◌, ◌≡◌}
+use Rattle.std.specs.Prelude.{Bool, List, Option, Some, [], false, length, map, replicate, string_bytes, true, ℕ, ◌++◌, ◌+◌, ◌∷◌, ◌≡◌}
 use Rattle.monomials.specs.Exponents.{unit}
 use Rattle.formal_sums.specs.FormalSums.{FormalSum, product}
+use Rattle.script_tokens.specs.declared.token.Token.{Token}
 use Rattle.poly_grammar.specs.Algebras.{worth}
 use Rattle.poly_grammar.specs.Numerals.{text_of, value_of}
 use Rattle.poly_grammar.specs.Trees.{Poly}
 use Rattle.poly_value.specs.Values.{IsValue, polynomials_of}
-use Rattle.monomial_orders.specs.declared.order.ModOrder.TheVariants.{Pot}
+use Rattle.monomial_orders.specs.declared.order.ModOrder.{ModOrder}
+use Rattle.monomial_orders.specs.declared.order.ModOrder.TheVariants.{Pot, Top}
 use Rattle.monomial_orders.specs.declared.order.Order.{Order}
 use Rattle.monomial_orders.specs.declared.order.Order.TheVariants as orders
 use Rattle.module_vectors.specs.Rings.{ring_comparison, variables}
@@ -14,27 +16,39 @@ use Rattle.module_vectors.specs.Vectors.{HasPositions, IsVectorOver, StandsFor}
 use Rattle.module_vectors.specs.declared.key.Key.{Key}
 use Rattle.module_vectors.specs.declared.ring.Ring.{Ring}
 use Rattle.script_parse.specs.Refusals.{Holds}
-use Rattle.script_parse.specs.Written.{IsLine, Written, ask_line, divide_line, equal_line, ideal_line, nothing, ring_line, show_line}
+use Rattle.script_parse.specs.Written.{IsLine, RingLine, Written, ask_line, divide_line, equal_line, ideal_line, nothing, ring_line, show_line}
 use Rattle.script_parse.specs.declared.form.Division.TheVariants as divisions
-use Rattle.script_parse.specs.declared.form.OrderName.{OrderName}
-use Rattle.script_parse.specs.declared.form.OrderName.TheVariants.{Grevlex, Lex}
 use Rattle.script_parse.specs.declared.form.Question.TheVariants as questions
 use Rattle.script_parse.specs.declared.kind.Kind.{Kind}
 use Rattle.script_parse.specs.declared.named.NameInfo.{NameInfo}
+use Rattle.script_parse.specs.declared.ring_words.OrderName.{OrderName}
+use Rattle.script_parse.specs.declared.ring_words.OrderName.TheVariants.{Elim, Grevlex, Lex}
 use Rattle.script_parse.specs.declared.stated.Statement.{Statement}
 use Rattle.script_parse.specs.declared.stated.Statement.TheVariants as statements
 
--- the order that a word names
-abbrev pub order_named : OrderName → Order
-order_named Lex = orders.Lex
-order_named Grevlex = orders.Grevlex
+-- the order of monomials that is stated
+abbrev pub order_stated : List ℕ → OrderName → Order
+order_stated line Lex = orders.Lex
+order_stated line Grevlex = orders.Grevlex
+order_stated line (Elim k) = orders.Elim (value_of line k)
 
--- a ring line makes this ring: its modulus, its names, its order, and position over term
-pub record Makes (line : List ℕ) (modulus : ℕ) (names : List (List ℕ)) (order : OrderName) (ring : Ring) : Type 0 where
-  pub modulus_is : ring.modulus.value ≡ modulus
-  pub names_are : ring.vars ≡ names
-  pub order_is : ring.order ≡ order_named order
-  pub module_order_is : ring.module_order ≡ Pot
+-- term over position with `top`, else position over term
+abbrev pub module_order_stated : Bool → ModOrder
+module_order_stated true = Top
+module_order_stated false = Pot
+
+-- the weights of n variables that are stated: 1 for each where none are
+abbrev pub weights_stated : List ℕ → ℕ → List Token → List ℕ
+weights_stated line n [] = replicate n 1
+weights_stated line n ts = map (value_of line) ts
+
+-- a ring line makes this ring, of the modulus, variables, orders and weights that it states
+pub record Makes (line : List ℕ) (r : RingLine) (ring : Ring) : Type 0 where
+  pub modulus_is : ring.modulus.value ≡ value_of line r.modulus
+  pub names_are : ring.vars ≡ map (text_of line) r.names
+  pub order_is : ring.order ≡ order_stated line r.order
+  pub module_order_is : ring.module_order ≡ module_order_stated r.top
+  pub weights_are : ring.weights ≡ weights_stated line (length r.names) r.weights
 
 -- the normal vector of rank 1 that stands for the value of the line's tree
 abbrev pub IsPolynomialOf : Ring → List ℕ → Poly → List (Key × ℕ) → Type 0
@@ -64,7 +78,7 @@ IsVectorOf ring line ps v = IsVectorOver ring (ring_comparison ring) v × HasPos
 -- what a line states: its vectors are in the ring's own order, and its names are the texts of its NAMEs
 abbrev pub Says : Option Ring → List ℕ → Written → Statement → Type 0
 Says ring line nothing statements.Nothing = Unit {0}
-Says ring line (ring_line modulus first more order) (statements.Ring made) = Makes line (value_of line modulus) (map (text_of line) (first ∷ more)) order made
+Says ring line (ring_line r) (statements.Ring made) = Makes line r made
 Says (Some ring) line (show_line p) (statements.Show v) = IsPolynomialOf ring line p v
 Says (Some ring) line (ideal_line given ps) (statements.Ideal name list) = (string_bytes name ≡ text_of line given) × ArePolynomialsOf ring line ps list
 Says ring line (ask_line questions.Gens value) (statements.Gens name) = string_bytes name ≡ text_of line value
@@ -83,11 +97,11 @@ pub record States (ring : Option Ring) (names : List NameInfo) (line : List ℕ)
   pub free : (kind : Kind) → Holds ring names line kind → ⊥
   pub says : Says ring line written statement
 
--- two statements are one: rings with the same modulus, names and orders, or the same names and the same terms
+-- two statements are one: rings with the same modulus, names, orders and weights, or the same names and the same terms
 abbrev pub IsSameStatement : Statement → Statement → Type 0
 IsSameStatement statements.Nothing statements.Nothing = Unit {0}
 IsSameStatement (statements.Ring a) (statements.Ring b) =
-    (a.modulus.value ≡ b.modulus.value) × (a.vars ≡ b.vars) × (a.order ≡ b.order) × (a.module_order ≡ b.module_order)
+    (a.modulus.value ≡ b.modulus.value) × (a.vars ≡ b.vars) × (a.order ≡ b.order) × (a.module_order ≡ b.module_order) × (a.weights ≡ b.weights)
 IsSameStatement (statements.Show v) (statements.Show w) = v ≡ w
 IsSameStatement (statements.Ideal a v) (statements.Ideal b w) = (string_bytes a ≡ string_bytes b) × (v ≡ w)
 IsSameStatement (statements.Gens a) (statements.Gens b) = string_bytes a ≡ string_bytes b

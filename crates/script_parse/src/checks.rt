@@ -3,13 +3,13 @@
 ghost use Rattle.std.specs.Prelude.{◌≡◌, IfOk};
 ghost use Rattle.std.specs.List.{AllByRecursion, list_all};
 ghost use Rattle.poly_grammar.specs.Numerals.{text_of};
-ghost use Rattle.script_parse.specs.Forms.{IsPolynomial, given_name, is_known, is_no_value, is_no_variable, low_degree, names_pass, places, rank_fits};
+ghost use Rattle.script_parse.specs.Tests.{IsPolynomial, given_name, is_known, is_no_value, is_no_variable, low_degree, names_pass, places, rank_fits};
 
 use crate::form::Head;
 use crate::named::{NameInfo, rank_named};
-use module_vectors::Names;
+use module_vectors::{Names, Ring};
 use poly_grammar::{Step, formal_degree, text};
-use poly_value::place;
+use poly_value::{RingNames, place};
 use std::alloc::{AllocError, Global};
 
 /// The greatest number of an ideal's vectors.
@@ -172,17 +172,19 @@ pub fn rank_fits(line: &[u8], names: &[NameInfo], head: Head, count: usize) -> b
     }
 }
 
-/// Whether the formal degree of each polynomial, and of each part of it, is at most 1,000.
+/// Whether the formal degree by the ring's weights of each polynomial, and of each part of it, is at most 1,000.
 pub fn degrees_fit(
     alloc: Global,
     line: &[u8],
+    ring: &Ring,
     polynomials: &[Vec<Step>],
 ) -> Result<bool, AllocError>
     requires { AllByRecursion IsPolynomial polynomials.now }
-    ensures { IfOk result (λ fit. fit ≡ list_all (λ v. low_degree line.now v.items) polynomials.now) }
+    ensures { IfOk result (λ fit. fit ≡ list_all (λ v. low_degree ring.now line.now v.items) polynomials.now) }
 {
+    let names = RingNames::new(ring);
     for steps in polynomials {
-        if formal_degree(alloc, line, steps)?.is_none() {
+        if formal_degree(alloc, &names, line, steps)?.is_none() {
             return Ok(false);
         }
     }

@@ -1,29 +1,21 @@
 //! The form of a line: its word and what stands behind it, before a name or a number is looked at.
 
-ghost use Rattle.std.specs.Prelude.{◌≡◌, ◌↔◌, ◌∷◌, ℕ, List, map, IsTrue, IfSome, IfNone};
+ghost use Rattle.std.specs.Prelude.{◌≡◌, ◌∷◌, ℕ, List, map, IfSome, IfNone};
 ghost use Rattle.script_tokens.specs.declared.token.Token.{Token as TokenValue};
 ghost use Rattle.script_tokens.specs.declared.token.TokenKind.TheVariants.{Name};
 ghost use Rattle.poly_grammar.specs.Lexemes.{Lexeme, lexeme, name};
 ghost use Rattle.poly_grammar.specs.Numerals.{text_of};
-ghost use Rattle.poly_grammar.specs.Machine.{Gives};
-ghost use Rattle.script_parse.specs.Forms.{IsRead, IsReadBehind, names_of};
+ghost use Rattle.script_parse.specs.Forms.{IsRead, IsReadBehind};
 ghost use Rattle.script_parse.specs.declared.form.Division.{Division as DivisionValue};
 ghost use Rattle.script_parse.specs.declared.form.Question.{Question as QuestionValue};
-ghost use Rattle.script_parse.specs.Written.{division_word, equal_word, ideal_word, order_word, question_word, ring_word, show_word, word_text};
+ghost use Rattle.script_parse.specs.Written.{division_word, equal_word, ideal_word, question_word, ring_word, show_word, word_text};
 
 use crate::polynomials::{entries, one_polynomial, polynomials};
-use poly_grammar::{ReadStop, Step, text};
+use crate::ring_words::{RingForm, read_ring};
+use crate::words::is_word;
+use poly_grammar::{ReadStop, Step};
 use script_tokens::{Token, TokenKind};
 use std::alloc::Global;
-
-/// The word of an order.
-#[derive(Clone, Copy, Debug, PartialEq, Eq)]
-pub enum OrderName {
-    /// `lex`
-    Lex,
-    /// `grevlex`
-    Grevlex,
-}
 
 /// The word of a question on a value.
 #[derive(Clone, Copy, Debug, PartialEq, Eq)]
@@ -65,85 +57,18 @@ pub enum Head {
 pub enum Form {
     /// A blank line.
     Nothing,
-    /// `ring`, by the tokens of its modulus and its names, of which there is one at least.
-    Ring {
-        modulus: Token,
-        names: Vec<Token>,
-        order: OrderName,
-    },
+    /// `ring`
+    Ring(RingForm),
     /// Any other line, by the steps of each of its polynomials.
     Line(Head, Vec<Vec<Step>>),
-}
-
-/// Whether the token is this name.
-pub fn is_word(line: &[u8], token: Token, word: &[u8]) -> bool
-    ensures { IsTrue result ↔ ((token.kind ≡ Name) × (text_of line.now token ≡ word.now)) }
-{
-    token.kind == TokenKind::Name && text(line, token) == word
-}
-
-/// NAME {, NAME}, all of the tokens.
-fn names(alloc: Global, tokens: &[Token]) -> Result<Vec<Token>, ReadStop>
-    ensures { Gives (λ found. found.items) result (names_of (map lexeme tokens.now)) }
-{
-    let Some((first, behind)) = tokens.split_first() else {
-        return Err(ReadStop::Syntax);
-    };
-    if first.kind != TokenKind::Name {
-        return Err(ReadStop::Syntax);
-    }
-    let mut names = Vec::new(alloc);
-    names.push(*first)?;
-    let mut rest = behind;
-    while let Some((comma, after)) = rest.split_first() {
-        let Some((name, more)) = after.split_first() else {
-            return Err(ReadStop::Syntax);
-        };
-        if comma.kind != TokenKind::Comma || name.kind != TokenKind::Name {
-            return Err(ReadStop::Syntax);
-        }
-        names.push(*name)?;
-        rest = more;
-    }
-    Ok(names)
-}
-
-/// Which order a word names.
-fn order_of(line: &[u8], token: Token) -> Option<OrderName>
-    ensures found { IfSome result (λ order. (token.kind ≡ Name) × (text_of line.now token ≡ order_word order)) }
-    ensures none { IfNone result ((order : OrderName) → token.kind ≡ Name → text_of line.now token ≡ order_word order → ⊥) }
-{
-    if is_word(line, token, b"lex") {
-        Some(OrderName::Lex)
-    } else if is_word(line, token, b"grevlex") {
-        Some(OrderName::Grevlex)
-    } else {
-        None
-    }
 }
 
 /// What stands behind `ring`.
 fn ring_form(alloc: Global, line: &[u8], tokens: &[Token]) -> Result<Form, ReadStop>
     ensures { IsReadBehind ring_word line.now (map lexeme tokens.now) result }
 {
-    let Some((modulus, behind)) = tokens.split_first() else {
-        return Err(ReadStop::Syntax);
-    };
-    let Some((last, middle)) = behind.split_last() else {
-        return Err(ReadStop::Syntax);
-    };
-    let TokenKind::Number = modulus.kind else {
-        return Err(ReadStop::Syntax);
-    };
-    let Some(order) = order_of(line, *last) else {
-        return Err(ReadStop::Syntax);
-    };
-    match names(alloc, middle) {
-        Ok(names) => Ok(Form::Ring {
-            modulus: *modulus,
-            names,
-            order,
-        }),
+    match read_ring(alloc, line, tokens) {
+        Ok(form) => Ok(Form::Ring(form)),
         Err(stop) => Err(stop),
     }
 }

@@ -14,7 +14,8 @@ pub enum Kind {
     Syntax,
     /// A number of the line is 2^128 or more.
     Numeral,
-    /// A line that needs a ring, and none is stated; or a ring of more than 15 variables, or with a variable twice.
+    /// A line that needs a ring, and none is stated; or a ring of more than 15 variables, or with a variable twice, an
+    /// `elim K` with K outside 1..n, a number of weights other than n, or a weight outside 1..255, in n variables.
     Ring,
     /// The modulus of a ring is not in the table.
     Modulus,
@@ -26,7 +27,7 @@ pub enum Kind {
     /// An ideal of more than 1,000 vectors; or the entries of a vector are not as many as the value's rank, or two ranks
     /// differ.
     Rank,
-    /// The formal degree of a polynomial or of a part of it is above 1,000.
+    /// The formal degree, by the ring's weights, of a polynomial or of a part of it is above 1,000.
     Degree,
 }
 

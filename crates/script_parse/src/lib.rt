@@ -12,8 +12,10 @@ mod polynomials;
 mod reading;
 mod ring_line;
 mod ring_needed;
+mod ring_words;
 mod stated;
 mod values;
+mod words;
 
 pub use kind::{Kind, ParseStop};
 pub use line_laws::one_answer;

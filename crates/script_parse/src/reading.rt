@@ -2,7 +2,7 @@
 
 ghost use Rattle.std.specs.Option.{option_copied};
 ghost use Rattle.script_parse.specs.Answers.{Answers};
-ghost use Rattle.script_parse.specs.Forms.{IsFormed};
+ghost use Rattle.script_parse.specs.Tests.{IsFormed};
 
 use crate::form::{Form, read_form};
 use crate::kind::{Kind, ParseStop};
@@ -37,10 +37,11 @@ fn formed(alloc: Global, line: &[u8]) -> Result<Form, ParseStop>
 
 /// What a line states, where this ring is stated before it and values have these names.
 ///
-/// The lines are `ring NUM NAME {, NAME} order` with the orders `lex` and `grevlex`, `show POLY`,
-/// `ideal NAME = POLY {, POLY}`, `gens NAME`, `gb NAME`, `size NAME`, `nf NAME VEC`, `member NAME VEC`,
-/// `equal NAME NAME` and blank ones, where VEC is POLY or `[ POLY {, POLY} ]`. A number stands for its residue, `-x^2`
-/// for minus the square, and each power with exponent 0 for 1. Entry i of a VEC is at position i, from 0.
+/// The lines are `ring NUM NAME {, NAME} order [top] [weights NUM {, NUM}]` with the orders `lex`, `grevlex` and
+/// `elim NUM`, `show POLY`, `ideal NAME = POLY {, POLY}`, `gens NAME`, `gb NAME`, `size NAME`, `nf NAME VEC`,
+/// `member NAME VEC`, `equal NAME NAME` and blank ones, where VEC is POLY or `[ POLY {, POLY} ]`. A number stands for its
+/// residue, `-x^2` for minus the square, and each power with exponent 0 for 1. Entry i of a VEC is at position i, from 0.
+/// A ring has the weight 1 for each variable where its line states none.
 ///
 /// Answers `Refused` exactly for the first `Kind` that holds, and `Memory` where a growth was refused. The ring is as it
 /// was.
@@ -58,11 +59,7 @@ pub fn statement(
     };
     match form {
         Form::Nothing => Ok(Statement::Nothing),
-        Form::Ring {
-            modulus,
-            names: variables,
-            order,
-        } => ring_statement(alloc, line, modulus, &variables, order),
+        Form::Ring(form) => ring_statement(alloc, line, &form),
         Form::Line(head, polynomials) => {
             line_statement(alloc, line, ring, names, head, &polynomials)
         }

@@ -1,23 +1,25 @@
 //! What a ring line states.
 
-ghost use Rattle.std.specs.Prelude.{◌≡◌, ◌∷◌, false, List, Option, map, IfSome, IfNone, IfOk};
+ghost use Rattle.std.specs.Prelude.{◌≡◌, false, List, Option, map, IfSome, IfNone, IfOk};
 ghost use Rattle.std.specs.Str.{IsAscii};
 ghost use Rattle.std.specs.Str.Lossy.{utf8_lossy};
 ghost use Rattle.std.specs.List.{AllByRecursion};
-ghost use Rattle.script_tokens.specs.declared.token.Token.{Token as TokenValue};
+ghost use Rattle.std.specs.Option.{option_map};
 ghost use Rattle.poly_grammar.specs.Numerals.{text_of, value_of};
 ghost use Rattle.zp_field.specs.Moduli.{is_modulus};
 ghost use Rattle.module_vectors.specs.declared.ring.Ring.{Ring as RingValue};
 ghost use Rattle.script_parse.specs.declared.named.NameInfo.{NameInfo as NameValue};
-ghost use Rattle.script_parse.specs.Forms.{AnswersForm, repeats, stands_among};
-ghost use Rattle.script_parse.specs.Statements.{order_named};
+ghost use Rattle.script_parse.specs.Refusals.{HasOtherElim, HasOtherWeights, IsOutside};
+ghost use Rattle.script_parse.specs.RingForms.{ring_line_of};
+ghost use Rattle.script_parse.specs.Statements.{module_order_stated, order_stated, weights_stated};
+ghost use Rattle.script_parse.specs.Tests.{AnswersForm, AreWeighedAll, IsGood, repeats, stands_among};
 ghost use Rattle.script_parse.specs.Written.{ring_line};
 
-use crate::form::OrderName;
 use crate::kind::{Kind, ParseStop};
+use crate::ring_words::{OrderName, RingForm};
 use crate::stated::Statement;
-use module_vectors::{Names, Ring};
-use monomial_orders::{ModOrder, Order};
+use module_vectors::{Names, NoMemory, Ring};
+use monomial_orders::{ModOrder, Order, Weights};
 use poly_grammar::{number, text};
 use script_tokens::Token;
 use std::alloc::{AllocError, Global};
@@ -75,38 +77,106 @@ fn names_of(alloc: Global, line: &[u8], tokens: &[Token]) -> Result<Names, Alloc
     Ok(Names::from_vec(names))
 }
 
-/// The order that a word names.
-fn order_named(order: OrderName) -> Order
-    ensures { result ≡ order_named order }
+/// The number that a token says, where it is from 1 to the last one.
+fn number_within(line: &[u8], token: Token, last: u32) -> Option<u32>
+    ensures { IsGood (value_of line.now token) (IsOutside last (value_of line.now token)) result }
+{
+    let value = number(text(line, token))?;
+    if value == 0 {
+        return None;
+    }
+    if value > u128::from(last) {
+        return None;
+    }
+    Some(value as u32)
+}
+
+/// The order that is stated for n variables; none exactly where it is `elim K` with K outside 1..n.
+fn order_stated(line: &[u8], order: OrderName, n: u32) -> Option<Order>
+    ensures { IsGood (order_stated line.now order) (HasOtherElim line.now n order) result }
 {
     match order {
-        OrderName::Lex => Order::Lex,
-        OrderName::Grevlex => Order::Grevlex,
+        OrderName::Lex => Some(Order::Lex),
+        OrderName::Grevlex => Some(Order::Grevlex),
+        OrderName::Elim(token) => match number_within(line, token, n) {
+            Some(k) => Some(Order::Elim(k)),
+            None => None,
+        },
     }
 }
 
-/// The ring that a ring line makes: `Ring` where it has more than 15 variables or one twice, else `Modulus` where its
-/// modulus is not in the table.
-pub fn ring_statement(
+/// The order of module monomials.
+fn module_order_stated(top: bool) -> ModOrder
+    ensures { result ≡ module_order_stated top }
+{
+    if top { ModOrder::Top } else { ModOrder::Pot }
+}
+
+/// The weights that these numbers are; none exactly where one is outside 1..255.
+fn weights_listed(
     alloc: Global,
     line: &[u8],
-    modulus: Token,
-    names: &[Token],
-    order: OrderName,
-) -> Result<Statement, ParseStop>
-    requires { AllByRecursion (λ t. IsAscii (text_of line.now t)) names.now }
-    ensures { (ring : Option RingValue) (infos : List NameValue) (first : TokenValue) (more : List TokenValue) → names.now ≡ first ∷ more → AnswersForm ring infos line.now (ring_line modulus first more order) result }
+    tokens: &[Token],
+) -> Result<Option<Vec<u8>>, AllocError>
+    ensures { IfOk result (λ found. AreWeighedAll line.now tokens.now (option_map (λ v. v.items) found)) }
 {
-    if names.len() > VARIABLES || has_repeat(line, names) {
+    let mut weights = Vec::with_capacity(alloc, tokens.len())?;
+    for token in tokens {
+        let Some(weight) = number_within(line, *token, 255) else {
+            return Ok(None);
+        };
+        weights.push(weight as u8)?;
+    }
+    Ok(Some(weights))
+}
+
+/// The weights that are stated for n variables; none exactly where they are not n, or one is outside 1..255.
+fn weights_stated(
+    alloc: Global,
+    line: &[u8],
+    tokens: &[Token],
+    n: usize,
+) -> Result<Option<Weights>, NoMemory>
+    ensures { IfOk result (λ found. IsGood (weights_stated line.now n tokens.now) (HasOtherWeights line.now n tokens.now) found) }
+{
+    if tokens.is_empty() {
+        return Ok(Some(Weights::ones(alloc, n)?));
+    }
+    if tokens.len() != n {
+        return Ok(None);
+    }
+    match weights_listed(alloc, line, tokens)? {
+        Some(weights) => Ok(Some(Weights::from_vec(weights))),
+        None => Ok(None),
+    }
+}
+
+/// The ring that a ring line makes: `Ring` where the line is faulty, else `Modulus` where its modulus is not in the table.
+pub fn ring_statement(alloc: Global, line: &[u8], form: &RingForm) -> Result<Statement, ParseStop>
+    requires { AllByRecursion (λ t. IsAscii (text_of line.now t)) form.now.names.items }
+    ensures { (ring : Option RingValue) (infos : List NameValue) → AnswersForm ring infos line.now (ring_line (ring_line_of form.now)) result }
+{
+    let n = form.names.len();
+    if n > VARIABLES {
         return Err(ParseStop::Refused(Kind::Ring));
     }
-    let Some(modulus) = modulus_of(line, modulus) else {
+    if has_repeat(line, &form.names) {
+        return Err(ParseStop::Refused(Kind::Ring));
+    }
+    let Some(order) = order_stated(line, form.order, n as u32) else {
+        return Err(ParseStop::Refused(Kind::Ring));
+    };
+    let Some(weights) = weights_stated(alloc, line, &form.weights, n)? else {
+        return Err(ParseStop::Refused(Kind::Ring));
+    };
+    let Some(modulus) = modulus_of(line, form.modulus) else {
         return Err(ParseStop::Refused(Kind::Modulus));
     };
     Ok(Statement::Ring(Ring {
         modulus,
-        vars: names_of(alloc, line, names)?,
-        order: order_named(order),
-        module_order: ModOrder::Pot,
+        vars: names_of(alloc, line, &form.names)?,
+        order,
+        module_order: module_order_stated(form.top),
+        weights,
     }))
 }

@@ -9,7 +9,8 @@ ghost use Rattle.std.specs.Str.{IsAscii};
 ghost use Rattle.poly_grammar.specs.Numerals.{text_of};
 ghost use Rattle.poly_grammar.specs.declared.step.Step.{Step as StepValue};
 ghost use Rattle.module_vectors.specs.declared.ring.Ring.{Ring as RingValue};
-ghost use Rattle.script_parse.specs.Forms.{AnswersForm, HaveNumerals, IsLineOf, IsPolynomial, IsStated, IsWorkable, head_names, known_names, right_kinds};
+ghost use Rattle.script_parse.specs.Forms.{IsLineOf};
+ghost use Rattle.script_parse.specs.Tests.{AnswersForm, HaveNumerals, IsPolynomial, IsStated, IsWorkable, head_names, known_names, right_kinds};
 ghost use Rattle.script_parse.specs.Written.{Written};
 ghost use Rattle.script_parse.specs.declared.form.Head.TheVariants as heads;
 
@@ -212,7 +213,7 @@ pub fn line_statement(
     if !rank_fits(line, names, head, polynomials.len()) {
         return Err(ParseStop::Refused(Kind::Rank));
     }
-    if !degrees_fit(alloc, line, polynomials)? {
+    if !degrees_fit(alloc, line, ring, polynomials)? {
         return Err(ParseStop::Refused(Kind::Degree));
     }
     stated(alloc, ring, line, head, polynomials)

@@ -4,7 +4,7 @@ ghost use Rattle.std.specs.Prelude.{◌≡◌, IfOk, length};
 ghost use Rattle.std.specs.List.{AllByRecursion};
 ghost use Rattle.module_vectors.specs.Rings.{ring_comparison};
 ghost use Rattle.module_vectors.specs.Vectors.{HasPositions, IsVectorOver};
-ghost use Rattle.script_parse.specs.Forms.{AreWorths, HasEntryTerms, IsWorkable, StandsForEntries, moved_to};
+ghost use Rattle.script_parse.specs.Tests.{AreWorths, HasEntryTerms, IsWorkable, StandsForEntries, moved_to};
 
 use module_vectors::{Key, NoMemory, Ring, Vect, VectList};
 use poly_grammar::Step;
@@ -30,7 +30,7 @@ pub fn list_value(
 }
 
 /// Moves terms to a position.
-fn move_terms(position: u128, terms: &mut Vec<(Key, u32)>)
+fn move_terms(position: u64, terms: &mut Vec<(Key, u32)>)
     ensures { terms.new.items ≡ moved_to position terms.old.items }
 {
     for i in 0..terms.len() {
@@ -52,7 +52,7 @@ fn entry_terms(
     for i in 0..polynomials.len() {
         let value = polynomial_value(alloc, ring, line, &polynomials[i])?;
         let mut terms = value.into_terms();
-        move_terms(i as u128, &mut terms);
+        move_terms(i as u64, &mut terms);
         all.append(&mut terms)?;
     }
     Ok(all)

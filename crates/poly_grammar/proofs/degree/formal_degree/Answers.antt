@@ -1,6 +1,8 @@
-use Rattle.poly_grammar.specs.Numerals.{value_of}
+use Rattle.poly_grammar.specs.Numerals.{text_of, value_of}
 use Rattle.poly_grammar.proofs.Degrees.{as_degree}
 use Rattle.poly_grammar.proofs.degree.formal_degree.Goals as goal
 
 pub returns : goal.returns
-returns c = as_degree (value_of c.args.line.now) c.args.steps.now c.degree_left.result c.degree_left.ensures
+returns g c =
+    as_degree (λ t. g.N.NameWeights.weight c.args.names.now (text_of c.args.line.now t)) (value_of c.args.line.now)
+    c.args.steps.now c.degree_left.result c.degree_left.ensures

@@ -18,6 +18,6 @@ no_memory-requires g c =
     let ring = g.F.Frame.over c.args.frame.now in
     let order = g.met.F.Frame.laws c.args.frame.now (variables ring) 1 in
     let fits = c.requires.fits in
-    let base = normal_within order ring.modulus.value c.args.base.items c.in_ok-base.base fits.0 c.in_ok-base.ensures.vector c.in_ok-base.ensures.same fits.1 in
+    let base = normal_within order ring.weights ring.modulus.value c.args.base.items c.in_ok-base.base fits.0 c.in_ok-base.ensures.vector c.in_ok-base.ensures.same fits.1 in
     let stop = c.in-Err.ensures.memory fits.0 base fits.2 in
     cc

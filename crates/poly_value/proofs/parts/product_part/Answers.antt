@@ -18,7 +18,7 @@ no_memory-requires g c =
     let ring = g.F.Frame.over c.args.frame.now in
     let order = g.met.F.Frame.laws c.args.frame.now (variables ring) 1 in
     let fits = c.requires.fits in
-    let left = normal_within order ring.modulus.value c.args.left.items c.in_ok-left.left fits.0 c.in_ok-left.ensures.vector c.in_ok-left.ensures.same fits.2 in
-    let right = normal_within order ring.modulus.value c.args.right.items c.in_ok-right.right fits.1 c.in_ok-right.ensures.vector c.in_ok-right.ensures.same fits.3 in
+    let left = normal_within order ring.weights ring.modulus.value c.args.left.items c.in_ok-left.left fits.0 c.in_ok-left.ensures.vector c.in_ok-left.ensures.same fits.2 in
+    let right = normal_within order ring.weights ring.modulus.value c.args.right.items c.in_ok-right.right fits.1 c.in_ok-right.ensures.vector c.in_ok-right.ensures.same fits.3 in
     let stop = c.in-Err.ensures.memory fits.0 fits.1 left right fits.4 in
     cc

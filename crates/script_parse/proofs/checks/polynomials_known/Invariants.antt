@@ -1,6 +1,6 @@
 use Rattle.std.proofs.Common.{◌≡◌, drop}
 use Rattle.std.specs.List.{list_all}
-use Rattle.script_parse.specs.Forms.{is_known, names_pass}
+use Rattle.script_parse.specs.Tests.{is_known, names_pass}
 use Rattle.script_parse.proofs.checks.polynomials_known.Given as goal
 
 abbrev pub invariant-loop-steps : goal.invariant-loop-steps

@@ -1,5 +1,5 @@
 use Rattle.std.proofs.Common.{◌≡◌, drop}
-use Rattle.script_parse.specs.Forms.{is_no_value, names_pass}
+use Rattle.script_parse.specs.Tests.{is_no_value, names_pass}
 use Rattle.script_parse.proofs.checks.steps_free.Given as goal
 
 abbrev pub invariant-loop-step : goal.invariant-loop-step

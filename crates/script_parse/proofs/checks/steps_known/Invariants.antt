@@ -1,5 +1,5 @@
 use Rattle.std.proofs.Common.{◌≡◌, drop}
-use Rattle.script_parse.specs.Forms.{is_known, names_pass}
+use Rattle.script_parse.specs.Tests.{is_known, names_pass}
 use Rattle.script_parse.proofs.checks.steps_known.Given as goal
 
 abbrev pub invariant-loop-step : goal.invariant-loop-step

@@ -10,22 +10,22 @@ returns-in_default c = (nothing, ap (λ l. map lexeme l) (nil_of c.args.tokens.n
 
 pub returns-then-is_word : goal.returns-then-is_word
 returns-then-is_word c =
-    let says = c.is_word.ensures.0 c.if-is_word.true in
+    let says = c.is_word.ensures.name.0 c.if-is_word.true in
     word_read c.args.line.now ring_word c.args.tokens.now c.in-Some.behind.now c.in-Some.word.now c.ring_form.result says.0 says.1 c.in-Some.ensures.cases.0 c.ring_form.ensures
 
 pub returns-then-is_word-2 : goal.returns-then-is_word-2
 returns-then-is_word-2 c =
-    let says = c.is_word-2.ensures.0 c.if-is_word-2.true in
+    let says = c.is_word-2.ensures.name.0 c.if-is_word-2.true in
     word_read c.args.line.now show_word c.args.tokens.now c.in-Some.behind.now c.in-Some.word.now c.show_form.result says.0 says.1 c.in-Some.ensures.cases.0 (c.show_form.ensures c.args.line.now)
 
 pub returns-then-is_word-3 : goal.returns-then-is_word-3
 returns-then-is_word-3 c =
-    let says = c.is_word-3.ensures.0 c.if-is_word-3.true in
+    let says = c.is_word-3.ensures.name.0 c.if-is_word-3.true in
     word_read c.args.line.now ideal_word c.args.tokens.now c.in-Some.behind.now c.in-Some.word.now c.ideal_form.result says.0 says.1 c.in-Some.ensures.cases.0 (c.ideal_form.ensures c.args.line.now)
 
 pub returns-then-is_word-4 : goal.returns-then-is_word-4
 returns-then-is_word-4 c =
-    let says = c.is_word-4.ensures.0 c.if-is_word-4.true in
+    let says = c.is_word-4.ensures.name.0 c.if-is_word-4.true in
     word_read c.args.line.now equal_word c.args.tokens.now c.in-Some.behind.now c.in-Some.word.now c.equal_form.result says.0 says.1 c.in-Some.ensures.cases.0 (c.equal_form.ensures c.args.line.now)
 
 pub returns-in-Some-question_of : goal.returns-in-Some-question_of

@@ -1,5 +1,5 @@
 use Rattle.std.proofs.Common.{◌≡◌, length}
-use Rattle.script_parse.specs.Forms.{repeats}
+use Rattle.script_parse.specs.Tests.{repeats}
 use Rattle.script_parse.proofs.ring_line.has_repeat.Given as goal
 
 abbrev pub invariant-loop-first : goal.invariant-loop-first

@@ -1,5 +1,5 @@
 use Rattle.std.proofs.Common.{◌≡◌, drop}
-use Rattle.script_parse.specs.Forms.{stands_among}
+use Rattle.script_parse.specs.Tests.{stands_among}
 use Rattle.script_parse.proofs.ring_line.stands_in.Given as goal
 
 abbrev pub invariant-loop-token : goal.invariant-loop-token

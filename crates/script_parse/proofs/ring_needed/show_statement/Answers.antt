@@ -1,5 +1,5 @@
 use Rattle.std.proofs.Common.{subst}
-use Rattle.script_parse.specs.Forms.{IsWorth}
+use Rattle.script_parse.specs.Tests.{IsWorth}
 use Rattle.script_parse.proofs.Stating.{show_says}
 use Rattle.script_parse.proofs.ring_needed.show_statement.Goals as goal
 

@@ -1,6 +1,7 @@
 use Rattle.std.proofs.Common.{subst, sym}
 use Rattle.script_parse.proofs.Stating.{is_shown}
-use Rattle.script_parse.specs.Forms.{IsLineOf, IsStated}
+use Rattle.script_parse.specs.Forms.{IsLineOf}
+use Rattle.script_parse.specs.Tests.{IsStated}
 use Rattle.script_parse.proofs.ring_needed.stated.Goals as goal
 
 pub show_statement-requires-clause-some : goal.show_statement-requires-clause-some

@@ -1,6 +1,6 @@
 use Rattle.std.proofs.Common.{ap, arith, subst, ◌++◌, ◌∙◌}
 use Rattle.script_parse.proofs.Working.{entries_go, item_of}
-use Rattle.script_parse.specs.Forms.{IsWorkable, IsWorth, moved_to}
+use Rattle.script_parse.specs.Tests.{IsWorkable, IsWorth, moved_to}
 use Rattle.script_parse.proofs.values.entry_terms.Goals as goal
 
 pub loop-i-preserved : goal.loop-i-preserved

@@ -1,5 +1,5 @@
 use Rattle.std.proofs.Common.{take}
-use Rattle.script_parse.specs.Forms.{HasEntryTerms}
+use Rattle.script_parse.specs.Tests.{HasEntryTerms}
 use Rattle.script_parse.proofs.values.entry_terms.Given as goal
 
 abbrev pub invariant-loop-i : goal.invariant-loop-i

@@ -1,6 +1,6 @@
 use Rattle.std.proofs.Common.{subst}
 use Rattle.script_parse.proofs.Working.{worths_go}
-use Rattle.script_parse.specs.Forms.{IsWorth}
+use Rattle.script_parse.specs.Tests.{IsWorth}
 use Rattle.script_parse.proofs.values.list_value.Goals as goal
 
 pub loop-steps-preserved : goal.loop-steps-preserved

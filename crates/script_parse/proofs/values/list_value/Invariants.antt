@@ -1,5 +1,5 @@
 use Rattle.std.proofs.Common.{take}
-use Rattle.script_parse.specs.Forms.{AreWorths}
+use Rattle.script_parse.specs.Tests.{AreWorths}
 use Rattle.script_parse.proofs.values.list_value.Given as goal
 
 abbrev pub invariant-loop-steps : goal.invariant-loop-steps

@@ -1,5 +1,5 @@
 use Rattle.std.proofs.Common.{drop, take, ◌++◌, ◌≡◌}
-use Rattle.script_parse.specs.Forms.{moved_to}
+use Rattle.script_parse.specs.Tests.{moved_to}
 use Rattle.script_parse.proofs.values.move_terms.Given as goal
 
 abbrev pub invariant-loop-i : goal.invariant-loop-i
