@@ -1,11 +1,12 @@
 -- What is asked of the pairs that are out and of the events so far, one after another
-use Rattle.std.proofs.Common.{Bool, List, Option, [], ap, arith, cond, eq-eqb, false, true, filter, get_or, inl, inr, length, map, subst, suc, sym, take, zero, ℕ, ◌+◌, ◌++◌, ◌<◌, ◌==◌, ◌∙◌, ◌∷◌, ◌≡◌, ◌⊎◌}
+use Rattle.std.proofs.Common.{Bool, List, Option, [], ap, arith, cond, eq-eqb, false, true, filter, get_or, inl, inr, length, map, subst, suc, sym}
+use Rattle.std.proofs.Common.{take, zero, ℕ, ◌+◌, ◌++◌, ◌<◌, ◌==◌, ◌∙◌, ◌∷◌, ◌≡◌, ◌⊎◌}
 use Rattle.std.proofs.lemmas.List.{take_more}
 use Rattle.basis_steps.specs.States as plain
 use Rattle.basis_steps.specs.States.{job_of}
-use Rattle.basis_steps.specs.Steps.{HasStopped, took_since}
+use Rattle.basis_steps.specs.Histories.{HasStopped, took_since}
 use Rattle.basis_core.specs.declared.event.Event.{Event}
-use Rattle.basis_core.specs.declared.out.Out.{Out}
+use Rattle.pair_queue.specs.declared.out.Out.{Out}
 use Rattle.basis_core.specs.declared.stop.StopReason.{StopReason}
 use Rattle.basis_core.specs.Members.{Tracked}
 use Rattle.basis_core.specs.Views.{event_of, history_of, outs_of}
@@ -21,10 +22,12 @@ not_free w (o ∷ out) zero d l e h = nothing some
     nothing e = absurd cc
 
     some : ((o.i, o.j) ∷ job_of w (outs_of out)) ≡ []
-    some = sym (ap (λ b. map (λ (e : (ℕ × ℕ) × ℕ). e.0) (cond b (((o.i, o.j), o.worker) ∷ filter (λ e. e.1 == w) (outs_of out)) (filter (λ e. e.1 == w) (outs_of out)))) (eq-eqb o.worker w e)) ∙ h
+    some = sym (ap (λ b. map (λ (e : (ℕ × ℕ) × ℕ). e.0)
+        (cond b (((o.i, o.j), o.worker) ∷ filter (λ e. e.1 == w) (outs_of out)) (filter (λ e. e.1 == w) (outs_of out)))) (eq-eqb o.worker w e)) ∙ h
 not_free w (o ∷ out) (suc i) d l e h = not_free w out i d (omega arith) e (rest (o.worker == w) h)
   where
-    rest : (b : Bool) → map (λ (e : (ℕ × ℕ) × ℕ). e.0) (cond b (((o.i, o.j), o.worker) ∷ filter (λ e. e.1 == w) (outs_of out)) (filter (λ e. e.1 == w) (outs_of out))) ≡ [] → job_of w (outs_of out) ≡ []
+    rest : (b : Bool) → map (λ (e : (ℕ × ℕ) × ℕ). e.0)
+        (cond b (((o.i, o.j), o.worker) ∷ filter (λ e. e.1 == w) (outs_of out)) (filter (λ e. e.1 == w) (outs_of out))) ≡ [] → job_of w (outs_of out) ≡ []
     rest true h = absurd cc
     rest false h = h
 
@@ -72,7 +75,8 @@ module _ (n : ℕ) (ms : List Tracked) (kept : Option StopReason) (w : ℕ) wher
   first_stopped (plain.Stop v reason) es (inr h) = absurd h
 
   -- a Stop here
-  pub stopped_at : (es : List Event) (i : ℕ) (d : Event) → i < length es → HasStopped w (history_of n ms kept (get_or es i d ∷ [])) → HasStopped w (history_of n ms kept es)
+  pub stopped_at : (es : List Event) (i : ℕ) (d : Event) → i < length es → HasStopped w (history_of n ms kept (get_or es i d ∷ []))
+      → HasStopped w (history_of n ms kept es)
   stopped_at [] i d l h = absurd (omega arith)
   stopped_at (e ∷ es) zero d l h = first_stopped (event_of n ms kept e) (history_of n ms kept es) h
   stopped_at (e ∷ es) (suc i) d l h = more_stopped (event_of n ms kept e) (history_of n ms kept es) (stopped_at es i d (omega arith) h)

@@ -9,7 +9,7 @@ use Rattle.module_vectors.specs.Trails.{HasKey, Step, product_lead}
 use Rattle.module_vectors.specs.Vectors.{IsTerm, key_of, sum_of}
 use Rattle.module_vectors.specs.declared.key.Key.{Key as CodeKey}
 use Rattle.basis_core.specs.Members.{Shared, Tracked}
-use Rattle.basis_core.specs.RowDivision.{IsTracked}
+use Rattle.basis_core.specs.Members.{IsTracked}
 use Rattle.basis_core.specs.Rows.{vectors_in}
 use Rattle.monomials.specs.Exponents.{cons, exponents_of, head, tail, times, unit}
 use Rattle.monomials.proofs.Monomials.{times-unit}
@@ -49,18 +49,24 @@ nonzero_at [] i h l = absurd (omega arith)
 nonzero_at (m ∷ ms) zero h l = h.0
 nonzero_at (m ∷ ms) (suc i) h l = nonzero_at ms i h.1 (omega arith)
 
-term_variables : (n p : ℕ) (v : List (CodeKey × ℕ)) (k : ℕ) (t : CodeKey × ℕ) → Each (IsTerm n p) v → k < length v → t ≡ get_or v k t → length t.0.monomial ≡ n
-term_variables n p [] k t h l e = absurd (omega arith)
-term_variables n p (u ∷ v) zero t h l e = ap (λ (z : CodeKey × ℕ). length z.0.monomial) e ∙ (h.0).variables
-term_variables n p (u ∷ v) (suc k) t h l e = term_variables n p v k t h.1 (omega arith) e
+term_variables :
+    (n : ℕ) (ws : List ℕ) (p : ℕ) (v : List (CodeKey × ℕ)) (k : ℕ) (t : CodeKey × ℕ)
+    → Each (IsTerm n ws p) v → k < length v → t ≡ get_or v k t → length t.0.monomial.exponents ≡ n
+term_variables n ws p [] k t h l e = absurd (omega arith)
+term_variables n ws p (u ∷ v) zero t h l e = ap (λ (z : CodeKey × ℕ). length z.0.monomial.exponents) e ∙ h.0.weighed.variables
+term_variables n ws p (u ∷ v) (suc k) t h l e = term_variables n ws p v k t h.1 (omega arith) e
 
 -- each term of a member has the variables of the ring
 pub variables_at :
     (shared : Shared) (ms : List Tracked) (i : ℕ) (v : List (CodeKey × ℕ)) (k : ℕ) (t : CodeKey × ℕ)
-    → Each (IsTracked shared) ms → v ≡ get_or (vectors_in ms) i [] → k < length v → t ≡ get_or v k t → length t.0.monomial ≡ variables shared.ring
-variables_at shared ms i v k t h e l is = term_variables (variables shared.ring) shared.ring.modulus.value v k t (subst (Each (IsTerm (variables shared.ring) shared.ring.modulus.value)) (sym e) (go ms i h)) l is
+    → Each (IsTracked shared) ms → v ≡ get_or (vectors_in ms) i [] → k < length v → t ≡ get_or v k t → length t.0.monomial.exponents ≡ variables shared.ring
+variables_at shared ms i v k t h e l is =
+    term_variables (variables shared.ring) shared.ring.weights shared.ring.modulus.value v k t
+    (subst (Each (IsTerm (variables shared.ring) shared.ring.weights shared.ring.modulus.value)) (sym e) (go ms i h)) l is
   where
-    go : (ms : List Tracked) (i : ℕ) → Each (IsTracked shared) ms → Each (IsTerm (variables shared.ring) shared.ring.modulus.value) (get_or (vectors_in ms) i [])
+    go :
+        (ms : List Tracked) (i : ℕ) → Each (IsTracked shared) ms
+        → Each (IsTerm (variables shared.ring) shared.ring.weights shared.ring.modulus.value) (get_or (vectors_in ms) i [])
     go [] i h = tt
     go (m ∷ ms) zero h = h.0.vector.vector.each
     go (m ∷ ms) (suc i) h = go ms i h.1
@@ -68,12 +74,14 @@ variables_at shared ms i v k t h e l is = term_variables (variables shared.ring)
 -- the lead of a product is that of the first term
 pub lead_is :
     (n : ℕ) (vs : List (List (CodeKey × ℕ))) (s : Step) (v : List (CodeKey × ℕ)) (t : CodeKey × ℕ)
-    → v ≡ get_or vs s.0 [] → 0 < length v → t ≡ get_or v 0 t → product_lead n vs s ≡ shift (exponents_of n s.1) (key_of n t.0)
-lead_is n vs s v t e l is = ap (λ w. shift (exponents_of n s.1) (head_key (sum_of n w))) (sym e) ∙ go v l is
+    → v ≡ get_or vs s.0 [] → 0 < length v → t ≡ get_or v 0 t → product_lead n vs s ≡ shift (exponents_of n s.1.exponents) (key_of n t.0)
+lead_is n vs s v t e l is = ap (λ w. shift (exponents_of n s.1.exponents) (head_key (sum_of n w))) (sym e) ∙ go v l is
   where
-    go : (v : List (CodeKey × ℕ)) → 0 < length v → t ≡ get_or v 0 t → shift (exponents_of n s.1) (head_key (sum_of n v)) ≡ shift (exponents_of n s.1) (key_of n t.0)
+    go :
+        (v : List (CodeKey × ℕ)) → 0 < length v → t ≡ get_or v 0 t
+        → shift (exponents_of n s.1.exponents) (head_key (sum_of n v)) ≡ shift (exponents_of n s.1.exponents) (key_of n t.0)
     go [] l is = absurd (omega arith)
-    go (u ∷ v) l is = ap (λ (z : CodeKey × ℕ). shift (exponents_of n s.1) (key_of n z.0)) (sym is)
+    go (u ∷ v) l is = ap (λ (z : CodeKey × ℕ). shift (exponents_of n s.1.exponents) (key_of n z.0)) (sym is)
 
 pub key_there : (n : ℕ) (v : List (CodeKey × ℕ)) (k : ℕ) (t : CodeKey × ℕ) → k < length v → t ≡ get_or v k t → HasKey (sum_of n v) (key_of n t.0)
 key_there n [] k t l e = absurd (omega arith)
@@ -94,7 +102,8 @@ key_index n (u ∷ v) l (suc i, lt, e) =
 -- the same in another number of variables
 pub same_in :
     (n m : ℕ) (a c : List ℕ) (b d : CodeKey) → m ≡ n
-    → shift (exponents_of m a) (key_of m b) ≡ shift (exponents_of m c) (key_of m d) → shift (exponents_of n a) (key_of n b) ≡ shift (exponents_of n c) (key_of n d)
+    → shift (exponents_of m a) (key_of m b) ≡ shift (exponents_of m c) (key_of m d)
+    → shift (exponents_of n a) (key_of n b) ≡ shift (exponents_of n c) (key_of n d)
 same_in n m a c b d e h = subst (λ k. shift (exponents_of k a) (key_of k b) ≡ shift (exponents_of k c) (key_of k d)) e h
 
 -- the keys so far and one more

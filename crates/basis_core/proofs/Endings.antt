@@ -1,5 +1,6 @@
 -- A state after an End
-use Rattle.std.proofs.Common.{Bool, Global, List, Vec, [], ap, arith, cond, false, get_or, length, length-append, refl, slice_set, subst, suc, sym, true, vec_capacity, zero, ℕ, ◌++◌, ◌+◌, ◌<◌, ◌∙◌, ◌∷◌, ◌≡◌, ◌≤◌}
+use Rattle.std.proofs.Common.{Bool, Global, List, Vec, [], ap, arith, cond, false, get_or, length, length-append, refl, slice_set, subst, suc, sym}
+use Rattle.std.proofs.Common.{true, vec_capacity, zero, ℕ, ◌++◌, ◌+◌, ◌<◌, ◌∙◌, ◌∷◌, ◌≡◌, ◌≤◌}
 use Rattle.pair_criteria.specs.declared.pair.Pair.{Pair as CodePair}
 use Rattle.formal_sums.specs.FormalSums.{Each}
 use Rattle.basis_steps.specs.States as plain
@@ -60,7 +61,8 @@ end_step s w e ended es end read more = record {
     n : ℕ
     n = variables_of s
 
-    who : (a : Ending) → (a ≡ Ended → ended ≡ slice_set s.ended w true) → (a ≡ MoreWork → ended ≡ s.ended) → ended ≡ steps.ended_after (state_of n s) w (ending_of a)
+    who : (a : Ending) → (a ≡ Ended → ended ≡ slice_set s.ended w true) → (a ≡ MoreWork → ended ≡ s.ended)
+        → ended ≡ steps.ended_after (state_of n s) w (ending_of a)
     who Ended marks leaves = marks refl
     who MoreWork marks leaves = leaves refl
 
@@ -79,19 +81,16 @@ end_kept i w e ended history kept end items capacity =
     let n : ℕ = variables_of s in
     let t : Shown = after_end s ended.items history.items in
     let step : steps.Ends (run_of n s) (state_of n s) w (ending_of e) (state_of n t) = end_step s w e ended.items history.items end kept.read items in
-    let fewer : suc (all_left (state_of n t) s.workers) ≤ all_left (state_of n s) s.workers = room_after_end (run_of n s) (state_of n s) (state_of n t) w (ending_of e) step in
+    let fewer : suc (all_left (state_of n t) s.workers) ≤ all_left (state_of n s) s.workers =
+    room_after_end (run_of n s) (state_of n s) (state_of n t) w (ending_of e) step in
     let long : length history.items ≡ length s.history + 1 = ap length items ∙ length-append s.history (End w e ∷ []) in
     let many : ℕ = length s.members in
     record {
       some = kept.some;
       replays = replays_after s t (plain.End w (ending_of e)) (record { shared = refl; budget = refl; workers = refl }) kept.replays step;
-      lcms = kept.lcms;
-      marks = kept.marks;
-      wide = kept.wide;
-      table = kept.table;
-      tested = kept.tested;
-      loose = kept.loose;
+      leads = kept.leads;
       stop = kept.stop;
-      read = subst (Each (IsRead many s.stop)) (sym items) (read_more many many s.stop s.stop s.history (End w e) (omega arith) (stays s.stop s.stop refl) kept.read tt);
+      read = subst (Each (IsRead many s.stop)) (sym items)
+          (read_more many many s.stop s.stop s.history (End w e) (omega arith) (stays s.stop s.stop refl) kept.read tt);
       room = omega (arith, long, fewer, kept.room, capacity);
     }

@@ -1,5 +1,6 @@
 -- What the events stand for stays as members are added and as the first stop comes to be kept
-use Rattle.std.proofs.Common.{List, append-nil, suc, zero, None, Option, Some, [], ap, ap₂, arith, drop, length, refl, subst, sym, take, ℕ, ◌++◌, ◌+◌, ◌∙◌, ◌∷◌, ◌≡◌, ◌≤◌}
+use Rattle.std.proofs.Common.{List, append-nil, suc, zero, None, Option, Some, [], ap, ap₂, arith, drop, length, refl, subst, sym, take, ℕ, ◌++◌, ◌+◌}
+use Rattle.std.proofs.Common.{◌∙◌, ◌∷◌, ◌≡◌, ◌≤◌}
 use Rattle.formal_sums.specs.FormalSums.{Each}
 use Rattle.basis_steps.specs.States as plain
 use Rattle.basis_core.specs.declared.event.Event.{Event}
@@ -28,7 +29,8 @@ part_front (x ∷ xs) ys zero (suc count) h = ap (λ r. x ∷ r) (part_front xs 
 part_front [] ys (suc first) count h = absurd (omega arith)
 part_front (x ∷ xs) ys (suc first) count h = part_front xs ys first count (omega arith)
 
-same_reason : (n : ℕ) (kept after reason : Option StopReason) → StaysKept kept after → HasReason kept reason → reason_given n after reason ≡ reason_given n kept reason
+same_reason : (n : ℕ) (kept after reason : Option StopReason) → StaysKept kept after → HasReason kept reason
+    → reason_given n after reason ≡ reason_given n kept reason
 same_reason n None None (Some reason) s h = refl
 same_reason n None (Some one) (Some reason) s h = refl
 same_reason n (Some one) None (Some reason) s h = refl
@@ -64,7 +66,8 @@ read_event count more kept after (Put w first made) l s h = omega arith
 read_event count more kept after (End w ending) l s h = tt
 read_event count more kept after (Stop w reason) l s h = has_reason kept after reason s h
 
-read_append : (count : ℕ) (kept : Option StopReason) (es : List Event) (e : Event) → Each (IsRead count kept) es → IsRead count kept e → Each (IsRead count kept) (es ++ (e ∷ []))
+read_append : (count : ℕ) (kept : Option StopReason) (es : List Event) (e : Event) → Each (IsRead count kept) es → IsRead count kept e
+    → Each (IsRead count kept) (es ++ (e ∷ []))
 read_append count kept [] e h r = (r, tt)
 read_append count kept (f ∷ es) e h r = (h.0, read_append count kept es e h.1 r)
 
@@ -81,7 +84,8 @@ pub read_more :
     → count ≤ more → StaysKept kept after → Each (IsRead count kept) es → IsRead more after e → Each (IsRead more after) (es ++ (e ∷ []))
 read_more count more kept after es e l s h r = read_append more after es e (read_grown count more kept after es l s h) r
 
-pub history_append : (n : ℕ) (ms : List Tracked) (kept : Option StopReason) (es : List Event) (e : Event) → history_of n ms kept (es ++ (e ∷ [])) ≡ history_of n ms kept es ++ (event_of n ms kept e ∷ [])
+pub history_append : (n : ℕ) (ms : List Tracked) (kept : Option StopReason) (es : List Event) (e : Event)
+    → history_of n ms kept (es ++ (e ∷ [])) ≡ history_of n ms kept es ++ (event_of n ms kept e ∷ [])
 history_append n ms kept [] e = refl
 history_append n ms kept (f ∷ es) e = ap (λ l. event_of n ms kept f ∷ l) (history_append n ms kept es e)
 
@@ -99,10 +103,12 @@ pub history_same_members :
     → StaysKept kept after → Each (IsRead (length ms) kept) es
     → history_of n ms after (es ++ (e ∷ [])) ≡ history_of n ms kept es ++ (event_of n ms after e ∷ [])
 history_same_members n ms kept after es e s h =
-    subst (λ l. history_of n l after (es ++ (e ∷ [])) ≡ history_of n ms kept es ++ (event_of n l after e ∷ [])) (append-nil ms) (history_more n ms [] kept after es e s h)
+    subst (λ l. history_of n l after (es ++ (e ∷ [])) ≡ history_of n ms kept es ++ (event_of n l after e ∷ [])) (append-nil ms)
+    (history_more n ms [] kept after es e s h)
 
 -- a Put stands for the members behind those that there were
-pub put_made : (n : ℕ) (ms made : List Tracked) (kept : Option StopReason) (w : ℕ) → event_of n (ms ++ made) kept (Put w (length ms) (length made)) ≡ plain.Put w (members_of n made)
+pub put_made : (n : ℕ) (ms made : List Tracked) (kept : Option StopReason) (w : ℕ)
+    → event_of n (ms ++ made) kept (Put w (length ms) (length made)) ≡ plain.Put w (members_of n made)
 put_made n ms made kept w = ap (λ l. plain.Put w (members_of n l)) (tail ms)
   where
     all : (ys : List Tracked) → take (length ys) ys ≡ ys

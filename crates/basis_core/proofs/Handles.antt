@@ -1,11 +1,9 @@
 -- Lists of handles, by what these share
-use Rattle.std.proofs.Common.{Global, List, [], ap, arith, get_or, length, map, refl, subst, suc, sym, take, zero, ℕ, ◌++◌, ◌+◌, ◌<◌, ◌∙◌, ◌∷◌, ◌≡◌}
+use Rattle.std.proofs.Common.{Global, List, [], ap, arith, get_or, length, map, suc, sym, take, zero, ℕ, ◌++◌, ◌+◌, ◌<◌, ◌∙◌, ◌∷◌, ◌≡◌}
 use Rattle.std.proofs.lemmas.List.{map-append, take_more}
 use Rattle.std.specs.Arc.{arc_value}
 use Rattle.std.specs.declared.sync.Arc.{Arc}
-use Rattle.formal_sums.specs.FormalSums.{Each}
-use Rattle.cofactor_track.specs.declared.member.Member.{Member}
-use Rattle.basis_core.specs.Members.{IsOver, Shared, tracked_of}
+use Rattle.member_products.specs.declared.member.Member.{Member}
 
 -- a handle of a member
 abbrev pub Handle : Type 0
@@ -36,30 +34,17 @@ one_copied old new more i item copy l read same e h = record {
       ∙ sym (ap shared_by (take_more old i item l));
 }
 
--- the terms of the members, and the list that they are over
-pub same_terms : (old new : List Handle) → shared_by new ≡ shared_by old → map (λ h. tracked_of (arc_value h)) new ≡ map (λ h. tracked_of (arc_value h)) old
-same_terms old new e = terms new ∙ ap (map (λ (m : Member). tracked_of m)) e ∙ sym (terms old)
-  where
-    terms : (hs : List Handle) → map (λ h. tracked_of (arc_value h)) hs ≡ map (λ m. tracked_of m) (shared_by hs)
-    terms [] = refl
-    terms (h ∷ hs) = ap (λ ms. tracked_of (arc_value h) ∷ ms) (terms hs)
-
-pub same_over : (shared : Shared) (old new : List Handle) → shared_by new ≡ shared_by old → Each (λ h. IsOver shared (arc_value h)) old → Each (λ h. IsOver shared (arc_value h)) new
-same_over shared old new e h = back new (subst (Each (IsOver shared)) (sym e) (there old h))
-  where
-    there : (hs : List Handle) → Each (λ h. IsOver shared (arc_value h)) hs → Each (IsOver shared) (shared_by hs)
-    there [] h = tt
-    there (x ∷ hs) h = (h.0, there hs h.1)
-
-    back : (hs : List Handle) → Each (IsOver shared) (shared_by hs) → Each (λ h. IsOver shared (arc_value h)) hs
-    back [] h = tt
-    back (x ∷ hs) h = (h.0, back hs h.1)
-
 -- the vector of the member at that index
 pub vector_at :
     (hs : List Handle) (i : ℕ) (item : Handle)
-    → i < length (map (λ m. m.vector) (map (λ (h : Handle). tracked_of (arc_value h)) hs)) → item ≡ get_or hs i item
-    → (arc_value item).vector ≡ get_or (map (λ m. m.vector) (map (λ (h : Handle). tracked_of (arc_value h)) hs)) i []
+    → i < length (map (λ m. m.vector) (shared_by hs)) → item ≡ get_or hs i item
+    → (arc_value item).vector ≡ get_or (map (λ m. m.vector) (shared_by hs)) i []
 vector_at [] i item l e = absurd (omega arith)
 vector_at (h ∷ hs) zero item l e = ap (λ (h : Handle). (arc_value h).vector) e
 vector_at (h ∷ hs) (suc i) item l e = vector_at hs i item (omega arith) e
+
+-- the member at that index
+pub shared_at : (hs : List Handle) (i : ℕ) (item : Handle) → i < length hs → item ≡ get_or hs i item → arc_value item ≡ get_or (shared_by hs) i (arc_value item)
+shared_at [] i item l e = absurd (omega arith)
+shared_at (h ∷ hs) zero item l e = ap (λ (h : Handle). arc_value h) e
+shared_at (h ∷ hs) (suc i) item l e = shared_at hs i item (omega arith) e

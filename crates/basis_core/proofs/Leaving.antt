@@ -1,15 +1,16 @@
 -- What division of a row leaves: nothing, or a monic member
-use Rattle.std.proofs.Common.{Equal, Greater, Less, List, Ordering, [], ap, append-nil, arith, inl, inr, length, mod-eq_of_lt, refl, subst, sym, ℕ, ◌%◌, ◌*◌, ◌++◌, ◌+◌, ◌-◌, ◌<◌, ◌∙◌, ◌∷◌, ◌≡◌}
+use Rattle.std.proofs.Common.{Equal, Greater, Less, List, Ordering, [], ap, append-nil, arith, inl, inr, length, mod-eq_of_lt, refl, subst, sym, ℕ}
+use Rattle.std.proofs.Common.{◌%◌, ◌*◌, ◌++◌, ◌+◌, ◌-◌, ◌<◌, ◌∙◌, ◌∷◌, ◌≡◌}
 use Rattle.std.proofs.Math.ListN.{get_or-map}
 use Rattle.std.proofs.lemmas.List.{length-map}
 use Rattle.residues.proofs.Congruences.{IsCongruent_add, IsCongruent_minus, IsCongruent_of, IsCongruent_refl, IsCongruent_sym, IsCongruent_trans}
 use Rattle.residues.specs.Residues.{IsCongruent}
 use Rattle.monomials.specs.Exponents.{exponents_of, unit}
 use Rattle.formal_sums.proofs.OfRank.{IsOfRank_append, IsOfRank_of, IsOfRank_same, IsOfRank_scale}
-use Rattle.formal_sums.proofs.Sameness.{IsSame_of, IsSame_scale, IsSame_sym, IsSame_trans, coefficient-scale_unit}
+use Rattle.formal_sums.proofs.Sameness.{IsSame_append, IsSame_of, IsSame_refl, IsSame_scale, IsSame_sym, IsSame_trans, coefficient-scale_unit}
 use Rattle.formal_sums.proofs.WeightedSums.{coefficient-append}
 use Rattle.formal_sums.specs.Combinations.{combination}
-use Rattle.formal_sums.specs.FormalSums.{Each, FormalSum, IsOfRank, IsSame, Key, Term, coefficient, scale, shift}
+use Rattle.formal_sums.specs.FormalSums.{Each, FormalSum, HasRank, IsOfRank, IsSame, Key, Term, coefficient, scale, shift}
 use Rattle.orders.proofs.KeyOrdering.{less_of_greater}
 use Rattle.bases.proofs.Leading.{positive}
 use Rattle.bases.proofs.NormalForms.{IsMonicLead_normal, head_lead}
@@ -18,27 +19,28 @@ use Rattle.bases.specs.Bases.{IsCovered}
 use Rattle.bases.specs.Leads.{IsMonicList, IsNormal, head_coefficient, head_key}
 use Rattle.bases.specs.Representations.{IsLower, place}
 use Rattle.bases.specs.Settings.{IsLawful, Setting}
-use Rattle.module_vectors.proofs.NormalVectors.{vector_normal, vector_positions}
-use Rattle.module_vectors.proofs.SumsOfProducts.{Each_split}
+use Rattle.module_vectors.proofs.NormalVectors.{vector_normal}
 use Rattle.module_vectors.specs.Multiples.{rescaled}
-use Rattle.module_vectors.specs.Rings.{ring_comparison, variables}
+use Rattle.module_vectors.specs.Rings.{ring_comparison, setting, variables}
 use Rattle.module_vectors.specs.Vectors.{HasPositions, StandsFor, key_of, sum_of, sums_of}
 use Rattle.module_vectors.specs.declared.key.Key.{Key as CodeKey}
+use Rattle.module_vectors.specs.declared.ring.Ring.{Ring}
 use Rattle.zp_field.specs.Moduli.{IsInverse}
 use Rattle.vector_division.proofs.Freeing.{not_covered}
 use Rattle.vector_division.specs.Divisions.{HasReducedLead}
 use Rattle.vector_division.specs.Reductions.{HaveLeadsUpTo, IsQuotient, cofactors_of}
 use Rattle.vector_division.specs.declared.reduction.Quotient.{Quotient}
-use Rattle.cofactor_track.specs.Members.{IsCombined, IsVectorOf}
-use Rattle.basis_steps.proofs.Making.{makes_combined}
+use Rattle.member_products.proofs.Ranks as ranks
+use Rattle.member_products.proofs.Ranks.{of_rank, rank_of_positions, ranked_by}
+use Rattle.member_products.specs.Generators.{IsRanked, IsVectorOf}
+use Rattle.member_products.specs.declared.member.Row.{Row as CodeRow}
 use Rattle.basis_steps.proofs.Sparing.{monic_list}
-use Rattle.basis_steps.specs.Divisions as plain
-use Rattle.basis_steps.specs.Divisions.{AreQuotients, IsKeyAtMost, IsMonicMember, LeavesMember, LeavesNothing, difference}
-use Rattle.basis_steps.specs.States.{Member, vectors}
+use Rattle.basis_steps.specs.Divisions.{AreQuotients, AreReached, IsKeyAtMost, IsMonicMember, LeavesMember, LeavesNothing, difference}
+use Rattle.basis_steps.specs.States.{vectors}
 use Rattle.basis_core.proofs.Reaching.{quotients_reached}
-use Rattle.basis_core.proofs.Tracking.{cofactors_of_members, cofactors_rank, rank_of_positions, ring_lawful, vectors_of_members, vectors_rank}
-use Rattle.basis_core.specs.Members.{Shared, Tracked, member_of, members_of, setting_of}
-use Rattle.basis_core.specs.RowDivision.{AreRowCofactors, AreRowQuotients, IsRowRest, IsTracked, lead_residue}
+use Rattle.basis_core.proofs.Tracking.{ring_lawful, vectors_of_members, vectors_rank}
+use Rattle.basis_core.specs.Members.{IsRunMember, IsTracked, Shared, Tracked, member_of, members_of, setting_of}
+use Rattle.basis_core.specs.RowDivision.{AreRowProducts, AreRowQuotients, IsLeftMember, IsRowRest, lead_residue, with_multiple}
 use Rattle.basis_core.specs.Rows.{vectors_in}
 
 -- a list of length 0
@@ -55,7 +57,8 @@ rest_of_sum {n} p v w r pos h = record { by_key = at }
         let x : ℕ = coefficient v k in
         let y : ℕ = coefficient w k in
         let z : ℕ = coefficient r k in
-        let e1 : coefficient (difference p v w) k ≡ x + (p - 1) * y = coefficient-append v (scale (p - 1) (unit n) w) k ∙ ap (λ s. x + s) (coefficient-scale_unit (p - 1) w k) in
+        let e1 : coefficient (difference p v w) k ≡ x + (p - 1) * y = coefficient-append v (scale (p - 1) (unit n) w) k
+        ∙ ap (λ s. x + s) (coefficient-scale_unit (p - 1) w k) in
         let e2 : IsCongruent p x (y + z) = IsCongruent_trans (h.by_key k) (IsCongruent_of p _ _ (coefficient-append w r k)) in
         IsCongruent_sym (IsCongruent_trans (IsCongruent_of p _ _ e1)
         (IsCongruent_trans (IsCongruent_add e2 (IsCongruent_refl p ((p - 1) * y)))
@@ -73,16 +76,17 @@ module _ {n : ℕ} (S : Setting n) (lawful : IsLawful S) where
 
   -- the products of the quotients stand at most at k
   quotients_at_most :
-      (p : ℕ) (list : List (List (CodeKey × ℕ))) (k : Key n) (qs : List Quotient)
-      → Each (IsQuotient n p list) qs → HaveLeadsUpTo n S.compare list k qs
+      (ws : List ℕ) (p : ℕ) (list : List (List (CodeKey × ℕ))) (k : Key n) (qs : List Quotient)
+      → Each (IsQuotient n ws p list) qs → HaveLeadsUpTo n S.compare list k qs
       → AreQuotients S (sums_of n list) k (cofactors_of n qs)
-  quotients_at_most p list k [] h b = tt
-  quotients_at_most p list k (q ∷ qs) h b = (
+  quotients_at_most ws p list k [] h b = tt
+  quotients_at_most ws p list k (q ∷ qs) h b = (
     (
       subst (λ z. q.index < z) (sym (length-map list (sum_of n))) h.0.index,
-      subst (λ (v : FormalSum n). IsKeyAtMost S (shift (exponents_of n q.monomial) (head_key v)) k) (sym (get_or-map (sum_of n) list q.index [])) (at_most_of _ k b.0),
+      subst (λ (v : FormalSum n). IsKeyAtMost S (shift (exponents_of n q.monomial.exponents) (head_key v)) k)
+          (sym (get_or-map (sum_of n) list q.index [])) (at_most_of _ k b.0),
     ),
-    quotients_at_most p list k qs h.1 b.1,
+    quotients_at_most ws p list k qs h.1 b.1,
   )
 
   lower_of :
@@ -124,7 +128,8 @@ module _ {n : ℕ} (S : Setting n) (lawful : IsLawful S) where
       → IsSame S.modulus v (combination V a ++ (t ∷ w)) → IsKeyAtMost S t.0 (head_key v)
   rest_at_most V v t w a list hv hw hr same =
       at_most_of t.0 (head_key v)
-      (λ g. (head_lead S lawful t w hw.descends hw.residues).nonzero (rest_zero V v (t ∷ w) t.0 a list hv hr same (less_of_greater lawful.order t.0 (head_key v) g)))
+      (λ g. (head_lead S lawful t w hw.descends hw.residues).nonzero
+      (rest_zero V v (t ∷ w) t.0 a list hv hr same (less_of_greater lawful.order t.0 (head_key v) g)))
 
   -- the rest's lead is new
   rest_free :
@@ -132,7 +137,9 @@ module _ {n : ℕ} (S : Setting n) (lawful : IsLawful S) where
       → HasReducedLead V (t ∷ w) → IsCovered S V t.0 → ⊥
   rest_free V t w h covered = not_covered S V t.0 h covered
 
-module _ (shared : Shared) (ms : List Tracked) (row : Tracked) (qs : List Quotient) where
+-- ---- what is left of a vector
+module _ (shared : Shared) (ms : List Tracked) (u : List (CodeKey × ℕ)) (qs : List Quotient) (members : Each (IsTracked shared) ms)
+    (over : IsRanked shared.ring shared.rank u) (hq : AreRowQuotients shared ms u qs) where
   abbrev n : ℕ
   n = variables shared.ring
 
@@ -142,8 +149,8 @@ module _ (shared : Shared) (ms : List Tracked) (row : Tracked) (qs : List Quotie
   abbrev S : Setting n
   S = setting_of n shared
 
-  abbrev G : List (Member n)
-  G = members_of n ms
+  abbrev G : List (FormalSum n)
+  G = vectors (members_of n ms)
 
   abbrev a : FormalSum n
   a = cofactors_of n qs
@@ -151,132 +158,215 @@ module _ (shared : Shared) (ms : List Tracked) (row : Tracked) (qs : List Quotie
   lawful : IsLawful S
   lawful = ring_lawful shared
 
-  are_quotients : AreRowQuotients shared ms row qs → AreQuotients S (vectors G) (head_key (sum_of n row.vector)) a
-  are_quotients h =
-      subst (λ (V : List (FormalSum n)). AreQuotients S V (head_key (sum_of n row.vector)) a) (sym (vectors_of_members n ms))
-      (quotients_at_most S lawful p (vectors_in ms) (head_key (sum_of n row.vector)) qs h.each h.bounded)
+  pub are_quotients : AreQuotients S G (head_key (sum_of n u)) a
+  are_quotients =
+      subst (λ (V : List (FormalSum n)). AreQuotients S V (head_key (sum_of n u)) a) (sym (vectors_of_members n ms))
+      (quotients_at_most S lawful shared.ring.weights p (vectors_in ms) (head_key (sum_of n u)) qs hq.each hq.bounded)
 
-  whole :
-      (rest : List (CodeKey × ℕ))
-      → IsRowRest shared ms row qs rest → IsSame p (sum_of n row.vector) (combination (vectors G) a ++ sum_of n rest)
-  whole rest h = subst (λ (V : List (FormalSum n)). IsSame p (sum_of n row.vector) (combination V a ++ sum_of n rest)) (sym (vectors_of_members n ms)) h.sum
+  pub are_reached : AreReached p G (sum_of n u) [] a
+  are_reached = quotients_reached shared ms members u over.vector qs hq.met
+
+  whole : (rest : List (CodeKey × ℕ)) → IsRowRest shared ms u qs rest → IsSame p (sum_of n u) (combination G a ++ sum_of n rest)
+  whole rest h = subst (λ (V : List (FormalSum n)). IsSame p (sum_of n u) (combination V a ++ sum_of n rest)) (sym (vectors_of_members n ms)) h.sum
+
+  -- nothing is left
+  pub all_taken : (rest : List (CodeKey × ℕ)) → rest ≡ [] → IsRowRest shared ms u qs rest → IsSame p (sum_of n u) (combination G a)
+  all_taken rest e hr = IsSame_trans (whole rest hr) (IsSame_of p _ _ (ap (λ x. combination G a ++ sum_of n x) e ∙ append-nil (combination G a)))
+
+  pub rest_same : (rest : List (CodeKey × ℕ)) → IsRowRest shared ms u qs rest → IsSame p (sum_of n rest) (difference p (sum_of n u) (combination G a))
+  rest_same rest h = rest_of_sum p (sum_of n u) (combination G a) (sum_of n rest) (positive S lawful) (whole rest h)
+
+  -- what is left has the rank
+  pub rest_ranked : (rest : List (CodeKey × ℕ)) → IsRowRest shared ms u qs rest → IsOfRank p shared.rank (sum_of n rest)
+  rest_ranked rest h =
+      IsOfRank_same (IsSame_sym (rest_same rest h))
+      (IsOfRank_append (sum_of n u) _ (of_rank shared.ring shared.rank u over.positions)
+      (IsOfRank_scale (p - 1) (unit n) (combination G a)
+      (subst (λ (V : List (FormalSum n)). IsOfRank p shared.rank (combination V a)) (sym (vectors_of_members n ms)) (vectors_rank shared ms members a))))
+
+  -- the lead of what is left, times the inverse of its residue
+  module _ (monic : Each (IsMonicMember S) G) (t : CodeKey × ℕ) (w : List (CodeKey × ℕ)) (hr : IsRowRest shared ms u qs (t ∷ w)) where
+    pub lead_at_most : IsKeyAtMost S (key_of n t.0) (head_key (sum_of n u))
+    lead_at_most =
+        rest_at_most S lawful G (sum_of n u) (key_of n t.0, t.1) (sum_of n w) a (monic_list S lawful G monic)
+        (vector_normal shared.ring (ring_comparison shared.ring) shared.rank u over.vector)
+        (vector_normal shared.ring (ring_comparison shared.ring) shared.rank (t ∷ w) hr.vector)
+        are_quotients (whole (t ∷ w) hr)
+
+    pub lead_free : IsCovered S G (key_of n t.0) → ⊥
+    lead_free covered =
+        rest_free S lawful G (key_of n t.0, t.1) (sum_of n w)
+        (subst (λ (V : List (FormalSum n)). HasReducedLead V (sum_of n (t ∷ w))) (sym (vectors_of_members n ms)) hr.reduced)
+        covered
+
+-- ---- the row's products
+-- the positions of quotients are indices of members
+quotient_positions :
+    (n : ℕ) (ws : List ℕ) (p : ℕ) (list : List (List (CodeKey × ℕ))) (qs : List Quotient)
+    → Each (IsQuotient n ws p list) qs → HasRank (length list) (cofactors_of n qs)
+quotient_positions n ws p list [] h = tt
+quotient_positions n ws p list (q ∷ qs) h = (h.0.index, quotient_positions n ws p list qs h.1)
+
+-- they are of the first members, as the row's are
+pub products_ranked :
+    (shared : Shared) (ms : List Tracked) (u products left : List (CodeKey × ℕ)) (qs : List Quotient)
+    → HasPositions (length ms) products → AreRowQuotients shared ms u qs → AreRowProducts shared products qs left
+    → IsOfRank shared.ring.modulus.value (length ms) (sum_of (variables shared.ring) left)
+products_ranked shared ms u products left qs h hq hp =
+    let n : ℕ = variables shared.ring in
+    let p : ℕ = shared.ring.modulus.value in
+    let k : ℕ = length ms in
+    IsOfRank_same (IsSame_sym hp.sum)
+    (IsOfRank_append (sum_of n products) _ (of_rank shared.ring k products h)
+    (IsOfRank_scale (p - 1) (unit n) (cofactors_of n qs)
+    (IsOfRank_of p k (cofactors_of n qs)
+    (subst (λ j. HasRank j (cofactors_of n qs)) (length-map ms (λ m. m.vector)) (quotient_positions n shared.ring.weights p (vectors_in ms) qs hq.each)))))
+
+-- the row's products, copied, less the quotients, times the modulus less 1
+pub row_products :
+    (shared : Shared) (r : Ring) (products copy less scaled left : List (CodeKey × ℕ)) (value : ℕ) (qs : List Quotient)
+    → r ≡ shared.ring → copy ≡ products → value ≡ r.modulus.value → StandsFor r less (cofactors_of (variables r) qs)
+    → StandsFor r scaled (scale (value - 1) (unit (variables r)) (sum_of (variables r) less))
+    → IsVectorOf r left → StandsFor r left (sum_of (variables r) copy ++ sum_of (variables r) scaled)
+    → AreRowProducts shared products qs left
+row_products shared r products copy less scaled left value qs e ec ev hl hs iv sum = record {
+  vector = subst (λ (x : Ring). IsVectorOf x left) e iv;
+  sum = subst (λ (x : Ring). StandsFor x left (difference x.modulus.value (sum_of (variables x) products) (cofactors_of (variables x) qs))) e here;
+}
+  where
+    n : ℕ
+    n = variables r
+
+    p : ℕ
+    p = r.modulus.value
+
+    pos : 0 < p
+    pos = positive (setting r (variables r) (ring_comparison r (variables r)) 0) (ranks.ring_lawful r 0)
+
+    taken : StandsFor r scaled (scale (r.modulus.value - 1) (unit (variables r)) (cofactors_of (variables r) qs))
+    taken = subst (λ (k : ℕ). StandsFor r scaled (scale (k - 1) (unit (variables r)) (cofactors_of (variables r) qs))) ev
+        (IsSame_trans hs (IsSame_scale pos (value - 1) (unit (variables r)) hl))
+
+    here : StandsFor r left (difference r.modulus.value (sum_of (variables r) products) (cofactors_of (variables r) qs))
+    here = IsSame_trans (subst (λ (l : List (CodeKey × ℕ)). StandsFor r left (sum_of (variables r) l ++ sum_of (variables r) scaled)) ec sum)
+        (IsSame_append (IsSame_refl r.modulus.value (sum_of (variables r) products)) taken)
+
+-- ---- the member that is left
+module _ (shared : Shared) (ms : List Tracked) (row : CodeRow) (multiple : List (CodeKey × ℕ)) (qs : List Quotient)
+    (members : Each (IsTracked shared) ms) (over : IsRunMember shared (length ms) (with_multiple row multiple))
+    (hq : AreRowQuotients shared ms row.vector qs) where
+  abbrev N : ℕ
+  N = variables shared.ring
+
+  abbrev modulus : ℕ
+  modulus = shared.ring.modulus.value
+
+  abbrev T : Setting N
+  T = setting_of N shared
+
+  abbrev V : List (FormalSum N)
+  V = vectors (members_of N ms)
+
+  abbrev quotients : FormalSum N
+  quotients = cofactors_of N qs
 
   -- nothing is left
   pub nothing_left :
       (rest : List (CodeKey × ℕ))
-      → rest ≡ [] → Each (IsTracked shared) ms → IsTracked shared row → AreRowQuotients shared ms row qs → IsRowRest shared ms row qs rest
-      → LeavesNothing S G (member_of n row) a
-  nothing_left rest e members tracked hq hr = record {
-    quotients = are_quotients hq;
-    reached = quotients_reached shared ms members row.vector tracked.vector.vector qs hq.met;
-    vector = IsSame_trans (whole rest hr) (IsSame_of p _ _ (ap (λ x. combination (vectors G) a ++ sum_of n x) e ∙ append-nil (combination (vectors G) a)));
+      → rest ≡ [] → IsRowRest shared ms row.vector qs rest
+      → LeavesNothing T V (member_of N (with_multiple row multiple)) quotients
+  nothing_left rest e hr = record {
+    quotients = are_quotients shared ms row.vector qs members over.vector hq;
+    reached = are_reached shared ms row.vector qs members over.vector hq;
+    vector = all_taken shared ms row.vector qs members over.vector hq rest e hr;
   }
 
-  -- a vector that stands for one of this rank
-  ranked : (m : ℕ) (v : List (CodeKey × ℕ)) (w : FormalSum n) → IsVectorOf shared.ring v → StandsFor shared.ring v w → IsOfRank p m w → HasPositions m v
-  ranked m v w iv sv r = vector_positions shared.ring (ring_comparison shared.ring) shared.rank m v w lawful iv sv r
+  -- what is left, times the inverse of the residue of its lead
+  module _ (rest left v b c : List (CodeKey × ℕ)) (d : ℕ) (monic : Each (IsMonicMember T) V) (hr : IsRowRest shared ms row.vector qs rest)
+      (hp : AreRowProducts shared row.products qs left) where
+    pub member_ranked :
+        IsVectorOf shared.ring v → IsVectorOf shared.ring b → IsVectorOf shared.ring c
+        → StandsFor shared.ring v (scale d (unit N) (sum_of N rest)) → StandsFor shared.ring b (scale d (unit N) (sum_of N multiple))
+        → StandsFor shared.ring c (scale d (unit N) (sum_of N left))
+        → IsRunMember shared (length ms) (record { vector = v; multiple = b; products = c })
+    member_ranked iv ib ic sv sb sc = record {
+      vector = ranked_by shared.ring shared.rank v _ iv sv
+          (IsOfRank_scale d (unit N) (sum_of N rest) (rest_ranked shared ms row.vector qs members over.vector hq rest hr));
+      multiple = ranked_by shared.ring (length shared.generators) b _ ib sb
+          (IsOfRank_scale d (unit N) (sum_of N multiple) (of_rank shared.ring (length shared.generators) multiple over.multiple.positions));
+      products = ranked_by shared.ring (length ms) c _ ic sc
+          (IsOfRank_scale d (unit N) (sum_of N left) (products_ranked shared ms row.vector row.products left qs over.products.positions hq hp));
+    }
 
-  of_rank : (m : ℕ) (v : List (CodeKey × ℕ)) → HasPositions m v → IsOfRank p m (sum_of n v)
-  of_rank m v h = IsOfRank_of p m _ (rank_of_positions n m v h)
+    pub member_left :
+        0 < length rest → IsVectorOf shared.ring v → v ≡ rescaled modulus d rest → IsInverse modulus (lead_residue rest) d
+        → IsRunMember shared (length ms) (record { vector = v; multiple = b; products = c })
+        → StandsFor shared.ring v (scale d (unit N) (sum_of N rest)) → StandsFor shared.ring b (scale d (unit N) (sum_of N multiple))
+        → StandsFor shared.ring c (scale d (unit N) (sum_of N left))
+        → LeavesMember T V (member_of N (with_multiple row multiple)) quotients (lead_residue rest) d
+        (member_of N (record { vector = v; multiple = b; products = c }))
+    member_left some iv e inverse ranked sv sb sc = go rest refl
+      where
+        lawful : IsLawful T
+        lawful = ring_lawful shared
 
-  module _ (members : Each (IsTracked shared) ms) (tracked : IsTracked shared row) (monic : Each (IsMonicMember S) (vectors G)) where
-    module _ (rest cof v c : List (CodeKey × ℕ)) (d : ℕ) (iv : IsVectorOf shared.ring v) (ic : IsVectorOf shared.ring c) (sv : StandsFor shared.ring v (scale d (unit n) (sum_of n rest))) (sc : StandsFor shared.ring c (scale d (unit n) (sum_of n cof))) where
-      rest_same : IsRowRest shared ms row qs rest → IsSame p (sum_of n rest) (difference p (sum_of n row.vector) (combination (vectors G) a))
-      rest_same h = rest_of_sum p (sum_of n row.vector) (combination (vectors G) a) (sum_of n rest) (positive S lawful) (whole rest h)
+        go : (x : List (CodeKey × ℕ)) → rest ≡ x → LeavesMember T V (member_of N (with_multiple row multiple)) quotients (lead_residue rest) d
+            (member_of N (record { vector = v; multiple = b; products = c }))
+        go [] is = absurd (let z : length rest ≡ 0 = ap length is in omega arith)
+        go (t ∷ w) is =
+            let ev : v ≡ rescaled modulus d (t ∷ w) = e ∙ ap (rescaled modulus d) is in
+            let key : head_key (sum_of N v) ≡ key_of N t.0 = ap (λ (x : List (CodeKey × ℕ)). head_key (sum_of N x)) ev in
+            let inv : (t.1 * d) % modulus ≡ 1 = ap (λ (x : List (CodeKey × ℕ)). (lead_residue x * d) % modulus) (sym is) ∙ inverse.one in
+            let comm : d * t.1 ≡ t.1 * d = omega arith in
+            let coefficient_one : head_coefficient (sum_of N v) ≡ 1 = ap (λ (x : List (CodeKey × ℕ)). head_coefficient (sum_of N x)) ev
+            ∙ ap (λ (x : ℕ). x % modulus) comm ∙ inv in
+            let above : 1 < modulus = lawful.domain.above_one in
+            let pos : 0 < modulus = positive T lawful in
+            let hx : IsRowRest shared ms row.vector qs (t ∷ w) = subst (IsRowRest shared ms row.vector qs) is hr in
+            record {
+              quotients = are_quotients shared ms row.vector qs members over.vector hq;
+              reached = are_reached shared ms row.vector qs members over.vector hq;
+              at_most = subst (λ (k : Key N). IsKeyAtMost T k (head_key (sum_of N row.vector))) (sym key)
+                  (lead_at_most shared ms row.vector qs members over.vector hq monic t w hx);
+              inverse = record { same = inverse.one ∙ sym (mod-eq_of_lt above) };
+              vector = IsSame_trans sv (IsSame_scale pos d (unit N) (rest_same shared ms row.vector qs members over.vector hq rest hr));
+              multiple = sb;
+              products = IsSame_trans sc (IsSame_scale pos d (unit N) hp.sum);
+              member = record {
+                monic = IsMonicLead_normal T lawful (sum_of N v) (vector_normal shared.ring (ring_comparison shared.ring) shared.rank v iv) coefficient_one;
+                ranked = rank_of_positions N shared.rank v ranked.vector.positions;
+              };
+              free = λ covered. lead_free shared ms row.vector qs members over.vector hq monic t w hx (subst (IsCovered T V) key covered);
+            }
 
-      -- positions of what is left and scaled
-      vector_ranked : IsRowRest shared ms row qs rest → HasPositions shared.rank v
-      vector_ranked h =
-          ranked shared.rank v _ iv sv (IsOfRank_scale d (unit n) (sum_of n rest) (IsOfRank_same (IsSame_sym (rest_same h))
-          (IsOfRank_append (sum_of n row.vector) _ (of_rank shared.rank row.vector tracked.vector.positions)
-          (IsOfRank_scale (p - 1) (unit n) (combination (vectors G) a) (subst (λ (V : List (FormalSum n)). IsOfRank p shared.rank (combination V a)) (sym (vectors_of_members n ms)) (vectors_rank shared ms members a))))))
-
-      cofactors_ranked : AreRowCofactors shared ms row qs cof → HasPositions (length shared.generators) c
-      cofactors_ranked h =
-          ranked (length shared.generators) c _ ic sc (IsOfRank_scale d (unit n) (sum_of n cof) (IsOfRank_same (IsSame_sym h.sum)
-          (IsOfRank_append (sum_of n row.cof) _ (of_rank (length shared.generators) row.cof tracked.cof.positions)
-          (IsOfRank_scale (p - 1) (unit n) _ (cofactors_rank shared ms members a)))))
-
-      abbrev left : Member n
-      left = member_of n (record { vector = v; cof = c })
-
-      member_left :
-          0 < length rest
-          → v ≡ rescaled p d rest → IsInverse p (lead_residue rest) d → AreRowQuotients shared ms row qs
-          → IsRowRest shared ms row qs rest → AreRowCofactors shared ms row qs cof
-          → LeavesMember S G (member_of n row) a (lead_residue rest) d left
-      member_left some e inverse hq hr hc = go rest refl
-        where
-          go : (x : List (CodeKey × ℕ)) → rest ≡ x → LeavesMember S G (member_of n row) a (lead_residue rest) d left
-          go [] is = absurd (let z : length rest ≡ 0 = ap length is in omega arith)
-          go (t ∷ u) is =
-              let ev : v ≡ rescaled p d (t ∷ u) = e ∙ ap (rescaled p d) is in
-              let key : head_key (sum_of n v) ≡ key_of n t.0 = ap (λ (x : List (CodeKey × ℕ)). head_key (sum_of n x)) ev in
-              let inv : (t.1 * d) % p ≡ 1 = ap (λ (x : List (CodeKey × ℕ)). (lead_residue x * d) % p) (sym is) ∙ inverse.one in
-              let comm : d * t.1 ≡ t.1 * d = omega arith in
-              let coefficient_one : head_coefficient (sum_of n v) ≡ 1 = ap (λ (x : List (CodeKey × ℕ)). head_coefficient (sum_of n x)) ev ∙ ap (λ (x : ℕ). x % p) comm ∙ inv in
-              let above : 1 < p = lawful.domain.above_one in
-              let nv = vector_normal shared.ring (ring_comparison shared.ring) shared.rank v iv in
-              record {
-                quotients = are_quotients hq;
-                reached = quotients_reached shared ms members row.vector tracked.vector.vector qs hq.met;
-                at_most = subst (λ (k : Key n). IsKeyAtMost S k (head_key (sum_of n row.vector))) (sym key)
-                    (rest_at_most S lawful (vectors G) (sum_of n row.vector) (key_of n t.0, t.1) (sum_of n u) a (monic_list S lawful (vectors G) monic)
-                    (vector_normal shared.ring (ring_comparison shared.ring) shared.rank row.vector tracked.vector.vector)
-                    (subst (λ (x : List (CodeKey × ℕ)). IsNormal S (sum_of n x)) is (vector_normal shared.ring (ring_comparison shared.ring) shared.rank rest hr.vector))
-                    (are_quotients hq)
-                    (subst (λ (x : List (CodeKey × ℕ)). IsSame p (sum_of n row.vector) (combination (vectors G) a ++ sum_of n x)) is (whole rest hr)));
-                inverse = record { same = inverse.one ∙ sym (mod-eq_of_lt above) };
-                vector = IsSame_trans sv (IsSame_scale (positive S lawful) d (unit n) (rest_same hr));
-                cofactors = IsSame_trans sc (IsSame_scale (positive S lawful) d (unit n)
-                    (subst (λ (V : List (FormalSum n)). IsSame p (sum_of n cof) (difference p (sum_of n row.cof) (combination V a))) (sym (cofactors_of_members n ms)) hc.sum));
-                member = record {
-                  monic = IsMonicLead_normal S lawful (sum_of n v) nv coefficient_one;
-                  ranked = rank_of_positions n shared.rank v (vector_ranked hr);
-                };
-                free = λ covered. rest_free S lawful (vectors G) (key_of n t.0, t.1) (sum_of n u)
-                    (subst (λ (V : List (FormalSum n)). HasReducedLead V (sum_of n (t ∷ u))) (sym (vectors_of_members n ms)) (subst (λ (x : List (CodeKey × ℕ)). HasReducedLead (sums_of n (vectors_in ms)) (sum_of n x)) is hr.reduced))
-                    (subst (IsCovered S (vectors G)) key covered);
-              }
-
-      -- it is the combination of the generators by its cofactors
-      left_combined :
-          IsRowRest shared ms row qs rest → AreRowCofactors shared ms row qs cof
-          → LeavesMember S G (member_of n row) a (lead_residue rest) d left
-          → IsCombined shared.ring shared.rank shared.generators v c
-      left_combined hr hc l = record {
-        vector = record { vector = iv; positions = vector_ranked hr };
-        cof = record { vector = ic; positions = cofactors_ranked hc };
-        sums = IsSame_sym (Each_split (plain.IsCombined p F) G (left ∷ [])
-            (makes_combined S lawful F G (member_of n row ∷ []) (left ∷ []) (inr (a, lead_residue rest, d, left, [], l, refl, refl)) (IsSame_sym tracked.sums, tt) (all ms members))).1.0;
-      }
-        where
-          F : List (FormalSum n)
-          F = sums_of n shared.generators
-
-          all : (xs : List Tracked) → Each (IsTracked shared) xs → Each (plain.IsCombined p F) (members_of n xs)
-          all [] h = tt
-          all (x ∷ xs) h = (IsSame_sym h.0.sums, all xs h.1)
-
--- the vectors that are left, times the inverse of the lead's residue, are a member; the ring is read three times
-pub scaled_member :
-    (shared s1 s2 s3 : Shared) (ms : List Tracked) (row : Tracked) (qs : List Quotient)
-    (rest cof v c : List (CodeKey × ℕ)) (d : ℕ)
-    → s1 ≡ shared → s2 ≡ shared → s3 ≡ shared → Each (IsTracked shared) ms → IsTracked shared row
+-- the member that the calls of `monic_member` make
+pub left_member :
+    (shared : Shared) (r : Ring) (ms : List Tracked) (row : CodeRow) (multiple copy : List (CodeKey × ℕ)) (qs : List Quotient)
+    (rest left v b c : List (CodeKey × ℕ)) (d : ℕ)
+    → r ≡ shared.ring → copy ≡ multiple → Each (IsTracked shared) ms → IsRunMember shared (length ms) (with_multiple row multiple)
     → Each (IsMonicMember (setting_of (variables shared.ring) shared)) (vectors (members_of (variables shared.ring) ms))
-    → 0 < length rest → AreRowQuotients shared ms row qs → IsRowRest shared ms row qs rest
-    → AreRowCofactors shared ms row qs cof → IsInverse s1.ring.modulus.value (lead_residue rest) d
-    → IsVectorOf s2.ring v → StandsFor s2.ring v (scale d (unit (variables s2.ring)) (sum_of (variables s2.ring) rest))
-    → v ≡ rescaled s2.ring.modulus.value d rest → IsVectorOf s3.ring c
-    → StandsFor s3.ring c (scale d (unit (variables s3.ring)) (sum_of (variables s3.ring) cof))
-    → LeavesMember (setting_of (variables shared.ring) shared) (members_of (variables shared.ring) ms) (member_of (variables shared.ring) row) (cofactors_of (variables shared.ring) qs) (lead_residue rest) d (member_of (variables shared.ring) (record { vector = v; cof = c }))
-    × IsCombined shared.ring shared.rank shared.generators v c
-scaled_member shared s1 s2 s3 ms row qs rest cof v c d e1 e2 e3 members tracked monic some hq hr hc inverse iv sv rv ic sc =
-    let iv' = subst (λ (x : Shared). IsVectorOf x.ring v) e2 iv in
-    let ic' = subst (λ (x : Shared). IsVectorOf x.ring c) e3 ic in
-    let sv' = subst (λ (x : Shared). StandsFor x.ring v (scale d (unit (variables x.ring)) (sum_of (variables x.ring) rest))) e2 sv in
-    let sc' = subst (λ (x : Shared). StandsFor x.ring c (scale d (unit (variables x.ring)) (sum_of (variables x.ring) cof))) e3 sc in
-    let rv' = subst (λ (x : Shared). v ≡ rescaled x.ring.modulus.value d rest) e2 rv in
-    let inverse' = subst (λ (x : Shared). IsInverse x.ring.modulus.value (lead_residue rest) d) e1 inverse in
-    let left = member_left shared ms row qs members tracked monic rest cof v c d iv' ic' sv' sc' some rv' inverse' hq hr hc in
-    (left, left_combined shared ms row qs members tracked monic rest cof v c d iv' ic' sv' sc' hr hc left)
+    → 0 < length rest → AreRowQuotients shared ms row.vector qs → IsRowRest shared ms row.vector qs rest
+    → AreRowProducts shared row.products qs left → IsInverse r.modulus.value (lead_residue rest) d
+    → IsVectorOf r v → StandsFor r v (scale d (unit (variables r)) (sum_of (variables r) rest)) → v ≡ rescaled r.modulus.value d rest
+    → IsVectorOf r b → StandsFor r b (scale d (unit (variables r)) (sum_of (variables r) copy))
+    → IsVectorOf r c → StandsFor r c (scale d (unit (variables r)) (sum_of (variables r) left))
+    → IsLeftMember shared ms (with_multiple row multiple) (record { vector = v; multiple = b; products = c })
+left_member shared r ms row multiple copy qs rest left v b c d e ec members over monic some hq hr hp inverse iv sv rv ib sb ic sc =
+    let iv' = subst (λ (x : Ring). IsVectorOf x v) e iv in
+    let ib' = subst (λ (x : Ring). IsVectorOf x b) e ib in
+    let ic' = subst (λ (x : Ring). IsVectorOf x c) e ic in
+    let sv' = subst (λ (x : Ring). StandsFor x v (scale d (unit (variables x)) (sum_of (variables x) rest))) e sv in
+    let sb' = subst (λ (x : Ring). StandsFor x b (scale d (unit (variables x)) (sum_of (variables x) multiple))) e
+    (subst (λ (l : List (CodeKey × ℕ)). StandsFor r b (scale d (unit (variables r)) (sum_of (variables r) l))) ec sb) in
+    let sc' = subst (λ (x : Ring). StandsFor x c (scale d (unit (variables x)) (sum_of (variables x) left))) e sc in
+    let rv' = subst (λ (x : Ring). v ≡ rescaled x.modulus.value d rest) e rv in
+    let inverse' = subst (λ (x : Ring). IsInverse x.modulus.value (lead_residue rest) d) e inverse in
+    let ranked = member_ranked shared ms row multiple qs members over hq rest left v b c d monic hr hp iv' ib' ic' sv' sb' sc' in (
+      ranked,
+      (
+        cofactors_of (variables shared.ring) qs,
+        lead_residue rest,
+        d,
+        member_left shared ms row multiple qs members over hq rest left v b c d monic hr hp some iv' rv' inverse' ranked sv' sb' sc',
+      ),
+    )

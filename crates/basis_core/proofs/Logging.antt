@@ -1,5 +1,6 @@
 -- The notes of a run's events: one for each, the same as members and events are added; and the members that they tell
-use Rattle.std.proofs.Common.{List, Option, [], inl, inr, ap, append-nil, arith, drop, length, length-append, refl, subst, suc, sym, take, zero, ℕ, ◌++◌, ◌+◌, ◌-◌, ◌∙◌, ◌∷◌, ◌≡◌, ◌≤◌}
+use Rattle.std.proofs.Common.{List, Option, [], inl, inr, ap, append-nil, arith, drop, length, length-append, refl, subst, suc, sym, take, zero, ℕ}
+use Rattle.std.proofs.Common.{◌++◌, ◌+◌, ◌-◌, ◌∙◌, ◌∷◌, ◌≡◌, ◌≤◌}
 use Rattle.std.proofs.lemmas.List.{length-map}
 use Rattle.formal_sums.specs.FormalSums.{Each}
 use Rattle.basis_steps.specs.States as plain
@@ -84,7 +85,8 @@ made_part k ms (events.Stop w reason ∷ es) = made_part k ms es
 pub members_told : (s : Shown) → members_after (base s) (log s) ≡ s.members
 members_told s =
     let k : ℕ = number_at_beginning s in
-    ap (λ l. take k s.members ++ l) (made_part k s.members s.history ∙ take_whole (count_made s.history) (drop k s.members) (omega (arith, length_drop k s.members)))
+    ap (λ l. take k s.members ++ l)
+    (made_part k s.members s.history ∙ take_whole (count_made s.history) (drop k s.members) (omega (arith, length_drop k s.members)))
     ∙ front_rest k s.members
 
 count_append : (es : List Event) (e : Event) → count_made (es ++ (e ∷ [])) ≡ count_made es + count_made (e ∷ [])
@@ -94,11 +96,15 @@ count_append (events.Put w first count ∷ es) e = let h = count_append es e in 
 count_append (events.End w ending ∷ es) e = count_append es e
 count_append (events.Stop w reason ∷ es) e = count_append es e
 
-notes_append : (k : ℕ) (ms : List Tracked) (es : List Event) (e : Event) → notes_from k ms (es ++ (e ∷ [])) ≡ notes_from k ms es ++ notes_from (k + count_made es) ms (e ∷ [])
+notes_append : (k : ℕ) (ms : List Tracked) (es : List Event) (e : Event)
+    → notes_from k ms (es ++ (e ∷ [])) ≡ notes_from k ms es ++ notes_from (k + count_made es) ms (e ∷ [])
 notes_append k ms [] e = let at : k ≡ k + 0 = omega arith in ap (λ j. notes_from j ms (e ∷ [])) at
 notes_append k ms (events.Take w skipped job ∷ es) e = ap (λ l. Take w skipped.items job.items ∷ l) (notes_append k ms es e)
 notes_append k ms (events.Put w first count ∷ es) e =
-    ap (λ l. Put w (take count (drop k ms)) ∷ l) (notes_append (k + count) ms es e ∙ (let at : (k + count) + count_made es ≡ k + (count + count_made es) = omega arith in ap (λ j. notes_from (k + count) ms es ++ notes_from j ms (e ∷ [])) at))
+    ap (λ l. Put w (take count (drop k ms)) ∷ l)
+    (notes_append (k + count) ms es e ∙
+    (let at : (k + count) + count_made es ≡ k + (count + count_made es) = omega arith in ap
+    (λ j. notes_from (k + count) ms es ++ notes_from j ms (e ∷ [])) at))
 notes_append k ms (events.End w ending ∷ es) e = ap (λ l. End w (ending_of ending) ∷ l) (notes_append k ms es e)
 notes_append k ms (events.Stop w reason ∷ es) e = ap (λ l. Stop w ∷ l) (notes_append k ms es e)
 
@@ -106,7 +112,8 @@ notes_append k ms (events.Stop w reason ∷ es) e = ap (λ l. Stop w ∷ l) (not
 notes_front : (k : ℕ) (ms more : List Tracked) (es : List Event) → k + count_made es ≤ length ms → notes_from k (ms ++ more) es ≡ notes_from k ms es
 notes_front k ms more [] h = refl
 notes_front k ms more (events.Take w skipped job ∷ es) h = ap (λ l. Take w skipped.items job.items ∷ l) (notes_front k ms more es h)
-notes_front k ms more (events.Put w first count ∷ es) h = λ i. Put w (part_front ms more k count (omega arith) i) ∷ notes_front (k + count) ms more es (omega arith) i
+notes_front k ms more (events.Put w first count ∷ es) h = λ i. Put w (part_front ms more k count (omega arith) i) ∷ notes_front (k + count) ms more
+    es (omega arith) i
 notes_front k ms more (events.End w ending ∷ es) h = ap (λ l. End w (ending_of ending) ∷ l) (notes_front k ms more es h)
 notes_front k ms more (events.Stop w reason ∷ es) h = ap (λ l. Stop w ∷ l) (notes_front k ms more es h)
 
@@ -125,17 +132,24 @@ count_plain (plain.Stop w reason ∷ es) = count_plain es
 module _ {n : ℕ} (r : Run n) where
   runs_members : (s t : State n) (es : List (plain.Event n)) → Reaches r s es t → length t.members ≡ length s.members + count_plain es
   runs_members s t [] q = let e = ap (λ u. length u.members) q in omega (arith, e)
-  runs_members s t (plain.Take w skipped job ∷ es) (mid, (most, may, inl f), rest) = let h = runs_members mid t es rest in let e = ap (λ u. length u.members) f.after in omega (arith, h, e)
-  runs_members s t (plain.Take w skipped job ∷ es) (mid, (most, may, inr (left, q)), rest) = let h = runs_members mid t es rest in let e = ap (λ u. length u.members) q.after in omega (arith, h, e)
-  runs_members s t (plain.Put w made ∷ es) (mid, q, rest) = let h = runs_members mid t es rest in let e = ap (λ u. length u.members) q.after in omega (arith, h, e, length-append s.members made)
-  runs_members s t (plain.End w ending ∷ es) (mid, q, rest) = let h = runs_members mid t es rest in let e = ap (λ u. length u.members) q.after in omega (arith, h, e)
-  runs_members s t (plain.Stop w reason ∷ es) (mid, q, rest) = let h = runs_members mid t es rest in let e = ap (λ u. length u.members) q.after in omega (arith, h, e)
+  runs_members s t (plain.Take w skipped job ∷ es) (mid, (most, may, inl f), rest) = let h = runs_members mid t es rest in let e =
+      ap (λ u. length u.members) f.after in omega (arith, h, e)
+  runs_members s t (plain.Take w skipped job ∷ es) (mid, (most, may, inr (left, q)), rest) = let h = runs_members mid t es rest in let e =
+      ap (λ u. length u.members) q.after in omega (arith, h, e)
+  runs_members s t (plain.Put w made ∷ es) (mid, q, rest) = let h = runs_members mid t es rest in let e =
+      ap (λ u. length u.members) q.after in omega (arith, h, e, length-append s.members made)
+  runs_members s t (plain.End w ending ∷ es) (mid, q, rest) = let h = runs_members mid t es rest in let e =
+      ap (λ u. length u.members) q.after in omega (arith, h, e)
+  runs_members s t (plain.Stop w reason ∷ es) (mid, q, rest) = let h = runs_members mid t es rest in let e =
+      ap (λ u. length u.members) q.after in omega (arith, h, e)
 
-plain_counts : (n : ℕ) (ms : List Tracked) (kept : Option StopReason) (es : List Event) → Each (IsRead (length ms) kept) es → count_plain (history_of n ms kept es) ≡ count_made es
+plain_counts : (n : ℕ) (ms : List Tracked) (kept : Option StopReason) (es : List Event) → Each (IsRead (length ms) kept) es
+    → count_plain (history_of n ms kept es) ≡ count_made es
 plain_counts n ms kept [] h = refl
 plain_counts n ms kept (events.Take w skipped job ∷ es) h = plain_counts n ms kept es h.1
 plain_counts n ms kept (events.Put w first count ∷ es) h =
-    let here : length (members_of n (take count (drop first ms))) ≡ count = length-map (take count (drop first ms)) (λ m. member_of n m) ∙ part_length first count ms h.0 in
+    let here : length (members_of n (take count (drop first ms))) ≡ count = length-map (take count (drop first ms)) (λ m. member_of n m)
+    ∙ part_length first count ms h.0 in
     let later = plain_counts n ms kept es h.1 in
     omega (arith, here, later)
 plain_counts n ms kept (events.End w ending ∷ es) h = plain_counts n ms kept es h.1
@@ -144,7 +158,8 @@ plain_counts n ms kept (events.Stop w reason ∷ es) h = plain_counts n ms kept 
 -- a state that replays its history has the members that this made
 pub state_counted : (n : ℕ) (s : Shown) → Replays (run_of n s) (state_of n s) → Each (IsRead (length s.members) s.stop) s.history → IsCounted s
 state_counted n s (first, begins, runs) read =
-    let all : length (members_of n s.members) ≡ length first.members + count_plain (history_of n s.members s.stop s.history) = runs_members (run_of n s) first (state_of n s) (state_of n s).history runs in
+    let all : length (members_of n s.members) ≡ length first.members + count_plain (history_of n s.members s.stop s.history) =
+    runs_members (run_of n s) first (state_of n s) (state_of n s).history runs in
     omega (arith, all, plain_counts n s.members s.stop s.history read, length-map s.members (λ m. member_of n m))
 
 -- the note of one more event, with the members that it made
@@ -154,14 +169,17 @@ note_of (events.Put w first count) made = Put w made
 note_of (events.End w ending) made = End w (ending_of ending)
 note_of (events.Stop w reason) made = Stop w
 
-one_note : (ms made : List Tracked) (k : ℕ) (e : Event) → k ≡ length ms → count_made (e ∷ []) ≡ length made → notes_from k (ms ++ made) (e ∷ []) ≡ note_of e made ∷ []
+one_note : (ms made : List Tracked) (k : ℕ) (e : Event) → k ≡ length ms → count_made (e ∷ []) ≡ length made
+    → notes_from k (ms ++ made) (e ∷ []) ≡ note_of e made ∷ []
 one_note ms made k (events.Take w skipped job) at many = refl
 one_note ms made k (events.Put w first count) at many =
-    ap (λ l. Put w l ∷ []) (ap (λ j. take count (drop j (ms ++ made))) at ∙ ap (λ l. take count l) (drop_length ms made) ∙ take_whole count made (omega (arith, many)))
+    ap (λ l. Put w l ∷ []) (ap (λ j. take count (drop j (ms ++ made))) at ∙ ap (λ l. take count l) (drop_length ms made)
+    ∙ take_whole count made (omega (arith, many)))
 one_note ms made k (events.End w ending) at many = refl
 one_note ms made k (events.Stop w reason) at many = refl
 
-module _ (s t : Shown) (made : List Tracked) (e : Event) (counted : IsCounted s) (same : IsSameRun s t) (members : t.members ≡ s.members ++ made) (history : t.history ≡ s.history ++ (e ∷ [])) (many : count_made (e ∷ []) ≡ length made) where
+module _ (s t : Shown) (made : List Tracked) (e : Event) (counted : IsCounted s) (same : IsSameRun s t) (members : t.members ≡ s.members ++ made)
+    (history : t.history ≡ s.history ++ (e ∷ [])) (many : count_made (e ∷ []) ≡ length made) where
   number_same : number_at_beginning t ≡ number_at_beginning s
   number_same = omega (arith, counted, ap length members, length-append s.members made, ap count_made history, count_append s.history e, many)
 
@@ -171,7 +189,8 @@ module _ (s t : Shown) (made : List Tracked) (e : Event) (counted : IsCounted s)
       let k : ℕ = number_at_beginning s in
       (λ i. notes_from (number_same i) (members i) (history i))
       ∙ notes_append k (s.members ++ made) s.history e
-      ∙ (λ i. notes_front k s.members made s.history (omega (arith, counted)) i ++ one_note s.members made (k + count_made s.history) e (omega (arith, counted)) many i)
+      ∙ (λ i. notes_front k s.members made s.history (omega (arith, counted)) i ++ one_note s.members made (k + count_made s.history) e
+      (omega (arith, counted)) many i)
 
   front : (k : ℕ) (xs ys : List Tracked) → k ≤ length xs → take k (xs ++ ys) ≡ take k xs
   front zero xs ys h = refl
@@ -191,11 +210,13 @@ module _ (s t : Shown) (made : List Tracked) (e : Event) (counted : IsCounted s)
       first_same = (λ i. take (number_same i) (members i)) ∙ front (number_at_beginning s) s.members made (omega arith)
 
 -- the event that a call adds to the history is added to the log
-module _ (s t : Shown) (replays : Replays (run_of (variables_of s) s) (state_of (variables_of s) s)) (read : Each (IsRead (length s.members) s.stop) s.history) (same : IsSameRun s t) where
+module _ (s t : Shown) (replays : Replays (run_of (variables_of s) s) (state_of (variables_of s) s))
+    (read : Each (IsRead (length s.members) s.stop) s.history) (same : IsSameRun s t) where
   counted : IsCounted s
   counted = state_counted (variables_of s) s replays read
 
-  one_more : (made : List Tracked) (e : Event) → t.members ≡ s.members ++ made → t.history ≡ s.history ++ (e ∷ []) → count_made (e ∷ []) ≡ length made → Adds (note_of e made) s t
+  one_more : (made : List Tracked) (e : Event) → t.members ≡ s.members ++ made → t.history ≡ s.history ++ (e ∷ [])
+      → count_made (e ∷ []) ≡ length made → Adds (note_of e made) s t
   one_more made e members history many = (log_more s t made e counted same members history many, base_same s t made e counted same members history many)
 
   pub puts_more :

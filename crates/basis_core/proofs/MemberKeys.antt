@@ -6,9 +6,9 @@ use Rattle.formal_sums.proofs.WeightedSums.{same_key-shift, weighted_sum-scale, 
 use Rattle.formal_sums.specs.FormalSums.{Each, FormalSum, Key, coefficient, indicator, scale, shift}
 use Rattle.bases.specs.Settings.{IsLawful, Setting}
 use Rattle.module_vectors.proofs.NormalVectors.{residues_of}
-use Rattle.module_vectors.specs.Rings.{ring_comparison, variables}
+use Rattle.module_vectors.specs.Rings.{ring_comparison}
 use Rattle.module_vectors.specs.Trails.{HasKey, IsInProduct, Step}
-use Rattle.module_vectors.specs.Vectors.{IsVector, sum_of}
+use Rattle.module_vectors.specs.Vectors.{IsVector, IsVectorOver, sum_of}
 use Rattle.module_vectors.specs.declared.key.Key.{Key as CodeKey}
 use Rattle.vector_division.proofs.Occurring.{at_key, nonzeros, occurs, scaled_key}
 use Rattle.basis_steps.specs.Divisions.{Occurs}
@@ -16,7 +16,7 @@ use Rattle.basis_steps.specs.Outcomes.{product_vector}
 use Rattle.basis_steps.specs.States.{vectors}
 use Rattle.basis_core.specs.Members.{Shared, Tracked, members_of}
 use Rattle.basis_core.specs.Outcomes.{product_of}
-use Rattle.basis_core.specs.RowDivision.{IsTracked}
+use Rattle.basis_core.specs.Members.{IsTracked}
 use Rattle.basis_core.specs.Rows.{vectors_in}
 
 -- ---- the members' vectors
@@ -25,7 +25,9 @@ vector_at n [] k = refl
 vector_at n (m ∷ ms) zero = refl
 vector_at n (m ∷ ms) (suc k) = vector_at n ms k
 
-pub member_vector : (shared : Shared) (ms : List Tracked) (k : ℕ) → Each (IsTracked shared) ms → IsVector (variables shared.ring) shared.ring.modulus.value (ring_comparison shared.ring (variables shared.ring)) (get_or (vectors_in ms) k [])
+pub member_vector :
+    (shared : Shared) (ms : List Tracked) (k : ℕ)
+    → Each (IsTracked shared) ms → IsVectorOver shared.ring (ring_comparison shared.ring) (get_or (vectors_in ms) k [])
 member_vector shared [] k h = record { each = tt; descends = tt }
 member_vector shared (m ∷ ms) zero h = h.0.vector.vector
 member_vector shared (m ∷ ms) (suc k) h = member_vector shared ms k h.1
@@ -35,11 +37,14 @@ member_vector shared (m ∷ ms) (suc k) h = member_vector shared ms k h.1
 pub occurs_in :
     (n p : ℕ) (vs : List (List (CodeKey × ℕ))) (G : List (FormalSum n)) (s : Step) (k : Key n)
     → get_or G s.0 [] ≡ sum_of n (get_or vs s.0 []) → Occurs p (product_vector G (product_of n s)) k → IsInProduct n vs k s
-occurs_in n p vs G s k e o = go (occurs (scale 1 (exponents_of n s.1) (get_or G s.0 [])) k)
+occurs_in n p vs G s k e o = go (occurs (scale 1 (exponents_of n s.1.exponents) (get_or G s.0 [])) k)
   where
-    go : HasKey (scale 1 (exponents_of n s.1) (get_or G s.0 [])) k ⊎ (coefficient (scale 1 (exponents_of n s.1) (get_or G s.0 [])) k ≡ 0) → IsInProduct n vs k s
+    go :
+        HasKey (scale 1 (exponents_of n s.1.exponents) (get_or G s.0 [])) k
+        ⊎ (coefficient (scale 1 (exponents_of n s.1.exponents) (get_or G s.0 [])) k ≡ 0)
+        → IsInProduct n vs k s
     go (inl h) =
-        let r = scaled_key 1 (exponents_of n s.1) (get_or G s.0 []) k h in
+        let r = scaled_key 1 (exponents_of n s.1.exponents) (get_or G s.0 []) k h in
         (r.0, subst (λ v. HasKey v r.0) e r.1, r.2)
     go (inr z) = absurd (o (IsCongruent_of p _ _ z))
 
@@ -53,18 +58,18 @@ module _ {n : ℕ} (S : Setting n) (lawful : IsLawful S) where
   -- a key of a vector occurs in it
   pub key_occurs :
       (v : List (CodeKey × ℕ)) (k : Key n)
-      → IsVector n S.modulus S.compare v → HasKey (sum_of n v) k → Occurs S.modulus (sum_of n v) k
+      → IsVector n S.weights S.modulus S.compare v → HasKey (sum_of n v) k → Occurs S.modulus (sum_of n v) k
   key_occurs v k h there =
       at_key (λ l. Occurs S.modulus (sum_of n v) l) (sum_of n v) k
-      (nonzeros S lawful (sum_of n v) h.descends (residues_of n S.modulus v h.each)) there
+      (nonzeros S lawful (sum_of n v) h.descends (residues_of n S.weights S.modulus v h.each)) there
 
   -- a key of a product of a vector occurs in it
   pub in_occurs :
       (vs : List (List (CodeKey × ℕ))) (G : List (FormalSum n)) (s : Step) (k : Key n)
-      → get_or G s.0 [] ≡ sum_of n (get_or vs s.0 []) → IsVector n S.modulus S.compare (get_or vs s.0 [])
+      → get_or G s.0 [] ≡ sum_of n (get_or vs s.0 []) → IsVector n S.weights S.modulus S.compare (get_or vs s.0 [])
       → IsInProduct n vs k s → Occurs S.modulus (product_vector G (product_of n s)) k
   in_occurs vs G s k e v (l, there, is) z =
-      let t : Exponents n = exponents_of n s.1 in
+      let t : Exponents n = exponents_of n s.1.exponents in
       let same : coefficient (sum_of n (get_or vs s.0 [])) l ≡ coefficient (scale 1 t (get_or G s.0 [])) k =
       sym (coefficient_shifted t (sum_of n (get_or vs s.0 [])) l) ∙ (λ i. coefficient (scale 1 t (sym e i)) (sym is i)) in
       key_occurs (get_or vs s.0 []) l v there (IsCongruent_trans (IsCongruent_of S.modulus _ _ same) z)

@@ -1,5 +1,6 @@
 -- An outcome that waits to be handed in, over the events of others
-use Rattle.std.proofs.Common.{Bool, List, [], ap, cond, eq-eqb, eqb-true, false, filter, get_or, get_or-set_other, length, map, not, refl, subst, sym, take, true, ℕ, ◌++◌, ◌<◌, ◌==◌, ◌∙◌, ◌∷◌, ◌≡◌, ◌≤◌, inl, inr}
+use Rattle.std.proofs.Common.{Bool, List, [], ap, cond, eq-eqb, eqb-true, false, filter, get_or, get_or-set_other, length, map, not, refl, subst, sym}
+use Rattle.std.proofs.Common.{take, true, ℕ, ◌++◌, ◌<◌, ◌==◌, ◌∙◌, ◌∷◌, ◌≡◌, ◌≤◌, inl, inr}
 use Rattle.std.proofs.lemmas.List.{take-append-le, length-append}
 use Rattle.std.proofs.Common.{arith, append-nil}
 use Rattle.basis_steps.specs.Pairs.{Pair}
@@ -54,10 +55,12 @@ job_others v w h [] = refl
 job_others v w h (e ∷ out) = go (e.1 == v) refl (e.1 == w) refl (job_others v w h out)
   where
     go : (b : Bool) → (e.1 == v) ≡ b → (c : Bool) → (e.1 == w) ≡ c → job_of w (with_others v out) ≡ job_of w out
-        → job_of w (cond (not b) (e ∷ with_others v out) (with_others v out)) ≡ map (λ e. e.0) (cond c (e ∷ filter (λ e. e.1 == w) out) (filter (λ e. e.1 == w) out))
+        → job_of w (cond (not b) (e ∷ with_others v out) (with_others v out))
+        ≡ map (λ e. e.0) (cond c (e ∷ filter (λ e. e.1 == w) out) (filter (λ e. e.1 == w) out))
     go true p true q t = absurd (h (sym (eqb-true e.1 v p) ∙ eqb-true e.1 w q))
     go true p false q t = t
-    go false p c q t = ap (λ d. map (λ e. e.0) (cond d (e ∷ filter (λ e. e.1 == w) (with_others v out)) (filter (λ e. e.1 == w) (with_others v out)))) q ∙ more c t
+    go false p c q t = ap (λ d. map (λ e. e.0)
+        (cond d (e ∷ filter (λ e. e.1 == w) (with_others v out)) (filter (λ e. e.1 == w) (with_others v out)))) q ∙ more c t
       where
         more : (c : Bool) → job_of w (with_others v out) ≡ job_of w out
             → map (λ e. e.0) (cond c (e ∷ filter (λ e. e.1 == w) (with_others v out)) (filter (λ e. e.1 == w) (with_others v out)))
@@ -91,7 +94,8 @@ pub owed_over_take :
     → IsTaken (variables_of s) s w most answer t → IsSameRun s t → t.members ≡ s.members
     → (w ≡ o.job.worker → ⊥) → MayPut s o → MayPut t o
 owed_over_take s t w most answer o (skipped, added, inl found) same grown other may =
-    still_owed s t o same (no_more s.members t.members grown) (ap (λ z. job_of o.job.worker z.out) found.after) (ap (λ z. get_or z.ended o.job.worker true) found.after) may
+    still_owed s t o same (no_more s.members t.members grown) (ap (λ z. job_of o.job.worker z.out) found.after)
+    (ap (λ z. get_or z.ended o.job.worker true) found.after) may
 owed_over_take s t w most answer o (skipped, added, inr (left, takes)) same grown other may =
     still_owed s t o same (no_more s.members t.members grown) out (ap (λ z. get_or z.ended o.job.worker true) takes.after) may
   where
@@ -107,14 +111,16 @@ pub owed_over_put :
     → Puts (run_of (variables_of s) s) (state_of (variables_of s) s) w made (state_of (variables_of s) t) → IsSameRun s t → HaveGrown s.members t.members
     → (w ≡ o.job.worker → ⊥) → MayPut s o → MayPut t o
 owed_over_put s t w made o puts same grown other may =
-    still_owed s t o same grown (ap (λ z. job_of o.job.worker z.out) puts.after ∙ job_others w o.job.worker other s.out) (ap (λ z. get_or z.ended o.job.worker true) puts.after) may
+    still_owed s t o same grown (ap (λ z. job_of o.job.worker z.out) puts.after ∙ job_others w o.job.worker other s.out)
+    (ap (λ z. get_or z.ended o.job.worker true) puts.after) may
 
 pub owed_over_end :
     (s t : Shown) (w : ℕ) (ending : plain.Ending) (o : OutcomeShown)
     → Ends (run_of (variables_of s) s) (state_of (variables_of s) s) w ending (state_of (variables_of s) t) → IsSameRun s t → t.members ≡ s.members
     → (w ≡ o.job.worker → ⊥) → MayPut s o → MayPut t o
 owed_over_end s t w ending o ends same grown other may =
-    still_owed s t o same (no_more s.members t.members grown) (ap (λ z. job_of o.job.worker z.out) ends.after) (ap (λ z. get_or z.ended o.job.worker true) ends.after ∙ works ending) may
+    still_owed s t o same (no_more s.members t.members grown) (ap (λ z. job_of o.job.worker z.out) ends.after)
+    (ap (λ z. get_or z.ended o.job.worker true) ends.after ∙ works ending) may
   where
     works : (e : plain.Ending) → get_or (ended_after (state_of (variables_of s) s) w e) o.job.worker true ≡ get_or s.ended o.job.worker true
     works plain.Ended = get_or-set_other s.ended w o.job.worker true true (λ e. other (sym e))
@@ -125,7 +131,8 @@ pub owed_over_stop :
     → Stops (run_of (variables_of s) s) (state_of (variables_of s) s) w reason (state_of (variables_of s) t) → IsSameRun s t → t.members ≡ s.members
     → MayPut s o → MayPut t o
 owed_over_stop s t w reason o stops same grown may =
-    still_owed s t o same (no_more s.members t.members grown) (ap (λ z. job_of o.job.worker z.out) stops.after) (ap (λ z. get_or z.ended o.job.worker true) stops.after) may
+    still_owed s t o same (no_more s.members t.members grown) (ap (λ z. job_of o.job.worker z.out) stops.after)
+    (ap (λ z. get_or z.ended o.job.worker true) stops.after) may
 
 all_of : {A : Type 0} (xs : List A) → take (length xs) xs ≡ xs
 all_of [] = refl
@@ -141,7 +148,8 @@ owed_by_take s t w most answer o may took same answers given = go took (subst (A
     pairs : pairs_given answer ≡ pairs_of o.job.pairs
     pairs = ap pairs_given given
 
-    owed : (o.job.worker ≡ w) → (o.job.shared ≡ t.shared) → (o.job.members ≡ t.members) → job_of w t.out ≡ pairs_of o.job.pairs → get_or t.ended w true ≡ get_or s.ended w true → MayPut t o
+    owed : (o.job.worker ≡ w) → (o.job.shared ≡ t.shared) → (o.job.members ≡ t.members) → job_of w t.out ≡ pairs_of o.job.pairs
+        → get_or t.ended w true ≡ get_or s.ended w true → MayPut t o
     owed mine shared members out ended = record {
       known = subst (λ v. v < t.workers) (sym mine) (subst (λ k. w < k) (sym same.workers) may.known);
       works = ap (λ v. get_or t.ended v true) mine ∙ ended ∙ may.works;
@@ -158,5 +166,6 @@ owed_by_take s t w most answer o may took same answers given = go took (subst (A
         owed mine shared members (ap (λ z. job_of w z.out) found.after ∙ may.free ∙ sym found.gives_none ∙ pairs) (ap (λ z. get_or z.ended w true) found.after)
     go (skipped, added, inr (left, takes)) (stop, mine, shared, members) =
         owed mine shared members
-        (ap (λ z. job_of w z.out) takes.after ∙ job_append w s.out (out_with w (pairs_given answer)) ∙ ap (λ l. l ++ job_of w (out_with w (pairs_given answer))) may.free ∙ job_with w (pairs_given answer) ∙ pairs)
+        (ap (λ z. job_of w z.out) takes.after ∙ job_append w s.out (out_with w (pairs_given answer))
+        ∙ ap (λ l. l ++ job_of w (out_with w (pairs_given answer))) may.free ∙ job_with w (pairs_given answer) ∙ pairs)
         (ap (λ z. get_or z.ended w true) takes.after)

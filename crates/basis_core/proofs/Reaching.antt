@@ -1,25 +1,26 @@
 -- The products that division of a row takes away, each with its lead at a monomial of the row or of a product before it
-use Rattle.std.proofs.Common.{List, [], ap, arith, inl, inr, map, subst, suc, sym, zero, ℕ, ◌++◌, ◌∷◌, ◌≡◌}
+use Rattle.std.proofs.Common.{List, [], ap, arith, inl, inr, map, refl, subst, suc, sym, zero, ℕ, ◌++◌, ◌∷◌, ◌≡◌}
 use Rattle.std.proofs.lemmas.List.{map-append}
 use Rattle.std.specs.Prelude.{Contains}
+use Rattle.monomial_orders.specs.Kept.{Monomial}
 use Rattle.monomials.specs.Exponents.{exponents_of}
 use Rattle.formal_sums.specs.FormalSums.{Each, FormalSum, Key, shift}
 use Rattle.bases.specs.Leads.{head_key}
 use Rattle.module_vectors.specs.Rings.{variables}
-use Rattle.module_vectors.specs.Trails.{IsMet, Step, product_lead}
+use Rattle.module_vectors.specs.Trails.{AreMet, IsMet, Step, last_step, product_lead}
 use Rattle.module_vectors.specs.Vectors.{sum_of}
 use Rattle.module_vectors.specs.declared.key.Key.{Key as CodeKey}
-use Rattle.cofactor_track.specs.Members.{IsVectorOf}
+use Rattle.member_products.specs.Generators.{IsVectorOf}
 use Rattle.vector_division.proofs.Occurring.{Contains_here, Contains_later}
 use Rattle.vector_division.specs.Reductions.{AreMetFrom, cofactors_of, step_of}
 use Rattle.vector_division.specs.declared.reduction.Quotient.{Quotient}
 use Rattle.basis_steps.specs.Divisions.{AreReached, IsReached, Occurs}
 use Rattle.basis_steps.specs.Outcomes.{product_vector}
 use Rattle.basis_steps.specs.States.{Product, vectors}
-use Rattle.basis_core.specs.Members.{Shared, Tracked, members_of, setting_of}
+use Rattle.basis_core.specs.Members.{IsTracked, Shared, Tracked, members_of, setting_of}
 use Rattle.basis_core.specs.Outcomes.{product_of}
-use Rattle.basis_core.specs.RowDivision.{IsTracked}
-use Rattle.basis_core.specs.Rows.{vectors_in}
+use Rattle.basis_core.specs.Rows.{IsRowTrail, vectors_in}
+use Rattle.basis_core.specs.Stops.{earlier_steps}
 use Rattle.basis_core.proofs.MemberKeys.{in_occurs, key_occurs, member_vector, vector_at}
 use Rattle.basis_core.proofs.Tracking.{ring_lawful}
 
@@ -29,11 +30,26 @@ step_there :
     → Contains (map step_of qs) s → (t : Key n × ℕ) × Contains (cofactors_of n qs) t × (t.0 ≡ product_of n s)
 step_there n [] s (k, l, e) = absurd (omega arith)
 step_there n (q ∷ qs) s (zero, l, e) =
-    let t : Key n × ℕ = ((q.index, exponents_of n q.monomial), q.residue) in
+    let t : Key n × ℕ = ((q.index, exponents_of n q.monomial.exponents), q.residue) in
     (t, Contains_here t (cofactors_of n qs), ap (product_of n) e)
 step_there n (q ∷ qs) s (suc k, l, e) =
     let r = step_there n qs s (k, omega arith, e) in
-    (r.0, Contains_later ((q.index, exponents_of n q.monomial), q.residue) r.0 (cofactors_of n qs) r.1, r.2)
+    (r.0, Contains_later ((q.index, exponents_of n q.monomial.exponents), q.residue) r.0 (cofactors_of n qs) r.1, r.2)
+
+-- the products of steps, each once
+abbrev pub terms_of : (n : ℕ) → List Step → FormalSum n
+terms_of n steps = map (λ s. (product_of n s, 1)) steps
+
+term_there : (n : ℕ) (steps : List Step) (s : Step) → Contains steps s → Contains (terms_of n steps) (product_of n s, 1)
+term_there n [] s (k, l, e) = absurd (omega arith)
+term_there n (x ∷ steps) s (zero, l, e) = (zero, omega arith, ap (λ (z : Step). (product_of n z, 1)) e)
+term_there n (x ∷ steps) s (suc k, l, e) =
+    let r = term_there n steps s (k, omega arith, e) in
+    (suc r.0, omega (arith, r.1), r.2)
+
+terms_apart : (n : ℕ) (s : Step) (ss : List Step) → terms_of n (s ∷ ss) ≡ terms_of n (earlier_steps s ss) ++ ((product_of n (last_step s ss), 1) ∷ [])
+terms_apart n s [] = refl
+terms_apart n s (t ∷ ss) = ap (λ l. (product_of n s, 1) ∷ l) (terms_apart n t ss)
 
 module _ (shared : Shared) (ms : List Tracked) (members : Each (IsTracked shared) ms) (v : List (CodeKey × ℕ)) (iv : IsVectorOf shared.ring v) where
   abbrev n : ℕ
@@ -55,19 +71,59 @@ module _ (shared : Shared) (ms : List Tracked) (members : Each (IsTracked shared
   met_reached earlier k (inl there) = inl (key_occurs (setting_of n shared) (ring_lawful shared) v k iv there)
   met_reached earlier k (inr (s, there, h)) =
       let t = step_there n earlier s there in
-      inr (t.0, t.1, subst (λ (z : Product n). Occurs p (product_vector G z) k) (sym t.2) (in_occurs (setting_of n shared) (ring_lawful shared) vs G s k (vector_at n ms s.0) (member_vector shared ms s.0 members) h))
+      inr (
+        t.0,
+        t.1,
+        subst (λ (z : Product n). Occurs p (product_vector G z) k) (sym t.2)
+            (in_occurs (setting_of n shared) (ring_lawful shared) vs G s k (vector_at n ms s.0) (member_vector shared ms s.0 members) h),
+      )
 
   reached_from :
       (earlier qs : List Quotient)
       → AreMetFrom n (sum_of n v) vs (map step_of earlier) qs → AreReached p G (sum_of n v) (cofactors_of n earlier) (cofactors_of n qs)
   reached_from earlier [] h = tt
   reached_from earlier (q ∷ qs) h = (
-    subst (λ (g : FormalSum n). IsReached p G (sum_of n v) (cofactors_of n earlier) (shift (exponents_of n q.monomial) (head_key g))) (sym (vector_at n ms q.index))
+    subst (λ (g : FormalSum n). IsReached p G (sum_of n v) (cofactors_of n earlier) (shift (exponents_of n q.monomial.exponents) (head_key g)))
+        (sym (vector_at n ms q.index))
         (met_reached earlier (product_lead n vs (step_of q)) h.0),
-    subst (λ (b : FormalSum n). AreReached p G (sum_of n v) b (cofactors_of n qs)) (map-append (λ (r : Quotient). ((r.index, exponents_of n r.monomial), r.residue)) earlier (q ∷ []))
+    subst (λ (b : FormalSum n). AreReached p G (sum_of n v) b (cofactors_of n qs))
+        (map-append (λ (r : Quotient). ((r.index, exponents_of n r.monomial.exponents), r.residue)) earlier (q ∷ []))
         (reached_from (earlier ++ (q ∷ [])) qs (subst (λ (steps : List Step). AreMetFrom n (sum_of n v) vs steps qs) (sym (map-append step_of earlier (q ∷ []))) h.1)),
   )
 
   -- one after another, from the first
   pub quotients_reached : (qs : List Quotient) → AreMetFrom n (sum_of n v) vs [] qs → AreReached p G (sum_of n v) [] (cofactors_of n qs)
   quotients_reached qs h = reached_from [] qs h
+
+  -- ---- the same of steps
+  step_reached :
+      (earlier : List Step) (k : Key n)
+      → IsMet n (sum_of n v) vs earlier k → IsReached p G (sum_of n v) (terms_of n earlier) k
+  step_reached earlier k (inl there) = inl (key_occurs (setting_of n shared) (ring_lawful shared) v k iv there)
+  step_reached earlier k (inr (s, there, h)) =
+      inr (
+        (product_of n s, 1),
+        term_there n earlier s there,
+        in_occurs (setting_of n shared) (ring_lawful shared) vs G s k (vector_at n ms s.0)
+            (member_vector shared ms s.0 members) h,
+      )
+
+  -- steps that are met are reached, one after another
+  pub steps_reached :
+      (earlier steps : List Step)
+      → AreMet n (sum_of n v) vs earlier steps → AreReached p G (sum_of n v) (terms_of n earlier) (terms_of n steps)
+  steps_reached earlier [] h = tt
+  steps_reached earlier (s ∷ steps) h = (
+    subst (λ (g : FormalSum n). IsReached p G (sum_of n v) (terms_of n earlier) (shift (exponents_of n s.1.exponents) (head_key g))) (sym (vector_at n ms s.0))
+        (step_reached earlier (product_lead n vs s) h.0),
+    subst (λ (b : FormalSum n). AreReached p G (sum_of n v) b (terms_of n steps)) (map-append (λ (r : Step). (product_of n r, 1)) earlier (s ∷ []))
+        (steps_reached (earlier ++ s ∷ []) steps h.1),
+  )
+
+  -- the steps of a row's trail, the last of them apart
+  pub row_reached :
+      (steps : List Step) (last : Monomial) (h : IsRowTrail n shared.ring.weights ms v steps last)
+      → AreReached p G (sum_of n v) [] (terms_of n (earlier_steps h.first h.later) ++ ((product_of n (last_step h.first h.later), 1) ∷ []))
+  row_reached steps last h =
+      subst (AreReached p G (sum_of n v) []) (terms_apart n h.first h.later)
+      (steps_reached [] (h.first ∷ h.later) (inl h.begins, h.met))

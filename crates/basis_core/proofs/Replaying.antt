@@ -15,7 +15,7 @@ use Rattle.basis_core.specs.Views.{IsSameRun, run_of, state_of, variables_of}
 -- the run has a worker, and its ring's modulus a domain
 pub lawful_run : (n : ℕ) (s : Shown) → IsDomain s.shared.ring.modulus.value → 0 < s.workers → IsLawfulRun (run_of n s)
 lawful_run n s domain some = record {
-  setting = record { domain = domain; order = key_comparison_order s.shared.ring.module_order s.shared.ring.order n s.shared.rank };
+  setting = record { domain = domain; order = key_comparison_order s.shared.ring.module_order s.shared.ring.order s.shared.ring.weights n s.shared.rank };
   some = some;
 }
 

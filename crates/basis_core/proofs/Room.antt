@@ -1,8 +1,10 @@
 -- The room of the history: how many Ends and Stops may still come, before and after each event
-use Rattle.std.proofs.Common.{Bool, List, None, Option, Some, [], ap, ap₂, arith, cond, eq-eqb, eqb-true, false, get_or, get_or-set_other, inl, inr, nat_eq, not, refl, set, suc, sym, true, zero, ℕ, ◌&&◌, ◌*◌, ◌++◌, ◌+◌, ◌<◌, ◌∙◌, ◌∷◌, ◌≡◌, ◌≤◌}
+use Rattle.std.proofs.Common.{Bool, List, None, Option, Some, [], ap, ap₂, arith, cond, eq-eqb, eqb-true, false, get_or, get_or-set_other, inl, inr}
+use Rattle.std.proofs.Common.{nat_eq, not, refl, set, suc, sym, true, zero, ℕ, ◌&&◌, ◌*◌, ◌++◌, ◌+◌, ◌<◌, ◌∙◌, ◌∷◌, ◌≡◌, ◌≤◌}
 use Rattle.std.proofs.lemmas.Bool.{eqb-false}
 use Rattle.basis_steps.specs.States.{End, Ended, Ending, Event, Member, MoreWork, Put, Run, State, Stop, StopReason, Take}
-use Rattle.basis_steps.specs.Steps.{Ends, HasStopped, Puts, Stops, ending_of, is_empty, ended_after, is_stopped, took_since}
+use Rattle.basis_steps.specs.Histories.{HasStopped, took_since}
+use Rattle.basis_steps.specs.Steps.{Ends, Puts, Stops, ending_of, is_empty, ended_after, is_stopped}
 use Rattle.basis_core.specs.Inside.{all_left, events_left, has_stopped}
 
 pub took_append : {n : ℕ} (w : ℕ) (es : List (Event n)) (e : Event n) (b : Bool) → took_since w (es ++ (e ∷ [])) b ≡ took_since w (e ∷ []) (took_since w es b)
@@ -186,25 +188,29 @@ module _ {n : ℕ} where
       others v ne = other_left s t v w (End w ending) (ended_other v ending ne (ap (λ u. u.ended) h.after)) history
           (ap (λ b. cond b false (took_since v s.history false)) (not_same v w ne)) refl
 
-      here : (answer : Ending) → answer ≡ ending_of s → t ≡ record s { ended = ended_after s w answer; history = s.history ++ (End w answer ∷ []) } → suc (events_left t w) ≤ events_left s w
+      here : (answer : Ending) → answer ≡ ending_of s → t ≡ record s { ended = ended_after s w answer; history = s.history ++ (End w answer ∷ []) }
+          → suc (events_left t w) ≤ events_left s w
       here Ended a e =
           let now : events_left t w ≡ left_by true (took_since w t.history false) (has_stopped w s.history) =
-          left_is t w true (took_since w t.history false) (has_stopped w s.history) (ap (λ u. get_or u.ended w true) e ∙ ended_set s.ended w) refl (ap (λ u. has_stopped w u.history) e ∙ stopped_other w s.history (End w Ended) refl) in
+          left_is t w true (took_since w t.history false) (has_stopped w s.history) (ap (λ u. get_or u.ended w true) e ∙ ended_set s.ended w) refl
+          (ap (λ u. has_stopped w u.history) e ∙ stopped_other w s.history (End w Ended) refl) in
           let before : events_left s w ≡ left_by false (took_since w s.history false) (has_stopped w s.history) =
           left_is s w false (took_since w s.history false) (has_stopped w s.history) h.may.works refl refl in
           omega (arith, now, before, ended_fewer (took_since w s.history false) (took_since w t.history false) (has_stopped w s.history))
       here MoreWork a e =
           let took : took_since w t.history false ≡ false =
-          ap (λ u. took_since w u.history false) e ∙ took_append w s.history (End w MoreWork) false ∙ ap (λ b. cond b false (took_since w s.history false)) (eq-eqb w w refl) in
+          ap (λ u. took_since w u.history false) e ∙ took_append w s.history (End w MoreWork) false
+          ∙ ap (λ b. cond b false (took_since w s.history false)) (eq-eqb w w refl) in
           let now : events_left t w ≡ left_by false false (has_stopped w s.history) =
-          left_is t w false false (has_stopped w s.history) (ap (λ u. get_or u.ended w true) e ∙ h.may.works) took (ap (λ u. has_stopped w u.history) e ∙ stopped_other w s.history (End w MoreWork) refl) in
+          left_is t w false false (has_stopped w s.history) (ap (λ u. get_or u.ended w true) e ∙ h.may.works) took
+          (ap (λ u. has_stopped w u.history) e ∙ stopped_other w s.history (End w MoreWork) refl) in
           let before : events_left s w ≡ left_by false true (has_stopped w s.history) =
           left_is s w false true (has_stopped w s.history) h.may.works ((h.may.done (more_unstopped s a)).1) refl in
           omega (arith, now, before, told_fewer (has_stopped w s.history))
 
   -- and so does a Stop
   pub room_after_stop : (r : Run n) (s t : State n) (w : ℕ) (reason : StopReason n) → Stops r s w reason t → suc (all_left t r.workers) ≤ all_left s r.workers
-  room_after_stop r s t w reason h = all_fewer s t r.workers w h.known here others
+  room_after_stop r s t w reason h = all_fewer s t r.workers w h.may.known here others
     where
       history : t.history ≡ s.history ++ (Stop w reason ∷ [])
       history = ap (λ u. u.history) h.after
@@ -218,11 +224,14 @@ module _ {n : ℕ} where
       here : suc (events_left t w) ≤ events_left s w
       here =
           let now : events_left t w ≡ left_by (get_or s.ended w true) (took_since w s.history false) true =
-          left_is t w (get_or s.ended w true) (took_since w s.history false) true (ap (λ es. get_or es w true) ended) (ap (λ es. took_since w es false) history ∙ took_append w s.history (Stop w reason) false) (ap (has_stopped w) history ∙ stopped_here w s.history reason) in
+          left_is t w (get_or s.ended w true) (took_since w s.history false) true (ap (λ es. get_or es w true) ended)
+          (ap (λ es. took_since w es false) history ∙ took_append w s.history (Stop w reason) false)
+          (ap (has_stopped w) history ∙ stopped_here w s.history reason) in
           let before : events_left s w ≡ left_by (get_or s.ended w true) (took_since w s.history false) false =
-          left_is s w (get_or s.ended w true) (took_since w s.history false) false refl refl (not_stopped w s.history h.first) in
+          left_is s w (get_or s.ended w true) (took_since w s.history false) false refl refl (not_stopped w s.history h.may.first) in
           omega (arith, now, before, stopped_fewer (get_or s.ended w true) (took_since w s.history false))
 
   -- a Put takes none
   pub room_after_put : (r : Run n) (s t : State n) (w : ℕ) (made : List (Member n)) → Puts r s w made t → all_left t r.workers ≡ all_left s r.workers
-  room_after_put r s t w made h = all_same s t r.workers (λ v. other_left s t v w (Put w made) (ap (λ u. get_or u.ended v true) h.after) (ap (λ u. u.history) h.after) refl refl)
+  room_after_put r s t w made h = all_same s t r.workers
+      (λ v. other_left s t v w (Put w made) (ap (λ u. get_or u.ended v true) h.after) (ap (λ u. u.history) h.after) refl refl)

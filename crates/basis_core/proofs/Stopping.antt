@@ -1,8 +1,10 @@
 -- A state after a Stop
-use Rattle.std.proofs.Common.{Global, List, None, Option, Some, Vec, [], ap, arith, length, length-append, refl, subst, suc, sym, vec_capacity, ℕ, ◌++◌, ◌+◌, ◌<◌, ◌∙◌, ◌∷◌, ◌≡◌, ◌≤◌}
+use Rattle.std.proofs.Common.{Global, List, None, Option, Some, Vec, [], ap, arith, length, length-append, refl, subst, suc, sym, vec_capacity, ℕ}
+use Rattle.std.proofs.Common.{◌++◌, ◌+◌, ◌<◌, ◌∙◌, ◌∷◌, ◌≡◌, ◌≤◌}
 use Rattle.formal_sums.specs.FormalSums.{Each}
 use Rattle.basis_steps.specs.States as plain
-use Rattle.basis_steps.specs.States.{Trail, pairs_taken}
+use Rattle.basis_steps.specs.Histories.{HasStopped}
+use Rattle.basis_steps.specs.States.{Trail, vectors}
 use Rattle.basis_steps.specs.Steps as steps
 use Rattle.basis_steps.specs.Trails.{IsTrail}
 use Rattle.basis_core.specs.declared.event.Event.{Event}
@@ -31,7 +33,7 @@ pub record KeepsFirst (kept after : Option StopReason) (reason : StopReason) (gi
 -- what worker w needs for a Stop
 pub record MayStop (w : ℕ) (s : Shown) (reason : StopReason) : Type 0 where
   pub known : w < s.workers
-  pub first : steps.HasStopped w (state_of (variables_of s) s).history → ⊥
+  pub first : HasStopped w (state_of (variables_of s) s).history → ⊥
   pub why : IsReason (variables_of s) s reason
 
 module _ (n : ℕ) (after : Option StopReason) (reason : StopReason) (given : Option StopReason) where
@@ -50,7 +52,8 @@ module _ (n : ℕ) (after : Option StopReason) (reason : StopReason) (given : Op
   keeps_reason None h = subst (λ k. HasReason k given) (sym (h.first refl).0) (subst (HasReason (Some reason)) (sym (h.first refl).1) tt)
   keeps_reason (Some one) h = subst (λ k. HasReason after k) (sym (h.later one refl).1) tt
 
-  keeps_over : (s : Shown) (kept : Option StopReason) → KeepsFirst kept after reason given → IsStopOver s kept → IsReasonOver s.shared reason → IsStopOver s after
+  keeps_over : (s : Shown) (kept : Option StopReason) → KeepsFirst kept after reason given → IsStopOver s kept → IsReasonOver s.shared reason
+      → IsStopOver s after
   keeps_over s None h old new = subst (IsStopOver s) (sym (h.first refl).0) new
   keeps_over s (Some one) h old new = subst (IsStopOver s) (sym (h.later one refl).0) old
 
@@ -73,22 +76,25 @@ way_of other (plain.Degree way) = way
 
 is_trail :
     (n : ℕ) (s : Shown) (reason : StopReason) → IsReason n s reason → (way : Trail n) → reason_of n reason ≡ plain.Degree way
-    → IsTrail (run_of n s) (state_of n s).members (pairs_taken (state_of n s).history) way
+    → IsTrail (run_of n s) (vectors (state_of n s).members) (state_of n s).history way
 is_trail n s reasons.Pairs h way e = absurd h
 is_trail n s reasons.Memory h way e = absurd cc
-is_trail n s (reasons.Degree t) h way e = subst (IsTrail (run_of n s) (state_of n s).members (pairs_taken (state_of n s).history)) (ap (way_of way) e) h.way
+is_trail n s (reasons.Degree t) h way e = subst (IsTrail (run_of n s) (vectors (state_of n s).members) (state_of n s).history) (ap (way_of way) e) h.way
 
 pub stop_step :
     (s : Shown) (w : ℕ) (reason : StopReason) (after given : Option StopReason) (es : List Event)
     → MayStop w s reason → KeepsFirst s.stop after reason given
     → Each (IsRead (length s.members) s.stop) s.history
     → es ≡ s.history ++ (Stop w given ∷ [])
-    → steps.Stops (run_of (variables_of s) s) (state_of (variables_of s) s) w (reason_of (variables_of s) reason) (state_of (variables_of s) (after_stop s after es))
+    → steps.Stops (run_of (variables_of s) s) (state_of (variables_of s) s) w (reason_of (variables_of s) reason)
+    (state_of (variables_of s) (after_stop s after es))
 stop_step s w reason after given es may keeps read more = record {
-  known = may.known;
-  first = may.first;
-  not_pairs = not_pairs n s reason may.why;
-  trail = is_trail n s reason may.why;
+  may = record {
+    known = may.known;
+    first = may.first;
+    not_pairs = not_pairs n s reason may.why;
+    trail = is_trail n s reason may.why;
+  };
   after = λ i. record (state_of n s) { stop = keeps_stop n after reason given s.stop keeps i; history = history i };
 }
   where
@@ -112,20 +118,19 @@ stop_kept i w reason after given history kept may keeps items capacity =
     let s : Shown = shown i in
     let n : ℕ = variables_of s in
     let t : Shown = after_stop s after history.items in
-    let step : steps.Stops (run_of n s) (state_of n s) w (reason_of n reason) (state_of n t) = stop_step s w reason after given history.items may keeps kept.read items in
-    let fewer : suc (all_left (state_of n t) s.workers) ≤ all_left (state_of n s) s.workers = room_after_stop (run_of n s) (state_of n s) (state_of n t) w (reason_of n reason) step in
+    let step : steps.Stops (run_of n s) (state_of n s) w (reason_of n reason) (state_of n t) =
+    stop_step s w reason after given history.items may keeps kept.read items in
+    let fewer : suc (all_left (state_of n t) s.workers) ≤ all_left (state_of n s) s.workers =
+    room_after_stop (run_of n s) (state_of n s) (state_of n t) w (reason_of n reason) step in
     let long : length history.items ≡ length s.history + 1 = ap length items ∙ length-append s.history (Stop w given ∷ []) in
     let many : ℕ = length s.members in
     record {
       some = kept.some;
       replays = replays_after s t (plain.Stop w (reason_of n reason)) (record { shared = refl; budget = refl; workers = refl }) kept.replays step;
-      lcms = kept.lcms;
-      marks = kept.marks;
-      wide = kept.wide;
-      table = kept.table;
-      tested = kept.tested;
-      loose = kept.loose;
+      leads = kept.leads;
       stop = keeps_over n after reason given t s.stop keeps kept.stop (reason_over n s reason may.why);
-      read = subst (Each (IsRead many after)) (sym items) (read_more many many s.stop after s.history (Stop w given) (omega arith) (keeps_stays n after reason given s.stop keeps) kept.read (keeps_reason n after reason given s.stop keeps));
+      read = subst (Each (IsRead many after)) (sym items)
+          (read_more many many s.stop after s.history (Stop w given) (omega arith) (keeps_stays n after reason given s.stop keeps) kept.read
+          (keeps_reason n after reason given s.stop keeps));
       room = omega (arith, long, fewer, kept.room, capacity);
     }

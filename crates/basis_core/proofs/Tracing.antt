@@ -1,27 +1,30 @@
 -- The trail of a Put: from a pair of the job by the products of the outcome to a step of a row's division
-use Rattle.std.proofs.Common.{Bool, List, false, true, [], ap, append_assoc, arith, cond, get_or, inl, inr, length, length-append, refl, subst, suc, sym, take, zero, ℕ, ◌++◌, ◌+◌, ◌-◌, ◌<◌, ◌∙◌, ◌∷◌, ◌≡◌, ◌≤◌, ◌⊎◌}
+use Rattle.std.proofs.Common.{Bool, List, false, true, [], ap, append_assoc, arith, cond, get_or, inl, inr, length, length-append, refl, subst, suc}
+use Rattle.std.proofs.Common.{sym, take, zero, ℕ, ◌++◌, ◌+◌, ◌-◌, ◌<◌, ◌∙◌, ◌∷◌, ◌≡◌, ◌≤◌, ◌⊎◌}
 use Rattle.std.proofs.lemmas.Bool.{cases_lt}
 use Rattle.std.specs.Prelude.{Contains}
 use Rattle.monomials.specs.Exponents.{exponents_of}
 use Rattle.formal_sums.specs.FormalSums.{Each, FormalSum, Key, shift}
 use Rattle.bases.specs.Leads.{head_key}
+use Rattle.monomial_orders.specs.Kept.{Monomial}
 use Rattle.module_vectors.specs.Rings.{variables}
 use Rattle.module_vectors.specs.Trails.{AreMet, HasKey, IsInProduct, IsMet, Step, product_lead}
-use Rattle.module_vectors.specs.Vectors.{sum_of}
+use Rattle.module_vectors.specs.Vectors.{IsMonomialOver, sum_of}
 use Rattle.module_vectors.specs.declared.key.Key.{Key as CodeKey}
 use Rattle.pair_criteria.specs.declared.pair.Pair.{Pair as CodePair}
 use Rattle.basis_steps.proofs.Counting.{is_same_pair-refl, is_same_pair-true}
+use Rattle.basis_steps.proofs.Listing.{row_made}
 use Rattle.basis_steps.specs.Criteria.{lcm_of}
+use Rattle.member_products.specs.declared.member.Row.{Row as CodeRow}
 use Rattle.basis_steps.specs.Outcomes as plain
 use Rattle.basis_steps.specs.Divisions.{Occurs}
-use Rattle.basis_steps.specs.Outcomes.{IsMadeOf, IsOutcome, OccursBefore, product_at, product_vector}
+use Rattle.basis_steps.specs.Outcomes.{IsOutcome, IsRow, OccursBefore, product_at, product_vector}
 use Rattle.basis_steps.specs.Pairs.{Pair, count, is_same_pair}
 use Rattle.basis_steps.specs.States.{Member, Product, vectors}
 use Rattle.basis_core.specs.Chains.{AreTraced, IsLcmOf, IsStep, step_at}
 use Rattle.basis_core.specs.Jobs.{HasLcm, pair_of, pairs_of}
-use Rattle.basis_core.specs.Members.{Shared, Tracked, member_of, members_of, setting_of}
-use Rattle.basis_core.specs.Outcomes.{product_of, products_of, work_of}
-use Rattle.basis_core.specs.RowDivision.{IsTracked}
+use Rattle.basis_core.specs.Members.{IsRunRow, IsTracked, Shared, Tracked, members_of, row_of, rows_of, setting_of}
+use Rattle.basis_core.specs.Outcomes.{product_of, products_of}
 use Rattle.basis_core.specs.Rows.{IsRowTrail, vectors_in}
 use Rattle.basis_core.proofs.AfterPut.{members_length}
 use Rattle.basis_core.proofs.MemberKeys.{key_occurs, occurs_in, vector_at}
@@ -56,7 +59,8 @@ pub counted_pair : (x : Pair) (xs : List CodePair) → 0 < count x (pairs_of xs)
 counted_pair x [] l = absurd (omega arith)
 counted_pair x (y ∷ xs) l = go (is_same_pair x (pair_of y)) refl (counted_pair x xs)
   where
-    go : (b : Bool) → is_same_pair x (pair_of y) ≡ b → (0 < count x (pairs_of xs) → (z : CodePair) × Contains xs z × (pair_of z ≡ x)) → (z : CodePair) × Contains (y ∷ xs) z × (pair_of z ≡ x)
+    go : (b : Bool) → is_same_pair x (pair_of y) ≡ b → (0 < count x (pairs_of xs) → (z : CodePair) × Contains xs z × (pair_of z ≡ x))
+        → (z : CodePair) × Contains (y ∷ xs) z × (pair_of z ≡ x)
     go true e rest = (y, (0, omega arith, refl), sym (is_same_pair-true x (pair_of y) e))
     go false e rest =
         let none : ◌≡◌ {A = ℕ} (cond (is_same_pair x (pair_of y)) 1 0) 0 = ap (λ b. cond b 1 0) e in
@@ -117,7 +121,12 @@ met_index n v vs earlier (s ∷ later) met (suc i) l = go (met_index n v vs (ear
         → HasKey v (product_lead n vs (step_at later i))
         ⊎ ((j : ℕ) × (j < length earlier + suc i) × IsInProduct n vs (product_lead n vs (step_at later i)) (step_at (earlier ++ s ∷ later) j))
     go (inl h) = inl h
-    go (inr (j, lt, h)) = inr (j, omega (arith, lt, length-append earlier (s ∷ [])), subst (λ l. IsInProduct n vs (product_lead n vs (step_at later i)) (step_at l j)) (append_assoc earlier (s ∷ []) later) h)
+    go (inr (j, lt, h)) = inr (
+      j,
+      omega (arith, lt, length-append earlier (s ∷ [])),
+      subst (λ l. IsInProduct n vs (product_lead n vs (step_at later i)) (step_at l j))
+          (append_assoc earlier (s ∷ []) later) h,
+    )
 
 -- ---- a row that stops, of an outcome
 pub product_is : (n : ℕ) (products : List Step) (i : ℕ) → i < length products → product_at (products_of n products) i ≡ product_of n (step_at products i)
@@ -129,24 +138,28 @@ products_length : (n : ℕ) (products : List Step) → length (products_of n pro
 products_length n [] = refl
 products_length n (s ∷ products) = ap suc (products_length n products)
 
-each_member : {n : ℕ} (P : Member n → Type 0) (rows : List Tracked) (row : Tracked) → Each P (members_of n rows) → Contains rows row → P (member_of n row)
-each_member P [] row h (k, l, e) = absurd (omega arith)
-each_member {n} P (r ∷ rows) row h (zero, l, e) = subst (λ m. P (member_of n m)) e h.0
-each_member P (r ∷ rows) row h (suc k, l, e) = each_member P rows row h.1 (k, omega arith, e)
+each_row : {n : ℕ} (P : Member n → Type 0) (rows : List CodeRow) (row : CodeRow) → Each P (rows_of n rows) → Contains rows row → P (row_of n row)
+each_row P [] row h (k, l, e) = absurd (omega arith)
+each_row {n} P (r ∷ rows) row h (zero, l, e) = subst (λ m. P (row_of n m)) e h.0
+each_row P (r ∷ rows) row h (suc k, l, e) = each_row P rows row h.1 (k, omega arith, e)
 
 -- an outcome over the first members, and one of its rows that stops
-pub record HasStoppedRow (shared : Shared) (ms base rows : List Tracked) (pairs : List CodePair) (products : List Step) (row : Tracked) (steps : List Step) (last : List ℕ) : Type 0 where
+pub record HasStoppedRow
+    (shared : Shared) (ms base : List Tracked) (rows : List CodeRow) (pairs : List CodePair) (products : List Step)
+    (row : CodeRow) (steps : List Step) (last : Monomial) : Type 0 where
   pub tracked : Each (IsTracked shared) ms
-  pub rows_tracked : Each (IsTracked shared) rows
+  pub rows_over : Each (IsRunRow shared (length base)) rows
   pub front : base ≡ take (length base) ms
   pub fewer : length base ≤ length ms
-  pub lcms : Each (HasLcm (variables shared.ring) base) pairs
-  pub known : Each (λ t. length t.1 ≡ variables shared.ring) products
-  pub outcome : IsOutcome (work_of (variables shared.ring) shared) (members_of (variables shared.ring) base) (pairs_of pairs) (members_of (variables shared.ring) rows) (products_of (variables shared.ring) products)
+  pub lcms : Each (HasLcm (variables shared.ring) shared.ring.weights base) pairs
+  pub known : Each (λ t. IsMonomialOver shared.ring t.1) products
+  pub outcome : IsOutcome (setting_of (variables shared.ring) shared) (vectors (members_of (variables shared.ring) base)) (pairs_of pairs) (rows_of (variables shared.ring) rows) (products_of (variables shared.ring) products)
   pub there : Contains rows row
-  pub trail : IsRowTrail (variables shared.ring) ms row steps last
+  pub trail : IsRowTrail (variables shared.ring) shared.ring.weights ms row.vector steps last
 
-module _ (shared : Shared) (ms base rows : List Tracked) (pairs : List CodePair) (products : List Step) (row : Tracked) (steps : List Step) (last : List ℕ) (h : HasStoppedRow shared ms base rows pairs products row steps last) where
+module _
+    (shared : Shared) (ms base : List Tracked) (rows : List CodeRow) (pairs : List CodePair) (products : List Step)
+    (row : CodeRow) (steps : List Step) (last : Monomial) (h : HasStoppedRow shared ms base rows pairs products row steps last) where
   abbrev n : ℕ
   n = variables shared.ring
 
@@ -175,13 +188,18 @@ module _ (shared : Shared) (ms base rows : List Tracked) (pairs : List CodePair)
       (m : ℕ) (k : Key n) → OccursBefore p G (products_of n products) m k
       → (j : ℕ) × (j < m) × (j < length products) × IsInProduct n vs k (step_at products j)
   product_met m k (j, lm, ll, o) =
-      let l : j < length products = omega (arith, ll, products_length n products) in
-      (j, lm, l, occurs_in n p vs G (step_at products j) k (at_base (step_at products j).0 (product_known j l)) (subst (λ t. Occurs p (product_vector G t) k) (product_is n products j l) o))
+      let l : j < length products = omega (arith, ll, products_length n products) in (
+        j,
+        lm,
+        l,
+        occurs_in n p vs G (step_at products j) k (at_base (step_at products j).0 (product_known j l))
+            (subst (λ t. Occurs p (product_vector G t) k) (product_is n products j l) o),
+      )
 
   lead_same : (i : ℕ) → i < length products → plain.product_lead G (product_at (products_of n products) i) ≡ product_lead n vs (step_at products i)
   lead_same i l =
       ap (plain.product_lead G) (product_is n products i l)
-      ∙ ap (λ v. shift (exponents_of n (step_at products i).1) (head_key v)) (at_base (step_at products i).0 (product_known i l))
+      ∙ ap (λ v. shift (exponents_of n (step_at products i).1.exponents) (head_key v)) (at_base (step_at products i).0 (product_known i l))
 
   -- a product's lead
   product_traced :
@@ -196,7 +214,7 @@ module _ (shared : Shared) (ms base rows : List Tracked) (pairs : List CodePair)
           ⊎ ((j : ℕ) × (j < i) × IsInProduct n vs (product_lead n vs (step_at products i)) (step_at products j))
       go (inl (x, some, e)) =
           let y = counted_pair x pairs some in
-          let lcm = (contained_each (HasLcm n base) pairs y.0 h.lcms y.1).lcm in
+          let lcm = (contained_each (HasLcm n shared.ring.weights base) pairs y.0 h.lcms y.1).lcm in
           inl (y.0, (y.1, sym (lead_same i l) ∙ e ∙ ap (lcm_of G) (sym y.2) ∙ sym lcm))
       go (inr o) =
           let r = product_met i (plain.product_lead G (product_at (products_of n products) i)) o in
@@ -205,8 +223,8 @@ module _ (shared : Shared) (ms base rows : List Tracked) (pairs : List CodePair)
   -- a key of the row
   row_key : (k : Key n) → HasKey (sum_of n row.vector) k → (j : ℕ) × (j < length products) × IsInProduct n vs k (step_at products j)
   row_key k there =
-      let v = (contained_each (IsTracked shared) rows row h.rows_tracked h.there).vector.vector in
-      let made = each_member (λ m. IsMadeOf p G (products_of n products) m.vector) rows row (h.outcome).vectors_made h.there in
+      let v = (contained_each (IsRunRow shared (length base)) rows row h.rows_over h.there).vector.vector in
+      let made = row_made p G (products_of n products) (row_of n row) (each_row (IsRow p G (products_of n products)) rows row (h.outcome).sums h.there) in
       let r = product_met (length (products_of n products)) k (made k (key_occurs (setting_of n shared) (ring_lawful shared) row.vector k v there)) in
       (r.0, r.2, r.3)
 
@@ -214,7 +232,8 @@ module _ (shared : Shared) (ms base rows : List Tracked) (pairs : List CodePair)
   step_traced :
       (i : ℕ) → i < length steps
       → (j : ℕ) × (j < length products + i) × IsInProduct n vs (product_lead n vs (step_at steps i)) (step_at (products ++ steps) j)
-  step_traced i l = subst (λ (s : List Step). i < length s → (j : ℕ) × (j < length products + i) × IsInProduct n vs (product_lead n vs (step_at s i)) (step_at (products ++ s) j)) (sym (h.trail).steps) (go i) l
+  step_traced i l = subst (λ (s : List Step). i < length s → (j : ℕ) × (j < length products + i) × IsInProduct n vs (product_lead n vs (step_at s i))
+      (step_at (products ++ s) j)) (sym (h.trail).steps) (go i) l
     where
       first : Step
       first = (h.trail).first
@@ -222,20 +241,33 @@ module _ (shared : Shared) (ms base rows : List Tracked) (pairs : List CodePair)
       later : List Step
       later = (h.trail).later
 
-      by_row : (i : ℕ) → HasKey (sum_of n row.vector) (product_lead n vs (step_at ((h.trail).first ∷ (h.trail).later) i)) → (j : ℕ) × (j < length products + i) × IsInProduct n vs (product_lead n vs (step_at ((h.trail).first ∷ (h.trail).later) i)) (step_at (products ++ (h.trail).first ∷ (h.trail).later) j)
+      by_row : (i : ℕ) → HasKey (sum_of n row.vector) (product_lead n vs (step_at ((h.trail).first ∷ (h.trail).later) i))
+          → (j : ℕ) × (j < length products + i) × IsInProduct n vs (product_lead n vs (step_at ((h.trail).first ∷ (h.trail).later) i))
+          (step_at (products ++ (h.trail).first ∷ (h.trail).later) j)
       by_row i there =
-          let r = row_key (product_lead n vs (step_at ((h.trail).first ∷ (h.trail).later) i)) there in
-          (r.0, omega (arith, r.1), subst (IsInProduct n vs (product_lead n vs (step_at ((h.trail).first ∷ (h.trail).later) i))) (sym (step_front products ((h.trail).first ∷ (h.trail).later) r.0 r.1)) r.2)
+          let r = row_key (product_lead n vs (step_at ((h.trail).first ∷ (h.trail).later) i)) there in (
+            r.0,
+            omega (arith, r.1),
+            subst (IsInProduct n vs (product_lead n vs (step_at ((h.trail).first ∷ (h.trail).later) i)))
+                (sym (step_front products ((h.trail).first ∷ (h.trail).later) r.0 r.1)) r.2,
+          )
 
-      go : (i : ℕ) → i < length ((h.trail).first ∷ (h.trail).later) → (j : ℕ) × (j < length products + i) × IsInProduct n vs (product_lead n vs (step_at ((h.trail).first ∷ (h.trail).later) i)) (step_at (products ++ (h.trail).first ∷ (h.trail).later) j)
+      go : (i : ℕ) → i < length ((h.trail).first ∷ (h.trail).later)
+          → (j : ℕ) × (j < length products + i) × IsInProduct n vs (product_lead n vs (step_at ((h.trail).first ∷ (h.trail).later) i))
+          (step_at (products ++ (h.trail).first ∷ (h.trail).later) j)
       go zero l = by_row zero (h.trail).begins
       go (suc i) l = by (met_index n (sum_of n row.vector) vs ((h.trail).first ∷ []) (h.trail).later (h.trail).met i (omega arith))
         where
           by : HasKey (sum_of n row.vector) (product_lead n vs (step_at (h.trail).later i))
               ⊎ ((j : ℕ) × (j < 1 + i) × IsInProduct n vs (product_lead n vs (step_at (h.trail).later i)) (step_at ((h.trail).first ∷ (h.trail).later) j))
-              → (j : ℕ) × (j < length products + suc i) × IsInProduct n vs (product_lead n vs (step_at (h.trail).later i)) (step_at (products ++ (h.trail).first ∷ (h.trail).later) j)
+              → (j : ℕ) × (j < length products + suc i) × IsInProduct n vs (product_lead n vs (step_at (h.trail).later i))
+              (step_at (products ++ (h.trail).first ∷ (h.trail).later) j)
           by (inl there) = by_row (suc i) there
-          by (inr (j, lt, r)) = (length products + j, omega (arith, lt), subst (IsInProduct n vs (product_lead n vs (step_at (h.trail).later i))) (sym (step_behind products ((h.trail).first ∷ (h.trail).later) j)) r)
+          by (inr (j, lt, r)) = (
+            length products + j,
+            omega (arith, lt),
+            subst (IsInProduct n vs (product_lead n vs (step_at (h.trail).later i))) (sym (step_behind products ((h.trail).first ∷ (h.trail).later) j)) r,
+          )
 
   -- all together
   pub all_traced : AreTraced n vs pairs (products ++ steps)
@@ -251,24 +283,36 @@ module _ (shared : Shared) (ms base rows : List Tracked) (pairs : List CodePair)
               → ((x : CodePair) × IsLcmOf n pairs (product_lead n vs (step_at (products ++ steps) i)) x)
               ⊎ ((j : ℕ) × (j < i) × IsInProduct n vs (product_lead n vs (step_at (products ++ steps) i)) (step_at (products ++ steps) j))
           by (inl (x, r)) = inl (x, subst (λ s. IsLcmOf n pairs (product_lead n vs s) x) (sym (step_front products steps i q)) r)
-          by (inr (j, lt, r)) = inr (j, lt, subst (λ (z : Step × Step). IsInProduct n vs (product_lead n vs z.0) z.1) (λ t. (sym (step_front products steps i q) t, sym (step_front products steps j (omega (arith, lt, q))) t)) r)
+          by (inr (j, lt, r)) = inr (
+            j,
+            lt,
+            subst (λ (z : Step × Step). IsInProduct n vs (product_lead n vs z.0) z.1)
+                (λ t. (sym (step_front products steps i q) t, sym (step_front products steps j (omega (arith, lt, q))) t)) r,
+          )
       go (inr q) =
           let k : i ≡ length products + (i - length products) = omega (arith, q) in
           let r = step_traced (i - length products) (omega (arith, l, q, length-append products steps)) in
-          let there : step_at steps (i - length products) ≡ step_at (products ++ steps) i = sym (step_behind products steps (i - length products)) ∙ ap (step_at (products ++ steps)) (sym k) in
+          let there : step_at steps (i - length products) ≡ step_at (products ++ steps) i = sym (step_behind products steps (i - length products))
+          ∙ ap (step_at (products ++ steps)) (sym k) in
           inr (r.0, omega (arith, r.1, q), subst (λ s. IsInProduct n vs (product_lead n vs s) (step_at (products ++ steps) r.0)) there r.2)
 
-  pub all_known : Each (IsStep n vs) (products ++ steps)
-  all_known = both products (products_in products h.known (λ i l. product_known i l)) (subst (Each (IsStep n vs)) (sym (h.trail).steps) (steps_in ((h.trail).first ∷ (h.trail).later) (h.trail).known (h.trail).variables))
+  pub all_known : Each (IsStep n shared.ring.weights vs) (products ++ steps)
+  all_known =
+      both products (products_in products h.known (λ i l. product_known i l))
+      (subst (Each (IsStep n shared.ring.weights vs)) (sym (h.trail).steps) (steps_in ((h.trail).first ∷ (h.trail).later) (h.trail).known (h.trail).weighed))
     where
-      both : (xs : List Step) → Each (IsStep n vs) xs → Each (IsStep n vs) steps → Each (IsStep n vs) (xs ++ steps)
+      both :
+          (xs : List Step) → Each (IsStep n shared.ring.weights vs) xs → Each (IsStep n shared.ring.weights vs) steps
+          → Each (IsStep n shared.ring.weights vs) (xs ++ steps)
       both [] a b = b
       both (x ∷ xs) a b = (a.0, both xs a.1 b)
 
-      products_in : (xs : List Step) → Each (λ t. length t.1 ≡ n) xs → ((i : ℕ) → i < length xs → (step_at xs i).0 < length base) → Each (IsStep n vs) xs
+      products_in :
+          (xs : List Step) → Each (λ t. IsMonomialOver shared.ring t.1) xs → ((i : ℕ) → i < length xs → (step_at xs i).0 < length base)
+          → Each (IsStep n shared.ring.weights vs) xs
       products_in [] v k = tt
       products_in (x ∷ xs) v k = ((omega (arith, k 0 (omega arith), h.fewer, listed_length ms), v.0), products_in xs v.1 (λ i l. k (suc i) (omega arith)))
 
-      steps_in : (xs : List Step) → Each (λ s. s.0 < length ms) xs → Each (λ s. length s.1 ≡ n) xs → Each (IsStep n vs) xs
+      steps_in : (xs : List Step) → Each (λ s. s.0 < length ms) xs → Each (λ s. IsMonomialOver shared.ring s.1) xs → Each (IsStep n shared.ring.weights vs) xs
       steps_in [] k v = tt
       steps_in (x ∷ xs) k v = ((omega (arith, k.0, listed_length ms), v.0), steps_in xs k.1 v.1)

@@ -1,16 +1,18 @@
 -- The trail that a chain of products stands for
-use Rattle.std.proofs.Common.{List, cond, Some, [], ap, arith, get_or, inl, inr, length, length-append, map, refl, subst, suc, sym, take, zero, ℕ, ◌++◌, ◌+◌, ◌-◌, ◌<◌, ◌∙◌, ◌∷◌, ◌≡◌, ◌⊎◌}
+use Rattle.std.proofs.Common.{List, cond, [], ap, arith, get_or, inl, inr, length, length-append, refl, subst, suc, sym, take, zero, ℕ, ◌++◌}
+use Rattle.std.proofs.Common.{◌+◌, ◌-◌, ◌<◌, ◌∙◌, ◌∷◌, ◌≡◌}
 use Rattle.std.proofs.lemmas.List.{length-map, length-take}
-use Rattle.std.specs.Prelude.{Contains, sum}
-use Rattle.monomial_orders.proofs.Comparing.{degree-exponents_of}
-use Rattle.monomials.specs.Exponents.{degree, exponents_of}
+use Rattle.std.specs.Prelude.{Contains}
+use Rattle.monomials.specs.Exponents.{exponents_of}
+use Rattle.monomials.specs.Weights.{weighted_degree}
+use Rattle.monomial_orders.specs.Kept.{IsWeighed, Monomial}
 use Rattle.formal_sums.specs.FormalSums.{Each, FormalSum, Key, shift}
 use Rattle.bases.specs.Leads.{head_key}
 use Rattle.bases.specs.Representations.{key_lcm}
 use Rattle.module_vectors.specs.Rings.{ring_comparison, variables}
 use Rattle.module_vectors.specs.Stops.{HasMonomial}
 use Rattle.module_vectors.specs.Trails.{AreMet, HasKey, IsChain, IsInProduct, IsOfStep, Step, last_step, product_lead}
-use Rattle.module_vectors.specs.Vectors.{IsVector, key_of, sum_of}
+use Rattle.module_vectors.specs.Vectors.{IsMonomialOver, IsVectorOver, key_of, sum_of}
 use Rattle.module_vectors.specs.declared.key.Key.{Key as CodeKey}
 use Rattle.module_vectors.specs.declared.trail.KeptTrail.{KeptTrail}
 use Rattle.module_vectors.specs.declared.trail.TrailStart.TheVariants as starts
@@ -22,24 +24,22 @@ use Rattle.basis_steps.specs.Criteria.{IsPair, lcm_of}
 use Rattle.basis_steps.specs.Outcomes as plain
 use Rattle.basis_steps.specs.Outcomes.{AreJobProducts, IsOutcome, product_at, product_vector}
 use Rattle.basis_steps.specs.Pairs.{count, is_same_pair}
-use Rattle.basis_steps.specs.States.{Product, Trail, cofactor_lists, vectors}
+use Rattle.basis_steps.specs.States.{Product, Trail, vectors}
 use Rattle.basis_core.specs.Chains.{IsLinked, IsStep, IsTracedTo, step_at}
 use Rattle.basis_core.specs.Jobs.{HasLcm, IsJobOver, pairs_of}
-use Rattle.basis_core.specs.Makings.{IsTrailAt}
-use Rattle.basis_core.specs.Members.{IsOver, Shared, Tracked, members_of, setting_of, tracked_of}
-use Rattle.basis_core.specs.Outcomes.{IsOutcomeOver, OutcomeShown, product_of, products_of, work_of}
-use Rattle.basis_core.specs.RowDivision.{IsTracked}
-use Rattle.basis_core.specs.Rows.{IsRowTrail, cofactors_in, vectors_in}
-use Rattle.basis_core.specs.Stops.{earlier_steps, trail_by, trail_of, trail_over}
+use Rattle.basis_core.specs.Makings.{EndsAs}
+use Rattle.basis_core.specs.Members.{IsRunRow, IsTracked, Shared, Tracked, members_of, rows_of, setting_of}
+use Rattle.basis_core.specs.Outcomes.{IsOutcomeOver, OutcomeShown, product_of, products_of}
+use Rattle.basis_core.specs.Rows.{IsRowTrail, vectors_in}
+use Rattle.basis_core.specs.Stops.{IsTrailBy, earlier_steps, no_step, trail_by, trail_of, trail_over}
 use Rattle.basis_core.proofs.Chaining.{nonzero_at}
-use Rattle.basis_core.proofs.Starting.{joined_members}
 use Rattle.basis_core.proofs.MemberKeys.{in_occurs, key_occurs, member_vector, vector_at}
 use Rattle.basis_core.proofs.Tracing.{HasStoppedRow, at_base, contained_each, listed_length, pair_counted, product_is, step_behind}
 use Rattle.bases.proofs.Leading.{one_not_zero}
 use Rattle.residues.proofs.Congruences.{IsCongruent_sym}
 use Rattle.basis_steps.specs.Divisions.{IsMonicMember, Occurs}
-use Rattle.cofactor_track.specs.declared.member.Member.{Member as CodeMember}
-use Rattle.basis_core.proofs.Tracking.{cofactors_over, last_variables, members_tracked, ring_lawful, vectors_over}
+use Rattle.member_products.specs.declared.member.Row.{Row as CodeRow}
+use Rattle.basis_core.proofs.Tracking.{last_weighed, ring_lawful, vectors_of_members, vectors_over}
 
 -- ---- lists of steps
 last_at : (s : Step) (ss : List Step) → step_at (s ∷ ss) (length ss) ≡ last_step s ss
@@ -86,25 +86,15 @@ term_key n (u ∷ v) t (suc k, l, e) =
     (suc r.0, omega (arith, r.1), r.2)
 
 monomial_occurs :
-    (shared : Shared) (v : List (CodeKey × ℕ)) (m : List ℕ)
-    → IsVector (variables shared.ring) shared.ring.modulus.value (ring_comparison shared.ring (variables shared.ring)) v → HasMonomial v m
-    → (i : ℕ) × Occurs shared.ring.modulus.value (sum_of (variables shared.ring) v) (i, exponents_of (variables shared.ring) m)
+    (shared : Shared) (v : List (CodeKey × ℕ)) (m : Monomial)
+    → IsVectorOver shared.ring (ring_comparison shared.ring) v → HasMonomial v m
+    → (i : ℕ) × Occurs shared.ring.modulus.value (sum_of (variables shared.ring) v) (i, exponents_of (variables shared.ring) m.exponents)
 monomial_occurs shared v m h (t, there, e) =
-    let n : ℕ = variables shared.ring in
-    (t.0.position, subst (λ x. Occurs shared.ring.modulus.value (sum_of n v) (t.0.position, exponents_of n x)) e (key_occurs (setting_of n shared) (ring_lawful shared) v (key_of n t.0) h (term_key n v t there)))
-
-degree_of_list : (n : ℕ) (xs : List ℕ) → length xs ≡ n → degree (exponents_of n xs) ≡ sum xs
-degree_of_list n xs e = subst (λ k. degree (exponents_of k xs) ≡ sum xs) e (degree-exponents_of xs)
-
-member_cof : (shared : Shared) (ms : List Tracked) (k : ℕ) → Each (IsTracked shared) ms → IsVector (variables shared.ring) shared.ring.modulus.value (ring_comparison shared.ring (variables shared.ring)) (get_or (cofactors_in ms) k [])
-member_cof shared [] k h = record { each = tt; descends = tt }
-member_cof shared (m ∷ ms) zero h = h.0.cof.vector
-member_cof shared (m ∷ ms) (suc k) h = member_cof shared ms k h.1
-
-cofactor_at : (n : ℕ) (ms : List Tracked) (k : ℕ) → get_or (cofactor_lists (members_of n ms)) k [] ≡ sum_of n (get_or (cofactors_in ms) k [])
-cofactor_at n [] k = refl
-cofactor_at n (m ∷ ms) zero = refl
-cofactor_at n (m ∷ ms) (suc k) = cofactor_at n ms k
+    let n : ℕ = variables shared.ring in (
+      t.0.position,
+      subst (λ x. Occurs shared.ring.modulus.value (sum_of n v) (t.0.position, exponents_of n x.exponents)) e
+          (key_occurs (setting_of n shared) (ring_lawful shared) v (key_of n t.0) h (term_key n v t there)),
+    )
 
 each_last : (P : Step → Type 0) (s : Step) (ss : List Step) → Each P (s ∷ ss) → P (last_step s ss)
 each_last P s [] h = h.0
@@ -112,17 +102,17 @@ each_last P s (t ∷ ss) h = each_last P t ss h.1
 
 -- what a trail has to hold
 record HoldsTrail (shared : Shared) (ms : List Tracked) (o : OutcomeShown) (w : Trail (variables shared.ring)) : Type 0 where
-  members : w.members ≡ members_of (variables shared.ring) ms
+  members : w.members ≡ vectors (members_of (variables shared.ring) ms)
   start : 0 < count w.start (pairs_of o.job.pairs)
   real : IsPair (vectors (members_of (variables shared.ring) ms)) w.start
   products : AreJobProducts shared.ring.modulus.value (vectors (members_of (variables shared.ring) ms)) (w.start ∷ []) (w.earlier ++ (w.last ∷ []))
-  monomial :
-      (i : ℕ)
-      × (Occurs shared.ring.modulus.value (get_or (vectors (members_of (variables shared.ring) ms)) w.last.0 []) (i, w.monomial)
-      ⊎ Occurs shared.ring.modulus.value (get_or (cofactor_lists (members_of (variables shared.ring) ms)) w.last.0 []) (i, w.monomial))
-  above : 65535 < degree w.last.1 + degree w.monomial
+  monomial : (i : ℕ) × Occurs shared.ring.modulus.value (get_or (vectors (members_of (variables shared.ring) ms)) w.last.0 []) (i, w.monomial)
+  above : 65535 < weighted_degree shared.ring.weights w.last.1 + weighted_degree shared.ring.weights w.monomial
 
-module _ (shared : Shared) (ms : List Tracked) (o : OutcomeShown) (row : Tracked) (steps : List Step) (last : List ℕ) (h : HasStoppedRow shared ms o.job.members o.rows o.job.pairs o.products row steps last) (chain : List Step) (i j : ℕ) (c : IsTracedTo (variables shared.ring) (vectors_in ms) o.job.pairs (o.products ++ steps) chain i j) where
+module _
+    (shared : Shared) (ms : List Tracked) (o : OutcomeShown) (row : CodeRow) (steps : List Step) (last : Monomial)
+    (h : HasStoppedRow shared ms o.job.members o.rows o.job.pairs o.products row steps last) (chain : List Step) (i j : ℕ)
+    (c : IsTracedTo (variables shared.ring) shared.ring.weights (vectors_in ms) o.job.pairs (o.products ++ steps) chain i j) where
   abbrev n : ℕ
   n = variables shared.ring
 
@@ -145,7 +135,8 @@ module _ (shared : Shared) (ms : List Tracked) (o : OutcomeShown) (row : Tracked
   later = (c.chain_is).later
 
   same_last : last_step first later ≡ last_step (h.trail).first (h.trail).later
-  same_last = (c.chain_is).last ∙ ap (λ l. step_at (o.products ++ l) (length (o.products ++ l) - 1)) (h.trail).steps ∙ last_of_all o.products (h.trail).first (h.trail).later
+  same_last = (c.chain_is).last ∙ ap (λ l. step_at (o.products ++ l) (length (o.products ++ l) - 1)) (h.trail).steps
+      ∙ last_of_all o.products (h.trail).first (h.trail).later
 
   counted : 0 < count (i, j) (pairs_of o.job.pairs)
   counted = subst (λ x. 0 < count x (pairs_of o.job.pairs)) c.indices (pair_counted c.pair o.job.pairs (c.lcm).0)
@@ -173,16 +164,19 @@ module _ (shared : Shared) (ms : List Tracked) (o : OutcomeShown) (row : Tracked
   }
 
   lcm_key : product_lead n vs first ≡ lcm_of base (i, j)
-  lcm_key = (c.lcm).1 ∙ (contained_each (HasLcm n o.job.members) o.job.pairs c.pair h.lcms (c.lcm).0).lcm ∙ ap (lcm_of base) c.indices
+  lcm_key = (c.lcm).1 ∙ (contained_each (HasLcm n shared.ring.weights o.job.members) o.job.pairs c.pair h.lcms (c.lcm).0).lcm ∙ ap (lcm_of base) c.indices
 
-  known : Each (IsStep n vs) (first ∷ later)
+  known : Each (IsStep n shared.ring.weights vs) (first ∷ later)
   known = (c.chain_is).known
 
   lead_here : (s : Step) → plain.product_lead G (product_of n s) ≡ product_lead n vs s
-  lead_here s = ap (λ v. shift (exponents_of n s.1) (head_key v)) (vector_at n ms s.0)
+  lead_here s = ap (λ v. shift (exponents_of n s.1.exponents) (head_key v)) (vector_at n ms s.0)
 
   products : AreJobProducts p G ((i, j) ∷ []) (products_of n (first ∷ later))
-  products zero l = (omega (arith, (known.0).0, listed_length ms, members_length n ms), inl ((i, j), pair_first, lead_here first ∙ lcm_key ∙ (λ t. key_lcm (head_key (sym (same_vector i left) t)) (head_key (sym (same_vector j right) t)))))
+  products zero l = (
+    omega (arith, (known.0).0, listed_length ms, members_length n ms),
+    inl ((i, j), pair_first, lead_here first ∙ lcm_key ∙ (λ t. key_lcm (head_key (sym (same_vector i left) t)) (head_key (sym (same_vector j right) t)))),
+  )
     where
       pair_first : 0 < count (i, j) ((i, j) ∷ [])
       pair_first =
@@ -200,48 +194,58 @@ module _ (shared : Shared) (ms : List Tracked) (o : OutcomeShown) (row : Tracked
       before = product_is n (first ∷ later) k (omega (arith, short))
 
       here : (product_at (products_of n (first ∷ later)) (suc k)).0 < length G
-      here = omega (arith, ap (λ (t : Product n). t.0) is, (each_at (IsStep n vs) later k (0, []) known.1 short).0, listed_length ms, members_length n ms)
+      here =
+          omega (
+            arith,
+            ap (λ (t : Product n). t.0) is,
+            (each_at (IsStep n shared.ring.weights vs) later k no_step known.1 short).0,
+            listed_length ms,
+            members_length n ms,
+          )
 
-      occurs : Occurs p (product_vector G (product_at (products_of n (first ∷ later)) k)) (plain.product_lead G (product_at (products_of n (first ∷ later)) (suc k)))
-      occurs = subst (λ (z : Product n × Key n). Occurs p (product_vector G z.0) z.1) (λ t. (sym before t, sym (ap (plain.product_lead G) is ∙ lead_here (step_at later k)) t))
-          (in_occurs (setting_of n shared) (ring_lawful shared) vs G (step_at (first ∷ later) k) (product_lead n vs (step_at later k)) (vector_at n ms (step_at (first ∷ later) k).0) (member_vector shared ms (step_at (first ∷ later) k).0 h.tracked) (linked_at n vs first later (c.chain_is).linked k short))
+      occurs : Occurs p (product_vector G (product_at (products_of n (first ∷ later)) k))
+          (plain.product_lead G (product_at (products_of n (first ∷ later)) (suc k)))
+      occurs = subst (λ (z : Product n × Key n). Occurs p (product_vector G z.0) z.1)
+          (λ t. (sym before t, sym (ap (plain.product_lead G) is ∙ lead_here (step_at later k)) t))
+          (in_occurs (setting_of n shared) (ring_lawful shared) vs G (step_at (first ∷ later) k) (product_lead n vs (step_at later k))
+          (vector_at n ms (step_at (first ∷ later) k).0) (member_vector shared ms (step_at (first ∷ later) k).0 h.tracked)
+          (linked_at n vs first later (c.chain_is).linked k short))
 
-  of_last : IsOfStep vs (Some (cofactors_in ms)) (last_step first later) last
-  of_last = subst (λ s. IsOfStep vs (Some (cofactors_in ms)) s last) (sym same_last) (h.trail).monomial
+  of_last : IsOfStep vs (last_step first later) last
+  of_last = subst (λ s. IsOfStep vs s last) (sym same_last) (h.trail).monomial
 
-  monomial :
-      (k : ℕ)
-      × (Occurs p (get_or G (last_step first later).0 []) (k, exponents_of n last)
-      ⊎ Occurs p (get_or (cofactor_lists (members_of n ms)) (last_step first later).0 []) (k, exponents_of n last))
-  monomial = go of_last
-    where
-      go : HasMonomial (get_or vs (last_step first later).0 []) last ⊎ HasMonomial (get_or (cofactors_in ms) (last_step first later).0 []) last
-          → (k : ℕ)
-          × (Occurs p (get_or G (last_step first later).0 []) (k, exponents_of n last)
-          ⊎ Occurs p (get_or (cofactor_lists (members_of n ms)) (last_step first later).0 []) (k, exponents_of n last))
-      go (inl m) =
-          let r = monomial_occurs shared (get_or vs (last_step first later).0 []) last (member_vector shared ms (last_step first later).0 h.tracked) m in
-          (r.0, inl (subst (λ v. Occurs p v (r.0, exponents_of n last)) (sym (vector_at n ms (last_step first later).0)) r.1))
-      go (inr m) =
-          let r = monomial_occurs shared (get_or (cofactors_in ms) (last_step first later).0 []) last (member_cof shared ms (last_step first later).0 h.tracked) m in
-          (r.0, inr (subst (λ v. Occurs p v (r.0, exponents_of n last)) (sym (cofactor_at n ms (last_step first later).0)) r.1))
+  monomial : (k : ℕ) × Occurs p (get_or G (last_step first later).0 []) (k, exponents_of n last.exponents)
+  monomial =
+      let r = monomial_occurs shared (get_or vs (last_step first later).0 []) last (member_vector shared ms (last_step first later).0 h.tracked) of_last in
+      (r.0, subst (λ v. Occurs p v (r.0, exponents_of n last.exponents)) (sym (vector_at n ms (last_step first later).0)) r.1)
 
-  last_length : length last ≡ n
-  last_length = last_variables shared ms (last_step first later) last h.tracked of_last
+  last_here : IsMonomialOver shared.ring last
+  last_here = last_weighed shared ms (last_step first later) last h.tracked of_last
 
-  too_great : 65535 < sum (last_step first later).1 + sum last
-  too_great = subst (λ (s : Step). 65535 < sum s.1 + sum last) (sym same_last) (h.trail).too_great
+  too_great : 65535 < (last_step first later).1.degree + last.degree
+  too_great = subst (λ (s : Step). 65535 < s.1.degree + last.degree) (sym same_last) (h.trail).too_great
 
-  above : 65535 < degree (exponents_of n (last_step first later).1) + degree (exponents_of n last)
-  above = omega (arith, too_great, degree_of_list n (last_step first later).1 (each_last (IsStep n vs) first later known).1, degree_of_list n last last_length)
+  above :
+      65535
+      < weighted_degree shared.ring.weights (exponents_of n (last_step first later).1.exponents)
+      + weighted_degree shared.ring.weights (exponents_of n last.exponents)
+  above = omega (arith, too_great, (each_last (IsStep n shared.ring.weights vs) first later known).1.degree, last_here.degree)
 
   -- the trail with these fields
   abbrev whole : KeptTrail → KeptTrail
-  whole t = record t { ring = shared.ring; rank = shared.rank; generators = shared.generators; start = starts.Pair i j; vector = []; members = vectors_in ms; cofs = Some (cofactors_in ms); last = last }
+  whole t = record t {
+    ring = shared.ring;
+    rank = shared.rank;
+    generators = shared.generators;
+    start = starts.Pair i j;
+    vector = [];
+    members = vectors_in ms;
+    last = last;
+  }
 
   holds : (t : KeptTrail) → HoldsTrail shared ms o (trail_by n (whole t) first later)
   holds t = record {
-    members = joined_members n ms;
+    members = sym (vectors_of_members n ms);
     start = counted;
     real = real;
     products = subst (AreJobProducts p G ((i, j) ∷ [])) (sym (products_whole n first later)) products;
@@ -249,20 +253,20 @@ module _ (shared : Shared) (ms : List Tracked) (o : OutcomeShown) (row : Tracked
     above = above;
   }
 
-  steps_known : (ss : List Step) → Each (IsStep n vs) ss → Each (λ s. s.0 < length vs) ss
+  steps_known : (ss : List Step) → Each (IsStep n shared.ring.weights vs) ss → Each (λ s. s.0 < length vs) ss
   steps_known [] k = tt
   steps_known (s ∷ ss) k = ((k.0).0, steps_known ss k.1)
 
-  steps_variables : (ss : List Step) → Each (IsStep n vs) ss → Each (λ s. length s.1 ≡ n) ss
-  steps_variables [] k = tt
-  steps_variables (s ∷ ss) k = ((k.0).1, steps_variables ss k.1)
+  steps_weighed : (ss : List Step) → Each (IsStep n shared.ring.weights vs) ss → Each (λ s. IsMonomialOver shared.ring s.1) ss
+  steps_weighed [] k = tt
+  steps_weighed (s ∷ ss) k = ((k.0).1, steps_weighed ss k.1)
 
   kept_chain :
       Each (λ m. 0 < length m.vector) ms → (t : KeptTrail) → t.steps.items ≡ chain → IsChain n (whole t) first later
   kept_chain some t e = record {
     steps = e ∙ (c.chain_is).steps;
     known = steps_known (first ∷ later) known;
-    variables = steps_variables (first ∷ later) known;
+    variables = steps_weighed (first ∷ later) known;
     begins = (
       record {
         left = omega (arith, left, h.fewer, listed_length ms);
@@ -277,17 +281,17 @@ module _ (shared : Shared) (ms : List Tracked) (o : OutcomeShown) (row : Tracked
     );
     met = linked_met n (sum_of n []) vs (first ∷ []) first later (0, omega arith, refl) (c.chain_is).linked;
     last = of_last;
-    last_variables = last_length;
+    last_variables = last_here;
     too_great = too_great;
   }
 
   pub trail_at :
       Each (λ m. 0 < length m.vector) ms → (t : KeptTrail) → t.steps.items ≡ chain → t.below.items ≡ [] → t ≡ whole t
-      → IsTrailAt n shared ms o t
+      → IsTrailBy shared ms (pairs_of o.job.pairs) t
   trail_at some t e b w =
       let at : trail_of n (whole t) ≡ trail_by n (whole t) first later = ap (trail_over n (whole t)) (e ∙ (c.chain_is).steps) in
       let all : HoldsTrail shared ms o (trail_of n (whole t)) = subst (HoldsTrail shared ms o) (sym at) (holds t) in
-      subst (IsTrailAt n shared ms o) (sym w)
+      subst (IsTrailBy shared ms (pairs_of o.job.pairs)) (sym w)
       (record {
         pair = record {
           over = record {
@@ -297,7 +301,6 @@ module _ (shared : Shared) (ms : List Tracked) (o : OutcomeShown) (row : Tracked
             generators = refl;
             below = b;
             vectors = vectors_over shared ms h.tracked;
-            cofactors = (cofactors_in ms, refl, length-map ms (λ m. m.cof) ∙ sym (length-map ms (λ m. m.vector)), cofactors_over shared ms h.tracked);
           };
           vector = refl;
           start = (i, j, refl);
@@ -310,26 +313,37 @@ module _ (shared : Shared) (ms : List Tracked) (o : OutcomeShown) (row : Tracked
         above = all.above;
       })
 
+  pub ends_as : (t : KeptTrail) → t.steps.items ≡ chain → t ≡ whole t → EndsAs n steps t
+  ends_as t e w =
+      let at : trail_of n (whole t) ≡ trail_by n (whole t) first later = ap (trail_over n (whole t)) (e ∙ (c.chain_is).steps) in
+      record {
+        first = (h.trail).first;
+        later = (h.trail).later;
+        steps_are = (h.trail).steps;
+        last = ap (λ z. (trail_of n z).last) w ∙ ap (λ (z : Trail n). z.last) at ∙ ap (product_of n) same_last;
+      }
+
 -- ---- what the calls of a Put that stops have
 pub has_stopped_row :
-    (shared : Shared) (ms : List Tracked) (o : OutcomeShown) (hs : List CodeMember) (steps : List Step) (last : List ℕ)
+    (shared : Shared) (ms : List Tracked) (o : OutcomeShown) (steps : List Step) (last : Monomial)
     → Each (IsTracked shared) ms → o.job.shared ≡ shared → IsOutcomeOver o → IsJobOver o.job
-    → Each (λ m. IsOver o.job.shared m) hs → map (λ m. tracked_of m) hs ≡ o.rows → o.job.members ≡ take (length o.job.members) ms
-    → (r : (row : Tracked) × Contains o.rows row × IsRowTrail (variables shared.ring) ms row steps last)
+    → o.job.members ≡ take (length o.job.members) ms
+    → (r : (row : CodeRow) × Contains o.rows row × IsRowTrail (variables shared.ring) shared.ring.weights ms row.vector steps last)
     → HasStoppedRow shared ms o.job.members o.rows o.job.pairs o.products r.0 steps last
-has_stopped_row shared ms o hs steps last tracked same outcome job over terms front r = record {
+has_stopped_row shared ms o steps last tracked same outcome job front r = record {
   tracked = tracked;
-  rows_tracked = subst (Each (IsTracked shared)) terms (members_tracked shared (λ m. m) hs (subst (λ (sh : Shared). Each (λ m. IsOver sh m) hs) same over));
+  rows_over = subst (λ (sh : Shared). Each (IsRunRow sh (length o.job.members)) o.rows) same outcome.rows;
   front = front;
   fewer = omega (arith, ap length front, length-take (length o.job.members) ms);
-  lcms = subst (λ (sh : Shared). Each (HasLcm (variables sh.ring) o.job.members) o.job.pairs) same job.lcms;
-  known = subst (λ (sh : Shared). Each (λ t. length t.1 ≡ variables sh.ring) o.products) same outcome.variables;
-  outcome = subst (λ (sh : Shared). IsOutcome (work_of (variables sh.ring) sh) (members_of (variables sh.ring) o.job.members) (pairs_of o.job.pairs) (members_of (variables sh.ring) o.rows) (products_of (variables sh.ring) o.products)) same outcome.outcome;
+  lcms = subst (λ (sh : Shared). Each (HasLcm (variables sh.ring) sh.ring.weights o.job.members) o.job.pairs) same job.lcms;
+  known = subst (λ (sh : Shared). Each (λ t. IsMonomialOver sh.ring t.1) o.products) same outcome.weighed;
+  outcome = subst (λ (sh : Shared). IsOutcome (setting_of (variables sh.ring) sh) (vectors (members_of (variables sh.ring) o.job.members)) (pairs_of o.job.pairs) (rows_of (variables sh.ring) o.rows) (products_of (variables sh.ring) o.products)) same outcome.outcome;
   there = r.1;
   trail = r.2;
 }
 
-pub members_nonzero : (shared : Shared) (ms : List Tracked) → Each (IsMonicMember (setting_of (variables shared.ring) shared)) (vectors (members_of (variables shared.ring) ms)) → Each (λ m. 0 < length m.vector) ms
+pub members_nonzero : (shared : Shared) (ms : List Tracked)
+    → Each (IsMonicMember (setting_of (variables shared.ring) shared)) (vectors (members_of (variables shared.ring) ms)) → Each (λ m. 0 < length m.vector) ms
 members_nonzero shared [] h = tt
 members_nonzero shared (m ∷ ms) h = (go m.vector h.0, members_nonzero shared ms h.1)
   where
@@ -337,6 +351,7 @@ members_nonzero shared (m ∷ ms) h = (go m.vector h.0, members_nonzero shared m
     go [] h = absurd (one_not_zero (setting_of (variables shared.ring) shared) (ring_lawful shared) (IsCongruent_sym h.monic.one))
     go (t ∷ v) h = omega arith
 
-pub lcm_variables : (n : ℕ) (ms : List Tracked) (xs : List CodePair) → Each (HasLcm n ms) xs → Each (λ x. length x.lcm.monomial ≡ n) xs
-lcm_variables n ms [] h = tt
-lcm_variables n ms (x ∷ xs) h = ((h.0).variables, lcm_variables n ms xs h.1)
+pub lcm_weighed :
+    (n : ℕ) (ws : List ℕ) (ms : List Tracked) (xs : List CodePair) → Each (HasLcm n ws ms) xs → Each (λ x. IsWeighed n ws x.lcm.monomial) xs
+lcm_weighed n ws ms [] h = tt
+lcm_weighed n ws ms (x ∷ xs) h = (h.0.weighed, lcm_weighed n ws ms xs h.1)

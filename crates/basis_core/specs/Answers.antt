@@ -1,22 +1,23 @@
 -- What the calls on the state of a run answer
-use Rattle.std.specs.Prelude.{List, None, Some, [], get_or, length, take, ⊤, ℕ, ◌++◌, ◌<◌, ◌≡◌, ◌≤◌, ◌⊎◌}
+use Rattle.std.specs.Prelude.{List, None, Some, [], get_or, length, take, ⊤, ℕ, ◌++◌, ◌<◌, ◌∷◌, ◌≡◌, ◌≤◌, ◌⊎◌}
 use Rattle.module_vectors.specs.Vectors.{sums_of}
 use Rattle.module_vectors.specs.declared.trail.KeptTrail.{KeptTrail}
 use Rattle.module_vectors.specs.declared.trail.TrailStart.TheVariants as starts
 use Rattle.module_vectors.specs.declared.trail.WorkStop.{WorkStop}
 use Rattle.module_vectors.specs.declared.trail.WorkStop.TheVariants.{Memory, Degree}
-use Rattle.basis_steps.specs.Divisions.{Makes}
+use Rattle.formal_sums.specs.FormalSums.{FormalSum}
+use Rattle.basis_steps.specs.Divisions.{AreReached, Makes}
 use Rattle.basis_steps.specs.Pairs.{Pair, count}
-use Rattle.basis_steps.specs.States.{Member, job_of, pairs_taken}
+use Rattle.basis_steps.specs.States.{Member, job_of, vectors}
 use Rattle.basis_steps.specs.Steps.{FindsStop, Takes, generator_rows}
-use Rattle.basis_steps.specs.Trails.{IsTrail}
+use Rattle.basis_steps.specs.Trails.{HasGiven, IsTrail, row_at}
 use Rattle.basis_core.specs.declared.stop.StopReason.{StopReason}
 use Rattle.basis_core.specs.declared.stop.StopReason.TheVariants as reasons
 use Rattle.basis_core.specs.declared.taken.Taken.{Taken}
 use Rattle.basis_core.specs.declared.taken.Taken.TheVariants.{Job as TookJob, Empty, Stopped}
 use Rattle.basis_core.specs.Jobs.{pairs_of}
 use Rattle.basis_core.specs.Logs.{Adds, Take}
-use Rattle.basis_core.specs.Members.{Shared, members_of, setting_of}
+use Rattle.basis_core.specs.Members.{Shared, members_of, rows_of, setting_of}
 use Rattle.basis_core.specs.Outcomes.{OutcomeShown}
 use Rattle.basis_core.specs.Shown.{Shown}
 use Rattle.basis_core.specs.Stops.{IsPairTrail, IsTrailOver, trail_members, trail_of}
@@ -35,17 +36,19 @@ pub record IsBeginningTrail (n : ℕ) (shared : Shared) (t : KeptTrail) : Type 0
   pub number : ℕ
   pub known : number < length shared.generators
   pub vector : t.vector ≡ get_or shared.generators number []
-  pub members : Makes (setting_of n shared) [] (generator_rows 0 (take number (sums_of n shared.generators))) (trail_members n t)
+  pub made : List (Member n)
+  pub makes : Makes (setting_of n shared) [] (generator_rows 0 (take number (sums_of n shared.generators))) made
+  pub members : trail_members n t ≡ vectors made
 
 -- Degree comes with such a trail alone
 abbrev pub BeginningStops : (n : ℕ) → Shared → WorkStop → Type 0
 BeginningStops n shared Memory = ⊤
 BeginningStops n shared (Degree t) = IsBeginningTrail n shared t
 
--- a trail of the state's members and of a pair that was taken, as a stop by the degree needs it
+-- a trail of the state's members and of a job of its history, as a stop by the degree needs it
 pub record IsRunTrail (n : ℕ) (s : Shown) (t : KeptTrail) : Type 0 where
   pub pair : IsPairTrail s.shared t
-  pub way : IsTrail (run_of n s) (state_of n s).members (pairs_taken (state_of n s).history) (trail_of n t)
+  pub way : IsTrail (run_of n s) (vectors (state_of n s).members) (state_of n s).history (trail_of n t)
 
 -- the reason is not the budget, which a Take alone keeps; a stop by the degree has such a trail
 abbrev pub IsReason : (n : ℕ) → Shown → StopReason → Type 0
@@ -84,15 +87,20 @@ pub record IsJobOut (s : Shown) (o : OutcomeShown) : Type 0 where
   pub had : length o.job.members ≤ length s.members
   pub members : o.job.members ≡ take (length o.job.members) s.members
 
--- a trail by the state's members and those that the first rows make
+-- a trail by the state's members and those that the rows before one of them make, of a job of the history: of that row's division
 pub record IsPutTrail (n : ℕ) (s : Shown) (o : OutcomeShown) (t : KeptTrail) : Type 0 where
   pub trail : IsRunTrail n s t
   pub start : 0 < count (trail_of n t).start (pairs_of o.job.pairs)
   pub number : ℕ
   pub known : number < length o.rows
   pub made : List (Member n)
-  pub makes : Makes (setting_of n s.shared) (members_of n s.members) (take number (members_of n o.rows)) made
-  pub members : (trail_of n t).members ≡ members_of n s.members ++ made
+  pub makes : Makes (setting_of n s.shared) (vectors (members_of n s.members)) (take number (rows_of n o.rows)) made
+  pub members : (trail_of n t).members ≡ vectors (members_of n s.members) ++ vectors made
+  pub given : HasGiven (state_of n s).history (pairs_of o.job.pairs)
+  -- the products of the row's division so far, the last of the trail behind them
+  pub division : FormalSum n
+  pub reached :
+      AreReached s.shared.ring.modulus.value (trail_of n t).members (row_at (rows_of n o.rows) number).vector [] (division ++ (((trail_of n t).last, 1) ∷ []))
 
 -- Degree comes with such a trail alone
 abbrev pub PutStops : (n : ℕ) → Shown → OutcomeShown → WorkStop → Type 0

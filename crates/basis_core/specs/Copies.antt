@@ -1,14 +1,15 @@
 -- What a trail keeps of the members
-use Rattle.std.specs.Prelude.{List, Some, [], ℕ, ◌≡◌}
+use Rattle.std.specs.Prelude.{List, [], ℕ, ◌≡◌}
+use Rattle.monomial_orders.specs.Kept.{Monomial}
 use Rattle.module_vectors.specs.Trails.{Step}
 use Rattle.module_vectors.specs.declared.key.Key.{Key as CodeKey}
 use Rattle.module_vectors.specs.declared.trail.KeptTrail.{KeptTrail}
 use Rattle.module_vectors.specs.declared.trail.TrailStart.{TrailStart}
 use Rattle.basis_core.specs.Members.{MembersShown}
-use Rattle.basis_core.specs.Rows.{cofactors_in, vectors_in}
+use Rattle.basis_core.specs.Rows.{vectors_in}
 
 -- the trail is over these members, begins with this start and vector, and has these steps and this last monomial
-pub record IsOverMembers (m : MembersShown) (start : TrailStart) (v : List (CodeKey × ℕ)) (ss : List Step) (last : List ℕ) (t : KeptTrail) : Type 0 where
+pub record IsOverMembers (m : MembersShown) (start : TrailStart) (v : List (CodeKey × ℕ)) (ss : List Step) (last : Monomial) (t : KeptTrail) : Type 0 where
   pub ring : t.ring ≡ m.shared.ring
   pub rank : t.rank ≡ m.shared.rank
   pub generators : t.generators ≡ m.shared.generators
@@ -16,6 +17,5 @@ pub record IsOverMembers (m : MembersShown) (start : TrailStart) (v : List (Code
   pub start_is : t.start ≡ start
   pub vector_is : t.vector ≡ v
   pub members : t.members ≡ vectors_in m.list
-  pub cofactors : t.cofs ≡ Some (cofactors_in m.list)
   pub steps_are : t.steps.items ≡ ss
   pub last_is : t.last ≡ last

@@ -1,20 +1,20 @@
 -- The fields of a state, and what is kept of them
-use Rattle.std.specs.Prelude.{Bool, List, None, Option, Some, [], cond, false, get_or, length, map, nat_eq, not, true, zero, suc, ⊤, ℕ, ◌&&◌, ◌+◌, ◌<◌, ◌≤◌, ◌∷◌}
+use Rattle.std.specs.Prelude.{Bool, List, None, Option, Some, [], cond, false, get_or, length, nat_eq, not, true, zero, suc, ⊤, ℕ, ◌&&◌, ◌+◌, ◌<◌}
+use Rattle.std.specs.Prelude.{◌≡◌, ◌≤◌, ◌∷◌}
 use Rattle.std.specs.Vec.{vec_capacity}
 use Rattle.formal_sums.specs.FormalSums.{Each}
-use Rattle.basis_steps.specs.Steps.{Replays, took_since}
+use Rattle.basis_steps.specs.Histories.{took_since}
+use Rattle.basis_steps.specs.Steps.{Replays}
 use Rattle.basis_steps.specs.States as plain
 use Rattle.basis_core.specs.declared.state.BasisState.TheInside.{Inside}
 use Rattle.basis_core.specs.declared.event.Event.{Event}
 use Rattle.basis_core.specs.declared.event.Event.TheVariants.{End, Put, Stop, Take}
 use Rattle.basis_core.specs.declared.stop.StopReason.{StopReason}
-use Rattle.basis_core.specs.Jobs.{HasLcm, pairs_of}
-use Rattle.vector_division.specs.Marks.{AreMarks}
+use Rattle.basis_core.specs.Jobs.{pairs_of}
 use Rattle.basis_core.specs.Shown.{Shown}
 use Rattle.basis_core.specs.Stops.{IsReasonOver}
-use Rattle.basis_core.specs.Views.{outs_of, run_of, state_of, variables_of}
-use Rattle.basis_core.specs.Tested.{AreIndices, AreTested}
-use Rattle.basis_core.specs.Waits.{IsTable, IsWide}
+use Rattle.basis_core.specs.Views.{run_of, state_of, variables_of}
+use Rattle.basis_core.specs.Leads.{leads_of}
 
 abbrev pub shown : Inside → Shown
 shown s = record {
@@ -22,8 +22,8 @@ shown s = record {
   budget = s.budget;
   workers = s.workers;
   members = s.members.list;
-  queue = pairs_of s.queue.items;
-  out = outs_of s.out.items;
+  queue = pairs_of s.pairs.queue;
+  out = s.pairs.out;
   taken = s.taken;
   ended = s.ended.items;
   stop = s.stop;
@@ -68,16 +68,12 @@ abbrev pub IsStopOver : (o : Shown) → Option StopReason → Type 0
 IsStopOver o None = ⊤
 IsStopOver o (Some reason) = IsReasonOver o.shared reason
 
--- the state replays its history, of which all that its events stand for is there; its pairs have their lcms and its members their marks; the table has the pairs that wait; what the last Take tested has passed, but for the pairs that ceased to wait since; and there is room for the Ends and Stops that may come
+-- the state replays its history, of which all that its events stand for is there; its pairs know its members by their leads;
+-- and there is room for the Ends and Stops that may come
 pub record IsCoherent (s : Inside) : Type 0 where
   pub some : 0 < s.workers
   pub replays : Replays (run_of (variables_of (shown s)) (shown s)) (state_of (variables_of (shown s)) (shown s))
-  pub lcms : Each (HasLcm (variables_of (shown s)) s.members.list) s.queue.items
-  pub marks : AreMarks (map (λ m. m.vector) s.members.list) s.marks.items
-  pub wide : IsWide (length s.members.list) (map (λ row. row.items) s.waits.items)
-  pub table : IsTable (map (λ row. row.items) s.waits.items) (pairs_of s.queue.items) (outs_of s.out.items)
-  pub tested : AreTested s.members (map (λ row. row.items) s.waits.items) s.loose.items s.tested (pairs_of s.queue.items)
-  pub loose : Each (AreIndices (length s.members.list)) s.loose.items
+  pub leads : s.pairs.leads ≡ leads_of s.members.shared s.members.list
   pub stop : IsStopOver (shown s) s.stop
   pub read : Each (IsRead (length s.members.list) s.stop) s.history.items
   pub room : length s.history.items + all_left (state_of (variables_of (shown s)) (shown s)) s.workers ≤ vec_capacity s.history

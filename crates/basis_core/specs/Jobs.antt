@@ -1,13 +1,14 @@
 -- What a worker takes: pairs of members that it has
-use Rattle.std.specs.Prelude.{List, length, map, ℕ, ◌<◌, ◌≡◌}
+use Rattle.std.specs.Prelude.{List, length, ℕ, ◌<◌, ◌≡◌}
 use Rattle.formal_sums.specs.FormalSums.{Each}
+use Rattle.monomial_orders.specs.Kept.{IsWeighed}
 use Rattle.module_vectors.specs.Rings.{variables}
 use Rattle.module_vectors.specs.Vectors.{key_of}
 use Rattle.pair_criteria.specs.declared.pair.Pair.{Pair as CodePair}
 use Rattle.basis_steps.specs.Criteria.{IsPair, lcm_of}
 use Rattle.basis_steps.specs.Divisions.{IsMonicMember}
-use Rattle.basis_steps.specs.Pairs.{Pair}
 use Rattle.basis_steps.specs.States.{vectors}
+pub use Rattle.pair_queue.specs.Pairs.{pair_of, pairs_of}
 use Rattle.basis_core.specs.Members.{Shared, Tracked, members_of, setting_of}
 
 -- what contracts see of a job
@@ -17,17 +18,9 @@ pub record JobShown : Type 0 where
   pub members : List Tracked
   pub pairs : List CodePair
 
--- the indices of a pair
-abbrev pub pair_of : CodePair → Pair
-pair_of x = (x.i, x.j)
-
--- the indices of each pair
-abbrev pub pairs_of : List CodePair → List Pair
-pairs_of xs = map (λ x. pair_of x) xs
-
--- the pair keeps the least common multiple of its leads
-pub record HasLcm (n : ℕ) (ms : List Tracked) (x : CodePair) : Type 0 where
-  pub variables : length x.lcm.monomial ≡ n
+-- the pair keeps the least common multiple of its leads, by these weights
+pub record HasLcm (n : ℕ) (ws : List ℕ) (ms : List Tracked) (x : CodePair) : Type 0 where
+  pub weighed : IsWeighed n ws x.lcm.monomial
   pub lcm : key_of n x.lcm ≡ lcm_of (vectors (members_of n ms)) (pair_of x)
 
 -- at least one pair; the members are monic; the pairs are of two of them with leads at one position, and have their lcms
@@ -35,7 +28,7 @@ pub record IsJob (n : ℕ) (j : JobShown) : Type 0 where
   pub some : 0 < length j.pairs
   pub monic : Each (IsMonicMember (setting_of n j.shared)) (vectors (members_of n j.members))
   pub real : Each (IsPair (vectors (members_of n j.members))) (pairs_of j.pairs)
-  pub lcms : Each (HasLcm n j.members) j.pairs
+  pub lcms : Each (HasLcm n j.shared.ring.weights j.members) j.pairs
 
 -- the same, in the number of variables of the job's ring
 abbrev pub IsJobOver : JobShown → Type 0

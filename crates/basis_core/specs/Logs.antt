@@ -78,14 +78,6 @@ made_in (Stop w ∷ es) = made_in es
 abbrev pub members_after : Base → List Noted → List Tracked
 members_after b es = b.first ++ made_in es
 
--- the pairs of all jobs of these events
-abbrev pub pairs_given_in : List Noted → List Pair
-pairs_given_in [] = []
-pairs_given_in (Take w skipped job ∷ es) = job ++ pairs_given_in es
-pairs_given_in (Put w made ∷ es) = pairs_given_in es
-pairs_given_in (End w ending ∷ es) = pairs_given_in es
-pairs_given_in (Stop w ∷ es) = pairs_given_in es
-
 -- the event e is added to the log, and what never changes is the same
 abbrev pub Adds : Noted → (old new : Shown) → Type 0
 Adds e old new = (log new ≡ log old ++ (e ∷ [])) × (base new ≡ base old)

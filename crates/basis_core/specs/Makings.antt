@@ -1,61 +1,67 @@
 -- The members that rows make, and where a row is not divided
-use Rattle.std.specs.Prelude.{Bool, Contains, List, [], cond, false, get_or, ltb, ⊤, ◌++◌, ◌+◌, ◌<◌, ◌∷◌, ◌≡◌, ◌⊎◌, ℕ}
+use Rattle.std.specs.Prelude.{Contains, List, ⊤, ◌++◌, ◌∷◌, ◌≡◌, ℕ}
+use Rattle.module_vectors.specs.Rings.{variables}
+use Rattle.module_vectors.specs.Trails.{Step, last_step}
 use Rattle.module_vectors.specs.declared.trail.KeptTrail.{KeptTrail}
 use Rattle.module_vectors.specs.declared.trail.WorkStop.{WorkStop}
 use Rattle.module_vectors.specs.declared.trail.WorkStop.TheVariants.{Memory, Degree}
-use Rattle.monomials.specs.Exponents.{degree}
-use Rattle.basis_steps.specs.Criteria.{IsPair}
-use Rattle.basis_steps.specs.Outcomes.{AreJobProducts}
-use Rattle.basis_steps.specs.States.{cofactor_lists, vectors}
+use Rattle.member_products.specs.declared.member.Row.{Row as CodeRow}
+use Rattle.formal_sums.specs.FormalSums.{Each}
+use Rattle.basis_steps.specs.States.{vectors}
 use Rattle.basis_core.specs.Jobs.{pairs_of}
-use Rattle.basis_core.specs.Outcomes.{OutcomeShown}
-use Rattle.basis_core.specs.Stops.{IsPairTrail, trail_of}
-use Rattle.basis_steps.specs.Divisions.{Makes, Occurs}
-use Rattle.basis_steps.specs.Pairs.{Pair, count}
+use Rattle.basis_core.specs.Outcomes.{OutcomeShown, product_of}
+use Rattle.basis_core.specs.Stops.{IsTrailBy, trail_of}
+use Rattle.basis_steps.specs.Divisions.{Makes}
 use Rattle.basis_core.specs.declared.row_division.RowStop.{RowStop}
 use Rattle.basis_core.specs.declared.row_division.RowStop.TheVariants as reasons
-use Rattle.basis_core.specs.Members.{Shared, Tracked, members_of, setting_of}
+use Rattle.basis_core.specs.declared.row_division.RowTrail.{RowTrail}
+use Rattle.basis_core.specs.Members.{IsTracked, Shared, Tracked, members_of, rows_of, setting_of}
 use Rattle.basis_core.specs.Rows.{IsRowTrail, RowStops}
-use Rattle.basis_core.specs.Waits.{flag}
 
 -- the later members are the earlier ones and those that the rows make
-pub record AreMade (n : ℕ) (shared : Shared) (ms rows after : List Tracked) : Type 0 where
+pub record HaveMadeRows (n : ℕ) (shared : Shared) (ms : List Tracked) (rows : List CodeRow) (after : List Tracked) : Type 0 where
   pub made : List Tracked
   pub same : after ≡ ms ++ made
-  pub makes : Makes (setting_of n shared) (members_of n ms) (members_of n rows) (members_of n made)
+  pub makes : Makes (setting_of n shared) (vectors (members_of n ms)) (rows_of n rows) (members_of n made)
 
 -- the rows before one of them are divided, and that one stops
-pub record StopsRow (n : ℕ) (shared : Shared) (ms rows after : List Tracked) (stop : RowStop) : Type 0 where
-  pub before : List Tracked
-  pub row : Tracked
-  pub later : List Tracked
+pub record StopsRow (n : ℕ) (shared : Shared) (ms : List Tracked) (rows : List CodeRow) (after : List Tracked) (stop : RowStop) : Type 0 where
+  pub before : List CodeRow
+  pub row : CodeRow
+  pub later : List CodeRow
   pub split : rows ≡ before ++ row ∷ later
-  pub made : AreMade n shared ms before after
-  pub stops : RowStops n after row stop
-
--- the flags of these pairs are gone, and all others are as they were
-abbrev pub HasCleared : List Pair → List (List Bool) → List (List Bool) → Type 0
-HasCleared job old new = (x : Pair) → flag new x ≡ cond (ltb 0 (count x job)) false (flag old x)
+  pub made : HaveMadeRows n shared ms before after
+  pub stops : RowStops n shared.ring.weights after row.vector stop
 
 -- one of the rows stops with these members
-abbrev pub StopsOne : (n : ℕ) → List Tracked → List Tracked → RowStop → Type 0
-StopsOne n ms rows reasons.Memory = ⊤
-StopsOne n ms rows (reasons.Degree t) = (row : Tracked) × Contains rows row × IsRowTrail n ms row t.steps.items t.last
+abbrev pub StopsOne : (n : ℕ) (ws : List ℕ) → List Tracked → List CodeRow → RowStop → Type 0
+StopsOne n ws ms rows reasons.Memory = ⊤
+StopsOne n ws ms rows (reasons.Degree t) = (row : CodeRow) × Contains rows row × IsRowTrail n ws ms row.vector t.steps.items t.last
 
--- a trail by these members that starts with a pair of the job, as a stop by the degree needs it
-pub record IsTrailAt (n : ℕ) (shared : Shared) (ms : List Tracked) (o : OutcomeShown) (t : KeptTrail) : Type 0 where
-  pub pair : IsPairTrail shared t
-  pub members : (trail_of n t).members ≡ members_of n ms
-  pub start : 0 < count (trail_of n t).start (pairs_of o.job.pairs)
-  pub real : IsPair (vectors (members_of n ms)) (trail_of n t).start
-  pub products : AreJobProducts shared.ring.modulus.value (vectors (members_of n ms)) ((trail_of n t).start ∷ []) ((trail_of n t).earlier ++ ((trail_of n t).last ∷ []))
-  pub monomial :
-      (i : ℕ)
-      × (Occurs shared.ring.modulus.value (get_or (vectors (members_of n ms)) (trail_of n t).last.0 []) (i, (trail_of n t).monomial)
-      ⊎ Occurs shared.ring.modulus.value (get_or (cofactor_lists (members_of n ms)) (trail_of n t).last.0 []) (i, (trail_of n t).monomial))
-  pub above : 65535 < degree (trail_of n t).last.1 + degree (trail_of n t).monomial
+-- the trail ends as these steps do
+pub record EndsAs (n : ℕ) (steps : List Step) (t : KeptTrail) : Type 0 where
+  pub first : Step
+  pub later : List Step
+  pub steps_are : steps ≡ first ∷ later
+  pub last : (trail_of n t).last ≡ product_of n (last_step first later)
+
+-- Degree comes where the row has stopped by the degree, with a trail by these members that starts with a pair of the job and ends as the row's does
+abbrev pub StopsAt : Shared → List Tracked → OutcomeShown → RowStop → WorkStop → Type 0
+StopsAt shared ms o row Memory = ⊤
+StopsAt shared ms o reasons.Memory (Degree t) = ⊥
+StopsAt shared ms o (reasons.Degree r) (Degree t) = IsTrailBy shared ms (pairs_of o.job.pairs) t × EndsAs (variables shared.ring) r.steps.items t
+
+-- the outcome is stopped by the degree: at the members that the rows before one of them make, with a trail by these that starts
+-- with a pair of the job and ends as that row's does
+pub record StopsOutcome (n : ℕ) (shared : Shared) (ms : List Tracked) (o : OutcomeShown) (t : KeptTrail) : Type 0 where
+  pub after : List Tracked
+  pub tracked : Each (IsTracked shared) after
+  pub row : RowTrail
+  pub stops : StopsRow n shared ms o.rows after (reasons.Degree row)
+  pub trail : IsTrailBy shared after (pairs_of o.job.pairs) t
+  pub ends : EndsAs n row.steps.items t
 
 -- Degree comes with such a trail alone
-abbrev pub StopsAt : (n : ℕ) → Shared → List Tracked → OutcomeShown → WorkStop → Type 0
-StopsAt n shared ms o Memory = ⊤
-StopsAt n shared ms o (Degree t) = IsTrailAt n shared ms o t
+abbrev pub StopsWork : (n : ℕ) → Shared → List Tracked → OutcomeShown → WorkStop → Type 0
+StopsWork n shared ms o Memory = ⊤
+StopsWork n shared ms o (Degree t) = StopsOutcome n shared ms o t

@@ -1,14 +1,18 @@
 -- What the members of a run stand for
-use Rattle.std.specs.Prelude.{List, map, ℕ, ◌≡◌}
-use Rattle.std.specs.Arc.{arc_value}
+use Rattle.std.specs.Prelude.{List, length, ℕ}
+use Rattle.formal_sums.specs.FormalSums.{Each}
 use Rattle.bases.specs.Settings.{Setting}
-use Rattle.module_vectors.specs.Rings.{ring_comparison, setting}
-use Rattle.module_vectors.specs.Vectors.{sum_of}
+use Rattle.module_vectors.specs.Rings.{ring_comparison, setting, variables}
 use Rattle.module_vectors.specs.declared.key.Key.{Key as CodeKey}
 use Rattle.module_vectors.specs.declared.ring.Ring.{Ring}
-use Rattle.cofactor_track.specs.declared.member.Member.{Member as CodeMember}
-use Rattle.cofactor_track.specs.declared.shared.Shared.{Shared as CodeShared}
-use Rattle.basis_steps.specs.States.{Member}
+use Rattle.basis_steps.specs.Divisions.{IsMonicMember}
+use Rattle.basis_steps.specs.States.{vectors}
+use Rattle.member_products.specs.Generators.{IsRanked}
+use Rattle.member_products.specs.Members.{AreMembersOver, IsMemberOver, IsRowOver}
+use Rattle.member_products.specs.declared.member.Member.{Member as CodeMember}
+use Rattle.member_products.specs.declared.member.Row.{Row as CodeRow}
+use Rattle.member_products.specs.declared.shared.Shared.{Shared as CodeShared}
+pub use Rattle.member_products.specs.Members.{member_of, members_of, row_of, rows_of}
 
 -- ring, rank and generators of a run
 pub record Shared : Type 0 where
@@ -16,36 +20,39 @@ pub record Shared : Type 0 where
   pub rank : ℕ
   pub generators : List (List (CodeKey × ℕ))
 
--- the terms of a vector, and those of its cofactors
-pub record Tracked : Type 0 where
-  pub vector : List (CodeKey × ℕ)
-  pub cof : List (CodeKey × ℕ)
+-- the terms of a member's vector, of its multiple of a generator and of its products
+abbrev pub Tracked : Type 0
+Tracked = CodeMember
 
 -- what the members of a run share
 abbrev pub shared_of : CodeShared → Shared
 shared_of s = record { ring = s.ring; rank = s.rank; generators = s.generators }
-
--- the terms of a member
-abbrev pub tracked_of : CodeMember → Tracked
-tracked_of m = record { vector = m.vector; cof = m.cof }
-
--- the member is over this ring, rank and list of generators
-abbrev pub IsOver : Shared → CodeMember → Type 0
-IsOver shared m = shared_of (arc_value m.shared) ≡ shared
 
 -- what contracts see of a list of members
 pub record MembersShown : Type 0 where
   pub shared : Shared
   pub list : List Tracked
 
--- a member's vector and cofactors
-abbrev pub member_of : (n : ℕ) → Tracked → Member n
-member_of n m = record { vector = sum_of n m.vector; cofactors = sum_of n m.cof }
+-- the row is of vectors of the run, its products of the first k members
+abbrev pub IsRunRow : Shared → ℕ → CodeRow → Type 0
+IsRunRow shared k row = IsRowOver shared.ring shared.rank k row
 
--- each of them
-abbrev pub members_of : (n : ℕ) → List Tracked → List (Member n)
-members_of n ms = map (λ m. member_of n m) ms
+-- the member is of vectors of the run, with k members before it
+abbrev pub IsRunMember : Shared → ℕ → Tracked → Type 0
+IsRunMember shared k m = IsMemberOver shared.ring shared.rank (length shared.generators) k m
+
+-- each member in turn
+abbrev pub AreRunMembers : Shared → List Tracked → Type 0
+AreRunMembers shared ms = AreMembersOver shared.ring shared.rank (length shared.generators) 0 ms
+
+-- the member's vector is one of the run's ring and rank
+pub record IsTracked (shared : Shared) (m : Tracked) : Type 0 where
+  pub vector : IsRanked shared.ring shared.rank m.vector
 
 -- the ring's modulus and its own order, and the rank
 abbrev pub setting_of : (n : ℕ) → Shared → Setting n
 setting_of n shared = setting shared.ring n (ring_comparison shared.ring n) shared.rank
+
+-- the members' vectors are monic, of the run's ring and rank
+abbrev pub AreMonic : Shared → List Tracked → Type 0
+AreMonic shared ms = Each (IsMonicMember (setting_of (variables shared.ring) shared)) (vectors (members_of (variables shared.ring) ms))

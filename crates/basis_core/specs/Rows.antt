@@ -1,6 +1,7 @@
--- Rows divided by members, and how one comes to a product of too great a degree
-use Rattle.std.specs.Prelude.{List, Some, [], length, map, sum, ⊤, ℕ, ◌+◌, ◌∷◌, ◌<◌, ◌≡◌}
+-- Vectors divided by members, and how one comes to a product of too great a degree
+use Rattle.std.specs.Prelude.{List, [], length, map, ⊤, ℕ, ◌+◌, ◌∷◌, ◌<◌, ◌≡◌}
 use Rattle.formal_sums.specs.FormalSums.{Each}
+use Rattle.monomial_orders.specs.Kept.{IsWeighed, Monomial}
 use Rattle.module_vectors.specs.Trails.{AreMet, HasKey, IsOfStep, Step, last_step, product_lead}
 use Rattle.module_vectors.specs.Vectors.{sum_of}
 use Rattle.module_vectors.specs.declared.key.Key.{Key as CodeKey}
@@ -12,23 +13,19 @@ use Rattle.basis_core.specs.Members.{Tracked}
 abbrev pub vectors_in : List Tracked → List (List (CodeKey × ℕ))
 vectors_in ms = map (λ m. m.vector) ms
 
--- the terms of the members' cofactors
-abbrev pub cofactors_in : List Tracked → List (List (CodeKey × ℕ))
-cofactors_in ms = map (λ m. m.cof) ms
-
--- these steps divide the row by the members, and the last one's product with a monomial of its member's vector or cofactors is too great
-pub record IsRowTrail (n : ℕ) (ms : List Tracked) (row : Tracked) (chain : List Step) (last : List ℕ) : Type 0 where
+-- these steps divide the vector by the members, and the last one's product with a monomial of its member is too great
+pub record IsRowTrail (n : ℕ) (ws : List ℕ) (ms : List Tracked) (v : List (CodeKey × ℕ)) (chain : List Step) (last : Monomial) : Type 0 where
   pub first : Step
   pub later : List Step
   pub steps : chain ≡ first ∷ later
   pub known : Each (λ s. s.0 < length ms) (first ∷ later)
-  pub variables : Each (λ s. length s.1 ≡ n) (first ∷ later)
-  pub begins : HasKey (sum_of n row.vector) (product_lead n (vectors_in ms) first)
-  pub met : AreMet n (sum_of n row.vector) (vectors_in ms) (first ∷ []) later
-  pub monomial : IsOfStep (vectors_in ms) (Some (cofactors_in ms)) (last_step first later) last
-  pub too_great : 65535 < sum (last_step first later).1 + sum last
+  pub weighed : Each (λ s. IsWeighed n ws s.1) (first ∷ later)
+  pub begins : HasKey (sum_of n v) (product_lead n (vectors_in ms) first)
+  pub met : AreMet n (sum_of n v) (vectors_in ms) (first ∷ []) later
+  pub monomial : IsOfStep (vectors_in ms) (last_step first later) last
+  pub too_great : 65535 < (last_step first later).1.degree + last.degree
 
 -- Degree comes with such a trail alone
-abbrev pub RowStops : (n : ℕ) → List Tracked → Tracked → RowStop → Type 0
-RowStops n ms row Memory = ⊤
-RowStops n ms row (Degree t) = IsRowTrail n ms row t.steps.items t.last
+abbrev pub RowStops : (n : ℕ) (ws : List ℕ) → List Tracked → List (CodeKey × ℕ) → RowStop → Type 0
+RowStops n ws ms v Memory = ⊤
+RowStops n ws ms v (Degree t) = IsRowTrail n ws ms v t.steps.items t.last

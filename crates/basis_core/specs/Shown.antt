@@ -5,7 +5,8 @@ use Rattle.basis_core.specs.Members.{Shared, Tracked}
 use Rattle.basis_core.specs.declared.event.Event.{Event}
 use Rattle.basis_core.specs.declared.stop.StopReason.{StopReason}
 
--- ring, rank and generators; budget and workers; the members so far; the queued pairs; the pairs that are out, each with its worker; how many were taken; who has ended; the stop that is kept; the events so far
+-- ring, rank and generators; budget and workers; the members so far; the queued pairs; the pairs that are out, each with its
+-- worker; how many were taken; who has ended; the stop that is kept; the events so far
 pub record Shown : Type 0 where
   pub shared : Shared
   pub budget : ℕ

@@ -1,35 +1,28 @@
 -- Why a run stops early, and the trail that a stop by the degree carries
-use Rattle.std.specs.Prelude.{List, None, Option, Some, [], length, ⊤, ℕ, ◌∷◌, ◌≡◌}
+use Rattle.std.specs.Prelude.{List, None, Option, Some, [], get_or, ⊤, ℕ, ◌++◌, ◌+◌, ◌<◌, ◌∷◌, ◌≡◌}
 use Rattle.monomials.specs.Exponents.{exponents_of}
-use Rattle.module_vectors.specs.Rings.{ring_comparison}
+use Rattle.monomials.specs.Weights.{weighted_degree}
+use Rattle.formal_sums.specs.FormalSums.{FormalSum}
+use Rattle.module_vectors.specs.Rings.{ring_comparison, variables}
 use Rattle.module_vectors.specs.Trails.{IsTrail as IsKeptTrail, Step, last_step}
-use Rattle.module_vectors.specs.Vectors.{AreVectorsOver, sum_of}
-use Rattle.module_vectors.specs.declared.key.Key.{Key as CodeKey}
+use Rattle.module_vectors.specs.Vectors.{AreVectorsOver, sums_of}
 use Rattle.module_vectors.specs.declared.trail.KeptTrail.{KeptTrail}
 use Rattle.module_vectors.specs.declared.trail.TrailStart.{TrailStart}
 use Rattle.module_vectors.specs.declared.trail.TrailStart.TheVariants as starts
-use Rattle.basis_steps.specs.Pairs.{Pair}
+use Rattle.basis_steps.specs.Criteria.{IsPair}
+use Rattle.basis_steps.specs.Divisions.{Occurs}
+use Rattle.basis_steps.specs.Outcomes.{AreJobProducts}
+use Rattle.basis_steps.specs.Pairs.{Pair, count}
 use Rattle.basis_steps.specs.States as plain
-use Rattle.basis_steps.specs.States.{Member, Product, Trail}
+use Rattle.basis_steps.specs.States.{Trail, vectors}
 use Rattle.basis_core.specs.declared.stop.StopReason.{StopReason}
 use Rattle.basis_core.specs.declared.stop.StopReason.TheVariants.{Pairs, Memory, Degree}
-use Rattle.basis_core.specs.Members.{Shared}
+use Rattle.basis_core.specs.Members.{Shared, Tracked, members_of}
 use Rattle.basis_core.specs.Outcomes.{product_of, products_of}
 
--- vectors with their cofactors
-abbrev pub joined : (n : ℕ) → List (List (CodeKey × ℕ)) → List (List (CodeKey × ℕ)) → List (Member n)
-joined n [] cs = []
-joined n (v ∷ vs) [] = record { vector = sum_of n v; cofactors = [] } ∷ joined n vs []
-joined n (v ∷ vs) (c ∷ cs) = record { vector = sum_of n v; cofactors = sum_of n c } ∷ joined n vs cs
-
--- the lists of cofactors, none where they are not kept
-abbrev pub cofactors_kept : Option (List (List (CodeKey × ℕ))) → List (List (CodeKey × ℕ))
-cofactors_kept None = []
-cofactors_kept (Some cs) = cs
-
--- the members of the trail
-abbrev pub trail_members : (n : ℕ) → KeptTrail → List (Member n)
-trail_members n t = joined n t.members (cofactors_kept t.cofs)
+-- the vectors of the trail's members
+abbrev pub trail_members : (n : ℕ) → KeptTrail → List (FormalSum n)
+trail_members n t = sums_of n t.members
 
 -- the pair that a trail starts with
 abbrev pub start_pair : TrailStart → Pair
@@ -42,6 +35,10 @@ abbrev pub earlier_steps : Step → List Step → List Step
 earlier_steps s [] = []
 earlier_steps s (t ∷ ts) = s ∷ earlier_steps t ts
 
+-- the monomial 1 in no variables, at the first member
+abbrev pub no_step : Step
+no_step = (0, record { exponents = []; degree = 0 })
+
 -- the trail of these steps, the first of them apart
 abbrev pub trail_by : (n : ℕ) → KeptTrail → Step → List Step → Trail n
 trail_by n t first later = record {
@@ -49,12 +46,12 @@ trail_by n t first later = record {
   start = start_pair t.start;
   earlier = products_of n (earlier_steps first later);
   last = product_of n (last_step first later);
-  monomial = exponents_of n t.last;
+  monomial = exponents_of n t.last.exponents;
 }
 
 -- the same of all its steps
 abbrev pub trail_over : (n : ℕ) → KeptTrail → List Step → Trail n
-trail_over n t [] = trail_by n t (0, []) []
+trail_over n t [] = trail_by n t no_step []
 trail_over n t (first ∷ later) = trail_by n t first later
 
 -- what a kept trail stands for
@@ -72,7 +69,7 @@ abbrev pub stop_of : (n : ℕ) → Option StopReason → Option (plain.StopReaso
 stop_of n None = None
 stop_of n (Some reason) = Some (reason_of n reason)
 
--- the trail is of the run's ring, rank and generators, and has vectors as members and their cofactors; above it nothing is resolved
+-- the trail is of the run's ring, rank and generators, and has vectors as members; above it nothing is resolved
 pub record IsTrailOver (shared : Shared) (t : KeptTrail) : Type 0 where
   pub trail : IsKeptTrail t
   pub ring : t.ring ≡ shared.ring
@@ -80,17 +77,30 @@ pub record IsTrailOver (shared : Shared) (t : KeptTrail) : Type 0 where
   pub generators : t.generators ≡ shared.generators
   pub below : t.below.items ≡ []
   pub vectors : AreVectorsOver shared.ring (ring_comparison shared.ring) t.members
-  pub cofactors :
-      (cs : List (List (CodeKey × ℕ)))
-      × (t.cofs ≡ Some cs)
-      × (length cs ≡ length t.members)
-      × AreVectorsOver shared.ring (ring_comparison shared.ring) cs
 
 -- such a trail that starts with a pair, as those of jobs and of rows that are handed in do
 pub record IsPairTrail (shared : Shared) (t : KeptTrail) : Type 0 where
   pub over : IsTrailOver shared t
   pub vector : t.vector ≡ []
   pub start : (i : ℕ) × (j : ℕ) × (t.start ≡ starts.Pair i j)
+
+-- such a trail by these members, which starts with one of the pairs: each product's lead is that pair's lcm or a monomial of an
+-- earlier product, and the last product of two monomials is too great
+pub record IsTrailBy (shared : Shared) (ms : List Tracked) (pairs : List Pair) (t : KeptTrail) : Type 0 where
+  pub pair : IsPairTrail shared t
+  pub members : (trail_of (variables shared.ring) t).members ≡ vectors (members_of (variables shared.ring) ms)
+  pub start : 0 < count (trail_of (variables shared.ring) t).start pairs
+  pub real : IsPair (vectors (members_of (variables shared.ring) ms)) (trail_of (variables shared.ring) t).start
+  pub products :
+      AreJobProducts shared.ring.modulus.value (vectors (members_of (variables shared.ring) ms)) ((trail_of (variables shared.ring) t).start ∷ [])
+      ((trail_of (variables shared.ring) t).earlier ++ ((trail_of (variables shared.ring) t).last ∷ []))
+  pub monomial :
+      (i : ℕ)
+      × Occurs shared.ring.modulus.value (get_or (vectors (members_of (variables shared.ring) ms)) (trail_of (variables shared.ring) t).last.0 [])
+      (i, (trail_of (variables shared.ring) t).monomial)
+  pub above : 65535
+      < weighted_degree shared.ring.weights (trail_of (variables shared.ring) t).last.1
+      + weighted_degree shared.ring.weights (trail_of (variables shared.ring) t).monomial
 
 -- a kept stop by the degree has such a trail
 abbrev pub IsReasonOver : Shared → StopReason → Type 0

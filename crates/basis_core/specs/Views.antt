@@ -2,15 +2,14 @@
 use Rattle.std.specs.Prelude.{List, None, Option, Some, drop, map, take, ℕ, ◌≡◌}
 use Rattle.module_vectors.specs.Rings.{variables}
 use Rattle.module_vectors.specs.Vectors.{sums_of}
-use Rattle.basis_steps.specs.Pairs.{Pair}
 use Rattle.basis_steps.specs.States as plain
 use Rattle.basis_steps.specs.States.{Run, State}
 use Rattle.basis_core.specs.declared.ending.Ending.{Ending}
 use Rattle.basis_core.specs.declared.ending.Ending.TheVariants.{Ended, MoreWork}
 use Rattle.basis_core.specs.declared.event.Event.{Event}
 use Rattle.basis_core.specs.declared.event.Event.TheVariants.{Take, Put, End, Stop}
-use Rattle.basis_core.specs.declared.out.Out.{Out}
 use Rattle.basis_core.specs.declared.stop.StopReason.{StopReason}
+pub use Rattle.pair_queue.specs.Pairs.{outs_of}
 use Rattle.basis_core.specs.Members.{Tracked, members_of, setting_of}
 use Rattle.basis_core.specs.Shown.{Shown}
 use Rattle.basis_core.specs.Stops.{reason_of, stop_of}
@@ -36,10 +35,6 @@ event_of n ms kept (Stop w reason) = plain.Stop w (reason_given n kept reason)
 -- each event of a history
 abbrev pub history_of : (n : ℕ) → List Tracked → Option StopReason → List Event → List (plain.Event n)
 history_of n ms kept es = map (λ e. event_of n ms kept e) es
-
--- pairs that are out, each with its worker
-abbrev pub outs_of : List Out → List (Pair × ℕ)
-outs_of xs = map (λ o. ((o.i, o.j), o.worker)) xs
 
 -- what never changes
 abbrev pub run_of : (n : ℕ) → Shown → Run n

@@ -1,13 +1,14 @@
 // What a caller must know before an event, as tests.
 ghost use Rattle.std.specs.Prelude.{ℕ, ◌≡◌, ◌<◌, ◌∷◌, ◌↔◌, IsTrue, List, Option, [], false, get_or, true};
 ghost use Rattle.basis_steps.specs.States.{job_of};
-ghost use Rattle.basis_steps.specs.Steps.{HasStopped, MayEnd, MayTake, took_since};
+ghost use Rattle.basis_steps.specs.Histories.{HasStopped, took_since};
+ghost use Rattle.basis_steps.specs.Steps.{MayEnd, MayTake};
 ghost use Rattle.basis_core.specs.Members.{Tracked};
 ghost use Rattle.basis_core.specs.Views.{history_of, outs_of, run_of, state_of, variables_of};
 
 use crate::event::Event;
-use crate::out::Out;
 use crate::state::BasisState;
+use pair_queue::Out;
 
 /// Has the worker no pair out?
 fn is_free(out: &[Out], worker: u32) -> bool

@@ -1,20 +1,19 @@
 // What a run begins with: the members that its generators make.
 ghost use Rattle.std.specs.Prelude.{◌≡◌, ◌+◌, ◌<◌, [], get_or, length, IfOk, IfErr, OnOk};
 ghost use Rattle.module_vectors.specs.Rings.{variables};
-ghost use Rattle.vector_division.specs.Marks.{AreMarks};
 ghost use Rattle.basis_steps.specs.Steps.{none_ended};
 ghost use Rattle.basis_core.specs.Answers.{BeginningStops, IsBeginningTrail};
-ghost use Rattle.basis_core.specs.Beginning.{HaveMade};
-ghost use Rattle.basis_core.specs.Members.{tracked_of};
-ghost use Rattle.basis_core.specs.Rows.{IsRowTrail, vectors_in};
+ghost use Rattle.basis_core.specs.Beginning.{HaveMade, IsUnitMultiple};
+ghost use Rattle.basis_core.specs.Rows.{IsRowTrail};
+ghost use Rattle.member_products.specs.Generators.{IsVectorOf};
 
 use crate::copies::trail_over;
 use crate::members::Members;
 use crate::row_division::{RowStop, RowTrail, make_member};
-use cofactor_track::Member;
-use module_vectors::{KeptTrail, NoMemory, TrailStart, Vectors, WorkStop};
+use member_products::Row;
+use module_vectors::{KeptTrail, Key, NoMemory, Ring, TrailStart, Vect, WorkStop};
+use monomial_orders::Mono;
 use std::alloc::{AllocError, Global};
-use vector_division::{Mark, mark_of};
 
 /// Nobody has ended.
 pub(crate) fn nobody_ended(alloc: Global, workers: u32) -> Result<Vec<bool>, AllocError>
@@ -27,29 +26,19 @@ pub(crate) fn nobody_ended(alloc: Global, workers: u32) -> Result<Vec<bool>, All
     Ok(ended)
 }
 
-/// The marks of the members.
-pub(crate) fn member_marks(alloc: Global, members: &Members) -> Result<Vec<Mark>, NoMemory>
-    ensures { IfOk result (λ marks. AreMarks (vectors_in members.now.list) marks.items) }
-{
-    let mut marks = Vec::with_capacity(alloc, members.count())?;
-    for i in 0..members.count() {
-        marks.push_reserved(mark_of(members.at(i)));
-    }
-    Ok(marks)
-}
-
 // The trail of the generator with this number, which the members do not divide within the degrees.
 fn beginning_trail(
     alloc: Global,
     members: &Members,
     number: u64,
-    row: &Member,
+    row: &Row,
     trail: RowTrail,
 ) -> Result<KeptTrail, NoMemory>
     requires known { number < length members.now.shared.generators }
     requires vector { row.now.vector ≡ get_or members.now.shared.generators number [] }
     requires makes { HaveMade members.now.shared number members.now.list }
-    requires trail { IsRowTrail (variables members.now.shared.ring) members.now.list (tracked_of row.now) trail.steps.items trail.last }
+    requires trail { IsRowTrail (variables members.now.shared.ring) members.now.shared.ring.weights members.now.list
+        row.now.vector trail.steps.items trail.last }
     ensures { IfOk result (IsBeginningTrail (variables members.now.shared.ring) members.now.shared) }
 {
     let _number = number;
@@ -66,6 +55,35 @@ fn beginning_trail(
     Ok(kept)
 }
 
+// 1 times the generator with this number.
+fn unit_multiple(alloc: Global, ring: &Ring, number: u64) -> Result<Vect, NoMemory>
+    ensures vector { IfOk result (IsVectorOf ring.now) }
+    ensures unit { IfOk result (IsUnitMultiple ring.now number) }
+{
+    let monomial = Mono::unit(alloc, ring.vars.len())?;
+    let key = Key {
+        position: number,
+        monomial,
+    };
+    let terms = vec![in alloc; (key, 1)]?;
+    ring.modulus.domain();
+    let multiple = Vect::from_terms(alloc, ring, terms)?;
+    Ok(multiple)
+}
+
+// The generator with this number as a row, of which no members are products.
+fn generator_row(alloc: Global, members: &Members, number: u64) -> Result<Row, NoMemory>
+    requires { number < length members.now.shared.generators }
+    ensures vector { IfOk result (λ row. row.vector ≡ get_or members.now.shared.generators number []) }
+    ensures products { IfOk result (λ row. row.products ≡ []) }
+{
+    let generators = members.generators().as_slice();
+    Ok(Row {
+        vector: generators[number as usize].try_copy(alloc)?,
+        products: Vect::zero(alloc),
+    })
+}
+
 // The generator with this number is divided by the members that those before it made.
 fn make_generator(alloc: Global, members: &mut Members, number: u64) -> Result<(), WorkStop>
     requires known { number < length members.old.shared.generators }
@@ -74,8 +92,10 @@ fn make_generator(alloc: Global, members: &mut Members, number: u64) -> Result<(
     ensures makes { OnOk result (HaveMade members.old.shared (number + 1) members.new.list) }
     ensures stop { IfErr result (BeginningStops (variables members.old.shared.ring) members.old.shared) }
 {
-    let row = Member::from_generator(alloc, members.shared(), number)?;
-    match make_member(alloc, members, &row) {
+    members.generators();
+    let row = generator_row(alloc, members, number)?;
+    let multiple = unit_multiple(alloc, members.ring(), number)?;
+    match make_member(alloc, members, &row, &multiple) {
         Ok(()) => Ok(()),
         Err(RowStop::Memory) => Err(WorkStop::Memory),
         Err(RowStop::Degree(trail)) => {
@@ -87,7 +107,7 @@ fn make_generator(alloc: Global, members: &mut Members, number: u64) -> Result<(
 
 /// Each generator in turn is divided by the members so far, and makes a member where it is not zero.
 ///
-/// `Degree` comes with a trail to a product of total degree above 65,535, `Memory` where there is none.
+/// `Degree` comes with a trail to a product of degree above 65,535, `Memory` where there is none.
 pub(crate) fn make_generators(alloc: Global, members: &mut Members) -> Result<(), WorkStop>
     requires { members.old.list ≡ [] }
     ensures shared { members.new.shared ≡ members.old.shared }

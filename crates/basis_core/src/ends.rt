@@ -12,7 +12,8 @@ use pair_criteria::Pair;
 
 /// There is more work exactly where no stop is kept and a pair is queued.
 pub(crate) fn ending_at(stop: &Option<StopReason>, queue: &[Pair]) -> Ending
-    ensures { (n : ℕ) → ending_of result ≡ cond (is_stopped (stop_of n stop.now)) plain.Ended (cond (is_empty (pairs_of queue.now)) plain.Ended plain.MoreWork) }
+    ensures { (n : ℕ) → ending_of result ≡ cond (is_stopped (stop_of n stop.now)) plain.Ended
+        (cond (is_empty (pairs_of queue.now)) plain.Ended plain.MoreWork) }
 {
     if stop.is_none() && !queue.is_empty() {
         Ending::MoreWork

@@ -4,7 +4,7 @@ ghost use Rattle.std.specs.Arc.{arc_value};
 ghost use Rattle.basis_core.specs.Members.{shared_of};
 
 use crate::members::Members;
-use cofactor_track::Shared;
+use member_products::Shared;
 use pair_criteria::Pair;
 use std::alloc::Global;
 use std::marker::Model;

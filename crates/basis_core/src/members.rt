@@ -2,18 +2,18 @@
 ghost use Rattle.std.specs.Prelude.{◌≡◌, ◌<◌, map, get_or, length, take, IfOk, OnOk, OnErr, [], ◌∷◌, ◌++◌};
 ghost use Rattle.residues.specs.Residues.{IsDomain};
 ghost use Rattle.formal_sums.specs.FormalSums.{Each};
-ghost use Rattle.basis_core.specs.Members.{IsOver, shared_of, tracked_of};
-ghost use Rattle.basis_core.specs.RowDivision.{IsTracked};
+ghost use Rattle.member_products.specs.Generators.{AreGenerators};
+ghost use Rattle.basis_core.specs.Members.{AreRunMembers, IsRunMember, IsTracked, shared_of};
 ghost use Rattle.std.specs.Arc.{arc_value};
 
-use cofactor_track::{Member, Shared};
-use module_vectors::{NoMemory, Vect, Vectors};
+use member_products::{Member, Shared};
+use module_vectors::{NoMemory, Ring, Vect, VectList, Vectors};
 use std::alloc::Global;
 use std::marker::Model;
 use std::sync::Arc;
 
 /// Members over one ring, rank and list of generators. A member may stand in several lists at once, as in those of a
-/// state and of its jobs. Contracts see ring, rank and generators, and the members' terms.
+/// state and of its jobs. Contracts see ring, rank and generators, and the members.
 #[derive(Drop)]
 pub struct Members {
     shared: Arc<Shared, Global>,
@@ -23,14 +23,13 @@ pub struct Members {
 impl Model for Members {
     ghost use Rattle.std.specs.Prelude.{map};
     ghost use Rattle.std.specs.Arc.{arc_value};
-    ghost use Rattle.formal_sums.specs.FormalSums.{Each};
-    ghost use Rattle.basis_core.specs.Members.{IsOver, MembersShown, shared_of, tracked_of};
+    ghost use Rattle.basis_core.specs.Members.{AreRunMembers, MembersShown, shared_of};
 
     ghost Value = { MembersShown };
 
-    ghost view = { λ l. record { shared = shared_of (arc_value l.shared); list = map (λ h. tracked_of (arc_value h)) l.handles.items } };
+    ghost view = { λ l. record { shared = shared_of (arc_value l.shared); list = map (λ h. arc_value h) l.handles.items } };
 
-    ghost invariant = { λ l. Each (λ h. IsOver (shared_of (arc_value l.shared)) (arc_value h)) l.handles.items };
+    ghost invariant = { λ l. AreRunMembers (shared_of (arc_value l.shared)) (map (λ h. arc_value h) l.handles.items) };
 }
 
 impl Members {
@@ -52,9 +51,32 @@ impl Members {
         &self.shared
     }
 
-    /// What holds of each list of members: they are over its ring, rank and generators.
+    /// The ring of the run.
+    pub fn ring(&self) -> &Ring
+        ensures { result.now ≡ self.now.shared.ring }
+    {
+        &self.shared.ring
+    }
+
+    /// The generators of the run, which are vectors of its ring and rank.
+    pub fn generators(&self) -> &VectList
+        ensures list { result.now ≡ self.now.shared.generators }
+        ensures over { AreGenerators self.now.shared.ring self.now.shared.rank self.now.shared.generators }
+    {
+        &self.shared.generators
+    }
+
+    /// What holds of each list of members: their vectors are of its ring and rank.
     pub fn kept(&self)
         ensures { Each (IsTracked self.now.shared) self.now.list }
+    {
+        let _ = &self.handles;
+    }
+
+    /// What holds of each list of members: they are of vectors of its ring, rank and generators, and the products of each
+    /// are of those before it.
+    pub fn made(&self)
+        ensures { AreRunMembers self.now.shared self.now.list }
     {
         let _ = &self.handles;
     }
@@ -90,17 +112,17 @@ impl Members {
     /// The member with this index.
     pub fn get(&self, index: usize) -> &Member
         requires { index < length self.now.list }
-        ensures over { IsOver self.now.shared result.now }
-        ensures terms { tracked_of result.now ≡ get_or self.now.list index (tracked_of result.now) }
+        ensures over { IsRunMember self.now.shared index result.now }
+        ensures terms { result.now ≡ get_or self.now.list index result.now }
     {
         &self.handles[index]
     }
 
     /// Appends a member. After an error the list is as before.
     pub(crate) fn push(&mut self, alloc: Global, member: Member) -> Result<(), NoMemory>
-        requires { IsOver self.old.shared member }
+        requires { IsRunMember self.old.shared (length self.old.list) member }
         ensures shared { self.new.shared ≡ self.old.shared }
-        ensures ok { OnOk result (self.new.list ≡ self.old.list ++ tracked_of member ∷ []) }
+        ensures ok { OnOk result (self.new.list ≡ self.old.list ++ member ∷ []) }
         ensures err { OnErr result (self.new ≡ self.old) }
     {
         let handle = Arc::new(alloc, member)?;

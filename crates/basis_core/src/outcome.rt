@@ -1,45 +1,39 @@
 // What a worker hands in.
-ghost use Rattle.std.specs.Prelude.{◌≡◌, map};
-ghost use Rattle.formal_sums.specs.FormalSums.{Each};
-ghost use Rattle.basis_core.specs.Members.{IsOver, tracked_of};
+ghost use Rattle.std.specs.Prelude.{◌≡◌};
 
 use crate::job::Job;
-use cofactor_track::Member;
+use member_products::Row;
 use monomial_orders::Mono;
 use std::marker::Model;
 
 /// Rows over which, with the members of the job, the job's pairs have lcm representations. The rows are fewer than twice
-/// the pairs, with leads below the job's greatest lcm; they and their cofactors are made of the products (k, t) of member
-/// k and monomial t, each of which begins with a pair of the job or a monomial of an earlier one.
+/// the pairs, with leads below the job's greatest lcm; each is a sum of products (k, t) of member k and monomial t, with
+/// coefficients, that the outcome lists; each of these begins with a pair of the job or a monomial of an earlier one.
 #[derive(Drop)]
 pub struct Outcome {
     job: Job,
-    rows: Vec<Member>,
+    rows: Vec<Row>,
     products: Vec<(u64, Mono)>,
 }
 
 impl Model for Outcome {
-    ghost use Rattle.std.specs.Prelude.{map};
-    ghost use Rattle.formal_sums.specs.FormalSums.{Each};
-    ghost use Rattle.basis_core.specs.Members.{IsOver, tracked_of};
     ghost use Rattle.basis_core.specs.Outcomes.{OutcomeShown, IsOutcomeOver};
 
     ghost Value = { OutcomeShown };
 
-    ghost view = { λ o. record { job = o.job; rows = map (λ m. tracked_of m) o.rows.items; products = o.products.items } };
+    ghost view = { λ o. record { job = o.job; rows = o.rows.items; products = o.products.items } };
 
-    ghost invariant = { λ o. IsOutcomeOver (record { job = o.job; rows = map (λ m. tracked_of m) o.rows.items; products = o.products.items }) × Each (λ m. IsOver o.job.shared m) o.rows.items };
+    ghost invariant = { λ o. IsOutcomeOver (record { job = o.job; rows = o.rows.items; products = o.products.items }) };
 }
 
 impl Outcome {
     ghost use Rattle.basis_core.specs.Outcomes.{IsOutcomeOver};
 
     /// The outcome of a job, which must be one. It takes no memory.
-    pub fn new(job: Job, rows: Vec<Member>, products: Vec<(u64, Mono)>) -> Outcome
-        requires over { Each (λ m. IsOver job.shared m) rows.items }
-        requires outcome { IsOutcomeOver (record { job = job; rows = map (λ m. tracked_of m) rows.items; products = products.items }) }
+    pub fn new(job: Job, rows: Vec<Row>, products: Vec<(u64, Mono)>) -> Outcome
+        requires { IsOutcomeOver (record { job = job; rows = rows.items; products = products.items }) }
         ensures job { result.job ≡ job }
-        ensures rows { result.rows ≡ map (λ m. tracked_of m) rows.items }
+        ensures rows { result.rows ≡ rows.items }
         ensures products { result.products ≡ products.items }
     {
         Outcome {
@@ -64,9 +58,8 @@ impl Outcome {
     }
 
     /// Its rows.
-    pub fn rows(&self) -> &[Member]
-        ensures over { Each (λ m. IsOver self.now.job.shared m) result.now }
-        ensures terms { map (λ m. tracked_of m) result.now ≡ self.now.rows }
+    pub fn rows(&self) -> &[Row]
+        ensures { result.now ≡ self.now.rows }
     {
         &self.rows
     }

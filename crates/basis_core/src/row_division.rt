@@ -1,26 +1,25 @@
 // A row divided by the members of a moment, and the member that it makes.
 ghost use Rattle.std.specs.Prelude.{◌≡◌, ◌<◌, ◌++◌, ◌∷◌, [], List, length, IfOk, IfErr, OnOk, OnErr};
-ghost use Rattle.formal_sums.specs.FormalSums.{Each};
 ghost use Rattle.module_vectors.specs.Rings.{variables};
-ghost use Rattle.basis_steps.specs.Divisions.{IsMonicMember, Makes};
+ghost use Rattle.basis_steps.specs.Divisions.{Makes};
 ghost use Rattle.basis_steps.specs.States.{vectors};
-ghost use Rattle.basis_core.specs.Members.{IsOver, Tracked, member_of, members_of, setting_of, tracked_of};
-ghost use Rattle.basis_core.specs.RowDivision.{AreRowCofactors, AreRowQuotients, IsLeft, IsMade, IsRowRest, lead_residue};
+ghost use Rattle.member_products.specs.Generators.{IsRanked};
+ghost use Rattle.basis_core.specs.Members.{AreMonic, IsRunMember, IsRunRow, Tracked, member_of, members_of, setting_of};
+ghost use Rattle.basis_core.specs.RowDivision.{AreRowProducts, AreRowQuotients, IsLeft, IsLeftMember, IsRowRest, lead_residue, with_multiple};
 ghost use Rattle.basis_core.specs.Rows.{RowStops};
 ghost use Rattle.basis_core.specs.declared.row_division.RowStop.TheVariants.{Memory};
 ghost use Rattle.zp_field.specs.Moduli.{IsInverse};
 
 use crate::members::Members;
-use crate::row_cofactors::divide_cofactors;
-use cofactor_track::Member;
+use crate::products::quotient_products;
+use member_products::{Member, Row};
 use module_vectors::{NoMemory, Vect, WorkStop};
 use monomial_orders::Mono;
 use std::alloc::{AllocError, Global};
-use std::sync::Arc;
-use vector_division::{Reduction, reduce_lead};
+use vector_division::{Quotient, Reduction, reduce_lead};
 use zp_field::Modulus;
 
-/// The steps of a division of a row, and a monomial of the last one's member or cofactors that is too great for it.
+/// The steps of a division of a row, and a monomial of the last one's member that is too great for it.
 #[derive(Drop)]
 pub(crate) struct RowTrail {
     pub(crate) steps: Vec<(u64, Mono)>,
@@ -51,14 +50,14 @@ impl From<NoMemory> for RowStop {
 }
 
 // The vector's quotients and rest.
-fn divide_vector(alloc: Global, members: &Members, row: &Member) -> Result<Reduction, RowStop>
-    requires over { IsOver members.now.shared row.now }
-    ensures quotients { IfOk result (λ r. AreRowQuotients members.now.shared members.now.list (tracked_of row.now) r.quotients.items) }
-    ensures rest { IfOk result (λ r. IsRowRest members.now.shared members.now.list (tracked_of row.now) r.quotients.items r.rest) }
-    ensures stop { let n = variables members.now.shared.ring in IfErr result (RowStops n members.now.list (tracked_of row.now)) }
+fn divide_vector(alloc: Global, members: &Members, v: &Vect) -> Result<Reduction, RowStop>
+    requires over { IsRanked members.now.shared.ring members.now.shared.rank v.now }
+    ensures quotients { IfOk result (λ r. AreRowQuotients members.now.shared members.now.list v.now r.quotients.items) }
+    ensures rest { IfOk result (λ r. IsRowRest members.now.shared members.now.list v.now r.quotients.items r.rest) }
+    ensures stop { let n = variables members.now.shared.ring in IfErr result (RowStops n members.now.shared.ring.weights members.now.list v.now) }
 {
     members.kept();
-    match reduce_lead(alloc, &members.shared().ring, &row.vector, members) {
+    match reduce_lead(alloc, members.ring(), v, members) {
         Ok(reduction) => Ok(reduction),
         Err(WorkStop::Memory) => Err(RowStop::Memory),
         Err(WorkStop::Degree(trail)) => Err(RowStop::Degree(RowTrail {
@@ -66,6 +65,26 @@ fn divide_vector(alloc: Global, members: &Members, row: &Member) -> Result<Reduc
             last: trail.last,
         })),
     }
+}
+
+// The row's products less those that the division of its vector takes away.
+fn divide_products(
+    alloc: Global,
+    members: &Members,
+    row: &Row,
+    quotients: &[Quotient],
+) -> Result<Vect, NoMemory>
+    requires over { IsRunRow members.now.shared (length members.now.list) row.now }
+    requires quotients { AreRowQuotients members.now.shared members.now.list row.now.vector quotients.now }
+    ensures { IfOk result (AreRowProducts members.now.shared row.now.products quotients.now) }
+{
+    let ring = members.ring();
+    ring.modulus.domain();
+    let mut less = quotient_products(alloc, ring, quotients)?;
+    less.scale(ring, ring.modulus.value() - 1);
+    let mut products = row.products.try_copy(alloc)?;
+    products.add(alloc, ring, less)?;
+    Ok(products)
 }
 
 // The inverse of the residue of the lead.
@@ -82,66 +101,78 @@ fn invert_lead(modulus: &Modulus, v: &Vect) -> u32
 
 // The member of what division left, which is not zero.
 fn monic_member(
+    alloc: Global,
     members: &Members,
-    row: &Member,
+    row: &Row,
+    multiple: &Vect,
     reduction: Reduction,
-    cof: Vect,
-) -> Result<Member, AllocError>
-    requires over { IsOver members.now.shared row.now }
-    requires monic { let n = variables members.now.shared.ring in Each (IsMonicMember (setting_of n members.now.shared)) (vectors (members_of n members.now.list)) }
+) -> Result<Member, NoMemory>
+    requires over { IsRunMember members.now.shared (length members.now.list) (with_multiple row.now multiple.now) }
+    requires monic { AreMonic members.now.shared members.now.list }
     requires some { 0 < length reduction.rest }
-    requires quotients { AreRowQuotients members.now.shared members.now.list (tracked_of row.now) reduction.quotients.items }
-    requires rest { IsRowRest members.now.shared members.now.list (tracked_of row.now) reduction.quotients.items reduction.rest }
-    requires cofactors { AreRowCofactors members.now.shared members.now.list (tracked_of row.now) reduction.quotients.items cof }
-    ensures { IfOk result (IsMade members.now.shared members.now.list (tracked_of row.now)) }
+    requires quotients { AreRowQuotients members.now.shared members.now.list row.now.vector reduction.quotients.items }
+    requires rest { IsRowRest members.now.shared members.now.list row.now.vector reduction.quotients.items reduction.rest }
+    ensures { IfOk result (IsLeftMember members.now.shared members.now.list (with_multiple row.now multiple.now)) }
 {
     members.kept();
-    let _row = row;
-    let shared = Arc::try_clone(members.shared())?;
+    let ring = members.ring();
+    let mut products = divide_products(alloc, members, row, &reduction.quotients)?;
+    let mut multiple = multiple.try_copy(alloc)?;
     let mut vector = reduction.rest;
-    let mut cof = cof;
-    let inverse = invert_lead(&shared.ring.modulus, &vector);
-    vector.scale(&shared.ring, inverse);
-    cof.scale(&shared.ring, inverse);
+    let inverse = invert_lead(&ring.modulus, &vector);
+    vector.scale(ring, inverse);
+    multiple.scale(ring, inverse);
+    products.scale(ring, inverse);
     Ok(Member {
-        shared,
         vector,
-        cof,
+        multiple,
+        products,
     })
 }
 
 // What division of the row leaves, monic, or none where it leaves zero.
-fn divide_row(alloc: Global, members: &Members, row: &Member) -> Result<Option<Member>, RowStop>
-    requires over { IsOver members.now.shared row.now }
-    requires monic { let n = variables members.now.shared.ring in Each (IsMonicMember (setting_of n members.now.shared)) (vectors (members_of n members.now.list)) }
-    ensures left { IfOk result (IsLeft members.now.shared members.now.list (tracked_of row.now)) }
-    ensures stop { let n = variables members.now.shared.ring in IfErr result (RowStops n members.now.list (tracked_of row.now)) }
+fn divide_row(
+    alloc: Global,
+    members: &Members,
+    row: &Row,
+    multiple: &Vect,
+) -> Result<Option<Member>, RowStop>
+    requires over { IsRunMember members.now.shared (length members.now.list) (with_multiple row.now multiple.now) }
+    requires monic { AreMonic members.now.shared members.now.list }
+    ensures left { IfOk result (IsLeft members.now.shared members.now.list (with_multiple row.now multiple.now)) }
+    ensures stop { let n = variables members.now.shared.ring in IfErr result (RowStops n members.now.shared.ring.weights members.now.list row.now.vector) }
 {
     members.kept();
-    let reduction = match divide_vector(alloc, members, row) {
+    let reduction = match divide_vector(alloc, members, &row.vector) {
         Ok(reduction) => reduction,
         Err(stop) => return Err(stop),
     };
     if reduction.rest.terms().is_empty() {
         return Ok(None);
     }
-    match divide_cofactors(alloc, members, row, &reduction.quotients) {
-        Ok(cof) => Ok(Some(monic_member(members, row, reduction, cof)?)),
-        Err(stop) => Err(stop),
-    }
+    Ok(Some(monic_member(alloc, members, row, multiple, reduction)?))
 }
 
-/// Divides the row by the members until none of their leads divides its lead, with its cofactors, and appends what is
-/// left, monic, unless it is zero. After an error the members are as before.
-pub(crate) fn make_member(alloc: Global, members: &mut Members, row: &Member) -> Result<(), RowStop>
-    requires over { IsOver members.old.shared row.now }
-    requires monic { let n = variables members.old.shared.ring in Each (IsMonicMember (setting_of n members.old.shared)) (vectors (members_of n members.old.list)) }
+/// Divides the row, with this multiple of a generator, by the members until none of their leads divides its lead, and
+/// appends what is left, monic, with the products that make it, unless it is zero. After an error the members are as
+/// before.
+pub(crate) fn make_member(
+    alloc: Global,
+    members: &mut Members,
+    row: &Row,
+    multiple: &Vect,
+) -> Result<(), RowStop>
+    requires over { IsRunMember members.old.shared (length members.old.list) (with_multiple row.now multiple.now) }
+    requires monic { AreMonic members.old.shared members.old.list }
     ensures shared { members.new.shared ≡ members.old.shared }
-    ensures made { let n = variables members.old.shared.ring in OnOk result ((made : List Tracked) × (members.new.list ≡ members.old.list ++ made) × Makes (setting_of n members.old.shared) (members_of n members.old.list) (member_of n (tracked_of row.now) ∷ []) (members_of n made)) }
+    ensures made { let n = variables members.old.shared.ring in OnOk result
+        ((made : List Tracked) × (members.new.list ≡ members.old.list ++ made)
+        × Makes (setting_of n members.old.shared) (vectors (members_of n members.old.list)) (member_of n (with_multiple row.now multiple.now) ∷ [])
+        (members_of n made)) }
     ensures err { OnErr result (members.new ≡ members.old) }
-    ensures stop { let n = variables members.old.shared.ring in IfErr result (RowStops n members.old.list (tracked_of row.now)) }
+    ensures stop { let n = variables members.old.shared.ring in IfErr result (RowStops n members.old.shared.ring.weights members.old.list row.now.vector) }
 {
-    match divide_row(alloc, members, row) {
+    match divide_row(alloc, members, row, multiple) {
         Ok(None) => Ok(()),
         Ok(Some(member)) => {
             members.push(alloc, member)?;

@@ -1,44 +1,40 @@
 //! The state of a run.
-ghost use Rattle.std.specs.Prelude.{◌≡◌, ◌<◌, List, None, Some, get_or, length, true, IfOk, IfErr, MatchOption, OnOk, OnErr, false};
+ghost use Rattle.std.specs.Prelude.{◌≡◌, ◌<◌, ℕ, List, None, Some, [], get_or, length, true, IfOk, IfErr, MatchOption, OnOk, OnErr, false};
 ghost use Rattle.std.specs.Arc.{arc_value};
 ghost use Rattle.formal_sums.specs.FormalSums.{Each};
 ghost use Rattle.module_vectors.specs.Rings.{variables};
 ghost use Rattle.basis_steps.specs.Invariant.{HoldsInvariant};
 ghost use Rattle.basis_steps.specs.States.{Member as PlainMember, IsLawfulRun};
-ghost use Rattle.basis_steps.specs.Steps.{Begins, Ends, HasStopped, MayEnd, MayTake, Puts, Replays, Stops};
-ghost use Rattle.cofactor_track.specs.Members.{AreGenerators};
+ghost use Rattle.basis_steps.specs.Histories.{HasStopped};
+ghost use Rattle.basis_steps.specs.Steps.{Begins, Ends, FindsStop, MayEnd, MayTake, Puts, Replays, Stops};
+ghost use Rattle.member_products.specs.Generators.{AreGenerators};
 ghost use Rattle.basis_core.specs.Answers.{AnswersTake, BeginningStops, IsJobOut, IsReason, IsRunOf, IsTaken, PutStops};
 ghost use Rattle.basis_core.specs.Members.{shared_of};
 ghost use Rattle.basis_core.specs.Stops.{reason_of};
 ghost use Rattle.basis_core.specs.Inside.{IsRead, IsStopOver};
-ghost use Rattle.basis_core.specs.Logs.{Adds, AddsPut, End as EndNote, Stop as StopNote};
+ghost use Rattle.basis_core.specs.Logs.{Adds, AddsPut, End as EndNote, Stop as StopNote, Take as TakeNote};
 ghost use Rattle.basis_core.specs.Jobs.{HasLcm, pairs_of};
 ghost use Rattle.basis_core.specs.Pending.{HaveGrown};
 ghost use Rattle.basis_core.specs.Views.{ending_of, outs_of, run_of, state_of, variables_of, IsSameRun};
 
-use crate::beginning::{make_generators, member_marks, nobody_ended};
+use crate::beginning::{make_generators, nobody_ended};
 use crate::ending::Ending;
 use crate::ends::{ending_at, keep_first, mark_ended};
 use crate::event::Event;
+use crate::leading::first_pairs;
 use crate::members::Members;
-use crate::out::Out;
 use crate::outcome::Outcome;
-use crate::putting::{close_job, loosen, make_members, mark_members, queue_made};
-use crate::queue::{Queue, blank_pairs};
-use crate::queueing::queue_new_pairs;
-use crate::sharing::share_of;
-use crate::skipping::skip;
+use crate::putting::add_members;
 use crate::stop::StopReason;
 use crate::taken::Taken;
-use crate::taking::{answer, give, keep_stop};
-use crate::trails::put_stop;
-use cofactor_track::Shared;
+use crate::taking::{answer, keep_stop};
+use member_products::Shared;
 use module_vectors::{NoMemory, Ring, VectList, WorkStop};
 use pair_criteria::Pair;
+use pair_queue::{Out, PairQueue};
 use std::alloc::Global;
 use std::marker::Model;
 use std::sync::Arc;
-use vector_division::Mark;
 
 /// The state of a basis run: what never changes in it, its members, the pairs that are queued or out, who has ended, the
 /// stop that is kept, and its history. Workers have the numbers below its number of workers.
@@ -47,21 +43,13 @@ pub struct BasisState {
     budget: u64,
     workers: u32,
     members: Members,
-    // One for each member: what is tested first of its lead.
-    marks: Vec<Mark>,
-    queue: Queue,
-    out: Vec<Out>,
+    // By the leads of the members.
+    pairs: PairQueue,
     taken: u64,
     ended: Vec<bool>,
     stop: Option<StopReason>,
     // Behind its events it has room for the Ends and Stops that may come.
     history: Vec<Event>,
-    // Which pairs wait, in the queue or out: row j has a flag for each i below j.
-    waits: Vec<Vec<bool>>,
-    // How many members there were at the last Take: no criterion applied by them to the pairs that it left.
-    tested: usize,
-    // The pairs that wait no more since the last Take, with room for those that one skips.
-    loose: Vec<(u64, u64)>,
 }
 
 impl Model for BasisState {
@@ -92,7 +80,7 @@ impl BasisState {
     /// earlier one, and all pairs are queued. IVA chapter 2, section 7.
     ///
     /// `generators` are vectors of the ring, with positions below `rank`; `budget` is the most pairs that are taken;
-    /// `workers` is at least 1. `Degree` comes with a trail to a product of total degree above 65,535, `Memory` where
+    /// `workers` is at least 1. `Degree` comes with a trail to a product of degree above 65,535, `Memory` where
     /// there is none.
     pub fn begin(
         alloc: Global,
@@ -118,10 +106,7 @@ impl BasisState {
         )?;
         let mut members = Members::new(alloc, shared);
         make_generators(alloc, &mut members)?;
-        let marks = member_marks(alloc, &members)?;
-        let mut queue = Queue::new(alloc);
-        let mut waits = Vec::new(alloc);
-        queue_new_pairs(alloc, &members, 0, &mut queue, &mut waits)?;
+        let pairs = first_pairs(alloc, &members)?;
         let ended = nobody_ended(alloc, workers)?;
         // Ends and Stops take no memory: there is room for three events of each worker.
         let history = Vec::with_capacity(alloc, 3 * workers as usize)?;
@@ -129,16 +114,11 @@ impl BasisState {
             budget,
             workers,
             members,
-            marks,
-            queue,
-            out: Vec::new(alloc),
+            pairs,
             taken: 0,
             ended,
             stop: None,
             history,
-            waits,
-            tested: 0,
-            loose: Vec::new(alloc),
         })
     }
 
@@ -154,58 +134,66 @@ impl BasisState {
         ensures members { self.new.members ≡ self.old.members }
         ensures err { OnErr result (self.new ≡ self.old) }
     {
-        self.members.domain();
-        // The Take, and three more events of each worker that may come before it takes again.
-        self.history.reserve(3 * self.workers as usize + 1)?;
         if self.stop.is_some() {
-            self.history
-                .push_reserved(Event::Take(worker, Vec::new(alloc), Vec::new(alloc)));
+            self.find_stop(alloc, worker)?;
             return Ok(Taken::Stopped);
         }
-        let count = self.queue.len();
-        let most_given = most.min(count as u64) as usize;
-        let members = self.members.share(alloc)?;
-        let mut skipped = Vec::with_capacity(alloc, count)?;
-        let mut given = Vec::with_capacity(alloc, most_given)?;
-        let mut pairs = blank_pairs(alloc, most_given)?;
-        self.out.reserve(most_given)?;
-        self.loose.reserve(count)?;
-        skip(
-            &self.members,
-            &self.marks,
-            &mut self.waits,
-            &mut self.queue,
-            &mut skipped,
-            self.tested,
-            &mut self.loose,
-        );
-        self.tested = self.members.len();
-        self.loose.clear();
-        let left = self.queue.as_slice();
-        let share = share_of(self.budget, self.workers, self.taken, most, left);
-        keep_stop(self.budget, self.taken, left, &mut self.stop);
-        pairs.truncate(share as usize);
-        self.queue.take_front(&mut pairs);
-        give(worker, &pairs, &mut self.out, &mut given);
-        self.taken += share;
-        // Events stay: they hold no more memory than they need.
-        skipped.shrink_to_fit();
-        given.shrink_to_fit();
+        self.take_pairs(alloc, worker, most)
+    }
+
+    // A Take that finds a stop. After `NoMemory` the state is as before.
+    fn find_stop(&mut self, alloc: Global, worker: u32) -> Result<(), NoMemory>
+        requires may { let n = variables_of self.old in (most : ℕ) × MayTake (run_of n self.old) (state_of n self.old) worker most }
+        requires stopped { (reason : _) × (self.old.stop ≡ Some reason) }
+        ensures step { let n = variables_of self.old in OnOk result (FindsStop (state_of n self.old) worker [] [] (state_of n self.new)) }
+        ensures event { OnOk result (Adds (TakeNote worker [] []) self.old self.new) }
+        ensures run { IsSameRun self.old self.new }
+        ensures members { self.new.members ≡ self.old.members }
+        ensures stop { self.new.stop ≡ self.old.stop }
+        ensures err { OnErr result (self.new ≡ self.old) }
+    {
+        // The Take, and three more events of each worker that may come before it takes again.
+        self.history.reserve(3 * self.workers as usize + 1)?;
         self.history
-            .push_reserved(Event::Take(worker, skipped, given));
-        Ok(answer(worker, members, &self.stop, pairs))
+            .push_reserved(Event::Take(worker, Vec::new(alloc), Vec::new(alloc)));
+        Ok(())
+    }
+
+    // A Take that finds no stop. After `NoMemory` the state is as before.
+    fn take_pairs(&mut self, alloc: Global, worker: u32, most: u64) -> Result<Taken, NoMemory>
+        requires may { let n = variables_of self.old in MayTake (run_of n self.old) (state_of n self.old) worker most }
+        requires unstopped { self.old.stop ≡ None }
+        ensures step { let n = variables_of self.old in IfOk result (λ t. IsTaken n self.old worker most t self.new) }
+        ensures answer { IfOk result (AnswersTake worker self.new) }
+        ensures run { IsSameRun self.old self.new }
+        ensures members { self.new.members ≡ self.old.members }
+        ensures err { OnErr result (self.new ≡ self.old) }
+    {
+        self.members.domain();
+        self.history.reserve(3 * self.workers as usize + 1)?;
+        let members = self.members.share(alloc)?;
+        // The last call that wants memory.
+        let given = self
+            .pairs
+            .take(alloc, worker, self.budget, self.workers, self.taken, most)?;
+        keep_stop(self.budget, self.taken, given.none_left, &mut self.stop);
+        self.taken += given.pairs.len() as u64;
+        self.history
+            .push_reserved(Event::Take(worker, given.skipped, given.given));
+        Ok(answer(worker, members, &self.stop, given.pairs))
     }
 
     /// Takes in the outcome of a job that is out: each row is divided by the members of that moment and becomes a member
     /// where it is not zero, and the new members' pairs are queued. IVA chapter 2, section 10.
     ///
-    /// `Degree` comes with a trail to a product of total degree above 65,535, `Memory` where there is none; both give the
+    /// `Degree` comes with a trail to a product of degree above 65,535, `Memory` where there is none; both give the
     /// outcome back and leave the state as it was.
     pub fn put(&mut self, alloc: Global, outcome: Outcome) -> Result<(), (WorkStop, Outcome)>
         requires known { outcome.job.worker < self.old.workers }
         requires works { get_or self.old.ended outcome.job.worker true ≡ false }
         requires out { IsJobOut self.old outcome }
-        ensures step { let n = variables_of self.old in OnOk result ((made : List (PlainMember n)) × Puts (run_of n self.old) (state_of n self.old) outcome.job.worker made (state_of n self.new)) }
+        ensures step { let n = variables_of self.old in OnOk result
+            ((made : List (PlainMember n)) × Puts (run_of n self.old) (state_of n self.old) outcome.job.worker made (state_of n self.new)) }
         ensures event { OnOk result (AddsPut outcome.job.worker self.old self.new) }
         ensures run { IsSameRun self.old self.new }
         ensures members { OnOk result (HaveGrown self.old.members self.new.members) }
@@ -217,31 +205,17 @@ impl BasisState {
         outcome.kept();
         let worker = outcome.job().worker();
         let first = self.members.len();
-        if let Err(stop) = make_members(alloc, &mut self.members, outcome.rows()) {
-            let stop = put_stop(alloc, &self.members, &outcome, stop);
-            self.members.truncate(first);
+        if let Err(stop) = add_members(
+            alloc,
+            &outcome,
+            self.workers,
+            &mut self.members,
+            &mut self.history,
+            &mut self.pairs,
+        ) {
             return Err((stop, outcome));
         }
-        if self.loose.reserve(self.out.len()).is_err() {
-            self.members.truncate(first);
-            return Err((WorkStop::Memory, outcome));
-        }
-        if let Err(NoMemory) = queue_made(
-            alloc,
-            &self.members,
-            first,
-            self.workers,
-            &mut self.marks,
-            &mut self.history,
-            &mut self.queue,
-            &mut self.waits,
-        ) {
-            self.members.truncate(first);
-            return Err((WorkStop::Memory, outcome));
-        }
-        mark_members(&self.members, first, &mut self.marks);
-        loosen(worker, &self.out, &mut self.loose);
-        close_job(worker, &mut self.out, &mut self.waits);
+        self.pairs.give_back(worker);
         let count = self.members.len() - first;
         self.history
             .push_reserved(Event::Put(worker, first as u64, count as u64));
@@ -257,7 +231,7 @@ impl BasisState {
         ensures run { IsSameRun self.old self.new }
         ensures members { self.new.members ≡ self.old.members }
     {
-        let ending = ending_at(&self.stop, self.queue.as_slice());
+        let ending = ending_at(&self.stop, self.pairs.queued());
         mark_ended(&mut self.ended, worker, ending);
         self.history.push_reserved(Event::End(worker, ending));
         ending
@@ -304,16 +278,16 @@ impl BasisState {
     /// earlier one.
     pub fn queued(&self) -> &[Pair]
         ensures pairs { pairs_of result.now ≡ self.now.queue }
-        ensures lcms { Each (HasLcm (variables_of self.now) self.now.members) result.now }
+        ensures lcms { Each (HasLcm (variables_of self.now) self.now.shared.ring.weights self.now.members) result.now }
     {
-        self.queue.as_slice()
+        self.pairs.queued()
     }
 
     /// The pairs that are out.
     pub fn out(&self) -> &[Out]
         ensures { outs_of result.now ≡ self.now.out }
     {
-        &self.out
+        self.pairs.out()
     }
 
     /// How many pairs were taken.

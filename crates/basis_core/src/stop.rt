@@ -8,6 +8,6 @@ pub enum StopReason {
     Pairs,
     /// There was no memory.
     Memory,
-    /// A product of total degree above 65,535 was needed.
+    /// A product of degree above 65,535 was needed.
     Degree(KeptTrail),
 }

@@ -4,14 +4,14 @@ ghost use Rattle.monomials.specs.Exponents.{exponents_of, unit};
 ghost use Rattle.formal_sums.specs.FormalSums.{Each, shift};
 ghost use Rattle.module_vectors.specs.Rings.{variables};
 ghost use Rattle.module_vectors.specs.Trails.{IsInProduct, product_lead};
-ghost use Rattle.module_vectors.specs.Vectors.{key_of};
+ghost use Rattle.module_vectors.specs.Vectors.{IsMonomialOver, key_of};
 ghost use Rattle.pair_criteria.specs.declared.pair.Pair.{Pair as PairValue};
-ghost use Rattle.basis_steps.specs.Divisions.{IsMonicMember};
-ghost use Rattle.basis_steps.specs.States.{vectors};
 ghost use Rattle.basis_core.specs.Chains.{AreTraced, IsLcmOf, IsStep, IsTracedTo, step_at};
-ghost use Rattle.basis_core.specs.Makings.{IsTrailAt, StopsAt, StopsOne};
-ghost use Rattle.basis_core.specs.Members.{members_of, setting_of};
+ghost use Rattle.basis_core.specs.Jobs.{pairs_of};
+ghost use Rattle.basis_core.specs.Makings.{EndsAs, StopsAt, StopsOne};
+ghost use Rattle.basis_core.specs.Members.{AreMonic};
 ghost use Rattle.basis_core.specs.Rows.{vectors_in};
+ghost use Rattle.basis_core.specs.Stops.{IsTrailBy};
 
 use crate::copies::trail_over;
 use crate::members::Members;
@@ -24,11 +24,13 @@ use std::alloc::Global;
 
 // Is t times the key the same as u times the other one?
 fn same_product(t: &Mono, key: &Key, u: &Mono, other: &Key) -> bool
-    requires left { length key.now.monomial ≡ length t.now }
-    requires right { length u.now ≡ length t.now }
-    requires other { length other.now.monomial ≡ length t.now }
-    ensures same { let n = length t.now in result ≡ true → shift (exponents_of n t.now) (key_of n key.now) ≡ shift (exponents_of n u.now) (key_of n other.now) }
-    ensures apart { let n = length t.now in result ≡ false → shift (exponents_of n t.now) (key_of n key.now) ≡ shift (exponents_of n u.now) (key_of n other.now) → ⊥ }
+    requires left { length key.now.monomial.exponents ≡ length t.now.exponents }
+    requires right { length u.now.exponents ≡ length t.now.exponents }
+    requires other { length other.now.monomial.exponents ≡ length t.now.exponents }
+    ensures same { let n = length t.now.exponents in
+        result ≡ true → shift (exponents_of n t.now.exponents) (key_of n key.now) ≡ shift (exponents_of n u.now.exponents) (key_of n other.now) }
+    ensures apart { let n = length t.now.exponents in
+        result ≡ false → shift (exponents_of n t.now.exponents) (key_of n key.now) ≡ shift (exponents_of n u.now.exponents) (key_of n other.now) → ⊥ }
 {
     if key.position != other.position {
         return false;
@@ -48,8 +50,8 @@ fn same_product(t: &Mono, key: &Key, u: &Mono, other: &Key) -> bool
 // Is the lead of the product `of` a key of the product `step`?
 fn is_in_product(members: &Members, of: &(u64, Mono), step: &(u64, Mono)) -> bool
     requires nonzero { Each (λ m. 0 < length m.vector) members.now.list }
-    requires of { IsStep (variables members.now.shared.ring) (vectors_in members.now.list) of.now }
-    requires step { IsStep (variables members.now.shared.ring) (vectors_in members.now.list) step.now }
+    requires of { IsStep (variables members.now.shared.ring) members.now.shared.ring.weights (vectors_in members.now.list) of.now }
+    requires step { IsStep (variables members.now.shared.ring) members.now.shared.ring.weights (vectors_in members.now.list) step.now }
     ensures met { let n = variables members.now.shared.ring in result ≡ true → IsInProduct n (vectors_in members.now.list) (product_lead n (vectors_in members.now.list) of.now) step.now }
     ensures apart { let n = variables members.now.shared.ring in result ≡ false → IsInProduct n (vectors_in members.now.list) (product_lead n (vectors_in members.now.list) of.now) step.now → ⊥ }
 {
@@ -71,10 +73,10 @@ fn find_pair<'a>(
     step: &(u64, Mono),
 ) -> Option<&'a Pair>
     requires nonzero { Each (λ m. 0 < length m.vector) members.now.list }
-    requires step { IsStep (variables members.now.shared.ring) (vectors_in members.now.list) step.now }
-    requires variables { length one.now ≡ variables members.now.shared.ring }
-    requires unit { let n = variables members.now.shared.ring in exponents_of n one.now ≡ unit n }
-    requires pairs { Each (λ x. length x.lcm.monomial ≡ variables members.now.shared.ring) pairs.now }
+    requires step { IsStep (variables members.now.shared.ring) members.now.shared.ring.weights (vectors_in members.now.list) step.now }
+    requires variables { length one.now.exponents ≡ variables members.now.shared.ring }
+    requires unit { let n = variables members.now.shared.ring in exponents_of n one.now.exponents ≡ unit n }
+    requires pairs { Each (λ x. IsMonomialOver members.now.shared.ring x.lcm.monomial) pairs.now }
     ensures some { let n = variables members.now.shared.ring in IfSome result (λ x. IsLcmOf n pairs.now (product_lead n (vectors_in members.now.list) step.now) x.now) }
     ensures none { let n = variables members.now.shared.ring in IfNone result ((x : PairValue) → IsLcmOf n pairs.now (product_lead n (vectors_in members.now.list) step.now) x → ⊥) }
 {
@@ -91,11 +93,13 @@ fn find_pair<'a>(
 // The first product that has the lead of the one with this index, which there must be.
 fn find_earlier(members: &Members, all: &[(u64, Mono)], at: usize) -> usize
     requires nonzero { Each (λ m. 0 < length m.vector) members.now.list }
-    requires all { Each (IsStep (variables members.now.shared.ring) (vectors_in members.now.list)) all.now }
+    requires all { Each (IsStep (variables members.now.shared.ring) members.now.shared.ring.weights (vectors_in members.now.list)) all.now }
     requires within { at < length all.now }
-    requires some { let n = variables members.now.shared.ring in (j : ℕ) × (j < at) × IsInProduct n (vectors_in members.now.list) (product_lead n (vectors_in members.now.list) (step_at all.now at)) (step_at all.now j) }
+    requires some { let n = variables members.now.shared.ring in (j : ℕ) × (j < at)
+        × IsInProduct n (vectors_in members.now.list) (product_lead n (vectors_in members.now.list) (step_at all.now at)) (step_at all.now j) }
     ensures earlier { result < at }
-    ensures met { let n = variables members.now.shared.ring in IsInProduct n (vectors_in members.now.list) (product_lead n (vectors_in members.now.list) (step_at all.now at)) (step_at all.now result) }
+    ensures met { let n = variables members.now.shared.ring in IsInProduct n (vectors_in members.now.list)
+        (product_lead n (vectors_in members.now.list) (step_at all.now at)) (step_at all.now result) }
 {
     let of = &all[at];
     for j in 0..at {
@@ -134,11 +138,12 @@ fn trace_back(
     all: &[(u64, Mono)],
 ) -> Result<(Vec<(u64, Mono)>, u64, u64), NoMemory>
     requires nonzero { Each (λ m. 0 < length m.vector) members.now.list }
-    requires pairs { Each (λ x. length x.lcm.monomial ≡ variables members.now.shared.ring) pairs.now }
-    requires all { Each (IsStep (variables members.now.shared.ring) (vectors_in members.now.list)) all.now }
+    requires pairs { Each (λ x. IsMonomialOver members.now.shared.ring x.lcm.monomial) pairs.now }
+    requires all { Each (IsStep (variables members.now.shared.ring) members.now.shared.ring.weights (vectors_in members.now.list)) all.now }
     requires some { 0 < length all.now }
     requires traced { AreTraced (variables members.now.shared.ring) (vectors_in members.now.list) pairs.now all.now }
-    ensures { let n = variables members.now.shared.ring in IfOk result (λ r. IsTracedTo n (vectors_in members.now.list) pairs.now all.now r.0.items r.1 r.2) }
+    ensures { let n = variables members.now.shared.ring in IfOk result (λ r.
+        IsTracedTo n members.now.shared.ring.weights (vectors_in members.now.list) pairs.now all.now r.0.items r.1 r.2) }
 {
     let one = Mono::unit(alloc, all[0].1.variables())?;
     let mut at = all.len() - 1;
@@ -180,15 +185,15 @@ fn put_trail(
     trail: RowTrail,
 ) -> Result<KeptTrail, NoMemory>
     requires shared { outcome.now.job.shared ≡ members.now.shared }
-    requires monic { let n = variables members.now.shared.ring in Each (IsMonicMember (setting_of n members.now.shared)) (vectors (members_of n members.now.list)) }
+    requires monic { AreMonic members.now.shared members.now.list }
     requires base { outcome.now.job.members ≡ take (length outcome.now.job.members) members.now.list }
-    requires row { StopsOne (variables members.now.shared.ring) members.now.list outcome.now.rows (RowStop.Degree trail) }
-    ensures { IfOk result (IsTrailAt (variables members.now.shared.ring) members.now.shared members.now.list outcome.now) }
+    requires row { StopsOne (variables members.now.shared.ring) members.now.shared.ring.weights members.now.list outcome.now.rows (RowStop.Degree trail) }
+    ensures trail { IfOk result (IsTrailBy members.now.shared members.now.list (pairs_of outcome.now.job.pairs)) }
+    ensures ends { IfOk result (EndsAs (variables members.now.shared.ring) trail.steps.items) }
 {
     // What holds of members, outcome, job and rows: by it each product has its lead from a pair or an earlier product.
     members.kept();
     outcome.kept();
-    let _ = outcome.rows();
     let job = outcome.job();
     job.kept();
     let all = gather_steps(alloc, outcome.products(), &trail.steps)?;
@@ -206,10 +211,10 @@ pub(crate) fn put_stop(
     stop: RowStop,
 ) -> WorkStop
     requires shared { outcome.now.job.shared ≡ members.now.shared }
-    requires monic { let n = variables members.now.shared.ring in Each (IsMonicMember (setting_of n members.now.shared)) (vectors (members_of n members.now.list)) }
+    requires monic { AreMonic members.now.shared members.now.list }
     requires base { outcome.now.job.members ≡ take (length outcome.now.job.members) members.now.list }
-    requires row { StopsOne (variables members.now.shared.ring) members.now.list outcome.now.rows stop }
-    ensures { StopsAt (variables members.now.shared.ring) members.now.shared members.now.list outcome.now result }
+    requires row { StopsOne (variables members.now.shared.ring) members.now.shared.ring.weights members.now.list outcome.now.rows stop }
+    ensures { StopsAt members.now.shared members.now.list outcome.now stop result }
 {
     match stop {
         RowStop::Memory => WorkStop::Memory,

@@ -5,11 +5,10 @@ use Rattle.module_vectors.specs.Rings.{variables}
 use Rattle.module_vectors.specs.declared.trail.KeptTrail.{KeptTrail}
 use Rattle.module_vectors.specs.declared.trail.WorkStop.{WorkStop}
 use Rattle.module_vectors.specs.declared.trail.WorkStop.TheVariants as works
-use Rattle.basis_steps.specs.Pairs.{Pair, count}
 use Rattle.basis_steps.specs.States as plain
-use Rattle.basis_steps.specs.States.{pairs_taken}
+use Rattle.basis_steps.specs.States.{vectors}
 use Rattle.basis_steps.specs.Steps as steps
-use Rattle.basis_steps.specs.Trails.{IsTrail}
+use Rattle.basis_steps.specs.Trails.{IsTrailOf}
 use Rattle.basis_core.specs.declared.ending.Ending.{Ending}
 use Rattle.basis_core.specs.declared.ending.Ending.TheVariants as endings
 use Rattle.basis_core.specs.declared.event.Event.TheVariants as events
@@ -29,7 +28,7 @@ use Rattle.basis_lock.specs.Acts.{acts_of, has_stop}
 use Rattle.basis_lock.specs.Calls.{IsHold, IsTrailSeen, IsWorkStopSeen}
 use Rattle.basis_core.specs.Logs.{Adds, Base, Noted, base, by, log}
 use Rattle.basis_lock.proofs.Acting.{runs_stop_kept}
-use Rattle.basis_lock.proofs.May.{log_acts, log_pairs, stop-append}
+use Rattle.basis_lock.proofs.May.{given_seen, log_acts, stop-append}
 use Rattle.basis_core.proofs.Logging.{members_told}
 
 -- the hold, by what the lock tells and the event that the core adds
@@ -52,7 +51,9 @@ hold_of b v e w s t sees at same more own is replays = record {
 trail_seen : (s : Shown) (t : KeptTrail) → IsRunTrail (variables_of s) s t → IsTrailSeen (base s) (log s) t
 trail_seen s t h = record {
   pair = h.pair;
-  way = subst (λ (z : List Tracked × List Pair). IsTrail (run_of (variables_of s) s) (members_of (variables_of s) z.0) z.1 (trail_of (variables_of s) t)) (λ i. (sym (members_told s) i, sym (log_pairs (variables_of s) s) i)) h.way;
+  job = (h.way).job;
+  given = given_seen (variables_of s) s (h.way).job (h.way).given;
+  way = subst (λ (ms : List Tracked). IsTrailOf (run_of (variables_of s) s) (vectors (members_of (variables_of s) ms)) (h.way).job (trail_of (variables_of s) t)) (sym (members_told s)) (h.way).way;
 }
 
 pub put_stops :

@@ -2,13 +2,15 @@
 use Rattle.std.proofs.Common.{Bool, List, None, Option, Some, [], ap, append_assoc, arith, cond, false, get_or, inl, inr, length, length-append, map, refl, subst, suc, sym, take, true, zero, ℕ, ◌++◌, ◌+◌, ◌<◌, ◌==◌, ◌∙◌, ◌∷◌, ◌≡◌, ◌≤◌}
 use Rattle.module_vectors.specs.Rings.{variables}
 use Rattle.module_vectors.specs.declared.trail.KeptTrail.{KeptTrail}
-use Rattle.basis_steps.proofs.Counting.{count-append}
-use Rattle.basis_steps.proofs.Keeping.{trail_more}
-use Rattle.basis_steps.specs.Pairs.{Pair, count}
+use Rattle.std.specs.Prelude.{Contains}
+use Rattle.basis_steps.proofs.Growing.{vectors-append}
+use Rattle.basis_steps.proofs.Keeping.{trail_of_more}
+use Rattle.basis_steps.specs.Histories.{HasStopped}
+use Rattle.basis_steps.specs.Pairs.{Pair}
 use Rattle.basis_steps.specs.States as plain
-use Rattle.basis_steps.specs.States.{job_of, pairs_taken}
+use Rattle.basis_steps.specs.States.{job_of, vectors}
 use Rattle.basis_steps.specs.Steps as steps
-use Rattle.basis_steps.specs.Trails.{IsTrail}
+use Rattle.basis_steps.specs.Trails.{HasGiven, IsTrailOf}
 use Rattle.basis_core.specs.declared.event.Event.{Event}
 use Rattle.basis_core.specs.declared.event.Event.TheVariants as events
 use Rattle.basis_core.specs.declared.stop.StopReason.{StopReason}
@@ -24,8 +26,8 @@ use Rattle.ruled_lock.specs.declared.law.View.{View}
 use Rattle.ruled_lock.specs.Events.{StartsWith, calls_by}
 use Rattle.ruled_lock.specs.Plays.{Sees}
 use Rattle.basis_lock.specs.Acts.{Act, Stopped, act_of, acts_of, actor, has_ended, has_stop, held_after, took_after}
-use Rattle.basis_lock.specs.Calls.{IsReasonSeen, IsTrailSeen, MayFinish, MayHandIn, MayReport, MayTakeJob, own, run_on}
-use Rattle.basis_core.specs.Logs.{Base, End, Noted, Put, Stop, Take, base, by, log, made_in, members_after, notes_from, number_at_beginning, pairs_given_in}
+use Rattle.basis_lock.specs.Calls.{HasGivenSeen, IsReasonSeen, IsTrailSeen, MayFinish, MayHandIn, MayReport, MayTakeJob, own, run_on}
+use Rattle.basis_core.specs.Logs.{Base, End, Noted, Put, Stop, Take, base, by, log, made_in, members_after, notes_from, number_at_beginning}
 use Rattle.basis_lock.proofs.Acting.{acts_of_events, nobody_ended, own_acts, runs_out, runs_stop_kept, runs_stopped, runs_took, runs_works}
 use Rattle.basis_core.proofs.Logging.{members_told}
 
@@ -68,16 +70,56 @@ own_same n w s = acts_by w (log s) ∙ ap (calls_by actor w) (acts_same n (numbe
 pub log_acts : (n : ℕ) (s : Shown) → acts_of (log s) ≡ acts_of_events (state_of n s).history
 log_acts n s = acts_same n (number_at_beginning s) s.members s.stop s.history
 
--- and so are the pairs of its jobs
-pairs_same : (n k : ℕ) (ms : List Tracked) (kept : Option StopReason) (es : List Event) → pairs_given_in (notes_from k ms es) ≡ pairs_taken (history_of n ms kept es)
-pairs_same n k ms kept [] = refl
-pairs_same n k ms kept (events.Take w skipped job ∷ es) = ap (λ l. job.items ++ l) (pairs_same n k ms kept es)
-pairs_same n k ms kept (events.Put w first count ∷ es) = pairs_same n (k + count) ms kept es
-pairs_same n k ms kept (events.End w ending ∷ es) = pairs_same n k ms kept es
-pairs_same n k ms kept (events.Stop w reason ∷ es) = pairs_same n k ms kept es
+-- a Take as an event, and as a note; others as no Take
+abbrev as_event : (n : ℕ) → Noted → plain.Event n
+as_event n (Take w skipped job) = plain.Take w skipped job
+as_event n (Put w made) = plain.Put w []
+as_event n (End w ending) = plain.End w ending
+as_event n (Stop w) = plain.End w plain.Ended
 
-pub log_pairs : (n : ℕ) (s : Shown) → pairs_given_in (log s) ≡ pairs_taken (state_of n s).history
-log_pairs n s = pairs_same n (number_at_beginning s) s.members s.stop s.history
+abbrev as_note : {n : ℕ} → plain.Event n → Noted
+as_note (plain.Take w skipped job) = Take w skipped job
+as_note (plain.Put w made) = Put w []
+as_note (plain.End w ending) = End w ending
+as_note (plain.Stop w reason) = Stop w
+
+later_there : {X : Type 0} (x : X) (xs : List X) (y : X) → Contains xs y → Contains (x ∷ xs) y
+later_there x xs y (i, l, e) = (suc i, omega arith, e)
+
+there_more : {X : Type 0} (xs ys : List X) (x : X) → Contains xs x → Contains (xs ++ ys) x
+there_more [] ys x (i, l, e) = absurd (omega arith)
+there_more (y ∷ xs) ys x (zero, l, e) = (zero, omega arith, e)
+there_more (y ∷ xs) ys x (suc i, l, e) = later_there y (xs ++ ys) x (there_more xs ys x (i, omega arith, e))
+
+-- and the jobs that were given
+given_event : (n k : ℕ) (ms : List Tracked) (kept : Option StopReason) (es : List Event) (w : ℕ) (skipped job : List Pair) → Contains (notes_from k ms es) (Take w skipped job) → Contains (history_of n ms kept es) (plain.Take w skipped job)
+given_event n k ms kept [] w skipped job (i, l, e) = absurd (omega arith)
+given_event n k ms kept (events.Take v xs ys ∷ es) w skipped job (zero, l, e) = (zero, omega arith, ap (as_event n) e)
+given_event n k ms kept (events.Take v xs ys ∷ es) w skipped job (suc i, l, e) = later_there _ _ _ (given_event n k ms kept es w skipped job (i, omega arith, e))
+given_event n k ms kept (events.Put v first count ∷ es) w skipped job (zero, l, e) = absurd cc
+given_event n k ms kept (events.Put v first count ∷ es) w skipped job (suc i, l, e) = later_there _ _ _ (given_event n (k + count) ms kept es w skipped job (i, omega arith, e))
+given_event n k ms kept (events.End v ending ∷ es) w skipped job (zero, l, e) = absurd cc
+given_event n k ms kept (events.End v ending ∷ es) w skipped job (suc i, l, e) = later_there _ _ _ (given_event n k ms kept es w skipped job (i, omega arith, e))
+given_event n k ms kept (events.Stop v reason ∷ es) w skipped job (zero, l, e) = absurd cc
+given_event n k ms kept (events.Stop v reason ∷ es) w skipped job (suc i, l, e) = later_there _ _ _ (given_event n k ms kept es w skipped job (i, omega arith, e))
+
+given_note : (n k : ℕ) (ms : List Tracked) (kept : Option StopReason) (es : List Event) (w : ℕ) (skipped job : List Pair) → Contains (history_of n ms kept es) (plain.Take w skipped job) → Contains (notes_from k ms es) (Take w skipped job)
+given_note n k ms kept [] w skipped job (i, l, e) = absurd (omega arith)
+given_note n k ms kept (events.Take v xs ys ∷ es) w skipped job (zero, l, e) = (zero, omega arith, ap as_note e)
+given_note n k ms kept (events.Take v xs ys ∷ es) w skipped job (suc i, l, e) = later_there _ _ _ (given_note n k ms kept es w skipped job (i, omega arith, e))
+given_note n k ms kept (events.Put v first count ∷ es) w skipped job (zero, l, e) = absurd cc
+given_note n k ms kept (events.Put v first count ∷ es) w skipped job (suc i, l, e) = later_there _ _ _ (given_note n (k + count) ms kept es w skipped job (i, omega arith, e))
+given_note n k ms kept (events.End v ending ∷ es) w skipped job (zero, l, e) = absurd cc
+given_note n k ms kept (events.End v ending ∷ es) w skipped job (suc i, l, e) = later_there _ _ _ (given_note n k ms kept es w skipped job (i, omega arith, e))
+given_note n k ms kept (events.Stop v reason ∷ es) w skipped job (zero, l, e) = absurd cc
+given_note n k ms kept (events.Stop v reason ∷ es) w skipped job (suc i, l, e) = later_there _ _ _ (given_note n k ms kept es w skipped job (i, omega arith, e))
+
+-- what is given by the log is given by the history, and so back
+pub given_here : (n : ℕ) (s : Shown) (job : List Pair) → HasGivenSeen (log s) job → HasGiven (state_of n s).history job
+given_here n s job h = record { worker = h.worker; skipped = h.skipped; there = given_event n (number_at_beginning s) s.members s.stop s.history h.worker h.skipped job h.there }
+
+pub given_seen : (n : ℕ) (s : Shown) (job : List Pair) → HasGiven (state_of n s).history job → HasGivenSeen (log s) job
+given_seen n s job h = record { worker = h.worker; skipped = h.skipped; there = given_note n (number_at_beginning s) s.members s.stop s.history h.worker h.skipped job h.there }
 
 -- what later events add
 made-append : (es fs : List Noted) → made_in (es ++ fs) ≡ made_in es ++ made_in fs
@@ -86,13 +128,6 @@ made-append (Take w skipped job ∷ es) fs = made-append es fs
 made-append (Put w made ∷ es) fs = ap (λ l. made ++ l) (made-append es fs) ∙ sym (append_assoc made (made_in es) (made_in fs))
 made-append (End w ending ∷ es) fs = made-append es fs
 made-append (Stop w ∷ es) fs = made-append es fs
-
-pub pairs-append : (es fs : List Noted) → pairs_given_in (es ++ fs) ≡ pairs_given_in es ++ pairs_given_in fs
-pairs-append [] fs = refl
-pairs-append (Take w skipped job ∷ es) fs = ap (λ l. job ++ l) (pairs-append es fs) ∙ sym (append_assoc job (pairs_given_in es) (pairs_given_in fs))
-pairs-append (Put w made ∷ es) fs = pairs-append es fs
-pairs-append (End w ending ∷ es) fs = pairs-append es fs
-pairs-append (Stop w ∷ es) fs = pairs-append es fs
 
 pub stop-append : (es fs : List Noted) → has_stop (acts_of es) ≡ true → has_stop (acts_of (es ++ fs)) ≡ true
 stop-append [] fs h = absurd cc
@@ -176,17 +211,15 @@ module _ (s : Shown) (v : View Noted Base) (replays : steps.Replays (run_of (var
   pub may_end : (b : Base) → base s ≡ b → MayFinish b v → steps.MayEnd (run_of n s) (state_of n s) v.worker
   may_end b e may = end_here (subst (λ z. MayFinish z v) (sym e) may)
 
-  more_taken : (x : Pair) → count x (pairs_given_in v.seen) ≤ count x (pairs_taken (state_of n s).history)
-  more_taken x =
-      let all : pairs_taken (state_of n s).history ≡ pairs_given_in v.seen ++ pairs_given_in sees.0.0 =
-      sym (pairs_same n (number_at_beginning s) s.members s.stop s.history) ∙ ap pairs_given_in sees.0.1 ∙ pairs-append v.seen sees.0.0 in
-      omega (arith, ap (count x) all, count-append x (pairs_given_in v.seen) (pairs_given_in sees.0.0))
-
   trail_here : (t : KeptTrail) → IsTrailSeen (base s) v.seen t → IsRunTrail n s t
   trail_here t h = record {
     pair = h.pair;
-    way = subst (λ ms. IsTrail (run_of n s) ms (pairs_taken (state_of n s).history) (trail_of n t)) (sym (ap (members_of n) members_now ∙ map-front n (members_after (base s) v.seen) (made_in sees.0.0)))
-        (trail_more (run_of n s) (members_of n (members_after (base s) v.seen)) (members_of n (made_in sees.0.0)) (pairs_given_in v.seen) (pairs_taken (state_of n s).history) (trail_of n t) more_taken h.way);
+    way = record {
+      job = h.job;
+      given = given_here n s h.job (subst (λ es. HasGivenSeen es h.job) (sym sees.0.1) (record { worker = h.given.worker; skipped = h.given.skipped; there = there_more v.seen sees.0.0 _ h.given.there }));
+      way = subst (λ G. IsTrailOf (run_of n s) G h.job (trail_of n t)) (sym (ap (λ ms. vectors (members_of n ms)) members_now ∙ ap vectors (map-front n (members_after (base s) v.seen) (made_in sees.0.0)) ∙ vectors-append (members_of n (members_after (base s) v.seen)) (members_of n (made_in sees.0.0))))
+          (trail_of_more (run_of n s) (vectors (members_of n (members_after (base s) v.seen))) (vectors (members_of n (made_in sees.0.0))) h.job (trail_of n t) h.way);
+    };
   }
 
   reason_here : (reason : StopReason) → IsReasonSeen (base s) v.seen reason → IsReason n s reason
@@ -194,7 +227,7 @@ module _ (s : Shown) (v : View Noted Base) (replays : steps.Replays (run_of (var
   reason_here reasons.Memory h = h
   reason_here (reasons.Degree t) h = trail_here t h
 
-  pub may_stop : (b : Base) (reason : StopReason) → base s ≡ b → MayReport b v reason → (v.worker < s.workers) × (steps.HasStopped v.worker (state_of n s).history → ⊥) × IsReason n s reason
+  pub may_stop : (b : Base) (reason : StopReason) → base s ≡ b → MayReport b v reason → (v.worker < s.workers) × (HasStopped v.worker (state_of n s).history → ⊥) × IsReason n s reason
   may_stop b reason e may =
       let here : MayReport (base s) v reason = subst (λ z. MayReport z v reason) (sym e) may in (
         here.known,

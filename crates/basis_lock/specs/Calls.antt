@@ -1,5 +1,5 @@
 -- What a worker may do under the lock, read in what its seat has seen, and what each call does
-use Rattle.std.specs.Prelude.{List, [], false, length, take, true, ⊤, ℕ, ◌++◌, ◌<◌, ◌∷◌, ◌≡◌, ◌≤◌, ◌⊎◌}
+use Rattle.std.specs.Prelude.{Contains, List, [], false, length, take, true, ⊤, ℕ, ◌++◌, ◌<◌, ◌∷◌, ◌≡◌, ◌≤◌, ◌⊎◌}
 use Rattle.module_vectors.specs.Rings.{variables}
 use Rattle.module_vectors.specs.Vectors.{sums_of}
 use Rattle.module_vectors.specs.declared.trail.KeptTrail.{KeptTrail}
@@ -7,9 +7,9 @@ use Rattle.module_vectors.specs.declared.trail.WorkStop.{WorkStop}
 use Rattle.module_vectors.specs.declared.trail.WorkStop.TheVariants as works
 use Rattle.basis_steps.specs.Pairs.{Pair}
 use Rattle.basis_steps.specs.States as plain
-use Rattle.basis_steps.specs.States.{Run}
+use Rattle.basis_steps.specs.States.{Run, vectors}
 use Rattle.basis_steps.specs.Steps as steps
-use Rattle.basis_steps.specs.Trails.{IsTrail}
+use Rattle.basis_steps.specs.Trails.{IsTrailOf}
 use Rattle.basis_core.specs.declared.ending.Ending.{Ending}
 use Rattle.basis_core.specs.declared.stop.StopReason.{StopReason}
 use Rattle.basis_core.specs.declared.stop.StopReason.TheVariants as reasons
@@ -24,7 +24,7 @@ use Rattle.basis_core.specs.Views.{IsSameRun, ending_of, run_of, state_of, varia
 use Rattle.ruled_lock.specs.declared.law.View.{View}
 use Rattle.ruled_lock.specs.Plays.{Makes}
 use Rattle.basis_lock.specs.Acts.{Act, acts_of, has_ended, has_stop, held_after, took_after}
-use Rattle.basis_core.specs.Logs.{Base, End, Noted, Put, Stop, Take, base, by, log, members_after, pairs_given_in}
+use Rattle.basis_core.specs.Logs.{Base, End, Noted, Put, Stop, Take, base, by, log, members_after}
 
 -- what the seat's worker did
 abbrev pub own : View Noted Base → List Act
@@ -53,6 +53,12 @@ pub record MayFinish (b : Base) (v : View Noted Base) : Type 0 where
   pub works : has_ended (own v) ≡ false
   pub done : (has_stop (acts_of v.seen) ≡ true) ⊎ ((held_after [] (own v) ≡ []) × (took_after false (own v) ≡ true))
 
+-- one of these Takes gave out the job
+pub record HasGivenSeen (seen : List Noted) (job : List Pair) : Type 0 where
+  pub worker : ℕ
+  pub skipped : List Pair
+  pub there : Contains seen (Take worker skipped job)
+
 -- what never changes in the run
 abbrev pub run_on : (n : ℕ) → Base → Run n
 run_on n b = record {
@@ -63,12 +69,14 @@ run_on n b = record {
   degree_limit = 65535;
 }
 
--- a trail of the members that were seen, and of a pair of a job that was seen
+-- a trail of the members that were seen, and of a job that was seen to be given
 pub record IsTrailSeen (b : Base) (seen : List Noted) (t : KeptTrail) : Type 0 where
   pub pair : IsPairTrail b.shared t
+  pub job : List Pair
+  pub given : HasGivenSeen seen job
   pub way :
       let n = variables b.shared.ring in
-      IsTrail (run_on n b) (members_of n (members_after b seen)) (pairs_given_in seen) (trail_of n t)
+      IsTrailOf (run_on n b) (vectors (members_of n (members_after b seen))) job (trail_of n t)
 
 -- the reason is not the budget; a stop by the degree has such a trail
 abbrev pub IsReasonSeen : Base → List Noted → StopReason → Type 0

@@ -53,7 +53,7 @@ pub fn take_job<R: Wait>(
 /// Hands in the outcome of the worker's job: one hold, in which its rows become members and their pairs are queued.
 ///
 /// The worker has not ended, and the outcome is of the pairs that it has out by its own events and of the first members that
-/// it has seen. `Degree` comes with a trail of what was seen to a product of total degree above 65,535, `Memory` where there
+/// it has seen. `Degree` comes with a trail of what was seen to a product of degree above 65,535, `Memory` where there
 /// is none; after both there was no event, and the outcome comes back. It waits for the turn.
 pub fn hand_in<R: Wait>(
     rt: &R,

@@ -1,10 +1,11 @@
 -- Differences and unit vectors
-use Rattle.std.proofs.Common.{List, [], subst, sym, ℕ, ◌%◌, ◌++◌, ◌-◌, ◌∷◌, ◌≡◌}
+use Rattle.std.proofs.Common.{[], subst, sym, ℕ, ◌%◌, ◌++◌, ◌-◌, ◌∷◌, ◌≡◌}
 use Rattle.residues.proofs.Congruences.{IsCongruent_mod, IsCongruent_multiply, IsCongruent_refl}
 use Rattle.monomials.specs.Exponents.{Exponents, unit}
 use Rattle.formal_sums.proofs.Sameness.{IsSame_append, IsSame_refl, IsSame_trans}
 use Rattle.formal_sums.proofs.WeightedSums.{weighted_sum-scale}
 use Rattle.formal_sums.specs.FormalSums.{FormalSum, IsSame, indicator, scale}
+use Rattle.monomial_orders.specs.Kept.{Monomial}
 use Rattle.monomial_orders.specs.Monomials.{IsMonomial}
 use Rattle.module_vectors.specs.Vectors.{sum_of}
 
@@ -23,10 +24,10 @@ less_of_sum p c d m u v w e h =
 
 -- one term, with the monomial 1
 pub unit_sum :
-    (p n k i : ℕ) (m : List ℕ) (v : FormalSum n)
-    → k ≡ n → IsMonomial k (unit k) m
+    (p n k i : ℕ) (m : Monomial) (v : FormalSum n)
+    → k ≡ n → IsMonomial k (unit k) m.exponents
     → IsSame p v (sum_of n ((record { position = i; monomial = m }, 1) ∷ []))
     → IsSame p v (((i, unit n), 1) ∷ [])
 unit_sum p n k i m v e h =
-    let g : IsMonomial n (unit n) m = subst (λ z. IsMonomial z (unit z) m) e h in
+    let g : IsMonomial n (unit n) m.exponents = subst (λ z. IsMonomial z (unit z) m.exponents) e h in
     subst (λ (z : Exponents n). IsSame p v (((i, z), 1) ∷ [])) g.exponents

@@ -1,2 +1,3 @@
 pub mod CombinedSums
 pub mod Differences
+pub mod RunMembers

@@ -1,8 +1,8 @@
 // Unit vectors, products and differences.
-ghost use Rattle.std.specs.Prelude.{◌≡◌, ◌<◌, IfOk, IfErr, OnOk, OnErr, length};
-ghost use Rattle.module_vectors.specs.Rings.{variables};
+ghost use Rattle.std.specs.Prelude.{◌≡◌, ◌<◌, IfOk, IfErr, OnOk, OnErr};
 ghost use Rattle.module_vectors.specs.Stops.{Fits, ScaledStops};
-ghost use Rattle.cofactor_track.specs.Members.{IsVectorOf};
+ghost use Rattle.member_products.specs.Generators.{IsVectorOf};
+ghost use Rattle.module_vectors.specs.Vectors.{IsMonomialOver};
 ghost use Rattle.cofactor_track.specs.Changes.{IsLess, IsTimes, IsUnitVector};
 
 use module_vectors::{Key, NoMemory, Product, Ring, Vect, VectStop};
@@ -16,7 +16,7 @@ pub(crate) fn unit_vector(alloc: Global, ring: &Ring, i: u64) -> Result<Vect, No
 {
     let monomial = Mono::unit(alloc, ring.vars.len())?;
     let key = Key {
-        position: i as u128,
+        position: i,
         monomial,
     };
     let terms = vec![in alloc; (key, 1)]?;
@@ -26,7 +26,7 @@ pub(crate) fn unit_vector(alloc: Global, ring: &Ring, i: u64) -> Result<Vect, No
 
 /// t v.
 pub(crate) fn times_vector(alloc: Global, ring: &Ring, t: &Mono, v: &Vect) -> Result<Vect, VectStop>
-    requires variables { length t.now ≡ variables ring.now }
+    requires variables { IsMonomialOver ring.now t.now }
     requires vector { IsVectorOf ring.now v.now }
     ensures vector { IfOk result (IsVectorOf ring.now) }
     ensures times { IfOk result (IsTimes ring.now t.now v.now) }
@@ -55,7 +55,7 @@ pub(crate) fn subtract_vector(
     v: &Vect,
 ) -> Result<(), VectStop>
     requires factor { c < ring.now.modulus.value }
-    requires variables { length t.now ≡ variables ring.now }
+    requires variables { IsMonomialOver ring.now t.now }
     requires left { IsVectorOf ring.now u.old }
     requires right { IsVectorOf ring.now v.now }
     ensures vector { OnOk result (IsVectorOf ring.now u.new) }

@@ -3,7 +3,7 @@
 
 mod changes;
 mod member;
-mod shared;
+mod runs;
 
 pub use member::Member;
-pub use shared::Shared;
+pub use runs::{run_cofactors, run_members};

@@ -3,8 +3,8 @@ ghost use Rattle.std.specs.Arc.{arc_value};
 ghost use Rattle.cofactor_track.specs.Members.{IsCombined};
 ghost use Rattle.cofactor_track.specs.Propositions.{IsCombined-prop};
 
-use crate::Shared;
 use crate::changes::{subtract_vector, times_vector, unit_vector};
+use member_products::Shared;
 use module_vectors::{NoMemory, Vect, VectStop};
 use monomial_orders::Mono;
 use std::alloc::Global;
@@ -22,8 +22,8 @@ pub struct Member {
 
 impl Member {
     ghost use Rattle.std.specs.Prelude.{◌≡◌, ◌<◌, ℕ, List, [], get_or, length, IfOk, IfErr, OnOk, OnErr};
-    ghost use Rattle.module_vectors.specs.Rings.{variables};
     ghost use Rattle.module_vectors.specs.Stops.{Fits};
+    ghost use Rattle.module_vectors.specs.Vectors.{IsMonomialOver};
     ghost use Rattle.cofactor_track.specs.Changes.{ChangeStops, IsLess, IsScaled, IsTimes, IsUnitVector};
 
     /// Generator i, with the cofactors e_i.
@@ -61,7 +61,7 @@ impl Member {
 
     /// t times this member.
     pub fn times(&self, alloc: Global, t: &Mono) -> Result<Member, VectStop>
-        requires { length t.now ≡ variables (arc_value self.now.shared).ring }
+        requires { IsMonomialOver (arc_value self.now.shared).ring t.now }
         ensures shared { IfOk result (λ m. arc_value m.shared ≡ arc_value self.now.shared) }
         ensures vector { IfOk result (λ m. IsTimes (arc_value self.now.shared).ring t.now self.now.vector m.vector) }
         ensures cofactors { IfOk result (λ m. IsTimes (arc_value self.now.shared).ring t.now self.now.cof m.cof) }
@@ -88,7 +88,7 @@ impl Member {
     ) -> Result<(), VectStop>
         requires shared { arc_value other.now.shared ≡ arc_value self.old.shared }
         requires factor { c < (arc_value self.old.shared).ring.modulus.value }
-        requires variables { length t.now ≡ variables (arc_value self.old.shared).ring }
+        requires variables { IsMonomialOver (arc_value self.old.shared).ring t.now }
         ensures shared { arc_value self.new.shared ≡ arc_value self.old.shared }
         ensures vector { OnOk result (IsLess (arc_value self.old.shared).ring c t.now self.old.vector other.now.vector self.new.vector) }
         ensures cofactors { OnOk result (IsLess (arc_value self.old.shared).ring c t.now self.old.cof other.now.cof self.new.cof) }

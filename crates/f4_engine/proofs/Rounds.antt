@@ -1,13 +1,10 @@
 -- What a worker's seat tells after each call of a round
-use Rattle.std.proofs.Common.{Bool, List, [], ap, append-nil, arith, false, inl, inr, length, map, refl, subst, sym, take, true, ℕ, suc, zero, ◌++◌, ◌+◌, ◌<◌, ◌∙◌, ◌∷◌, ◌≡◌, ◌≤◌, ◌⊎◌}
-use Rattle.module_vectors.specs.Rings.{variables}
+use Rattle.std.proofs.Common.{Bool, List, [], ap, arith, false, get_or, inl, inr, length, length-append, refl, subst, sym, take, true, ℕ, ◌++◌, ◌+◌, ◌<◌, ◌∙◌, ◌∷◌, ◌≡◌, ◌≤◌, ◌⊎◌}
 use Rattle.module_vectors.specs.declared.trail.KeptTrail.{KeptTrail}
 use Rattle.module_vectors.specs.declared.trail.WorkStop.{WorkStop}
 use Rattle.module_vectors.specs.declared.trail.WorkStop.TheVariants as works
-use Rattle.basis_steps.proofs.Counting.{count-append}
-use Rattle.basis_steps.specs.Pairs.{Pair, count}
+use Rattle.basis_steps.specs.Pairs.{Pair}
 use Rattle.basis_steps.specs.States as plain
-use Rattle.basis_steps.specs.Trails.{IsTrail}
 use Rattle.basis_core.specs.declared.ending.Ending.{Ending}
 use Rattle.basis_core.specs.declared.ending.Ending.TheVariants as endings
 use Rattle.basis_core.specs.declared.stop.StopReason.{StopReason}
@@ -15,20 +12,28 @@ use Rattle.basis_core.specs.declared.taken.Taken.{Taken}
 use Rattle.basis_core.specs.declared.taken.Taken.TheVariants.{Job as TookJob, Empty, Stopped as ToldStopped}
 use Rattle.basis_core.specs.Answers.{pairs_given}
 use Rattle.basis_core.specs.Jobs.{JobShown, pairs_of}
-use Rattle.basis_core.specs.Members.{Shared, Tracked, member_of, members_of}
-use Rattle.basis_core.specs.Outcomes.{OutcomeShown, work_of}
+use Rattle.basis_core.proofs.JobTrails.{trail_of_job}
+use Rattle.basis_core.specs.Members.{Shared}
+use Rattle.basis_core.specs.Outcomes.{OutcomeShown}
 use Rattle.basis_core.specs.Shown.{Shown}
-use Rattle.basis_core.specs.Stops.{IsPairTrail, trail_of}
-use Rattle.s_vectors.specs.Trails.{IsJobTrail, JobStops}
+use Rattle.basis_core.specs.Stops.{IsTrailBy}
+use Rattle.s_vectors.specs.Trails.{JobStops}
 use Rattle.ruled_lock.specs.declared.law.View.{View}
 use Rattle.ruled_lock.specs.Plays.{Holds, Makes}
 use Rattle.ruled_lock.specs.Events.{StartsWith}
 use Rattle.basis_lock.specs.Acts.{Act, Asked, HandedIn, Stopped, Took, act_of, acts_of, has_ended, has_stop, has_take, held_after, took_after}
-use Rattle.basis_lock.specs.Calls.{Finishes, HandsIn, IsHold, IsTrailSeen, IsWorkStopSeen, MayFinish, MayHandIn, MayReport, MayTakeJob, Reports, TakesJob, own, run_on}
-use Rattle.basis_core.specs.Logs.{Base, End, Noted, Put, Stop, Take, base, by, log, members_after, pairs_given_in}
-use Rattle.basis_lock.proofs.May.{pairs-append}
+use Rattle.basis_lock.specs.Calls.{Finishes, HandsIn, HasGivenSeen, IsHold, IsWorkStopSeen, MayFinish, MayHandIn, MayReport, MayTakeJob, Reports, TakesJob, own}
+use Rattle.basis_core.specs.Logs.{Base, End, Noted, Put, Stop, Take, base, by, log, members_after}
 use Rattle.basis_core.proofs.Logging.{members_told, take_whole}
 use Rattle.f4_engine.specs.Workers.{AreDone, HasJob, HasNone, IsSameWorker, IsWorking, MayGiveUp}
+
+-- the last Take gave its job
+given_last : (es : List Noted) (w : ℕ) (skipped job : List Pair) → HasGivenSeen (es ++ (Take w skipped job ∷ [])) job
+given_last es w skipped job = record { worker = w; skipped = skipped; there = (length es, omega (arith, length-append es (Take w skipped job ∷ [])), at es) }
+  where
+    at : (es : List Noted) → get_or (es ++ (Take w skipped job ∷ [])) (length es) (Take w skipped job) ≡ Take w skipped job
+    at [] = refl
+    at (e ∷ es) = at es
 
 -- acts after one more
 acts-append : (es : List Noted) (e : Noted) → acts_of (es ++ (e ∷ [])) ≡ acts_of es ++ (act_of e ∷ [])
@@ -130,9 +135,7 @@ module _ (b : Base) (v w : View Noted Base) (most : ℕ) (job : JobShown) (worki
       out = ap (held_after []) acts ∙ held-more [] (own v) (Took v.worker (pairs_of job.pairs)) ∙ ap (λ l. l ++ pairs_of job.pairs) working.free;
       had = omega (arith, ap length all_members);
       members = all_members ∙ sym (take_whole (length job.members) (members_after b w.seen) (omega (arith, ap length all_members)));
-      given = λ x.
-          let all : pairs_given_in w.seen ≡ pairs_given_in (log h.before) ++ (pairs_of job.pairs ++ []) = ap pairs_given_in (seen_after b v e w h.before h.after h.hold) ∙ pairs-append (log h.before) (e ∷ []) in
-          omega (arith, ap (count x) all, count-append x (pairs_given_in (log h.before)) (pairs_of job.pairs ++ []), count-append x (pairs_of job.pairs) []);
+      given = subst (λ es. HasGivenSeen es (pairs_of job.pairs)) (sym (seen_after b v e w h.before h.after h.hold)) (given_last (log h.before) v.worker h.skipped (pairs_of job.pairs));
     },
   )
 
@@ -251,44 +254,14 @@ no_event v w h = ((h.3.0, h.3.2), ap acts_of h.1)
 -- the trail of a job is one of what was seen
 pub job_trail_seen : (b : Base) (v : View Noted Base) (job : JobShown) (stop : WorkStop) → HasJob b v job → JobStops job stop → IsWorkStopSeen b v.seen stop
 job_trail_seen b v job works.Memory has h = tt
-job_trail_seen b v job (works.Degree t) has h = record {
-  pair = over.0;
-  way = record {
-    members = record {
-      first = length job.members;
-      there = omega (arith, has.had, mapped (members_after b v.seen));
-      rows = [];
-      put = inl refl;
-      made = [];
-      makes = refl;
-      same = over.2 ∙ ap (members_of n) has.members ∙ taken (length job.members) (members_after b v.seen) ∙ sym (append-nil (take (length job.members) (members_of n (members_after b v.seen))));
-    };
-    start = let some = has.given (trail_of n t).start in let begins = over.1.start in omega (arith, some, begins);
-    pair = over.1.pair;
-    products = over.1.products;
-    monomial = over.1.monomial;
-    above = over.1.above;
-  };
-}
-  where
-    n : ℕ
-    n = variables b.shared.ring
-
-    over : IsPairTrail b.shared t × IsTrail (work_of n b.shared) (members_of n job.members) (pairs_of job.pairs) (trail_of n t) × ((trail_of n t).members ≡ members_of n job.members)
-    over = subst (λ (sh : Shared). IsPairTrail sh t × IsTrail (work_of (variables sh.ring) sh) (members_of (variables sh.ring) job.members) (pairs_of job.pairs) (trail_of (variables sh.ring) t) × ((trail_of (variables sh.ring) t).members ≡ members_of (variables sh.ring) job.members)) has.shared (h.pair, h.way, h.members)
-
-    mapped : (ms : List Tracked) → length (members_of n ms) ≡ length ms
-    mapped [] = refl
-    mapped (m ∷ ms) = ap suc (mapped ms)
-
-    none : (k : ℕ) → ◌≡◌ {A = List (plain.Member n)} [] (take k [])
-    none zero = refl
-    none (suc k) = refl
-
-    taken : (k : ℕ) (ms : List Tracked) → members_of n (take k ms) ≡ take k (members_of n ms)
-    taken zero ms = refl
-    taken (suc k) [] = refl
-    taken (suc k) (m ∷ ms) = ap (λ l. member_of n m ∷ l) (taken k ms)
+job_trail_seen b v job (works.Degree t) has h =
+    let by : IsTrailBy b.shared job.members (pairs_of job.pairs) t = subst (λ (sh : Shared). IsTrailBy sh job.members (pairs_of job.pairs) t) has.shared h in
+    record {
+      pair = by.pair;
+      job = pairs_of job.pairs;
+      given = has.given;
+      way = trail_of_job b.shared b.budget b.workers job.members (members_after b v.seen) (pairs_of job.pairs) t has.members has.had by;
+    }
 
 pub known_same : (b : Base) (v w : View Noted Base) → IsSameWorker v w → v.worker < b.workers → w.worker < b.workers
 known_same b v w h k = subst (λ n. n < b.workers) (sym h.0) k

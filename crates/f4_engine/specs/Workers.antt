@@ -2,14 +2,13 @@
 use Rattle.std.specs.Prelude.{All, Bool, List, MatchBool, [], false, length, map, take, true, ℕ, ◌<◌, ◌≡◌, ◌≤◌, ◌⊎◌}
 use Rattle.std.specs.List.{Contains}
 use Rattle.module_vectors.specs.declared.trail.WorkStop.{WorkStop}
-use Rattle.basis_steps.specs.Pairs.{Pair, count}
 use Rattle.basis_core.specs.Jobs.{JobShown, pairs_of}
 use Rattle.ruled_lock.specs.declared.law.Old.{Old}
 use Rattle.ruled_lock.specs.declared.law.View.{View}
 use Rattle.ruled_lock.specs.Events.{calls_by}
 use Rattle.basis_lock.specs.Acts.{Act, acts_of, has_ended, has_stop, has_take, held_after, took_after}
-use Rattle.basis_lock.specs.Calls.{IsWorkStopSeen, own}
-use Rattle.basis_core.specs.Logs.{Base, Noted, by, members_after, pairs_given_in}
+use Rattle.basis_lock.specs.Calls.{HasGivenSeen, IsWorkStopSeen, own}
+use Rattle.basis_core.specs.Logs.{Base, Noted, by, members_after}
 
 -- a worker between two rounds: it has not ended, has none out, and has not stopped the run
 pub record IsWorking (b : Base) (v : View Noted Base) : Type 0 where
@@ -29,7 +28,7 @@ pub record HasJob (b : Base) (v : View Noted Base) (job : JobShown) : Type 0 whe
   pub out : held_after [] (own v) ≡ pairs_of job.pairs
   pub had : length job.members ≤ length (members_after b v.seen)
   pub members : job.members ≡ take (length job.members) (members_after b v.seen)
-  pub given : (x : Pair) → count x (pairs_of job.pairs) ≤ count x (pairs_given_in v.seen)
+  pub given : HasGivenSeen v.seen (pairs_of job.pairs)
 
 -- it was told that there is no job
 pub record HasNone (b : Base) (v : View Noted Base) : Type 0 where

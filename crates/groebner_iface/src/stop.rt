@@ -12,7 +12,7 @@ pub enum Stop {
     Memory,
     /// The run met its budget of pairs; the engine counted it and keeps what run it was.
     Pairs,
-    /// The run needed a product of total degree above 65,535; the engine counted it and keeps what run it was.
+    /// The run needed a product of degree above 65,535; the engine counted it and keeps what run it was.
     Degree,
 }
 
@@ -63,9 +63,9 @@ pub enum OpStop {
     Memory,
     /// A run met its budget of pairs; the engine counted it and keeps what run it was.
     Pairs,
-    /// A run needed a product of total degree above 65,535; the engine counted it and keeps what run it was.
+    /// A run needed a product of degree above 65,535; the engine counted it and keeps what run it was.
     Degree,
-    /// The operation itself needed a product of total degree above 65,535, outside a run.
+    /// The operation itself needed a product of degree above 65,535, outside a run.
     Trail(KeptTrail),
 }
 

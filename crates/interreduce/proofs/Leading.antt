@@ -77,7 +77,7 @@ sorted_rises n compare laws list order leads sorted = rises_from n compare list 
 first_key :
     (n : ℕ) (w : Terms) (s : CodeKey × ℕ)
     → 0 < length w → Each (HasVariables n) w → s ≡ get_or w 0 s
-    → (head_key (sum_of n w) ≡ key_of n s.0) × (length s.0.monomial ≡ n)
+    → (head_key (sum_of n w) ≡ key_of n s.0) × (length s.0.monomial.exponents ≡ n)
 first_key n [] s lt h e = absurd (omega arith)
 first_key n (t ∷ w) s lt h e = (ap (λ x. key_of n x.0) (sym e), subst (HasVariables n) (sym e) h.0)
 
@@ -85,7 +85,7 @@ first_key n (t ∷ w) s lt h e = (ap (λ x. key_of n x.0) (sym e), subst (HasVar
 pub lead_key :
     (n : ℕ) (list : List Terms) (i : ℕ) (v : Terms) (s : CodeKey × ℕ)
     → 0 < length (get_or list i []) → HaveVariables n list → i < length list → v ≡ get_or list i [] → s ≡ get_or v 0 s
-    → (lead_at n list i ≡ key_of n s.0) × (length s.0.monomial ≡ n)
+    → (lead_at n list i ≡ key_of n s.0) × (length s.0.monomial.exponents ≡ n)
 lead_key n [] i v s some vars lt ev es = absurd (omega arith)
 lead_key n (w ∷ list) zero v s some vars lt ev es = first_key n w s some vars.0 (es ∙ ap (λ x. get_or x 0 s) ev)
 lead_key n (w ∷ list) (suc i) v s some vars lt ev es = lead_key n list i v s some vars.1 (omega arith) ev es
@@ -93,8 +93,8 @@ lead_key n (w ∷ list) (suc i) v s some vars lt ev es = lead_key n list i v s s
 -- what the test of two keys says of the leads that they are
 pub divides_at :
     (n : ℕ) (a b : Key n) (k l : CodeKey) (t : Bool)
-    → a ≡ key_of n k → length k.monomial ≡ n → b ≡ key_of n l
-    → (IsTrue t ↔ KeyDivides (key_of (length k.monomial) k) (key_of (length k.monomial) l))
+    → a ≡ key_of n k → length k.monomial.exponents ≡ n → b ≡ key_of n l
+    → (IsTrue t ↔ KeyDivides (key_of (length k.monomial.exponents) k) (key_of (length k.monomial.exponents) l))
     → IsTrue t ↔ KeyDivides a b
 divides_at n a b k l t ea e eb h =
     subst₂ (λ x y. IsTrue t ↔ KeyDivides x y) (sym ea) (sym eb) (subst (λ m. IsTrue t ↔ KeyDivides (key_of m k) (key_of m l)) e h)

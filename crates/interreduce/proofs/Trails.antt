@@ -45,7 +45,6 @@ widened ring list v x t h e = record {
   start = h.start;
   vector = e;
   members = h.members;
-  cofs = h.cofs;
 }
   where
     wider : IsTrail t → IsTrail (record t { vector = x })

@@ -17,8 +17,10 @@ use Rattle.module_vectors.specs.declared.trail.WorkStop.TheVariants.{Degree, Mem
 use Rattle.vector_division.specs.Divisions.{IsDivisionTrail, IsFreeOfLeads}
 use Rattle.interreduce.specs.Trails.{MemberStops}
 
--- v is member i with its tail reduced: a monic vector with the same lead, of what the list generates, and no lead of the list divides a key behind its first (IVA chapter 2, section 7)
-pub record IsReducedMember (ring : Ring) (compare : (n : ℕ) → Key n → Key n → Ordering) (list : List (List (CodeKey × ℕ))) (i : ℕ) (v : List (CodeKey × ℕ)) : Type 0 where
+-- v is member i with its tail reduced: a monic vector with the same lead, of what the list generates, and no lead of the list
+-- divides a key behind its first (IVA chapter 2, section 7)
+pub record IsReducedMember (ring : Ring) (compare : (n : ℕ) → Key n → Key n → Ordering) (list : List (List (CodeKey × ℕ))) (i : ℕ)
+    (v : List (CodeKey × ℕ)) : Type 0 where
   pub vector : IsVectorOver ring compare v
   pub lead : head_key (sum_of (variables ring) v) ≡ lead_at (variables ring) list i
   pub monic : head_coefficient (sum_of (variables ring) v) ≡ 1
@@ -26,7 +28,8 @@ pub record IsReducedMember (ring : Ring) (compare : (n : ℕ) → Key n → Key 
   pub tail : IsFreeOfLeads (sums_of (variables ring) list) (drop 1 (sum_of (variables ring) v))
 
 -- the members with these indices, each with its tail reduced, in the same order
-pub record AreReducedMembers (ring : Ring) (compare : (n : ℕ) → Key n → Key n → Ordering) (list : List (List (CodeKey × ℕ))) (kept : List ℕ) (answer : List (List (CodeKey × ℕ))) : Type 0 where
+pub record AreReducedMembers (ring : Ring) (compare : (n : ℕ) → Key n → Key n → Ordering) (list : List (List (CodeKey × ℕ))) (kept : List ℕ)
+    (answer : List (List (CodeKey × ℕ))) : Type 0 where
   pub count : length answer ≡ length kept
   pub each : (k : ℕ) → k < length answer → IsReducedMember ring compare list (get_or kept k 0) (get_or answer k [])
 
@@ -35,7 +38,8 @@ abbrev pub ReducesMember : (ring : Ring) → ((n : ℕ) → Key n → Key n → 
 ReducesMember ring compare list i r = MatchResult r (IsReducedMember ring compare list i) (MemberStops ring list i)
 
 -- the trail is that of the first of these members whose tail can't be reduced: the tails of those before it are
-pub record IsFirstTrail (ring : Ring) (compare : (n : ℕ) → Key n → Key n → Ordering) (list : List (List (CodeKey × ℕ))) (kept : List ℕ) (t : KeptTrail) : Type 0 where
+pub record IsFirstTrail (ring : Ring) (compare : (n : ℕ) → Key n → Key n → Ordering) (list : List (List (CodeKey × ℕ))) (kept : List ℕ)
+    (t : KeptTrail) : Type 0 where
   pub before : List (List (CodeKey × ℕ))
   pub fewer : length before < length kept
   pub reduced : AreReducedMembers ring compare list (take (length before) kept) before

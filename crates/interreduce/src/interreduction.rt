@@ -125,7 +125,7 @@ fn reduced_members<R: Threads + Sync, F: Frame + Sync, L: Vectors + Sync>(
 /// reduced by the list, by descending leads: of a Gröbner basis the reduced one (IVA chapter 2, section 7). Where there is
 /// much work the tails are divided side by side, in threads.
 ///
-/// `Degree` comes with a trail of the division of a member by the list, to a product of total degree above 65,535;
+/// `Degree` comes with a trail of the division of a member by the list, to a product of degree above 65,535;
 /// `Memory` where a growth was refused.
 pub fn interreduce<R: Threads + Sync, F: Frame + Sync, L: Vectors + Sync>(
     rt: &R,

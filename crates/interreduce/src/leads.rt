@@ -14,7 +14,8 @@ use std::cmp::Ordering;
 
 // The lead of a member, or `None` where it is zero or is not in the list.
 fn lead_of<L: Vectors>(list: &L, index: usize) -> Option<LeadTerm<'_>>
-    ensures { MatchOption result (get_or (L.listed list.now) index [] ≡ []) (λ lead. (rest : List (_ × ℕ)) × (get_or (L.listed list.now) index [] ≡ (lead.key.now, lead.residue) ∷ rest)) }
+    ensures { MatchOption result (get_or (L.listed list.now) index [] ≡ [])
+        (λ lead. (rest : List (_ × ℕ)) × (get_or (L.listed list.now) index [] ≡ (lead.key.now, lead.residue) ∷ rest)) }
 {
     if index >= list.count() {
         return None;
@@ -73,8 +74,8 @@ fn by_ascending_lead<F: Frame, L: Vectors>(
 
 // Does the one key divide the other?
 fn key_divides(divisor: &Key, multiple: &Key) -> bool
-    requires { length divisor.now.monomial ≡ length multiple.now.monomial }
-    ensures { let n = length divisor.now.monomial in IsTrue result ↔ KeyDivides (key_of n divisor.now) (key_of n multiple.now) }
+    requires { length divisor.now.monomial.exponents ≡ length multiple.now.monomial.exponents }
+    ensures { let n = length divisor.now.monomial.exponents in IsTrue result ↔ KeyDivides (key_of n divisor.now) (key_of n multiple.now) }
 {
     if divisor.position != multiple.position {
         return false;
@@ -86,7 +87,8 @@ fn key_divides(divisor: &Key, multiple: &Key) -> bool
 fn lead_key<L: Vectors>(list: &L, index: usize) -> &Key
     requires index { index < length (L.listed list.now) }
     requires some { 0 < length (get_or (L.listed list.now) index []) }
-    ensures { (n : ℕ) → HaveVariables n (L.listed list.now) → (lead_at n (L.listed list.now) index ≡ key_of n result.now) × (length result.now.monomial ≡ n) }
+    ensures { (n : ℕ) → HaveVariables n (L.listed list.now)
+        → (lead_at n (L.listed list.now) index ≡ key_of n result.now) × (length result.now.monomial.exponents ≡ n) }
 {
     &list.at(index).terms()[0].0
 }

@@ -7,11 +7,11 @@ use Rattle.pair_criteria.specs.declared.pair.Pair.{Pair}
 
 -- the lead with this index; the monomial 1 of no variables past the end
 abbrev pub lead_at : List CodeKey → ℕ → CodeKey
-lead_at leads i = get_or leads i (record { position = 0; monomial = [] })
+lead_at leads i = get_or leads i (record { position = 0; monomial = record { exponents = []; degree = 0 } })
 
 -- the number of variables of a key
 abbrev pub variables_of : CodeKey → ℕ
-variables_of k = length k.monomial
+variables_of k = length k.monomial.exponents
 
 -- the pair of the leads i and j, at one position, with their least common multiple
 pub record IsPair (leads : List CodeKey) (i j : ℕ) (pair : Pair) : Type 0 where

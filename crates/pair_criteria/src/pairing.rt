@@ -1,19 +1,29 @@
 // The pair of two leads.
-ghost use Rattle.std.specs.Prelude.{◌≡◌, ◌<◌, ◌≤◌, IfOk, IsOk, length};
+ghost use Rattle.std.specs.Prelude.{◌≡◌, ◌<◌, ◌≤◌, IfOk, IfSome, IsOk, length};
+ghost use Rattle.monomial_orders.specs.Kept.{IsWeighed};
 ghost use Rattle.pair_criteria.specs.Pairs.{IsPairOf, lead_at, variables_of};
 
 use crate::Pair;
 use module_vectors::{Key, NoMemory};
-use monomial_orders::Mono;
+use monomial_orders::{Mono, Weights};
 use std::alloc::Global;
 
-/// The pair of the leads i and j, or `None` exactly where their positions differ. It wants memory over more than 16
-/// variables alone.
-pub fn pair_of(alloc: Global, leads: &[Key], i: u64, j: u64) -> Result<Option<Pair>, NoMemory>
+/// The pair of the leads i and j in a ring of these weights, or `None` exactly where their positions differ. It wants memory
+/// over more than 16 variables alone.
+pub fn pair_of(
+    alloc: Global,
+    weights: &Weights,
+    leads: &[Key],
+    i: u64,
+    j: u64,
+) -> Result<Option<Pair>, NoMemory>
     requires order { i < j }
     requires known { j < length leads.now }
     requires variables { variables_of (lead_at leads.now i) ≡ variables_of (lead_at leads.now j) }
+    requires weights { length weights.now ≡ variables_of (lead_at leads.now i) }
     ensures pair { IfOk result (IsPairOf leads.now i j) }
+    ensures weighed { IfOk result (λ answer. IfSome answer (λ pair.
+        IsWeighed (variables_of (lead_at leads.now i)) weights.now pair.lcm.monomial)) }
     ensures no_memory { variables_of (lead_at leads.now i) ≤ 16 → IsOk result }
 {
     let left = &leads[i as usize];
@@ -21,7 +31,7 @@ pub fn pair_of(alloc: Global, leads: &[Key], i: u64, j: u64) -> Result<Option<Pa
     if left.position != right.position {
         return Ok(None);
     }
-    let monomial = Mono::lcm(alloc, &left.monomial, &right.monomial)?;
+    let monomial = Mono::lcm(alloc, weights, &left.monomial, &right.monomial)?;
     Ok(Some(Pair {
         i,
         j,

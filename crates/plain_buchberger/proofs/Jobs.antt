@@ -1,8 +1,10 @@
 -- Jobs that are out, and histories that grow
-use Rattle.std.proofs.Common.{Bool, List, [], ap, inl, inr, cond, eq-eqb, false, filter, map, nat_eq, not, refl, true, ℕ, ◌++◌, ◌==◌, ◌∙◌, ◌∷◌, ◌≡◌}
+use Rattle.std.proofs.Common.{Bool, List, [], ap, arith, inl, inr, cond, eq-eqb, false, filter, get_or, length, length-append, map, nat_eq, not, refl, true, ℕ, ◌++◌, ◌<◌, ◌==◌, ◌∙◌, ◌∷◌, ◌≡◌}
 use Rattle.basis_steps.specs.Pairs.{Pair}
-use Rattle.basis_steps.specs.States.{End, Event, Member, Put, Stop, Take, job_given, job_of, pairs_taken, with_others}
-use Rattle.basis_steps.specs.Steps.{HasStopped, out_with, took_since}
+use Rattle.basis_steps.specs.Histories.{HasStopped, took_since}
+use Rattle.basis_steps.specs.States.{End, Event, Member, Put, Stop, Take, job_of, with_others}
+use Rattle.basis_steps.specs.Steps.{out_with}
+use Rattle.basis_steps.specs.Trails.{HasGiven}
 
 pub job_of-append : (w : ℕ) (xs ys : List (Pair × ℕ)) → job_of w (xs ++ ys) ≡ job_of w xs ++ job_of w ys
 job_of-append w [] ys = refl
@@ -32,13 +34,13 @@ job_of_with_others w (e ∷ out) = go (e.1 == w) refl (job_of_with_others w out)
     go false q h = ap (λ c. map (λ e. e.0) (cond c (e ∷ filter (λ e. e.1 == w) (with_others w out)) (filter (λ e. e.1 == w) (with_others w out)))) q ∙ h
 
 module _ {n : ℕ} where
-  pub pairs_taken-append : (es fs : List (Event n)) → pairs_taken (es ++ fs) ≡ pairs_taken es ++ pairs_taken fs
-  pairs_taken-append [] fs = refl
-  pairs_taken-append (e ∷ es) fs = ap (λ z. job_given e ++ z) (pairs_taken-append es fs) ∙ together (job_given e) (pairs_taken es) (pairs_taken fs)
+  -- the last Take gave its job
+  pub given_last : (es : List (Event n)) (w : ℕ) (skipped job : List Pair) → HasGiven (es ++ (Take w skipped job ∷ [])) job
+  given_last es w skipped job = record { worker = w; skipped = skipped; there = (length es, omega (arith, length-append es (Take w skipped job ∷ [])), at es) }
     where
-      together : (xs ys zs : List Pair) → xs ++ (ys ++ zs) ≡ (xs ++ ys) ++ zs
-      together [] ys zs = refl
-      together (x ∷ xs) ys zs = ap (λ z. x ∷ z) (together xs ys zs)
+      at : (es : List (Event n)) → get_or (es ++ (Take w skipped job ∷ [])) (length es) (Take w skipped job) ≡ Take w skipped job
+      at [] = refl
+      at (e ∷ es) = at es
 
   -- a Take and a Put are no Stop
   pub unstopped_take : (w v : ℕ) (skipped job : List Pair) (es : List (Event n)) → (HasStopped w es → ⊥) → HasStopped w (es ++ (Take v skipped job ∷ [])) → ⊥

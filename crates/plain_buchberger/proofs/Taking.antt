@@ -7,12 +7,13 @@ use Rattle.module_vectors.specs.declared.trail.KeptTrail.{KeptTrail}
 use Rattle.module_vectors.specs.declared.trail.WorkStop.{WorkStop}
 use Rattle.basis_steps.specs.Criteria.{NoCriterionApplies, waiting}
 use Rattle.basis_steps.specs.Invariant.{HaveAllEnded}
-use Rattle.basis_steps.specs.Pairs.{Pair, count}
+use Rattle.basis_steps.specs.Histories.{HasStopped, took_since}
+use Rattle.basis_steps.specs.Pairs.{Pair}
 use Rattle.basis_steps.specs.States as plain
-use Rattle.basis_steps.specs.States.{Member, Run, job_of, pairs_taken, vectors}
-use Rattle.basis_steps.specs.Steps.{Begins, Ends, HasStopped, MayEnd, Puts, Stops, Takes, none_ended, out_with, stop_of_take, took_since}
+use Rattle.basis_steps.specs.States.{Member, Run, job_of, vectors}
+use Rattle.basis_steps.specs.Steps.{Begins, Ends, MayEnd, Puts, Stops, Takes, none_ended, out_with, stop_of_take}
+use Rattle.basis_steps.specs.Trails.{HasGiven}
 use Rattle.basis_steps.specs.Steps as steps
-use Rattle.basis_steps.proofs.Counting.{count-append}
 use Rattle.basis_steps.proofs.Taking.{budget_met}
 use Rattle.basis_core.specs.declared.ending.Ending.{Ending}
 use Rattle.basis_core.specs.declared.stop.StopReason.{StopReason}
@@ -28,7 +29,7 @@ use Rattle.basis_core.specs.Stops.{reason_of, stop_of}
 use Rattle.basis_core.specs.Views.{IsSameRun, ending_of, run_of, state_of, variables_of}
 use Rattle.run_endings.specs.Endings.{IsBudgetStop, IsClosed}
 use Rattle.plain_buchberger.specs.Rounds.{IsFree, IsOut, IsRunning, KeepsDegree, LeavesPairs}
-use Rattle.plain_buchberger.proofs.Jobs.{job_of-append, job_of_out_with, job_of_with_others, pairs_taken-append, took_now, unstopped_put, unstopped_take}
+use Rattle.plain_buchberger.proofs.Jobs.{given_last, job_of-append, job_of_out_with, job_of_with_others, took_now, unstopped_put, unstopped_take}
 
 pub same_variables : (s t : Shown) → IsSameRun s t → variables_of s ≡ variables_of t
 same_variables s t same = sym (ap (λ (sh : Shared). variables sh.ring) same.shared)
@@ -90,13 +91,9 @@ module _ (s t : Shown) (free : IsFree s) (same : IsSameRun s t) where
           shared = answers.2;
           members = answers.3;
           out = out_of_take (TookJob job) (skipped, left, h);
-          taken =
-              subst (λ k. (x : Pair) → count x (pairs_of job.pairs) ≤ count x (pairs_taken (state_of k t).history)) (same_variables s t same)
-              (λ x. let es = (state_of (variables_of s) s).history in
-              let history : pairs_taken (state_of (variables_of s) t).history ≡ pairs_taken es ++ (pairs_of job.pairs ++ []) = ap (λ u. pairs_taken u.history) h.after ∙ pairs_taken-append es (plain.Take 0 skipped (pairs_of job.pairs) ∷ []) in
-              let counted : count x (pairs_taken (state_of (variables_of s) t).history) ≡ count x (pairs_taken es) + count x (pairs_of job.pairs ++ []) = ap (count x) history ∙ count-append x (pairs_taken es) (pairs_of job.pairs ++ []) in
-              let split : count x (pairs_of job.pairs ++ []) ≡ count x (pairs_of job.pairs) + count x [] = count-append x (pairs_of job.pairs) [] in
-              omega (arith, counted, split));
+          given =
+              subst (λ k. HasGiven (state_of k t).history (pairs_of job.pairs)) (same_variables s t same)
+              (subst (λ es. HasGiven es (pairs_of job.pairs)) (sym (ap (λ u. u.history) h.after)) (given_last (state_of (variables_of s) s).history 0 skipped (pairs_of job.pairs)));
         },
         ap (λ u. u.taken) h.after,
       )

@@ -4,9 +4,9 @@ use Rattle.module_vectors.specs.declared.trail.KeptTrail.{KeptTrail}
 use Rattle.module_vectors.specs.declared.trail.WorkStop.{WorkStop}
 use Rattle.module_vectors.specs.declared.trail.WorkStop.TheVariants as works
 use Rattle.basis_steps.specs.Criteria.{NoCriterionApplies, waiting}
-use Rattle.basis_steps.specs.Pairs.{Pair, count}
-use Rattle.basis_steps.specs.States.{job_of, pairs_taken, vectors}
-use Rattle.basis_steps.specs.Steps.{HasStopped}
+use Rattle.basis_steps.specs.Histories.{HasStopped}
+use Rattle.basis_steps.specs.States.{job_of, vectors}
+use Rattle.basis_steps.specs.Trails.{HasGiven}
 use Rattle.basis_core.specs.declared.stop.StopReason.{StopReason}
 use Rattle.basis_core.specs.declared.stop.StopReason.TheVariants as reasons
 use Rattle.basis_core.specs.Answers.{IsRunTrail}
@@ -37,7 +37,7 @@ pub record IsOut (s : Shown) (job : JobShown) : Type 0 where
   pub shared : job.shared ≡ s.shared
   pub members : job.members ≡ s.members
   pub out : job_of 0 s.out ≡ pairs_of job.pairs
-  pub taken : (x : Pair) → count x (pairs_of job.pairs) ≤ count x (pairs_taken (state_of (variables_of s) s).history)
+  pub given : HasGiven (state_of (variables_of s) s).history (pairs_of job.pairs)
 
 -- a pair is left, and no criterion applies to one that is
 pub record LeavesPairs (s : Shown) : Type 0 where
@@ -52,7 +52,7 @@ RoundStops s reasons.Pairs = IsBudgetStop s × LeavesPairs s
 RoundStops s reasons.Memory = ⊤
 RoundStops s (reasons.Degree t) = IsDegreeStop s t
 
--- Degree comes with a trail of the state's members and of a pair that was taken
+-- Degree comes with a trail of the state's members and of a job of its history
 abbrev pub WorkStops : Shown → WorkStop → Type 0
 WorkStops s works.Memory = ⊤
 WorkStops s (works.Degree t) = IsRunTrail (variables_of s) s t

@@ -1,12 +1,12 @@
 // A run of the engine.
-ghost use Rattle.std.specs.Prelude.{IfOk, IfErr};
+ghost use Rattle.std.specs.Prelude.{ℕ, IfOk, IfErr};
 ghost use Rattle.formal_sums.specs.FormalSums.{Each};
 ghost use Rattle.module_vectors.specs.Rings.{ring_comparison, variables};
 ghost use Rattle.module_vectors.specs.Vectors.{AreVectorsOver, HasPositions};
 ghost use Rattle.basis_core.specs.Answers.{BeginningStops, IsRunOf};
 ghost use Rattle.groebner_iface.specs.Runs.{IsReducedBasisOf};
-ghost use Rattle.run_endings.specs.Stops.{RunStops, shared_on};
-ghost use Rattle.plain_buchberger.specs.Rounds.{IsFree};
+ghost use Rattle.run_endings.specs.Stops.{IsRunBy, RunStops, shared_on};
+ghost use Rattle.plain_buchberger.specs.Rounds.{IsFree, RoundStops};
 ghost use Rattle.plain_buchberger.specs.Runs.{StopLeaves};
 
 use crate::rounds::look_at_pairs;
@@ -35,6 +35,19 @@ fn begin(
     BasisState::begin(alloc, ring, rank, generators, pairs, 1)
 }
 
+// What is kept of a run that its rounds stopped.
+fn stop_of_rounds(state: BasisState, stop: StopReason) -> RunStop
+    requires { RoundStops state stop }
+    ensures stop { (pairs workers : ℕ) → IsRunBy pairs workers state → RunStops pairs workers state.shared result }
+    ensures left { StopLeaves result }
+{
+    match stop {
+        StopReason::Pairs => RunStop::Pairs(state),
+        StopReason::Memory => RunStop::Memory,
+        StopReason::Degree(trail) => RunStop::Degree(state, trail),
+    }
+}
+
 /// The reduced basis of the list, by Buchberger's algorithm with at most so many pairs. IVA chapter 2, section 10.
 pub(crate) fn run<R: Threads + Sync>(
     rt: &R,
@@ -60,8 +73,6 @@ pub(crate) fn run<R: Threads + Sync>(
             Ok((basis, _state)) => Ok(basis),
             Err(stop) => Err(stop),
         },
-        Err(StopReason::Pairs) => Err(RunStop::Pairs(state)),
-        Err(StopReason::Memory) => Err(RunStop::Memory),
-        Err(StopReason::Degree(trail)) => Err(RunStop::Degree(state, trail)),
+        Err(stop) => Err(stop_of_rounds(state, stop)),
     }
 }

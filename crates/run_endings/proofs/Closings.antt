@@ -6,12 +6,11 @@ use Rattle.module_vectors.specs.Rings.{ring_comparison, setting, variables}
 use Rattle.module_vectors.specs.Vectors.{AreVectorsOver, HasPositions, sum_of, sums_of}
 use Rattle.module_vectors.specs.declared.key.Key.{Key as CodeKey}
 use Rattle.module_vectors.specs.declared.ring.Ring.{Ring}
-use Rattle.cofactor_track.specs.Members.{AreGenerators}
+use Rattle.member_products.specs.Generators.{AreGenerators}
 use Rattle.basis_steps.specs.Invariant.{HoldsInvariant}
 use Rattle.basis_steps.specs.States.{IsLawfulRun, vectors}
 use Rattle.basis_steps.proofs.Closing.{members_basis}
-use Rattle.basis_core.specs.Members.{Shared, Tracked, members_of}
-use Rattle.basis_core.specs.RowDivision.{IsTracked}
+use Rattle.basis_core.specs.Members.{IsTracked, Shared, Tracked, members_of}
 use Rattle.basis_core.specs.Rows.{vectors_in}
 use Rattle.basis_core.specs.Shown.{Shown}
 use Rattle.basis_core.specs.Stops.{stop_of}

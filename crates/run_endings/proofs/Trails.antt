@@ -1,10 +1,10 @@
 -- Copies of trails are trails of the same run
-use Rattle.std.proofs.Common.{List, Some, [], ap, length, subst, sym, ℕ, ◌∙◌, ◌∷◌, ◌≡◌}
+use Rattle.std.proofs.Common.{List, Some, [], ap, subst, sym, ℕ, ◌∙◌, ◌∷◌, ◌≡◌}
 use Rattle.module_vectors.specs.Rings.{ring_comparison}
 use Rattle.module_vectors.specs.Trails.{IsTrail as IsKeptTrail, Step, last_step}
-use Rattle.module_vectors.specs.Vectors.{AreVectorsOver}
+use Rattle.module_vectors.specs.Vectors.{AreVectorsOver, sums_of}
 use Rattle.module_vectors.specs.declared.trail.KeptTrail.{KeptTrail}
-use Rattle.basis_steps.specs.States.{pairs_taken}
+use Rattle.basis_steps.specs.States.{vectors}
 use Rattle.basis_steps.specs.Invariant.{HoldsInvariant}
 use Rattle.basis_steps.specs.Trails.{IsTrail}
 use Rattle.basis_core.specs.declared.stop.StopReason.TheVariants as reasons
@@ -12,7 +12,7 @@ use Rattle.basis_core.specs.Answers.{IsRunTrail}
 use Rattle.basis_core.specs.Inside.{IsStopOver}
 use Rattle.basis_core.specs.Outcomes.{product_of, products_of}
 use Rattle.basis_core.specs.Shown.{Shown}
-use Rattle.basis_core.specs.Stops.{cofactors_kept, earlier_steps, joined, start_pair, stop_of, trail_of, trail_over}
+use Rattle.basis_core.specs.Stops.{earlier_steps, no_step, start_pair, stop_of, trail_of, trail_over}
 use Rattle.basis_core.specs.Views.{run_of, state_of, variables_of}
 use Rattle.monomials.specs.Exponents.{exponents_of}
 use Rattle.run_endings.specs.Copies.{IsSameTrail}
@@ -21,18 +21,18 @@ use Rattle.run_endings.specs.Endings.{IsDegreeStop}
 module _ (t u : KeptTrail) (same : IsSameTrail t u) where
   trail_over_same : (n : ℕ) (steps : List Step) → trail_over n u steps ≡ trail_over n t steps
   trail_over_same n [] = λ i. record {
-    members = joined n (same.members i) (cofactors_kept (same.cofs i));
+    members = sums_of n (same.members i);
     start = start_pair (same.start i);
     earlier = [];
-    last = product_of n (0, []);
-    monomial = exponents_of n (same.last i);
+    last = product_of n no_step;
+    monomial = exponents_of n (same.last i).exponents;
   }
   trail_over_same n (first ∷ later) = λ i. record {
-    members = joined n (same.members i) (cofactors_kept (same.cofs i));
+    members = sums_of n (same.members i);
     start = start_pair (same.start i);
     earlier = products_of n (earlier_steps first later);
     last = product_of n (last_step first later);
-    monomial = exponents_of n (same.last i);
+    monomial = exponents_of n (same.last i).exponents;
   }
 
   trail_of_same : (n : ℕ) → trail_of n u ≡ trail_of n t
@@ -48,7 +48,6 @@ module _ (t u : KeptTrail) (same : IsSameTrail t u) where
     start = same.start i;
     vector = same.vector i;
     members = same.members i;
-    cofs = same.cofs i;
     steps = t.steps;
     last = same.last i;
   })
@@ -82,17 +81,11 @@ module _ (t u : KeptTrail) (same : IsSameTrail t u) where
         generators = same.generators ∙ h.pair.over.generators;
         below = same.below ∙ h.pair.over.below;
         vectors = subst (AreVectorsOver s.shared.ring (ring_comparison s.shared.ring)) (sym same.members) h.pair.over.vectors;
-        cofactors = (
-          h.pair.over.cofactors.0,
-          same.cofs ∙ h.pair.over.cofactors.1,
-          h.pair.over.cofactors.2 ∙ ap length (sym same.members),
-          h.pair.over.cofactors.3,
-        );
       };
       vector = same.vector ∙ h.pair.vector;
       start = (h.pair.start.0, h.pair.start.1, same.start ∙ h.pair.start.2);
     };
-    way = subst (IsTrail (run_of n s) (state_of n s).members (pairs_taken (state_of n s).history)) (sym (trail_of_same n)) h.way;
+    way = subst (IsTrail (run_of n s) (vectors (state_of n s).members) (state_of n s).history) (sym (trail_of_same n)) h.way;
   }
 
   -- the stop that a state keeps, with a copy of its trail

@@ -11,6 +11,5 @@ pub record IsSameTrail (t u : KeptTrail) : Type 0 where
   pub start : u.start ≡ t.start
   pub vector : u.vector ≡ t.vector
   pub members : u.members ≡ t.members
-  pub cofs : u.cofs ≡ t.cofs
   pub steps : u.steps.items ≡ t.steps.items
   pub last : u.last ≡ t.last

@@ -41,7 +41,6 @@ pub record IsInterreductionStop (s : Shown) (t : KeptTrail) : Type 0 where
   pub known : number < length s.members
   pub vector : t.vector ≡ get_or (vectors_in s.members) number []
   pub members : t.members ≡ vectors_in s.members
-  pub cofactors : t.cofs ≡ None
 
 -- Degree comes with such a trail alone
 abbrev pub ClosingStops : Shown → WorkStop → Type 0

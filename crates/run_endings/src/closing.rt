@@ -70,7 +70,7 @@ fn reduce_members<R: Threads + Sync>(
 
 /// The reduced basis of a closed run, with its state. IVA chapter 2, section 7.
 ///
-/// `Degree` where the division of a member by the members needed a product of total degree above 65,535, with the state and
+/// `Degree` where the division of a member by the members needed a product of degree above 65,535, with the state and
 /// the trail; `Memory` where there is none.
 pub fn close<R: Threads + Sync>(
     rt: &R,

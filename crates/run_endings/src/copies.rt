@@ -17,16 +17,6 @@ fn copy_lists(alloc: Global, lists: &[VectList]) -> Result<Vec<VectList>, NoMemo
     Ok(copy)
 }
 
-// The same list again, where there is one.
-fn copy_kept(alloc: Global, list: &Option<VectList>) -> Result<Option<VectList>, NoMemory>
-    ensures { IfOk result (λ copy. copy ≡ list.now) }
-{
-    match list {
-        Some(list) => Ok(Some(VectList::copy_of(alloc, list)?)),
-        None => Ok(None),
-    }
-}
-
 // The same steps again.
 fn copy_steps(alloc: Global, steps: &[(u64, Mono)]) -> Result<Vec<(u64, Mono)>, NoMemory>
     ensures { IfOk result (λ copy. copy.items ≡ steps.now) }
@@ -50,7 +40,6 @@ pub fn copy_trail(alloc: Global, trail: &KeptTrail) -> Result<KeptTrail, NoMemor
         start: trail.start,
         vector: trail.vector.try_copy(alloc)?,
         members: VectList::copy_of(alloc, &trail.members)?,
-        cofs: copy_kept(alloc, &trail.cofs)?,
         steps: copy_steps(alloc, &trail.steps)?,
         last: trail.last.try_copy(alloc)?,
     })

@@ -9,7 +9,7 @@ pub enum RunStop {
     Memory,
     /// The budget is met.
     Pairs(BasisState),
-    /// A generator's division needed a product of total degree above 65,535.
+    /// A generator's division needed a product of degree above 65,535.
     Beginning(KeptTrail),
     /// A pair's work or the interreduction needed one.
     Degree(BasisState, KeptTrail),

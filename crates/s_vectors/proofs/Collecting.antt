@@ -2,16 +2,17 @@
 use Rattle.std.proofs.Common.{List, [], ap, arith, get_or, length, map, refl, subst, sym, take, zero, suc, ℕ, ◌++◌, ◌+◌, ◌<◌, ◌∙◌, ◌∷◌, ◌≡◌, ◌≤◌}
 use Rattle.std.proofs.lemmas.List.{length-map}
 use Rattle.formal_sums.specs.FormalSums.{Each}
+use Rattle.monomial_orders.specs.Kept.{IsWeighed}
 use Rattle.module_vectors.proofs.Scaling.{take_item}
 use Rattle.module_vectors.specs.Rings.{variables}
 use Rattle.module_vectors.specs.Trails.{Step}
-use Rattle.cofactor_track.specs.declared.member.Member.{Member as CodeMember}
+use Rattle.member_products.specs.declared.member.Row.{Row as CodeRow}
 use Rattle.pair_criteria.specs.declared.pair.Pair.{Pair as CodePair}
 use Rattle.basis_steps.specs.Criteria.{IsPair}
 use Rattle.basis_steps.specs.States.{vectors}
 use Rattle.basis_core.specs.Jobs.{IsJob, JobShown, pair_of, pairs_of}
-use Rattle.basis_core.specs.Members.{member_of, members_of, tracked_of}
-use Rattle.basis_core.specs.Outcomes.{IsOutcomeIn, product_of, products_of, work_of}
+use Rattle.basis_core.specs.Members.{IsRunRow, members_of, row_of, rows_of, setting_of}
+use Rattle.basis_core.specs.Outcomes.{IsOutcomeIn, product_of, products_of}
 use Rattle.s_vectors.proofs.JobTrails.{job_pair}
 use Rattle.s_vectors.proofs.Joining.{solved_joined, solved_outcome}
 use Rattle.s_vectors.proofs.TopParts.{shared_lawful}
@@ -33,40 +34,40 @@ pairs_take (suc i) [] P h = tt
 pairs_take (suc i) (x ∷ xs) P h = (h.0, pairs_take i xs P h.1)
 
 pub solved_step :
-    (j : JobShown) (i : ℕ) (x : CodePair) (rows more new_rows : List CodeMember) (a b new_products : List Step)
+    (j : JobShown) (i : ℕ) (x : CodePair) (rows more new_rows : List CodeRow) (a b new_products : List Step)
     → IsJob (variables j.shared.ring) j → i < length j.pairs → x ≡ get_or j.pairs i x → new_rows ≡ rows ++ more → new_products ≡ a ++ b
-    → IsSolved (work_of (variables j.shared.ring) j.shared) (members_of (variables j.shared.ring) j.members) (pairs_of (take i j.pairs))
-    (members_of (variables j.shared.ring) (map (λ m. tracked_of m) rows)) (products_of (variables j.shared.ring) a)
-    → IsSolved (work_of (variables j.shared.ring) j.shared) (members_of (variables j.shared.ring) j.members) (pair_of x ∷ [])
-    (members_of (variables j.shared.ring) (map (λ m. tracked_of m) more)) (products_of (variables j.shared.ring) b)
-    → IsSolved (work_of (variables j.shared.ring) j.shared) (members_of (variables j.shared.ring) j.members) (pairs_of (take (i + 1) j.pairs))
-    (members_of (variables j.shared.ring) (map (λ m. tracked_of m) new_rows)) (products_of (variables j.shared.ring) new_products)
+    → IsSolved (setting_of (variables j.shared.ring) j.shared) (vectors (members_of (variables j.shared.ring) j.members)) (pairs_of (take i j.pairs))
+    (rows_of (variables j.shared.ring) rows) (products_of (variables j.shared.ring) a)
+    → IsSolved (setting_of (variables j.shared.ring) j.shared) (vectors (members_of (variables j.shared.ring) j.members)) (pair_of x ∷ [])
+    (rows_of (variables j.shared.ring) more) (products_of (variables j.shared.ring) b)
+    → IsSolved (setting_of (variables j.shared.ring) j.shared) (vectors (members_of (variables j.shared.ring) j.members)) (pairs_of (take (i + 1) j.pairs))
+    (rows_of (variables j.shared.ring) new_rows) (products_of (variables j.shared.ring) new_products)
 solved_step j i x rows more new_rows a b new_products h lt e e_rows e_products before one =
     let n = variables j.shared.ring in
-    let r = work_of n j.shared in
-    let ms = members_of n j.members in
+    let S = setting_of n j.shared in
+    let G = vectors (members_of n j.members) in
     let e_pairs : pairs_of (take (i + 1) j.pairs) ≡ pairs_of (take i j.pairs) ++ pair_of x ∷ [] = ap pairs_of (take_item j.pairs i x lt e) ∙ map-append (λ y. pair_of y) (take i j.pairs) (x ∷ []) in
-    let r_is : members_of n (map (λ m. tracked_of m) new_rows) ≡ members_of n (map (λ m. tracked_of m) rows) ++ members_of n (map (λ m. tracked_of m) more) =
-    ap (λ l. members_of n (map (λ m. tracked_of m) l)) e_rows ∙ ap (members_of n) (map-append (λ m. tracked_of m) rows more) ∙ map-append (λ m. member_of n m) (map (λ m. tracked_of m) rows) (map (λ m. tracked_of m) more) in
+    let r_is : rows_of n new_rows ≡ rows_of n rows ++ rows_of n more = ap (rows_of n) e_rows ∙ map-append (λ row. row_of n row) rows more in
     let p_is : products_of n new_products ≡ products_of n a ++ products_of n b = ap (products_of n) e_products ∙ map-append (λ t. product_of n t) a b in
-    subst (λ z. IsSolved r ms z (members_of n (map (λ m. tracked_of m) new_rows)) (products_of n new_products)) (sym e_pairs)
-    (subst (λ z. IsSolved r ms (pairs_of (take i j.pairs) ++ pair_of x ∷ []) z (products_of n new_products)) (sym r_is)
-    (subst (λ z. IsSolved r ms (pairs_of (take i j.pairs) ++ pair_of x ∷ []) (members_of n (map (λ m. tracked_of m) rows) ++ members_of n (map (λ m. tracked_of m) more)) z) (sym p_is)
-    (solved_joined r (shared_lawful n j.shared) ms (pairs_of (take i j.pairs)) (pair_of x ∷ []) (members_of n (map (λ m. tracked_of m) rows)) (members_of n (map (λ m. tracked_of m) more)) (products_of n a) (products_of n b)
-    (pairs_take i j.pairs (IsPair (vectors ms)) h.real) ((job_pair j i x h lt e).real, tt) before one)))
+    subst (λ z. IsSolved S G z (rows_of n new_rows) (products_of n new_products)) (sym e_pairs)
+    (subst (λ z. IsSolved S G (pairs_of (take i j.pairs) ++ pair_of x ∷ []) z (products_of n new_products)) (sym r_is)
+    (subst (λ z. IsSolved S G (pairs_of (take i j.pairs) ++ pair_of x ∷ []) (rows_of n rows ++ rows_of n more) z) (sym p_is)
+    (solved_joined S (shared_lawful n j.shared) G (pairs_of (take i j.pairs)) (pair_of x ∷ []) (rows_of n rows) (rows_of n more) (products_of n a) (products_of n b)
+    (pairs_take i j.pairs (IsPair G) h.real) ((job_pair j i x h lt e).real, tt) before one)))
 
 pub solved_job :
-    (j : JobShown) (i : ℕ) (rows : List CodeMember) (products : List Step)
-    → IsJob (variables j.shared.ring) j → length j.pairs ≤ i → Each (λ t. length t.1 ≡ variables j.shared.ring) products
-    → IsSolved (work_of (variables j.shared.ring) j.shared) (members_of (variables j.shared.ring) j.members) (pairs_of (take i j.pairs))
-    (members_of (variables j.shared.ring) (map (λ m. tracked_of m) rows)) (products_of (variables j.shared.ring) products)
-    → IsOutcomeIn (variables j.shared.ring) (record { job = j; rows = map (λ m. tracked_of m) rows; products = products })
-solved_job j i rows products h le lengths s =
+    (j : JobShown) (i : ℕ) (rows : List CodeRow) (products : List Step)
+    → IsJob (variables j.shared.ring) j → length j.pairs ≤ i → Each (IsRunRow j.shared (length j.members)) rows → Each (λ t. IsWeighed (variables j.shared.ring) j.shared.ring.weights t.1) products
+    → IsSolved (setting_of (variables j.shared.ring) j.shared) (vectors (members_of (variables j.shared.ring) j.members)) (pairs_of (take i j.pairs))
+    (rows_of (variables j.shared.ring) rows) (products_of (variables j.shared.ring) products)
+    → IsOutcomeIn (variables j.shared.ring) (record { job = j; rows = rows; products = products })
+solved_job j i rows products h le over weighed s =
     let n = variables j.shared.ring in
     let some = h.some in
     record {
-      variables = lengths;
-      outcome = solved_outcome (work_of n j.shared) (shared_lawful n j.shared) (members_of n j.members) (pairs_of j.pairs) (members_of n (map (λ m. tracked_of m) rows)) (products_of n products)
+      rows = over;
+      weighed = weighed;
+      outcome = solved_outcome (setting_of n j.shared) (shared_lawful n j.shared) (vectors (members_of n j.members)) (pairs_of j.pairs) (rows_of n rows) (products_of n products)
           (subst (λ z. 0 < z) (sym (length-map j.pairs (λ y. pair_of y))) some) h.real
-          (subst (λ z. IsSolved (work_of n j.shared) (members_of n j.members) (pairs_of z) (members_of n (map (λ m. tracked_of m) rows)) (products_of n products)) (take_whole i j.pairs le) s);
+          (subst (λ z. IsSolved (setting_of n j.shared) (vectors (members_of n j.members)) (pairs_of z) (rows_of n rows) (products_of n products)) (take_whole i j.pairs le) s);
     }

@@ -1,11 +1,10 @@
 -- The chain of a pair is a trail of the job
-use Rattle.std.proofs.Common.{List, Some, [], ap, ap₂, append-nil, arith, get_or, inl, inr, length, length-append, refl, subst, subst₂, suc, sym, take, zero, ℕ, ◌++◌, ◌+◌, ◌<◌, ◌∙◌, ◌∷◌, ◌≡◌, ◌⊎◌}
-use Rattle.std.proofs.lemmas.List.{take_all}
-use Rattle.std.specs.Prelude.{sum}
-use Rattle.monomials.specs.Exponents.{degree, exponents_of}
-use Rattle.formal_sums.specs.FormalSums.{Each}
+use Rattle.std.proofs.Common.{List, [], ap, ap₂, arith, get_or, length, length-append, refl, subst, subst₂, suc, sym, zero, ℕ, ◌++◌, ◌+◌, ◌<◌, ◌∙◌, ◌∷◌, ◌≡◌}
+use Rattle.monomials.specs.Exponents.{exponents_of}
+use Rattle.monomials.specs.Weights.{weighted_degree}
+use Rattle.formal_sums.specs.FormalSums.{Each, FormalSum}
 use Rattle.bases.specs.Representations.{key_lcm}
-use Rattle.monomial_orders.proofs.Comparing.{degree-exponents_of}
+use Rattle.monomial_orders.specs.Kept.{IsWeighed, Monomial}
 use Rattle.module_vectors.proofs.Monomials.{monomial_at}
 use Rattle.module_vectors.proofs.Scaling.{Each_at}
 use Rattle.module_vectors.proofs.SumsOfProducts.{Each_split}
@@ -14,6 +13,7 @@ use Rattle.module_vectors.specs.Stops.{HasMonomial}
 use Rattle.module_vectors.specs.Trails.{AreMet, IsStart, HasKey, IsChain, IsOfStep, IsTrail as IsKeptTrail, Step, last_step, lead_at}
 use Rattle.module_vectors.specs.Vectors.{AreVectorsOver, key_of, sum_of, sums_of}
 use Rattle.module_vectors.specs.declared.key.Key.{Key as CodeKey}
+use Rattle.module_vectors.specs.declared.ring.Ring.{Ring}
 use Rattle.module_vectors.specs.declared.trail.KeptTrail.{KeptTrail}
 use Rattle.module_vectors.specs.declared.trail.TrailStart.TheVariants as starts
 use Rattle.pair_criteria.specs.declared.pair.Pair.{Pair as CodePair}
@@ -22,26 +22,18 @@ use Rattle.basis_steps.specs.Criteria.{IsPair, lcm_of}
 use Rattle.basis_steps.specs.Divisions.{Occurs}
 use Rattle.basis_steps.specs.Outcomes.{AreJobProducts}
 use Rattle.basis_steps.specs.Pairs.{Pair, count}
-use Rattle.basis_steps.specs.States.{cofactor_lists, vectors}
-use Rattle.basis_steps.specs.Trails.{IsTrail}
-use Rattle.basis_core.proofs.Tracking.{cofactors_over, vectors_over}
+use Rattle.basis_steps.specs.States.{Trail, vectors}
+use Rattle.basis_core.proofs.Tracking.{vectors_over}
 use Rattle.basis_core.specs.Jobs.{HasLcm, IsJob, JobShown, pair_of, pairs_of}
-use Rattle.basis_core.specs.Members.{MembersShown, Tracked, members_of, setting_of}
-use Rattle.basis_core.specs.Outcomes.{product_of, products_of, work_of}
-use Rattle.basis_core.specs.Rows.{cofactors_in, vectors_in}
-use Rattle.basis_core.specs.Stops.{IsPairTrail, cofactors_kept, earlier_steps, joined, start_pair, trail_by, trail_members, trail_of, trail_over}
-use Rattle.s_vectors.proofs.Combined.{AreCombined}
-use Rattle.s_vectors.proofs.Lists.{cofactors_are, length-cofactors_in, length-vectors_in, vectors_are}
+use Rattle.basis_core.specs.Members.{IsTracked, MembersShown, members_of, setting_of}
+use Rattle.basis_core.specs.Outcomes.{product_of, products_of}
+use Rattle.basis_core.specs.Rows.{vectors_in}
+use Rattle.basis_core.specs.Stops.{IsPairTrail, IsTrailBy, earlier_steps, start_pair, trail_by, trail_members, trail_over}
+use Rattle.s_vectors.proofs.Lists.{vectors_are}
 use Rattle.s_vectors.proofs.Making.{job_steps, vector_occurs}
 use Rattle.s_vectors.proofs.TopParts.{lead_is, left_within, member_some, right_within, same_position, shared_lawful}
 use Rattle.s_vectors.specs.Divided.{AreOfPair}
 use Rattle.s_vectors.specs.Steps.{ArePairSteps, IsPairChain}
-use Rattle.s_vectors.specs.Trails.{IsJobTrail}
-
--- the members with their cofactors
-joined_members : (n : ℕ) (ms : List Tracked) → joined n (vectors_in ms) (cofactors_in ms) ≡ members_of n ms
-joined_members n [] = refl
-joined_members n (m ∷ ms) = ap (λ l. record { vector = sum_of n m.vector; cofactors = sum_of n m.cof } ∷ l) (joined_members n ms)
 
 -- all steps, the last one apart
 steps_apart : (n : ℕ) (first : Step) (later : List Step) → products_of n (earlier_steps first later) ++ product_of n (last_step first later) ∷ [] ≡ products_of n (first ∷ later)
@@ -55,9 +47,9 @@ count_at (y ∷ xs) zero x lt e = rw (sym e) (rw (is_same_pair-refl (pair_of x))
 count_at (y ∷ xs) (suc i) x lt e = let h = count_at xs i x (omega arith) e in omega arith
 
 -- the key of a term
-monomial_key : (n : ℕ) (v : List (CodeKey × ℕ)) (t : List ℕ) → HasMonomial v t → (i : ℕ) × HasKey (sum_of n v) (i, exponents_of n t)
+monomial_key : (n : ℕ) (v : List (CodeKey × ℕ)) (t : Monomial) → HasMonomial v t → (i : ℕ) × HasKey (sum_of n v) (i, exponents_of n t.exponents)
 monomial_key n [] t (u, (i, lt, e), is) = absurd (let z : i < 0 = lt in omega arith)
-monomial_key n (w ∷ v) t (u, (zero, lt, e), is) = (w.0.position, (0, omega arith, ap (λ z. (w.0.position, exponents_of n z)) (ap (λ z. z.0.monomial) e ∙ is)))
+monomial_key n (w ∷ v) t (u, (zero, lt, e), is) = (w.0.position, (0, omega arith, ap (λ z. (w.0.position, exponents_of n z.exponents)) (ap (λ z. z.0.monomial) e ∙ is)))
 monomial_key n (w ∷ v) t (u, (suc i, lt, e), is) =
     let r = monomial_key n v t (u, (i, omega arith, e), is) in
     (r.0, (suc r.1.0, (let l = r.1.1 in omega arith), r.1.2))
@@ -73,28 +65,32 @@ some_steps : (front : List Step) (s : Step) (steps : List Step) → steps ≡ fr
 some_steps [] s steps e = (s, [], e)
 some_steps (f ∷ front) s steps e = (f, front ++ s ∷ [], e)
 
-degree_of : (n : ℕ) (xs : List ℕ) → length xs ≡ n → degree (exponents_of n xs) ≡ sum xs
-degree_of n xs e = subst (λ k. degree (exponents_of k xs) ≡ sum xs) e (degree-exponents_of xs)
+-- what a trail has to hold
+record HoldsTrail (n : ℕ) (ws : List ℕ) (p : ℕ) (G : List (FormalSum n)) (pairs : List Pair) (w : Trail n) : Type 0 where
+  members : w.members ≡ G
+  start : 0 < count w.start pairs
+  real : IsPair G w.start
+  products : AreJobProducts p G (w.start ∷ []) (w.earlier ++ (w.last ∷ []))
+  monomial : (i : ℕ) × Occurs p (get_or G w.last.0 []) (i, w.monomial)
+  above : 65535 < weighted_degree ws w.last.1 + weighted_degree ws w.monomial
 
-module _ (m : MembersShown) (x : CodePair) (of : AreOfPair m x) (combined : AreCombined m.shared m.list) (t : KeptTrail) (pairs : List Pair)
-    (chain : IsPairChain (variables m.shared.ring) m.list (key_of (variables m.shared.ring) x.lcm) t.steps.items t.last)
+module _ (m : MembersShown) (x : CodePair) (of : AreOfPair m x) (tracked : Each (IsTracked m.shared) m.list) (t : KeptTrail) (pairs : List Pair)
+    (chain : IsPairChain (variables m.shared.ring) m.shared.ring.weights m.list (key_of (variables m.shared.ring) x.lcm) t.steps.items t.last)
     (ring_is : t.ring ≡ m.shared.ring) (rank_is : t.rank ≡ m.shared.rank) (generators_are : t.generators ≡ m.shared.generators)
     (below_none : t.below.items ≡ []) (start_is : t.start ≡ starts.Pair x.i x.j) (vector_is : t.vector ≡ [])
-    (members_are : t.members ≡ vectors_in m.list) (cofactors_there : t.cofs ≡ Some (cofactors_in m.list)) (taken : 0 < count (pair_of x) pairs)
+    (members_are : t.members ≡ vectors_in m.list) (taken : 0 < count (pair_of x) pairs)
   where
-    -- the monomial that is too great has the ring's variables
-    last_length : IsOfStep (vectors_in m.list) (Some (cofactors_in m.list)) chain.step t.last → length t.last ≡ variables m.shared.ring
-    last_length (inl h) =
-        monomial_at (variables m.shared.ring) m.shared.ring.modulus.value (ring_comparison m.shared.ring (variables m.shared.ring)) (vectors_in m.list) chain.step.0 t.last (vectors_over m.shared m.list combined) h
-    last_length (inr h) =
-        monomial_at (variables m.shared.ring) m.shared.ring.modulus.value (ring_comparison m.shared.ring (variables m.shared.ring)) (cofactors_in m.list) chain.step.0 t.last (cofactors_over m.shared m.list combined) h
+    -- the monomial that is too great is one of the ring
+    last_weighed : IsWeighed (variables m.shared.ring) m.shared.ring.weights t.last
+    last_weighed =
+        monomial_at (variables m.shared.ring) m.shared.ring.weights m.shared.ring.modulus.value (ring_comparison m.shared.ring (variables m.shared.ring)) (vectors_in m.list) chain.step.0 t.last (vectors_over m.shared m.list tracked) chain.monomial
 
     -- the steps as the trail has them
     kept_trail : (first : Step) (later : List Step) → t.steps.items ≡ first ∷ later → IsKeptTrail t
     kept_trail first later e =
         let n = variables m.shared.ring in
         let list = vectors_in m.list in
-        let pair : ArePairSteps n list (key_of n x.lcm) (first ∷ later) = subst (ArePairSteps n list (key_of n x.lcm)) e chain.pair in
+        let pair : ArePairSteps n m.shared.ring.weights list (key_of n x.lcm) (first ∷ later) = subst (ArePairSteps n m.shared.ring.weights list (key_of n x.lcm)) e chain.pair in
         let last : last_step first later ≡ chain.step = ends_with chain.front chain.step first later (sym e ∙ chain.split) in
         let lw = left_within n m.shared m.list x of.monic of.real of.lcm in
         let rw' = right_within n m.shared m.list x of.monic of.real of.lcm in
@@ -102,18 +98,18 @@ module _ (m : MembersShown) (x : CodePair) (of : AreOfPair m x) (combined : AreC
         let lcm_key : key_of n x.lcm ≡ key_lcm (lead_at n list x.i) (lead_at n list x.j) = lcm_leads in (
           first,
           later,
-          subst (λ r. IsChain (variables r) t first later) (sym ring_is) (record {
+          subst (λ (r : Ring). IsChain (variables r) (record t { ring = r }) first later) (sym ring_is) (record {
             steps = e;
             known = subst (λ l. Each (λ z. z.0 < length l) (first ∷ later)) (sym members_are) pair.known;
-            variables = pair.variables;
+            variables = pair.weighed;
             begins = subst₂ (λ s l. IsStart n s t.vector l first later) (sym start_is) (sym members_are) (
               record { left = lw; right = rw'; left_some = some x.i lw; right_some = some x.j rw'; apart = λ q. (let o = of.real.ordered in absurd (omega arith)); position = same_position n m.shared m.list x of.monic of.real of.lcm; lcm = pair.linked.0 ∙ lcm_key },
               vector_is,
             );
             met = subst₂ (λ v l. AreMet n (sum_of n v) l (first ∷ []) later) (sym vector_is) (sym members_are) pair.linked.1;
-            last = subst (λ s. IsOfStep t.members t.cofs s t.last) (sym last) (subst₂ (λ l cs. IsOfStep l cs chain.step t.last) (sym members_are) (sym cofactors_there) chain.monomial);
-            last_variables = last_length chain.monomial;
-            too_great = subst (λ (s : Step). 65535 < sum s.1 + sum t.last) (sym last) chain.too_great;
+            last = subst (λ s. IsOfStep t.members s t.last) (sym last) (subst (λ l. IsOfStep l chain.step t.last) (sym members_are) chain.monomial);
+            last_variables = last_weighed;
+            too_great = subst (λ (s : Step). 65535 < s.1.degree + t.last.degree) (sym last) chain.too_great;
           }),
         )
       where
@@ -130,95 +126,63 @@ module _ (m : MembersShown) (x : CodePair) (of : AreOfPair m x) (combined : AreC
             rank = rank_is;
             generators = generators_are;
             below = below_none;
-            vectors = subst (AreVectorsOver m.shared.ring (ring_comparison m.shared.ring)) (sym members_are) (vectors_over m.shared m.list combined);
-            cofactors = (
-              cofactors_in m.list,
-              cofactors_there,
-              length-cofactors_in m.list ∙ sym (length-vectors_in m.list) ∙ ap length (sym members_are),
-              cofactors_over m.shared m.list combined,
-            );
+            vectors = subst (AreVectorsOver m.shared.ring (ring_comparison m.shared.ring)) (sym members_are) (vectors_over m.shared m.list tracked);
           };
           vector = vector_is;
           start = (x.i, x.j, start_is);
         }
 
     -- the same over plain data
-    members_same : trail_members (variables m.shared.ring) t ≡ members_of (variables m.shared.ring) m.list
-    members_same =
-        ap₂ (λ vs cs. joined (variables m.shared.ring) vs (cofactors_kept cs)) members_are cofactors_there ∙ joined_members (variables m.shared.ring) m.list
+    members_same : trail_members (variables m.shared.ring) t ≡ vectors (members_of (variables m.shared.ring) m.list)
+    members_same = ap (sums_of (variables m.shared.ring)) members_are ∙ sym (vectors_are (variables m.shared.ring) m.list)
 
-    -- a monomial of the last step's member or of its cofactors
-    last_occurs :
-        IsOfStep (vectors_in m.list) (Some (cofactors_in m.list)) chain.step t.last
-        → (i : ℕ)
-        × (Occurs m.shared.ring.modulus.value (get_or (vectors (members_of (variables m.shared.ring) m.list)) chain.step.0 []) (i, exponents_of (variables m.shared.ring) t.last)
-        ⊎ Occurs m.shared.ring.modulus.value (get_or (cofactor_lists (members_of (variables m.shared.ring) m.list)) chain.step.0 []) (i, exponents_of (variables m.shared.ring) t.last))
-    last_occurs (inl h) =
+    -- a monomial of the last step's member
+    last_occurs : (i : ℕ) × Occurs m.shared.ring.modulus.value (get_or (vectors (members_of (variables m.shared.ring) m.list)) chain.step.0 []) (i, exponents_of (variables m.shared.ring) t.last.exponents)
+    last_occurs =
         let n = variables m.shared.ring in
-        let k = monomial_key n (get_or (vectors_in m.list) chain.step.0 []) t.last h in (
+        let k = monomial_key n (get_or (vectors_in m.list) chain.step.0 []) t.last chain.monomial in (
           k.0,
-          inl (subst (λ G. Occurs m.shared.ring.modulus.value (get_or G chain.step.0 []) (k.0, exponents_of n t.last)) (sym (vectors_are n m.list))
-              (vector_occurs (setting_of n m.shared) (shared_lawful n m.shared) (vectors_in m.list) (vectors_over m.shared m.list combined) chain.step.0 (k.0, exponents_of n t.last) k.1)),
-        )
-    last_occurs (inr h) =
-        let n = variables m.shared.ring in
-        let k = monomial_key n (get_or (cofactors_in m.list) chain.step.0 []) t.last h in (
-          k.0,
-          inr (subst (λ G. Occurs m.shared.ring.modulus.value (get_or G chain.step.0 []) (k.0, exponents_of n t.last)) (sym (cofactors_are n m.list))
-              (vector_occurs (setting_of n m.shared) (shared_lawful n m.shared) (cofactors_in m.list) (cofactors_over m.shared m.list combined) chain.step.0 (k.0, exponents_of n t.last) k.1)),
+          subst (λ G. Occurs m.shared.ring.modulus.value (get_or G chain.step.0 []) (k.0, exponents_of n t.last.exponents)) (sym (vectors_are n m.list))
+              (vector_occurs (setting_of n m.shared) (shared_lawful n m.shared) (vectors_in m.list) (vectors_over m.shared m.list tracked) chain.step.0 (k.0, exponents_of n t.last.exponents) k.1),
         )
 
-    step_length : length chain.step.1 ≡ variables m.shared.ring
-    step_length = (Each_split (λ s. length s.1 ≡ variables m.shared.ring) chain.front (chain.step ∷ []) (subst (Each (λ s. length s.1 ≡ variables m.shared.ring)) chain.split chain.pair.variables)).1.0
+    step_weighed : IsWeighed (variables m.shared.ring) m.shared.ring.weights chain.step.1
+    step_weighed = (Each_split (λ s. IsWeighed (variables m.shared.ring) m.shared.ring.weights s.1) chain.front (chain.step ∷ []) (subst (Each (λ s. IsWeighed (variables m.shared.ring) m.shared.ring.weights s.1)) chain.split chain.pair.weighed)).1.0
 
+    -- what the trail holds, by its steps
     plain_trail :
         (first : Step) (later : List Step)
         → t.steps.items ≡ first ∷ later
-        → IsTrail (work_of (variables m.shared.ring) m.shared) (members_of (variables m.shared.ring) m.list) pairs (trail_by (variables m.shared.ring) t first later)
+        → HoldsTrail (variables m.shared.ring) m.shared.ring.weights m.shared.ring.modulus.value (vectors (members_of (variables m.shared.ring) m.list)) pairs (trail_by (variables m.shared.ring) t first later)
     plain_trail first later e =
         let n = variables m.shared.ring in
         let p = m.shared.ring.modulus.value in
-        let pair : ArePairSteps n (vectors_in m.list) (key_of n x.lcm) (first ∷ later) = subst (ArePairSteps n (vectors_in m.list) (key_of n x.lcm)) e chain.pair in
+        let pair : ArePairSteps n m.shared.ring.weights (vectors_in m.list) (key_of n x.lcm) (first ∷ later) = subst (ArePairSteps n m.shared.ring.weights (vectors_in m.list) (key_of n x.lcm)) e chain.pair in
         let last : last_step first later ≡ chain.step = ends_with chain.front chain.step first later (sym e ∙ chain.split) in
         let lcm_is : key_of n x.lcm ≡ lcm_of (sums_of n (vectors_in m.list)) (pair_of x) = subst (λ G. key_of n x.lcm ≡ lcm_of G (pair_of x)) (vectors_are n m.list) of.lcm.lcm in
         let high = chain.too_great in
         let start : start_pair t.start ≡ pair_of x = ap start_pair start_is in
         record {
-          members = record {
-            first = length (members_of n m.list);
-            there = omega arith;
-            rows = [];
-            put = inl refl;
-            made = [];
-            makes = refl;
-            same = members_same ∙ sym (append-nil (take (length (members_of n m.list)) (members_of n m.list)) ∙ take_all (length (members_of n m.list)) (members_of n m.list) (omega arith));
-          };
+          members = members_same;
           start = subst (λ y. 0 < count y pairs) (sym start) taken;
-          pair = subst₂ (λ G y. IsPair (vectors G) y) (sym members_same) (sym start) of.real;
+          real = subst (IsPair (vectors (members_of n m.list))) (sym start) of.real;
           products =
-              subst (AreJobProducts p (vectors (trail_members n t)) (start_pair t.start ∷ [])) (sym (steps_apart n first later))
-              (subst₂ (λ G y. AreJobProducts p G (y ∷ []) (products_of n (first ∷ later))) (sym (ap vectors members_same ∙ vectors_are n m.list)) (sym start)
-              (job_steps (setting_of n m.shared) (shared_lawful n m.shared) (vectors_in m.list) (vectors_over m.shared m.list combined) (pair_of x) (key_of n x.lcm) (first ∷ later) lcm_is pair));
+              subst (AreJobProducts p (vectors (members_of n m.list)) (start_pair t.start ∷ [])) (sym (steps_apart n first later))
+              (subst₂ (λ G y. AreJobProducts p G (y ∷ []) (products_of n (first ∷ later))) (sym (vectors_are n m.list)) (sym start)
+              (job_steps (setting_of n m.shared) (shared_lawful n m.shared) (vectors_in m.list) (vectors_over m.shared m.list tracked) (pair_of x) (key_of n x.lcm) (first ∷ later) lcm_is pair));
           monomial =
-              subst₂ (λ G (s : Step). (i : ℕ) × (Occurs p (get_or (vectors G) s.0 []) (i, exponents_of n t.last) ⊎ Occurs p (get_or (cofactor_lists G) s.0 []) (i, exponents_of n t.last)))
-              (sym members_same) (sym last) (last_occurs chain.monomial);
+              subst (λ (s : Step). (i : ℕ) × Occurs p (get_or (vectors (members_of n m.list)) s.0 []) (i, exponents_of n t.last.exponents)) (sym last) last_occurs;
           above =
-              subst (λ (s : Step). 65535 < degree (exponents_of n s.1) + degree (exponents_of n t.last)) (sym last)
-              (omega (arith, degree_of n chain.step.1 step_length, degree_of n t.last (last_length chain.monomial)));
+              subst (λ (s : Step). 65535 < weighted_degree m.shared.ring.weights (exponents_of n s.1.exponents) + weighted_degree m.shared.ring.weights (exponents_of n t.last.exponents)) (sym last)
+              (omega (arith, step_weighed.degree, last_weighed.degree));
         }
 
-    -- the trail has the job's members
-    trail_has : (steps : List Step) → (trail_over (variables m.shared.ring) t steps).members ≡ members_of (variables m.shared.ring) m.list
-    trail_has [] = members_same
-    trail_has (first ∷ later) = members_same
-
-    pub same_members : (trail_of (variables m.shared.ring) t).members ≡ members_of (variables m.shared.ring) m.list
-    same_members = trail_has t.steps.items
-
-    pub way : IsTrail (work_of (variables m.shared.ring) m.shared) (members_of (variables m.shared.ring) m.list) pairs (trail_of (variables m.shared.ring) t)
-    way =
+    pub trail_by_members : IsTrailBy m.shared m.list pairs t
+    trail_by_members =
+        let n = variables m.shared.ring in
         let s = some_steps chain.front chain.step t.steps.items chain.split in
-        subst (λ l. IsTrail (work_of (variables m.shared.ring) m.shared) (members_of (variables m.shared.ring) m.list) pairs (trail_over (variables m.shared.ring) t l)) (sym s.2) (plain_trail s.0 s.1 s.2)
+        let h = subst (λ l. HoldsTrail n m.shared.ring.weights m.shared.ring.modulus.value (vectors (members_of n m.list)) pairs (trail_over n t l)) (sym s.2) (plain_trail s.0 s.1 s.2) in
+        record { pair = pair_trail; members = h.members; start = h.start; real = h.real; products = h.products; monomial = h.monomial; above = h.above }
 
 -- a pair of the job
 pub job_pair :
@@ -228,7 +192,7 @@ pub job_pair :
 job_pair j i x h lt e = record {
   monic = h.monic;
   real = pair_real j.pairs i x h.real lt e;
-  lcm = Each_at (HasLcm (variables j.shared.ring) j.members) j.pairs i x h.lcms lt e;
+  lcm = Each_at (HasLcm (variables j.shared.ring) j.shared.ring.weights j.members) j.pairs i x h.lcms lt e;
 }
   where
     pair_real :
@@ -242,17 +206,11 @@ job_pair j i x h lt e = record {
 -- the chain of a pair of the job
 pub job_trail :
     (j : JobShown) (i : ℕ) (x : CodePair) (t : KeptTrail)
-    → IsJob (variables j.shared.ring) j → AreCombined j.shared j.members → i < length j.pairs → x ≡ get_or j.pairs i x
-    → IsPairChain (variables j.shared.ring) j.members (key_of (variables j.shared.ring) x.lcm) t.steps.items t.last
+    → IsJob (variables j.shared.ring) j → Each (IsTracked j.shared) j.members → i < length j.pairs → x ≡ get_or j.pairs i x
+    → IsPairChain (variables j.shared.ring) j.shared.ring.weights j.members (key_of (variables j.shared.ring) x.lcm) t.steps.items t.last
     → t.ring ≡ j.shared.ring → t.rank ≡ j.shared.rank → t.generators ≡ j.shared.generators → t.below.items ≡ []
-    → t.start ≡ starts.Pair x.i x.j → t.vector ≡ [] → t.members ≡ vectors_in j.members → t.cofs ≡ Some (cofactors_in j.members)
-    → IsJobTrail j t
-job_trail j i x t h combined lt e chain e_ring e_rank e_generators e_below e_start e_vector e_members e_cofs =
-    let m : MembersShown = record { shared = j.shared; list = j.members } in
-    let of = job_pair j i x h lt e in
-    let taken = count_at j.pairs i x lt e in
-    record {
-      pair = pair_trail m x of combined t (pairs_of j.pairs) chain e_ring e_rank e_generators e_below e_start e_vector e_members e_cofs taken;
-      way = way m x of combined t (pairs_of j.pairs) chain e_ring e_rank e_generators e_below e_start e_vector e_members e_cofs taken;
-      members = same_members m x of combined t (pairs_of j.pairs) chain e_ring e_rank e_generators e_below e_start e_vector e_members e_cofs taken;
-    }
+    → t.start ≡ starts.Pair x.i x.j → t.vector ≡ [] → t.members ≡ vectors_in j.members
+    → IsTrailBy j.shared j.members (pairs_of j.pairs) t
+job_trail j i x t h tracked lt e chain e_ring e_rank e_generators e_below e_start e_vector e_members =
+    trail_by_members (record { shared = j.shared; list = j.members }) x (job_pair j i x h lt e) tracked t (pairs_of j.pairs) chain
+    e_ring e_rank e_generators e_below e_start e_vector e_members (count_at j.pairs i x lt e)

@@ -2,20 +2,21 @@
 use Rattle.std.proofs.Common.{List, [], ap, append_assoc, arith, inl, inr, length, length-append, subst, sym, ℕ, ◌++◌, ◌+◌, ◌-◌, ◌<◌, ◌∙◌, ◌∷◌, ◌≡◌, ◌≤◌, ◌⊎◌}
 use Rattle.std.proofs.lemmas.Bool.{cases_lt}
 use Rattle.std.proofs.lemmas.List.{get_or-append-add, get_or_append_left}
+use Rattle.std.proofs.lemmas.List.Elements.{Contains-append_left, Contains-append_right}
 use Rattle.monomials.specs.Exponents.{unit}
 use Rattle.formal_sums.proofs.Combining.{Each_map}
 use Rattle.formal_sums.proofs.WeightedSums.{Each_append}
 use Rattle.formal_sums.specs.FormalSums.{Each, FormalSum, Key}
 use Rattle.bases.proofs.MoreMembers.{HasLcmRepresentation_more}
-use Rattle.bases.specs.Settings.{IsLawful}
+use Rattle.bases.specs.Settings.{IsLawful, Setting}
 use Rattle.row_laws.proofs.Jobs.{HasLcmRepresentation_added}
 use Rattle.basis_steps.proofs.Counting.{count-append}
 use Rattle.basis_steps.proofs.Growing.{vectors-append}
 use Rattle.basis_steps.specs.Criteria.{IsPair, IsRepresented, lcm_of}
 use Rattle.basis_steps.specs.Divisions.{Occurs}
-use Rattle.basis_steps.specs.Outcomes.{AreJobProducts, HasLeadBelowJob, IsMadeOf, IsOutcome, OccursBefore, product_at, product_lead, product_vector}
+use Rattle.basis_steps.specs.Outcomes.{AreJobProducts, HasLeadBelowJob, IsOutcome, IsRow, OccursBefore, product_at, product_lead, product_vector}
 use Rattle.basis_steps.specs.Pairs.{Pair, count}
-use Rattle.basis_steps.specs.States.{Member, Product, Run, cofactor_lists, vectors}
+use Rattle.basis_steps.specs.States.{Member, Product, vectors}
 use Rattle.s_vectors.specs.Solutions.{IsSolved}
 
 module _ {n : ℕ} (p : ℕ) (G : List (FormalSum n)) where
@@ -32,14 +33,12 @@ module _ {n : ℕ} (p : ℕ) (G : List (FormalSum n)) where
   before_right : (a b : List (Product n)) (m : ℕ) (k : Key n) → OccursBefore p G b m k → OccursBefore p G (a ++ b) (length a + m) k
   before_right a b m k (i, low, lt, o) = (length a + i, omega arith, omega (arith, length-append a b), subst (λ t. Occurs p (product_vector G t) k) (sym (at_right a b i)) o)
 
-  before_later : (a : List (Product n)) (m l : ℕ) (k : Key n) → m ≤ l → OccursBefore p G a m k → OccursBefore p G a l k
-  before_later a m l k le (i, low, lt, o) = (i, omega arith, lt, o)
+  -- rows of more products
+  pub row_left : (a b : List (Product n)) (m : Member n) → IsRow p G a m → IsRow p G (a ++ b) m
+  row_left a b m h = record { alone = h.alone; listed = Each_map _ _ m.products (λ t c. Contains-append_left a b t.0 c) h.listed; sums = h.sums }
 
-  pub made_left : (a b : List (Product n)) (v : FormalSum n) → IsMadeOf p G a v → IsMadeOf p G (a ++ b) v
-  made_left a b v h = λ k o. before_later (a ++ b) (length a) (length (a ++ b)) k (omega (arith, length-append a b)) (before_left a b (length a) k (h k o))
-
-  pub made_right : (a b : List (Product n)) (v : FormalSum n) → IsMadeOf p G b v → IsMadeOf p G (a ++ b) v
-  made_right a b v h = λ k o. before_later (a ++ b) (length a + length b) (length (a ++ b)) k (omega (arith, length-append a b)) (before_right a b (length b) k (h k o))
+  pub row_right : (a b : List (Product n)) (m : Member n) → IsRow p G b m → IsRow p G (a ++ b) m
+  row_right a b m h = record { alone = h.alone; listed = Each_map _ _ m.products (λ t c. Contains-append_right a b t.0 c) h.listed; sums = h.sums }
 
   -- ---- more pairs
   count_left : (x : Pair) (xs ys : List Pair) → 0 < count x xs → 0 < count x (xs ++ ys)
@@ -74,72 +73,66 @@ module _ {n : ℕ} (p : ℕ) (G : List (FormalSum n)) where
           (subst (λ t. (t.0 < length G) × (((x : Pair) × (0 < count x (xs ++ ys)) × (product_lead G t ≡ lcm_of G x)) ⊎ OccursBefore p G (a ++ b) (length a + j) (product_lead G t)))
           (sym (at_right a b j)) (behind j short))
 
-module _ {n : ℕ} (r : Run n) (lawful : IsLawful r.setting) (ms : List (Member n)) where
-  low_left : (xs ys : List Pair) (v : FormalSum n) → HasLeadBelowJob r.setting (vectors ms) xs v → HasLeadBelowJob r.setting (vectors ms) (xs ++ ys) v
-  low_left xs ys v h = λ k lead. let a = h k lead in (a.0, count_left r.setting.modulus (vectors ms) a.0 xs ys a.1, a.2)
+module _ {n : ℕ} (S : Setting n) (lawful : IsLawful S) (G : List (FormalSum n)) where
+  low_left : (xs ys : List Pair) (v : FormalSum n) → HasLeadBelowJob S G xs v → HasLeadBelowJob S G (xs ++ ys) v
+  low_left xs ys v h = λ k lead. let a = h k lead in (a.0, count_left S.modulus G a.0 xs ys a.1, a.2)
 
-  low_right : (xs ys : List Pair) (v : FormalSum n) → HasLeadBelowJob r.setting (vectors ms) ys v → HasLeadBelowJob r.setting (vectors ms) (xs ++ ys) v
-  low_right xs ys v h = λ k lead. let a = h k lead in (a.0, count_right r.setting.modulus (vectors ms) a.0 xs ys a.1, a.2)
+  low_right : (xs ys : List Pair) (v : FormalSum n) → HasLeadBelowJob S G ys v → HasLeadBelowJob S G (xs ++ ys) v
+  low_right xs ys v h = λ k lead. let a = h k lead in (a.0, count_right S.modulus G a.0 xs ys a.1, a.2)
 
   -- more rows behind, and before
-  more_rows : (rows more : List (Member n)) (xs : List Pair) → Each (IsPair (vectors ms)) xs → Each (IsRepresented r.setting (vectors ms ++ vectors rows)) xs → Each (IsRepresented r.setting (vectors ms ++ vectors (rows ++ more))) xs
+  more_rows : (rows more : List (Member n)) (xs : List Pair) → Each (IsPair G) xs → Each (IsRepresented S (G ++ vectors rows)) xs → Each (IsRepresented S (G ++ vectors (rows ++ more))) xs
   more_rows rows more [] real h = tt
   more_rows rows more (x ∷ xs) real h =
       let a = real.0.ordered in
       let b = real.0.within in
-      let l = length-append (vectors ms) (vectors rows) in (
-        subst (λ G. IsRepresented r.setting G x) (append_assoc (vectors ms) (vectors rows) (vectors more) ∙ ap (λ l. vectors ms ++ l) (sym (vectors-append rows more)))
-            (HasLcmRepresentation_more r.setting (vectors ms ++ vectors rows) (vectors more) x.0 x.1 (omega arith) (omega arith) h.0),
+      let l = length-append G (vectors rows) in (
+        subst (λ l. IsRepresented S l x) (append_assoc G (vectors rows) (vectors more) ∙ ap (λ l. G ++ l) (sym (vectors-append rows more)))
+            (HasLcmRepresentation_more S (G ++ vectors rows) (vectors more) x.0 x.1 (omega arith) (omega arith) h.0),
         more_rows rows more xs real.1 h.1,
       )
 
-  rows_before : (more rows : List (Member n)) (xs : List Pair) → Each (IsPair (vectors ms)) xs → Each (IsRepresented r.setting (vectors ms ++ vectors rows)) xs → Each (IsRepresented r.setting (vectors ms ++ vectors (more ++ rows))) xs
+  rows_before : (more rows : List (Member n)) (xs : List Pair) → Each (IsPair G) xs → Each (IsRepresented S (G ++ vectors rows)) xs → Each (IsRepresented S (G ++ vectors (more ++ rows))) xs
   rows_before more rows [] real h = tt
   rows_before more rows (x ∷ xs) real h =
       let a = real.0.ordered in
       let b = real.0.within in (
-        subst (λ G. IsRepresented r.setting (vectors ms ++ G) x) (sym (vectors-append more rows))
-            (HasLcmRepresentation_added r.setting lawful (vectors ms) (vectors more) (vectors rows) x.0 x.1 (omega arith) b h.0),
+        subst (λ l. IsRepresented S (G ++ l) x) (sym (vectors-append more rows))
+            (HasLcmRepresentation_added S lawful G (vectors more) (vectors rows) x.0 x.1 (omega arith) b h.0),
         rows_before more rows xs real.1 h.1,
       )
 
   -- nothing
-  pub solved_none : IsSolved r ms [] [] []
+  pub solved_none : IsSolved S G [] [] []
   solved_none = record {
     represented = tt;
     few = omega arith;
     low = tt;
-    combined = tt;
     job_products = λ i lt. absurd (omega arith);
-    vectors_made = tt;
-    cofactors_made = tt;
+    sums = tt;
   }
 
   -- both
   pub solved_joined :
       (xs ys : List Pair) (rows more : List (Member n)) (a b : List (Product n))
-      → Each (IsPair (vectors ms)) xs → Each (IsPair (vectors ms)) ys → IsSolved r ms xs rows a → IsSolved r ms ys more b
-      → IsSolved r ms (xs ++ ys) (rows ++ more) (a ++ b)
+      → Each (IsPair G) xs → Each (IsPair G) ys → IsSolved S G xs rows a → IsSolved S G ys more b
+      → IsSolved S G (xs ++ ys) (rows ++ more) (a ++ b)
   solved_joined xs ys rows more a b rx ry h g =
-      let p = r.setting.modulus in
-      let G = vectors ms in
-      let C = cofactor_lists ms in
+      let p = S.modulus in
       let e1 = h.few in
       let e2 = g.few in
       record {
         represented = Each_append _ xs ys (more_rows rows more xs rx h.represented) (rows_before rows more ys ry g.represented);
         few = omega (arith, length-append rows more, length-append xs ys);
         low = Each_append _ rows more (Each_map _ _ rows (λ m l. low_left xs ys m.vector l) h.low) (Each_map _ _ more (λ m l. low_right xs ys m.vector l) g.low);
-        combined = Each_append _ rows more h.combined g.combined;
         job_products = products_joined p G xs ys a b h.job_products g.job_products;
-        vectors_made = Each_append _ rows more (Each_map _ _ rows (λ m l. made_left p G a b m.vector l) h.vectors_made) (Each_map _ _ more (λ m l. made_right p G a b m.vector l) g.vectors_made);
-        cofactors_made = Each_append _ rows more (Each_map _ _ rows (λ m l. made_left p C a b m.cofactors l) h.cofactors_made) (Each_map _ _ more (λ m l. made_right p C a b m.cofactors l) g.cofactors_made);
+        sums = Each_append _ rows more (Each_map _ _ rows (λ m l. row_left p G a b m l) h.sums) (Each_map _ _ more (λ m l. row_right p G a b m l) g.sums);
       }
 
   -- all pairs of a job
   pub solved_outcome :
       (job : List Pair) (rows : List (Member n)) (products : List (Product n))
-      → 0 < length job → Each (IsPair (vectors ms)) job → IsSolved r ms job rows products → IsOutcome r ms job rows products
+      → 0 < length job → Each (IsPair G) job → IsSolved S G job rows products → IsOutcome S G job rows products
   solved_outcome job rows products some real h =
       let e = h.few in
       record {
@@ -148,8 +141,6 @@ module _ {n : ℕ} (r : Run n) (lawful : IsLawful r.setting) (ms : List (Member 
         represented = h.represented;
         few = omega arith;
         low = h.low;
-        combined = h.combined;
         job_products = h.job_products;
-        vectors_made = h.vectors_made;
-        cofactors_made = h.cofactors_made;
+        sums = h.sums;
       }

@@ -17,6 +17,7 @@ use Rattle.bases.specs.Leads.{IsLead, IsMonicList, head_key, leads}
 use Rattle.bases.specs.Representations.{IsLower, key_lcm, place, s_vector}
 use Rattle.bases.specs.Settings.{IsLawful, Setting}
 use Rattle.module_vectors.proofs.NormalVectors.{residues_of, vector_lead}
+use Rattle.monomial_orders.specs.Kept.{IsWeighed}
 use Rattle.module_vectors.specs.Rings.{ring_comparison, variables}
 use Rattle.module_vectors.specs.Trails.{AreMet, HasKey, IsMet, product_lead}
 use Rattle.module_vectors.specs.Vectors.{IsVectorOver, StandsFor, key_of, sum_of, sums_of}
@@ -100,12 +101,12 @@ module _ (m : MembersShown) (x : CodePair) (of : AreOfPair m x) where
   -- the steps of the two parts
   pub first_steps :
       (parts : List Quotient)
-      → ArePairParts (variables m.shared.ring) m.shared.ring.modulus.value (vectors_in m.list) x parts
-      → ArePairSteps (variables m.shared.ring) (vectors_in m.list) (key_of (variables m.shared.ring) x.lcm) (map step_of parts)
+      → ArePairParts (variables m.shared.ring) m.shared.ring.weights m.shared.ring.modulus.value (vectors_in m.list) x parts
+      → ArePairSteps (variables m.shared.ring) m.shared.ring.weights (vectors_in m.list) (key_of (variables m.shared.ring) x.lcm) (map step_of parts)
   first_steps parts two =
       let n = variables m.shared.ring in
       let li = left_within n m.shared m.list x of.monic of.real of.lcm in
-      top_steps n m.shared.ring.modulus.value (vectors_in m.list) x parts two li (right_within n m.shared m.list x of.monic of.real of.lcm)
+      top_steps n m.shared.ring.weights m.shared.ring.modulus.value (vectors_in m.list) x parts two li (right_within n m.shared m.list x of.monic of.real of.lcm)
       (member_some n m.shared m.list x of.monic of.real of.lcm x.i li)
       (sym (lcm_position n m.shared m.list x of.monic of.real of.lcm))
       (sym (same_position n m.shared m.list x of.monic of.real of.lcm) ∙ sym (lcm_position n m.shared m.list x of.monic of.real of.lcm))
@@ -113,11 +114,11 @@ module _ (m : MembersShown) (x : CodePair) (of : AreOfPair m x) where
   -- the two parts
   pub first_each :
       (parts : List Quotient)
-      → ArePairParts (variables m.shared.ring) m.shared.ring.modulus.value (vectors_in m.list) x parts
-      → Each (IsPart (variables m.shared.ring) m.shared.ring.modulus.value (length (vectors_in m.list))) parts
+      → ArePairParts (variables m.shared.ring) m.shared.ring.weights m.shared.ring.modulus.value (vectors_in m.list) x parts
+      → Each (IsPart (variables m.shared.ring) m.shared.ring.weights m.shared.ring.modulus.value (length (vectors_in m.list))) parts
   first_each parts two =
       let n = variables m.shared.ring in
-      top_each n m.shared.ring.modulus.value (vectors_in m.list) x parts two (shared_lawful n m.shared).domain.above_one
+      top_each n m.shared.ring.weights m.shared.ring.modulus.value (vectors_in m.list) x parts two (shared_lawful n m.shared).domain.above_one
       (left_within n m.shared m.list x of.monic of.real of.lcm) (right_within n m.shared m.list x of.monic of.real of.lcm)
 
   module _ (parts : List Quotient) (v : List (CodeKey × ℕ)) (top : IsTopVector m x parts v) where
@@ -127,14 +128,14 @@ module _ (m : MembersShown) (x : CodePair) (of : AreOfPair m x) where
         (s_vector m.shared.ring.modulus.value (get_or (sums_of (variables m.shared.ring) (vectors_in m.list)) x.i []) (get_or (sums_of (variables m.shared.ring) (vectors_in m.list)) x.j []))
     is_s_vector =
         let n = variables m.shared.ring in
-        IsSame_trans top.sum (IsSame_of m.shared.ring.modulus.value _ _ (top_sum n m.shared.ring.modulus.value (vectors_in m.list) x parts top.two (lcm_exponents n m.shared m.list x of.monic of.real of.lcm)))
+        IsSame_trans top.sum (IsSame_of m.shared.ring.modulus.value _ _ (top_sum n m.shared.ring.weights m.shared.ring.modulus.value (vectors_in m.list) x parts top.two (lcm_exponents n m.shared m.list x of.monic of.real of.lcm)))
 
     -- each of its keys is one of the two products
     pub keys_met : HasKeysMet (variables m.shared.ring) v (vectors_in m.list) (map step_of parts)
     keys_met =
         let n = variables m.shared.ring in
         Each_map _ _ (sum_of n v) (λ u h. inr (key_of_parts n (vectors_in m.list) parts u.0 h))
-        (occurring (setting_of n m.shared) (shared_lawful n m.shared) (sum_of n v) (combination (sums_of n (vectors_in m.list)) (cofactors_of n parts)) top.vector.descends (residues_of n m.shared.ring.modulus.value v top.vector.each) top.sum)
+        (occurring (setting_of n m.shared) (shared_lawful n m.shared) (sum_of n v) (combination (sums_of n (vectors_in m.list)) (cofactors_of n parts)) top.vector.descends (residues_of n m.shared.ring.weights m.shared.ring.modulus.value v top.vector.each) top.sum)
 
     -- where it is zero, nothing is left
     pub divided_zero : v ≡ [] → IsDivided m x parts []
@@ -143,7 +144,7 @@ module _ (m : MembersShown) (x : CodePair) (of : AreOfPair m x) where
         let p = m.shared.ring.modulus.value in
         record {
           steps = first_steps parts top.two;
-          each = subst (λ z. Each (IsPart n p z) parts) (length-vectors_in m.list) (first_each parts top.two);
+          each = subst (λ z. Each (IsPart n m.shared.ring.weights p z) parts) (length-vectors_in m.list) (first_each parts top.two);
           vector = subst (IsVectorOver m.shared.ring (ring_comparison m.shared.ring)) e top.vector;
           sum = subst (λ z. IsSame p (sum_of n z) (combination (sums_of n (vectors_in m.list)) (cofactors_of n parts))) e top.sum;
           left = record {
@@ -183,7 +184,7 @@ module _ (m : MembersShown) (x : CodePair) (of : AreOfPair m x) where
     pub divided :
         (qs all : List Quotient) (rest : List (CodeKey × ℕ))
         → 0 < length v → all ≡ parts ++ map (negated m.shared.ring.modulus.value) qs
-        → Each (IsQuotient (variables m.shared.ring) m.shared.ring.modulus.value (vectors_in m.list)) qs
+        → Each (IsQuotient (variables m.shared.ring) m.shared.ring.weights m.shared.ring.modulus.value (vectors_in m.list)) qs
         → AreMetFrom (variables m.shared.ring) (sum_of (variables m.shared.ring) v) (vectors_in m.list) [] qs
         → HaveLeadsUpTo (variables m.shared.ring) (ring_comparison m.shared.ring (variables m.shared.ring)) (vectors_in m.list) (head_key (sum_of (variables m.shared.ring) v)) qs
         → StandsFor m.shared.ring v (combination (sums_of (variables m.shared.ring) (vectors_in m.list)) (cofactors_of (variables m.shared.ring) qs) ++ sum_of (variables m.shared.ring) rest)
@@ -198,7 +199,7 @@ module _ (m : MembersShown) (x : CodePair) (of : AreOfPair m x) where
         let lower : Each (IsLower (setting_of (variables m.shared.ring) m.shared) (sums_of (variables m.shared.ring) (vectors_in m.list)) (key_of (variables m.shared.ring) x.lcm)) (cofactors_of (variables m.shared.ring) qs) = quotients_low qs hq up in
         subst (λ z. IsDivided m x z rest) (sym e) (record {
           steps = all_steps;
-          each = Each_append (IsPart n p (length m.list)) parts (map (negated p) qs) (subst (λ z. Each (IsPart n p z) parts) (length-vectors_in m.list) (first_each parts top.two)) (negated_parts qs hq);
+          each = Each_append (IsPart n m.shared.ring.weights p (length m.list)) parts (map (negated p) qs) (subst (λ z. Each (IsPart n m.shared.ring.weights p z) parts) (length-vectors_in m.list) (first_each parts top.two)) (negated_parts qs hq);
           vector = vector;
           sum = rest_sum n p (sums_of n list) parts qs (sum_of n v) (sum_of n rest) (Each_map _ _ qs (λ q i. i.reduced) hq) top.sum same;
           left = record {
@@ -211,24 +212,24 @@ module _ (m : MembersShown) (x : CodePair) (of : AreOfPair m x) where
       where
         negated_parts :
             (ys : List Quotient)
-            → Each (IsQuotient (variables m.shared.ring) m.shared.ring.modulus.value (vectors_in m.list)) ys
-            → Each (IsPart (variables m.shared.ring) m.shared.ring.modulus.value (length m.list)) (map (negated m.shared.ring.modulus.value) ys)
+            → Each (IsQuotient (variables m.shared.ring) m.shared.ring.weights m.shared.ring.modulus.value (vectors_in m.list)) ys
+            → Each (IsPart (variables m.shared.ring) m.shared.ring.weights m.shared.ring.modulus.value (length m.list)) (map (negated m.shared.ring.modulus.value) ys)
         negated_parts [] h = tt
         negated_parts (q ∷ ys) h = (
-          record { index = subst (λ z. q.index < z) (length-vectors_in m.list) h.0.index; variables = h.0.variables; reduced = mod-lt (m.shared.ring.modulus.value - q.residue) (let a = h.0.reduced in omega arith) },
+          record { index = subst (λ z. q.index < z) (length-vectors_in m.list) h.0.index; weighed = h.0.variables; reduced = mod-lt (m.shared.ring.modulus.value - q.residue) (let a = h.0.reduced in omega arith) },
           negated_parts ys h.1,
         )
 
         quotients_low :
             (ys : List Quotient)
-            → Each (IsQuotient (variables m.shared.ring) m.shared.ring.modulus.value (vectors_in m.list)) ys
+            → Each (IsQuotient (variables m.shared.ring) m.shared.ring.weights m.shared.ring.modulus.value (vectors_in m.list)) ys
             → HaveLeadsUpTo (variables m.shared.ring) (ring_comparison m.shared.ring (variables m.shared.ring)) (vectors_in m.list) (head_key (sum_of (variables m.shared.ring) v)) ys
             → Each (IsLower (setting_of (variables m.shared.ring) m.shared) (sums_of (variables m.shared.ring) (vectors_in m.list)) (key_of (variables m.shared.ring) x.lcm)) (cofactors_of (variables m.shared.ring) ys)
         quotients_low [] h u = tt
         quotients_low (q ∷ ys) h u =
             let n = variables m.shared.ring in
-            let lead : place (sums_of n (vectors_in m.list)) ((q.index, exponents_of n q.monomial), q.residue) ≡ product_lead n (vectors_in m.list) (step_of q) =
-            ap (λ z. shift (exponents_of n q.monomial) (head_key z)) (sums_at n (vectors_in m.list) q.index) in (
+            let lead : place (sums_of n (vectors_in m.list)) ((q.index, exponents_of n q.monomial.exponents), q.residue) ≡ product_lead n (vectors_in m.list) (step_of q) =
+            ap (λ z. shift (exponents_of n q.monomial.exponents) (head_key z)) (sums_at n (vectors_in m.list) q.index) in (
               (
                 subst (λ z. q.index < z) (sym (length-map (vectors_in m.list) (λ w. sum_of (variables m.shared.ring) w))) h.0.index,
                 subst (λ z. ring_comparison m.shared.ring n z (key_of n x.lcm) ≡ Less) (sym lead)
@@ -237,15 +238,15 @@ module _ (m : MembersShown) (x : CodePair) (of : AreOfPair m x) where
               quotients_low ys h.1 u.1,
             )
 
-        known_steps : (ys : List Quotient) → Each (IsQuotient (variables m.shared.ring) m.shared.ring.modulus.value (vectors_in m.list)) ys → Each (λ s. s.0 < length (vectors_in m.list)) (map step_of ys)
+        known_steps : (ys : List Quotient) → Each (IsQuotient (variables m.shared.ring) m.shared.ring.weights m.shared.ring.modulus.value (vectors_in m.list)) ys → Each (λ s. s.0 < length (vectors_in m.list)) (map step_of ys)
         known_steps [] h = tt
         known_steps (q ∷ ys) h = (h.0.index, known_steps ys h.1)
 
-        step_lengths : (ys : List Quotient) → Each (IsQuotient (variables m.shared.ring) m.shared.ring.modulus.value (vectors_in m.list)) ys → Each (λ s. length s.1 ≡ variables m.shared.ring) (map step_of ys)
-        step_lengths [] h = tt
-        step_lengths (q ∷ ys) h = (h.0.variables, step_lengths ys h.1)
+        steps_weighed : (ys : List Quotient) → Each (IsQuotient (variables m.shared.ring) m.shared.ring.weights m.shared.ring.modulus.value (vectors_in m.list)) ys → Each (λ s. IsWeighed (variables m.shared.ring) m.shared.ring.weights s.1) (map step_of ys)
+        steps_weighed [] h = tt
+        steps_weighed (q ∷ ys) h = (h.0.variables, steps_weighed ys h.1)
 
-        all_steps : ArePairSteps (variables m.shared.ring) (vectors_in m.list) (key_of (variables m.shared.ring) x.lcm) (map step_of (parts ++ map (negated m.shared.ring.modulus.value) qs))
+        all_steps : ArePairSteps (variables m.shared.ring) m.shared.ring.weights (vectors_in m.list) (key_of (variables m.shared.ring) x.lcm) (map step_of (parts ++ map (negated m.shared.ring.modulus.value) qs))
         all_steps =
             let n = variables m.shared.ring in
             let p = m.shared.ring.modulus.value in
@@ -255,17 +256,17 @@ module _ (m : MembersShown) (x : CodePair) (of : AreOfPair m x) where
             λ l h. at_key (λ z. IsMet (variables m.shared.ring) [] (vectors_in m.list) (map step_of parts) z) (sum_of (variables m.shared.ring) v) l keys_met h in
             let behind : AreMet n [] list (map step_of parts) (map step_of qs) =
             subst (λ l. AreMet n [] list l (map step_of qs)) (append-nil (map step_of parts)) (steps_through n list (sum_of n v) (map step_of parts) [] (map step_of qs) met' (quotients_met n list (sum_of n v) [] qs met)) in
-            subst (ArePairSteps n list (key_of n x.lcm)) (sym (steps-append parts (map (negated p) qs) ∙ ap (λ l. map step_of parts ++ l) (negated_steps p qs)))
-            (subst (λ l. ArePairSteps n list (key_of n x.lcm) (l ++ map step_of qs)) (sym is)
-            (pair_more n list (key_of n x.lcm) (step_of top.two.left) (step_of top.two.right ∷ []) (map step_of qs)
-            (subst (ArePairSteps n list (key_of n x.lcm)) is (first_steps parts top.two)) (known_steps qs hq) (step_lengths qs hq)
+            subst (ArePairSteps n m.shared.ring.weights list (key_of n x.lcm)) (sym (steps-append parts (map (negated p) qs) ∙ ap (λ l. map step_of parts ++ l) (negated_steps p qs)))
+            (subst (λ l. ArePairSteps n m.shared.ring.weights list (key_of n x.lcm) (l ++ map step_of qs)) (sym is)
+            (pair_more n list m.shared.ring.weights (key_of n x.lcm) (step_of top.two.left) (step_of top.two.right ∷ []) (map step_of qs)
+            (subst (ArePairSteps n m.shared.ring.weights list (key_of n x.lcm)) is (first_steps parts top.two)) (known_steps qs hq) (steps_weighed qs hq)
             (subst (λ l. AreMet n [] list l (map step_of qs)) is behind)))
 
     -- the same, of a ring that is the members'
     pub divided_over :
         (r : Ring) (qs all : List Quotient) (rest : List (CodeKey × ℕ))
         → r ≡ m.shared.ring → 0 < length v → all ≡ parts ++ map (negated r.modulus.value) qs
-        → Each (IsQuotient (variables r) r.modulus.value (vectors_in m.list)) qs
+        → Each (IsQuotient (variables r) r.weights r.modulus.value (vectors_in m.list)) qs
         → AreMetFrom (variables r) (sum_of (variables r) v) (vectors_in m.list) [] qs
         → HaveLeadsUpTo (variables r) (ring_comparison r (variables r)) (vectors_in m.list) (head_key (sum_of (variables r) v)) qs
         → StandsFor r v (combination (sums_of (variables r) (vectors_in m.list)) (cofactors_of (variables r) qs) ++ sum_of (variables r) rest)
@@ -273,7 +274,7 @@ module _ (m : MembersShown) (x : CodePair) (of : AreOfPair m x) where
         → IsDivided m x all rest
     divided_over r qs all rest e some is hq met up same vector =
         divided qs all rest some (subst (λ (z : Ring). all ≡ parts ++ map (negated z.modulus.value) qs) e is)
-        (subst (λ (z : Ring). Each (IsQuotient (variables z) z.modulus.value (vectors_in m.list)) qs) e hq)
+        (subst (λ (z : Ring). Each (IsQuotient (variables z) z.weights z.modulus.value (vectors_in m.list)) qs) e hq)
         (subst (λ (z : Ring). AreMetFrom (variables z) (sum_of (variables z) v) (vectors_in m.list) [] qs) e met)
         (subst (λ (z : Ring). HaveLeadsUpTo (variables z) (ring_comparison z (variables z)) (vectors_in m.list) (head_key (sum_of (variables z) v)) qs) e up)
         (subst (λ (z : Ring). StandsFor z v (combination (sums_of (variables z) (vectors_in m.list)) (cofactors_of (variables z) qs) ++ sum_of (variables z) rest)) e same)

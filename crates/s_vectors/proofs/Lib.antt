@@ -6,7 +6,7 @@ pub mod TopParts
 pub mod TopSteps
 pub mod Remainders
 pub mod Leaving
-pub mod Combined
+pub mod Listed
 pub mod Making
 pub mod Solved
 pub mod Joining

@@ -1,5 +1,5 @@
 -- Products that come of a pair: each one's lead is a key of an earlier one
-use Rattle.std.proofs.Common.{List, [], append-nil, append_assoc, arith, get_or, inl, inr, length, map, subst, sym, ℕ, ◌++◌, ◌<◌, ◌∷◌, ◌≡◌, ◌⊎◌}
+use Rattle.std.proofs.Common.{List, [], append-nil, append_assoc, arith, get_or, inl, inr, length, map, subst, sym, ℕ, ◌++◌, ◌<◌, ◌∷◌, ◌⊎◌}
 use Rattle.std.specs.Prelude.{Contains}
 use Rattle.std.proofs.lemmas.List.Elements.{Contains-append_left, Contains-append_right}
 use Rattle.monomials.specs.Exponents.{exponents_of}
@@ -7,6 +7,7 @@ use Rattle.formal_sums.proofs.WeightedSums.{Each_append}
 use Rattle.formal_sums.specs.Combinations.{combination}
 use Rattle.formal_sums.specs.FormalSums.{Each, FormalSum, Key, scale}
 use Rattle.module_vectors.proofs.SumsOfProducts.{Each_split}
+use Rattle.monomial_orders.specs.Kept.{IsWeighed}
 use Rattle.module_vectors.specs.Trails.{AreMet, HasKey, IsInProduct, IsMet, Step, product_lead}
 use Rattle.module_vectors.specs.Vectors.{sums_of}
 use Rattle.module_vectors.specs.declared.key.Key.{Key as CodeKey}
@@ -24,14 +25,14 @@ module _ (n : ℕ) (list : List (List (CodeKey × ℕ))) where
       → HasKey (combination (sums_of n list) (cofactors_of n parts)) k
       → (s : Step) × Contains (map step_of parts) s × IsInProduct n list k s
   key_of_parts [] k (i, lt, e) = absurd (let z : i < 0 = lt in omega arith)
-  key_of_parts (q ∷ parts) k h = go (key_of_parts parts k) (key_of_sum (scale q.residue (exponents_of n q.monomial) (get_or (sums_of n list) q.index [])) (combination (sums_of n list) (cofactors_of n parts)) k h)
+  key_of_parts (q ∷ parts) k h = go (key_of_parts parts k) (key_of_sum (scale q.residue (exponents_of n q.monomial.exponents) (get_or (sums_of n list) q.index [])) (combination (sums_of n list) (cofactors_of n parts)) k h)
     where
       go :
           (HasKey (combination (sums_of n list) (cofactors_of n parts)) k → (s : Step) × Contains (map step_of parts) s × IsInProduct n list k s)
-          → HasKey (scale q.residue (exponents_of n q.monomial) (get_or (sums_of n list) q.index [])) k ⊎ HasKey (combination (sums_of n list) (cofactors_of n parts)) k
+          → HasKey (scale q.residue (exponents_of n q.monomial.exponents) (get_or (sums_of n list) q.index [])) k ⊎ HasKey (combination (sums_of n list) (cofactors_of n parts)) k
           → (s : Step) × Contains (map step_of (q ∷ parts)) s × IsInProduct n list k s
       go f (inl a) =
-          let r = scaled_key q.residue (exponents_of n q.monomial) (get_or (sums_of n list) q.index []) k a in
+          let r = scaled_key q.residue (exponents_of n q.monomial.exponents) (get_or (sums_of n list) q.index []) k a in
           (step_of q, Contains_here (step_of q) (map step_of parts), (r.0, subst (λ v. HasKey v r.0) (sums_at n list q.index) r.1, r.2))
       go f (inr a) =
           let r = f a in
@@ -78,10 +79,10 @@ module _ (n : ℕ) (list : List (List (CodeKey × ℕ))) where
 
   -- ---- steps of a pair
   -- the first ones
-  pub pair_front : (k : Key n) (xs ys : List Step) → ArePairSteps n list k (xs ++ ys) → ArePairSteps n list k xs
-  pair_front k xs ys h = record {
+  pub pair_front : (ws : List ℕ) (k : Key n) (xs ys : List Step) → ArePairSteps n ws list k (xs ++ ys) → ArePairSteps n ws list k xs
+  pair_front ws k xs ys h = record {
     known = (Each_split (λ s. s.0 < length list) xs ys h.known).0;
-    variables = (Each_split (λ s. length s.1 ≡ n) xs ys h.variables).0;
+    weighed = (Each_split (λ s. IsWeighed n ws s.1) xs ys h.weighed).0;
     linked = go xs h.linked;
   }
     where
@@ -91,11 +92,11 @@ module _ (n : ℕ) (list : List (List (CodeKey × ℕ))) where
 
   -- and more of them, which these meet
   pub pair_more :
-      (k : Key n) (first : Step) (xs ys : List Step)
-      → ArePairSteps n list k (first ∷ xs) → Each (λ s. s.0 < length list) ys → Each (λ s. length s.1 ≡ n) ys
-      → AreMet n [] list (first ∷ xs) ys → ArePairSteps n list k ((first ∷ xs) ++ ys)
-  pair_more k first xs ys h known lengths met = record {
+      (ws : List ℕ) (k : Key n) (first : Step) (xs ys : List Step)
+      → ArePairSteps n ws list k (first ∷ xs) → Each (λ s. s.0 < length list) ys → Each (λ s. IsWeighed n ws s.1) ys
+      → AreMet n [] list (first ∷ xs) ys → ArePairSteps n ws list k ((first ∷ xs) ++ ys)
+  pair_more ws k first xs ys h known weighed met = record {
     known = Each_append (λ s. s.0 < length list) (first ∷ xs) ys h.known known;
-    variables = Each_append (λ s. length s.1 ≡ n) (first ∷ xs) ys h.variables lengths;
+    weighed = Each_append (λ s. IsWeighed n ws s.1) (first ∷ xs) ys h.weighed weighed;
     linked = (h.linked.0, met_append [] (first ∷ []) xs ys h.linked.1 met);
   }

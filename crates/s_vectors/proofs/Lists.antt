@@ -3,23 +3,16 @@ use Rattle.std.proofs.Common.{List, [], ap, arith, false, length, refl, sym, tru
 use Rattle.std.proofs.lemmas.Bool.Decides.{nat_tests}
 use Rattle.std.proofs.lemmas.List.{length-map}
 use Rattle.module_vectors.specs.Vectors.{sum_of, sums_of}
-use Rattle.basis_steps.specs.States.{cofactor_lists, vectors}
+use Rattle.basis_steps.specs.States.{vectors}
 use Rattle.basis_core.specs.Members.{Tracked, members_of}
-use Rattle.basis_core.specs.Rows.{cofactors_in, vectors_in}
+use Rattle.basis_core.specs.Rows.{vectors_in}
 
 pub vectors_are : (n : ℕ) (ms : List Tracked) → vectors (members_of n ms) ≡ sums_of n (vectors_in ms)
 vectors_are n [] = refl
 vectors_are n (m ∷ ms) = ap (λ l. sum_of n m.vector ∷ l) (vectors_are n ms)
 
-pub cofactors_are : (n : ℕ) (ms : List Tracked) → cofactor_lists (members_of n ms) ≡ sums_of n (cofactors_in ms)
-cofactors_are n [] = refl
-cofactors_are n (m ∷ ms) = ap (λ l. sum_of n m.cof ∷ l) (cofactors_are n ms)
-
 pub length-vectors_in : (ms : List Tracked) → length (vectors_in ms) ≡ length ms
 length-vectors_in ms = length-map ms (λ m. m.vector)
-
-pub length-cofactors_in : (ms : List Tracked) → length (cofactors_in ms) ≡ length ms
-length-cofactors_in ms = length-map ms (λ m. m.cof)
 
 -- a list without items, and one with some
 pub empty_list : {X : Type 0} (v : List X) → (length v == 0) ≡ true → v ≡ []

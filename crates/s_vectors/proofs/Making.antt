@@ -1,10 +1,8 @@
 -- Keys that occur in the products of steps
-use Rattle.std.proofs.Common.{List, [], ap, append_assoc, arith, get_or, inl, inr, length, length-append, map, refl, subst, subst₂, suc, sym, zero, ℕ, ◌++◌, ◌+◌, ◌<◌, ◌∙◌, ◌∷◌, ◌≡◌, ◌⊎◌}
+use Rattle.std.proofs.Common.{List, [], ap, append_assoc, arith, get_or, inl, inr, length, length-append, refl, subst, subst₂, suc, sym, zero, ℕ, ◌++◌, ◌+◌, ◌<◌, ◌∙◌, ◌∷◌, ◌≡◌, ◌⊎◌}
 use Rattle.std.proofs.lemmas.List.{get_or-map, get_or_append_left, length-map}
-use Rattle.residues.proofs.Congruences.{IsCongruent_of, IsCongruent_trans}
 use Rattle.monomials.specs.Exponents.{exponents_of, unit}
-use Rattle.formal_sums.specs.Combinations.{combination}
-use Rattle.formal_sums.specs.FormalSums.{Each, FormalSum, IsSame, Key, coefficient, shift}
+use Rattle.formal_sums.specs.FormalSums.{Each, Key, coefficient, shift}
 use Rattle.bases.specs.Leads.{head_key}
 use Rattle.bases.specs.Settings.{IsLawful, Setting}
 use Rattle.module_vectors.specs.Trails.{AreMet, HasKey, IsInProduct, IsMet, Step, product_lead}
@@ -12,17 +10,15 @@ use Rattle.module_vectors.specs.Vectors.{IsVector, sum_of, sums_of}
 use Rattle.module_vectors.specs.declared.key.Key.{Key as CodeKey}
 use Rattle.vector_division.proofs.Members.{sums_at}
 use Rattle.vector_division.proofs.Occurring.{occurs}
-use Rattle.vector_division.specs.Reductions.{cofactors_of, step_of}
-use Rattle.vector_division.specs.declared.reduction.Quotient.{Quotient}
 use Rattle.basis_steps.proofs.Counting.{is_same_pair-refl}
 use Rattle.basis_steps.specs.Criteria.{lcm_of}
 use Rattle.basis_steps.specs.Outcomes as plain
 use Rattle.basis_steps.specs.Divisions.{Occurs}
-use Rattle.basis_steps.specs.Outcomes.{AreJobProducts, IsMadeOf, OccursBefore, product_at, product_vector}
+use Rattle.basis_steps.specs.Outcomes.{AreJobProducts, OccursBefore, product_at, product_vector}
 use Rattle.basis_steps.specs.Pairs.{Pair, count}
 use Rattle.basis_core.proofs.MemberKeys.{in_occurs, key_occurs}
+use Rattle.basis_core.specs.Stops.{no_step}
 use Rattle.basis_core.specs.Outcomes.{product_of, products_of}
-use Rattle.s_vectors.proofs.Linking.{key_of_parts}
 use Rattle.s_vectors.specs.Steps.{ArePairSteps}
 
 pub count_here : (x : Pair) → 0 < count x (x ∷ [])
@@ -36,9 +32,9 @@ item_of P (v ∷ list) (suc i) z h = item_of P list i z h.1
 pub product_is : (n : ℕ) (steps : List Step) (i : ℕ) (s : Step) → i < length steps → get_or steps i s ≡ s → product_at (products_of n steps) i ≡ product_of n s
 product_is n steps i s lt e = get_or-map (λ t. product_of n t) steps i s (0, unit n) lt ∙ ap (λ t. product_of n t) e
 
-module _ {n : ℕ} (S : Setting n) (lawful : IsLawful S) (list : List (List (CodeKey × ℕ))) (over : Each (IsVector n S.modulus S.compare) list) where
-  vector_here : (i : ℕ) → IsVector n S.modulus S.compare (get_or list i [])
-  vector_here i = item_of (IsVector n S.modulus S.compare) list i (record { each = tt; descends = tt }) over
+module _ {n : ℕ} (S : Setting n) (lawful : IsLawful S) (list : List (List (CodeKey × ℕ))) (over : Each (IsVector n S.weights S.modulus S.compare) list) where
+  vector_here : (i : ℕ) → IsVector n S.weights S.modulus S.compare (get_or list i [])
+  vector_here i = item_of (IsVector n S.weights S.modulus S.compare) list i (record { each = tt; descends = tt }) over
 
   -- a key of a vector of the list has a coefficient
   pub vector_occurs : (i : ℕ) (l : Key n) → HasKey (sum_of n (get_or list i [])) l → Occurs S.modulus (get_or (sums_of n list) i []) l
@@ -54,23 +50,6 @@ module _ {n : ℕ} (S : Setting n) (lawful : IsLawful S) (list : List (List (Cod
     subst (λ z. i < z) (sym (length-map steps (λ t. product_of n t))) lt,
     subst (λ t. Occurs S.modulus (product_vector (sums_of n list) t) k) (sym (product_is n steps i s lt e)) (in_occurs S lawful list (sums_of n list) s k (sums_at n list s.0) (vector_here s.0) h),
   )
-
-  -- what stands for the sum of the parts is made of their products
-  pub made_of_parts :
-      (parts : List Quotient) (w : FormalSum n)
-      → IsSame S.modulus w (combination (sums_of n list) (cofactors_of n parts))
-      → IsMadeOf S.modulus (sums_of n list) (products_of n (map step_of parts)) w
-  made_of_parts parts w same = λ k occ. go k occ (occurs (combination (sums_of n list) (cofactors_of n parts)) k)
-    where
-      go :
-          (k : Key n) → Occurs S.modulus w k
-          → HasKey (combination (sums_of n list) (cofactors_of n parts)) k ⊎ (coefficient (combination (sums_of n list) (cofactors_of n parts)) k ≡ 0)
-          → OccursBefore S.modulus (sums_of n list) (products_of n (map step_of parts)) (length (products_of n (map step_of parts))) k
-      go k occ (inr z) = absurd (occ (IsCongruent_trans (same.by_key k) (IsCongruent_of S.modulus _ _ z)))
-      go k occ (inl h) =
-          let r = key_of_parts n list parts k h in
-          let lt : r.1.0 < length (map step_of parts) = r.1.1 in
-          occurs_before (map step_of parts) (length (products_of n (map step_of parts))) r.0 r.1.0 k (subst (λ z. r.1.0 < z) (sym (length-map (map step_of parts) (λ t. product_of n t))) lt) lt r.1.2 r.2
 
   -- what is met occurs in an earlier product
   met_before :
@@ -90,12 +69,12 @@ module _ {n : ℕ} (S : Setting n) (lawful : IsLawful S) (list : List (List (Cod
       (met_before (e ++ t ∷ []) later i s h.1 (omega arith) is)
 
   lead_same : (s : Step) → plain.product_lead (sums_of n list) (product_of n s) ≡ product_lead n list s
-  lead_same s = ap (λ v. shift (exponents_of n s.1) (head_key v)) (sums_at n list s.0)
+  lead_same s = ap (λ v. shift (exponents_of n s.1.exponents) (head_key v)) (sums_at n list s.0)
 
   -- the products of a pair's steps are products of a job of that pair
   pub job_steps :
       (x : Pair) (k : Key n) (steps : List Step)
-      → k ≡ lcm_of (sums_of n list) x → ArePairSteps n list k steps
+      → k ≡ lcm_of (sums_of n list) x → ArePairSteps n S.weights list k steps
       → AreJobProducts S.modulus (sums_of n list) (x ∷ []) (products_of n steps)
   job_steps x k [] e h = λ i lt. absurd (omega arith)
   job_steps x k (first ∷ later) e h = λ i lt. at i lt
@@ -118,17 +97,17 @@ module _ {n : ℕ} (S : Setting n) (lawful : IsLawful S) (list : List (List (Cod
         inl (x, count_here x, lead_same first ∙ h.linked.0 ∙ e),
       )
       at (suc i) lt =
-          let s = get_or later i (0, []) in
+          let s = get_or later i no_step in
           let short : i < length later = (let q = length-map (first ∷ later) (λ t. product_of n t) in omega arith) in
           let is : s ≡ get_or later i s = default_free later i short in
           let pr : product_at (products_of n (first ∷ later)) (suc i) ≡ product_of n s = product_is n later i s short (sym is) in (
-            subst (λ t. t.0 < length (sums_of n list)) (sym pr) (subst (λ z. s.0 < z) (sym (length-map list (λ v. sum_of n v))) (known_at later i (0, []) h.known.1 short)),
+            subst (λ t. t.0 < length (sums_of n list)) (sym pr) (subst (λ z. s.0 < z) (sym (length-map list (λ v. sum_of n v))) (known_at later i no_step h.known.1 short)),
             inr (subst (λ t. OccursBefore S.modulus (sums_of n list) (products_of n (first ∷ later)) (suc i) (plain.product_lead (sums_of n list) t)) (sym pr)
                 (subst₂ (λ z c. OccursBefore S.modulus (sums_of n list) (products_of n (first ∷ later)) c z) (sym (lead_same s)) (omega arith)
                 (met_before (first ∷ []) later i s h.linked.1 short is))),
           )
         where
-          default_free : (xs : List Step) (i : ℕ) → i < length xs → get_or xs i (0, []) ≡ get_or xs i (get_or xs i (0, []))
+          default_free : (xs : List Step) (i : ℕ) → i < length xs → get_or xs i no_step ≡ get_or xs i (get_or xs i no_step)
           default_free [] i l = absurd (omega arith)
           default_free (y ∷ xs) zero l = refl
           default_free (y ∷ xs) (suc i) l = default_free xs i (omega arith)

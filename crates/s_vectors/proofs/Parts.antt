@@ -5,6 +5,7 @@ use Rattle.formal_sums.proofs.Combining.{Each_map}
 use Rattle.formal_sums.specs.Combinations.{combination}
 use Rattle.formal_sums.specs.FormalSums.{Each}
 use Rattle.monomials.specs.Exponents.{exponents_of}
+use Rattle.monomial_orders.specs.Kept.{IsWeighed, Monomial}
 use Rattle.module_vectors.proofs.SumsOfProducts.{Each_member, products_combination}
 use Rattle.module_vectors.specs.Products.{AreProducts, sum_of_products}
 use Rattle.module_vectors.specs.Stops.{Fits, HasMonomial, IsTooGreat, ProductsStop}
@@ -18,16 +19,16 @@ use Rattle.s_vectors.specs.Parts.{IsGreatPart, IsGreatProduct, IsPart}
 
 terms_sum : (n : ℕ) (qs : List Quotient) → sum_of n (map term_of qs) ≡ cofactors_of n qs
 terms_sum n [] = refl
-terms_sum n (q ∷ qs) = ap (λ r. ((q.index, exponents_of n q.monomial), q.residue) ∷ r) (terms_sum n qs)
+terms_sum n (q ∷ qs) = ap (λ r. ((q.index, exponents_of n q.monomial.exponents), q.residue) ∷ r) (terms_sum n qs)
 
 -- a term that fits with no product is in no stop
-fits_not_great : (t m : List ℕ) (v : List (CodeKey × ℕ)) → Fits t v → HasMonomial v m → IsTooGreat t m → ⊥
+fits_not_great : (t m : Monomial) (v : List (CodeKey × ℕ)) → Fits t v → HasMonomial v m → IsTooGreat t m → ⊥
 fits_not_great t m [] f (u, (i, lt, e), is) g = absurd (let z : i < 0 = lt in omega arith)
 fits_not_great t m (u ∷ v) f (w, (zero, lt, e), is) g = absurd (let same : u.0.monomial ≡ m = ap (λ z. z.0.monomial) e ∙ is in let low = f.0 in let high : IsTooGreat t u.0.monomial = subst (IsTooGreat t) (sym same) g in omega arith)
 fits_not_great t m (u ∷ v) f (w, (suc i, lt, e), is) g = fits_not_great t m v f.1 (w, (i, omega arith, e), is) g
 
 -- where each product fits, there is no stop by the degree
-pub none_great : (xs : List Product) (a b : List ℕ) → Each (λ x. Fits x.monomial.now x.vector.now) xs → ProductsStop xs (Degree a b) → ⊥
+pub none_great : (xs : List Product) (a b : Monomial) → Each (λ x. Fits x.monomial.now x.vector.now) xs → ProductsStop xs (Degree a b) → ⊥
 none_great [] a b f (x, (i, lt, e), pos, ea, m, g) = absurd (let z : i < 0 = lt in omega arith)
 none_great (y ∷ xs) a b f (x, (zero, lt, e), pos, ea, m, g) =
     fits_not_great x.monomial.now b x.vector.now (subst (λ (z : Product). Fits z.monomial.now z.vector.now) e f.0) m (subst (λ z. IsTooGreat z b) ea g)
@@ -36,47 +37,47 @@ none_great (y ∷ xs) a b f (x, (suc i, lt, e), pos, ea, m, g) = none_great xs a
 module _ (list : List (List (CodeKey × ℕ))) where
   -- the products of the parts stand for their combination
   pub parts_combination :
-      (n p : ℕ) (parts : List Quotient) (xs : List Product)
-      → Each (IsPart n p (length list)) parts → AreProducts list (map term_of parts) xs
+      (n : ℕ) (ws : List ℕ) (p : ℕ) (parts : List Quotient) (xs : List Product)
+      → Each (IsPart n ws p (length list)) parts → AreProducts list (map term_of parts) xs
       → sum_of_products n xs ≡ combination (sums_of n list) (cofactors_of n parts)
-  parts_combination n p parts xs h a = products_combination list n (map term_of parts) xs (positions parts h) a ∙ ap (combination (sums_of n list)) (terms_sum n parts)
+  parts_combination n ws p parts xs h a = products_combination list n (map term_of parts) xs (positions parts h) a ∙ ap (combination (sums_of n list)) (terms_sum n parts)
     where
-      positions : (qs : List Quotient) → Each (IsPart n p (length list)) qs → Each (λ t. t.0.position < length list) (map term_of qs)
+      positions : (qs : List Quotient) → Each (IsPart n ws p (length list)) qs → Each (λ t. t.0.position < length list) (map term_of qs)
       positions [] h = tt
       positions (q ∷ qs) h = (h.0.index, positions qs h.1)
 
   -- what holds of the parts' products
   pub parts_products :
-      (n p : ℕ) (P : List (CodeKey × ℕ) → Type 0) (parts : List Quotient) (xs : List Product)
-      → ((i : ℕ) → i < length list → P (get_or list i [])) → Each (IsPart n p (length list)) parts → AreProducts list (map term_of parts) xs
-      → Each (λ x. ((x.residue < p) × (length x.monomial.now ≡ n)) × P x.vector.now) xs
-  parts_products n p P [] [] f h a = tt
-  parts_products n p P [] (x ∷ xs) f h a = absurd a
-  parts_products n p P (q ∷ parts) [] f h a = absurd a
-  parts_products n p P (q ∷ parts) (x ∷ xs) f h a = (
-    ((subst (λ z. z < p) (sym a.0.residue) h.0.reduced, ap length a.0.monomial ∙ h.0.variables), subst P (sym a.0.vector) (f q.index h.0.index)),
-    parts_products n p P parts xs f h.1 a.1,
+      (n : ℕ) (ws : List ℕ) (p : ℕ) (P : List (CodeKey × ℕ) → Type 0) (parts : List Quotient) (xs : List Product)
+      → ((i : ℕ) → i < length list → P (get_or list i [])) → Each (IsPart n ws p (length list)) parts → AreProducts list (map term_of parts) xs
+      → Each (λ x. ((x.residue < p) × (IsWeighed n ws x.monomial.now)) × P x.vector.now) xs
+  parts_products n ws p P [] [] f h a = tt
+  parts_products n ws p P [] (x ∷ xs) f h a = absurd a
+  parts_products n ws p P (q ∷ parts) [] f h a = absurd a
+  parts_products n ws p P (q ∷ parts) (x ∷ xs) f h a = (
+    ((subst (λ z. z < p) (sym a.0.residue) h.0.reduced, subst (IsWeighed n ws) (sym a.0.monomial) h.0.weighed), subst P (sym a.0.vector) (f q.index h.0.index)),
+    parts_products n ws p P parts xs f h.1 a.1,
   )
 
   pub parts_factors :
-      (n p : ℕ) (parts : List Quotient) (xs ys : List Product)
-      → Each (IsPart n p (length list)) parts → AreProducts list (map term_of parts) xs → ys ≡ xs
-      → Each (λ x. (x.residue < p) × (length x.monomial.now ≡ n)) ys
-  parts_factors n p parts xs ys h a e =
-      subst (Each (λ x. (x.residue < p) × (length x.monomial.now ≡ n))) (sym e)
-      (Each_map (λ x. ((x.residue < p) × (length x.monomial.now ≡ n)) × ⊤) _ xs (λ x q. q.0) (parts_products n p (λ v. ⊤) parts xs (λ i lt. tt) h a))
+      (n : ℕ) (ws : List ℕ) (p : ℕ) (parts : List Quotient) (xs ys : List Product)
+      → Each (IsPart n ws p (length list)) parts → AreProducts list (map term_of parts) xs → ys ≡ xs
+      → Each (λ x. (x.residue < p) × (IsWeighed n ws x.monomial.now)) ys
+  parts_factors n ws p parts xs ys h a e =
+      subst (Each (λ x. (x.residue < p) × (IsWeighed n ws x.monomial.now))) (sym e)
+      (Each_map (λ x. ((x.residue < p) × (IsWeighed n ws x.monomial.now)) × ⊤) _ xs (λ x q. q.0) (parts_products n ws p (λ v. ⊤) parts xs (λ i lt. tt) h a))
 
   pub parts_vectors :
-      (n p : ℕ) (P : List (CodeKey × ℕ) → Type 0) (parts : List Quotient) (xs ys : List Product)
-      → Each P list → Each (IsPart n p (length list)) parts → AreProducts list (map term_of parts) xs → ys ≡ xs
+      (n : ℕ) (ws : List ℕ) (p : ℕ) (P : List (CodeKey × ℕ) → Type 0) (parts : List Quotient) (xs ys : List Product)
+      → Each P list → Each (IsPart n ws p (length list)) parts → AreProducts list (map term_of parts) xs → ys ≡ xs
       → Each (λ x. P x.vector.now) ys
-  parts_vectors n p P parts xs ys l h a e =
+  parts_vectors n ws p P parts xs ys l h a e =
       subst (Each (λ x. P x.vector.now)) (sym e)
-      (Each_map (λ x. ((x.residue < p) × (length x.monomial.now ≡ n)) × P x.vector.now) _ xs (λ x q. q.1) (parts_products n p P parts xs (λ i lt. Each_member P list i [] l lt) h a))
+      (Each_map (λ x. ((x.residue < p) × (IsWeighed n ws x.monomial.now)) × P x.vector.now) _ xs (λ x q. q.1) (parts_products n ws p P parts xs (λ i lt. Each_member P list i [] l lt) h a))
 
   -- a product that is too great is of a part
   pub great_part :
-      (parts : List Quotient) (xs : List Product) (number : ℕ) (m : List ℕ)
+      (parts : List Quotient) (xs : List Product) (number : ℕ) (m : Monomial)
       → AreProducts list (map term_of parts) xs → IsGreatProduct xs number m → IsGreatPart list parts number m
   great_part parts xs number m a g = go parts g.front number (subst (AreProducts list (map term_of parts)) g.split a) g.place
     where
@@ -109,7 +110,7 @@ module _ (list : List (List (CodeKey × ℕ))) where
 
 -- the product at an index
 pub great_product :
-    (xs : List Product) (i : ℕ) (x : Product) (m : List ℕ)
+    (xs : List Product) (i : ℕ) (x : Product) (m : Monomial)
     → i < length xs → x ≡ get_or xs i x → HasMonomial x.vector.now m → IsTooGreat x.monomial.now m → IsGreatProduct xs i m
 great_product [] i x m lt e h g = absurd (omega arith)
 great_product (y ∷ xs) zero x m lt e h g = record { front = []; product = x; back = xs; split = ap (λ z. z ∷ xs) (sym e); place = refl; monomial = h; too_great = g }

@@ -25,7 +25,7 @@ negated_steps p (q ∷ qs) = ap (λ l. step_of q ∷ l) (negated_steps p qs)
 
 pub cofactors-append : (n : ℕ) (xs ys : List Quotient) → cofactors_of n (xs ++ ys) ≡ cofactors_of n xs ++ cofactors_of n ys
 cofactors-append n [] ys = refl
-cofactors-append n (x ∷ xs) ys = ap (λ l. ((x.index, exponents_of n x.monomial), x.residue) ∷ l) (cofactors-append n xs ys)
+cofactors-append n (x ∷ xs) ys = ap (λ l. ((x.index, exponents_of n x.monomial.exponents), x.residue) ∷ l) (cofactors-append n xs ys)
 
 module _ (n p : ℕ) (G : List (FormalSum n)) where
   -- the products of -c for c are the opposite
@@ -36,7 +36,7 @@ module _ (n p : ℕ) (G : List (FormalSum n)) where
   negated_cancels [] k h = IsCongruent_refl p 0
   negated_cancels (q ∷ qs) k h =
       let g : FormalSum n = get_or G q.index [] in
-      let m = exponents_of n q.monomial in
+      let m = exponents_of n q.monomial.exponents in
       let w : ℕ = weighted_sum (λ l. indicator k (shift m l)) g in
       let d : ℕ = (p - q.residue) % p in
       let A : ℕ = coefficient (combination G (cofactors_of n (map (negated p) qs))) k in

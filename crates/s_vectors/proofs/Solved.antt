@@ -1,35 +1,38 @@
 -- The rows of one pair
-use Rattle.std.proofs.Common.{Less, List, [], append-nil, arith, get_or, length, map, subst, sym, ℕ, ◌++◌, ◌<◌, ◌∙◌, ◌∷◌, ◌≡◌}
+use Rattle.std.proofs.Common.{Less, List, [], append-nil, arith, get_or, length, map, refl, subst, sym, ℕ, ◌++◌, ◌<◌, ◌∙◌, ◌∷◌, ◌≡◌}
+use Rattle.formal_sums.proofs.Combining.{IsSame_combination}
 use Rattle.formal_sums.proofs.Sameness.{IsSame_of, IsSame_sym, IsSame_trans}
 use Rattle.formal_sums.specs.Combinations.{combination}
-use Rattle.formal_sums.specs.FormalSums.{Each, FormalSum}
+use Rattle.formal_sums.specs.FormalSums.{Each, FormalSum, IsSame}
+use Rattle.bases.proofs.Leading.{positive}
 use Rattle.bases.specs.Leads.{head_key}
 use Rattle.bases.specs.Representations.{IsLower, IsSumBelow, s_vector}
 use Rattle.bases.specs.Settings.{Setting}
 use Rattle.module_vectors.proofs.NormalVectors.{vector_lead}
 use Rattle.module_vectors.specs.Rings.{ring_comparison, variables}
-use Rattle.module_vectors.specs.Vectors.{IsVectorOver, StandsFor, key_of, sum_of, sums_of}
+use Rattle.module_vectors.specs.Vectors.{StandsFor, key_of, sum_of, sums_of}
 use Rattle.module_vectors.specs.declared.key.Key.{Key as CodeKey}
 use Rattle.pair_criteria.specs.declared.pair.Pair.{Pair as CodePair}
 use Rattle.vector_division.specs.Reductions.{cofactors_of, step_of}
 use Rattle.vector_division.specs.declared.reduction.Quotient.{Quotient}
 use Rattle.basis_steps.proofs.Answering.{rest_represents}
 use Rattle.basis_steps.specs.Criteria.{IsPair, IsRepresented, lcm_of}
-use Rattle.basis_steps.specs.Outcomes.{AreJobProducts, IsMadeOf}
+use Rattle.basis_steps.specs.Outcomes.{AreJobProducts}
 use Rattle.basis_steps.specs.States.{vectors}
-use Rattle.basis_core.proofs.Tracking.{cofactors_over, vectors_over}
+use Rattle.member_products.specs.Generators.{IsVectorOf}
+use Rattle.basis_core.proofs.Tracking.{vectors_over}
 use Rattle.basis_core.specs.Jobs.{pair_of}
-use Rattle.basis_core.specs.Members.{MembersShown, member_of, members_of, setting_of}
-use Rattle.basis_core.specs.Outcomes.{products_of, work_of}
-use Rattle.basis_core.specs.Rows.{cofactors_in, vectors_in}
-use Rattle.s_vectors.proofs.Combined.{AreCombined, row_combined}
-use Rattle.s_vectors.proofs.Lists.{cofactors_are, vectors_are}
-use Rattle.s_vectors.proofs.Making.{count_here, job_steps, made_of_parts}
+use Rattle.basis_core.specs.Members.{IsTracked, MembersShown, members_of, row_of, setting_of}
+use Rattle.basis_core.specs.Outcomes.{products_of}
+use Rattle.basis_core.specs.Rows.{vectors_in}
+use Rattle.s_vectors.proofs.Listed.{row_listed}
+use Rattle.s_vectors.proofs.Lists.{vectors_are}
+use Rattle.s_vectors.proofs.Making.{count_here, job_steps}
 use Rattle.s_vectors.proofs.TopParts.{shared_lawful}
 use Rattle.s_vectors.specs.Divided.{AreOfPair, IsDivided}
 use Rattle.s_vectors.specs.Solutions.{IsSolved}
 
-module _ (m : MembersShown) (x : CodePair) (of : AreOfPair m x) (combined : AreCombined m.shared m.list) (parts : List Quotient) where
+module _ (m : MembersShown) (x : CodePair) (of : AreOfPair m x) (tracked : Each (IsTracked m.shared) m.list) (parts : List Quotient) where
   -- the pair is one of the sums' list
   real_sums : IsPair (sums_of (variables m.shared.ring) (vectors_in m.list)) (pair_of x)
   real_sums = subst (λ G. IsPair G (pair_of x)) (vectors_are (variables m.shared.ring) m.list) of.real
@@ -43,12 +46,12 @@ module _ (m : MembersShown) (x : CodePair) (of : AreOfPair m x) (combined : AreC
   pair_products v d =
       let n = variables m.shared.ring in
       subst (λ G. AreJobProducts m.shared.ring.modulus.value G (pair_of x ∷ []) (products_of n (map step_of parts))) (sym (vectors_are n m.list))
-      (job_steps (setting_of n m.shared) (shared_lawful n m.shared) (vectors_in m.list) (vectors_over m.shared m.list combined) (pair_of x) (key_of n x.lcm) (map step_of parts) lcm_is d.steps)
+      (job_steps (setting_of n m.shared) (shared_lawful n m.shared) (vectors_in m.list) (vectors_over m.shared m.list tracked) (pair_of x) (key_of n x.lcm) (map step_of parts) lcm_is d.steps)
 
   -- nothing is left
   pub solved_zero :
       IsDivided m x parts []
-      → IsSolved (work_of (variables m.shared.ring) m.shared) (members_of (variables m.shared.ring) m.list) (pair_of x ∷ []) [] (products_of (variables m.shared.ring) (map step_of parts))
+      → IsSolved (setting_of (variables m.shared.ring) m.shared) (vectors (members_of (variables m.shared.ring) m.list)) (pair_of x ∷ []) [] (products_of (variables m.shared.ring) (map step_of parts))
   solved_zero d =
       let n = variables m.shared.ring in
       let S : Setting (variables m.shared.ring) = setting_of (variables m.shared.ring) m.shared in
@@ -65,10 +68,8 @@ module _ (m : MembersShown) (x : CodePair) (of : AreOfPair m x) (combined : AreC
         );
         few = omega arith;
         low = tt;
-        combined = tt;
         job_products = pair_products [] d;
-        vectors_made = tt;
-        cofactors_made = tt;
+        sums = tt;
       }
 
   -- the lead of what is left
@@ -79,14 +80,14 @@ module _ (m : MembersShown) (x : CodePair) (of : AreOfPair m x) (combined : AreC
   lead_low [] d some = absurd (omega arith)
   lead_low (t ∷ v) d some = d.left.low (key_of (variables m.shared.ring) t.0) (vector_lead m.shared.ring (ring_comparison m.shared.ring) m.shared.rank t v (shared_lawful (variables m.shared.ring) m.shared) d.vector)
 
-  -- something is left, which with these cofactors is a row
+  -- something is left, which with these products is a row
   pub solved_row :
-      (v cof : List (CodeKey × ℕ))
-      → IsDivided m x parts v → 0 < length v → IsVectorOver m.shared.ring (ring_comparison m.shared.ring) cof
-      → StandsFor m.shared.ring cof (combination (sums_of (variables m.shared.ring) (cofactors_in m.list)) (cofactors_of (variables m.shared.ring) parts))
-      → IsSolved (work_of (variables m.shared.ring) m.shared) (members_of (variables m.shared.ring) m.list) (pair_of x ∷ [])
-      (member_of (variables m.shared.ring) (record { vector = v; cof = cof }) ∷ []) (products_of (variables m.shared.ring) (map step_of parts))
-  solved_row v cof d some ic sc =
+      (v products : List (CodeKey × ℕ))
+      → IsDivided m x parts v → 0 < length v → IsVectorOf m.shared.ring products
+      → StandsFor m.shared.ring products (cofactors_of (variables m.shared.ring) parts)
+      → IsSolved (setting_of (variables m.shared.ring) m.shared) (vectors (members_of (variables m.shared.ring) m.list)) (pair_of x ∷ [])
+      (row_of (variables m.shared.ring) (record { vector = v; products = products }) ∷ []) (products_of (variables m.shared.ring) (map step_of parts))
+  solved_row v products d some iv same =
       let n = variables m.shared.ring in
       let S : Setting (variables m.shared.ring) = setting_of (variables m.shared.ring) m.shared in
       let lawful = shared_lawful n m.shared in
@@ -104,16 +105,14 @@ module _ (m : MembersShown) (x : CodePair) (of : AreOfPair m x) (combined : AreC
           λ k lead. (pair_of x, count_here (pair_of x), subst (λ z. S.compare k z ≡ Less) (of.lcm.lcm) (d.left.low k lead)),
           tt,
         );
-        combined = (IsSame_sym (row_combined m.shared m.list (cofactors_of n parts) v cof combined d.vector ic d.sum sc).sums, tt);
         job_products = pair_products v d;
-        vectors_made = (
-          subst (λ H. IsMadeOf m.shared.ring.modulus.value H (products_of n (map step_of parts)) (sum_of n v)) (sym (vectors_are n m.list))
-              (made_of_parts S lawful (vectors_in m.list) (vectors_over m.shared m.list combined) parts (sum_of n v) d.sum),
-          tt,
-        );
-        cofactors_made = (
-          subst (λ H. IsMadeOf m.shared.ring.modulus.value H (products_of n (map step_of parts)) (sum_of n cof)) (sym (cofactors_are n m.list))
-              (made_of_parts S lawful (cofactors_in m.list) (cofactors_over m.shared m.list combined) parts (sum_of n cof) sc),
+        sums = (
+          record {
+            alone = refl;
+            listed = row_listed m.shared parts products iv same;
+            sums = subst (λ H. IsSame m.shared.ring.modulus.value (combination H (sum_of n products)) (sum_of n v)) (sym (vectors_are n m.list))
+                (IsSame_trans (IsSame_combination (positive S lawful) G _ _ same) (IsSame_sym d.sum));
+          },
           tt,
         );
       }

@@ -1,9 +1,10 @@
 -- The chain of a pair at which a sum or a division stops
-use Rattle.std.proofs.Common.{List, Some, [], ap, append-nil, append_assoc, arith, get_or, inl, length, length-append, map, refl, subst, suc, sym, take, zero, ℕ, ◌++◌, ◌+◌, ◌<◌, ◌∙◌, ◌∷◌, ◌≡◌}
+use Rattle.std.proofs.Common.{List, [], ap, append-nil, append_assoc, arith, get_or, inl, length, length-append, map, refl, subst, suc, sym, take, zero, ℕ, ◌++◌, ◌+◌, ◌<◌, ◌∙◌, ◌∷◌, ◌≡◌}
 use Rattle.formal_sums.specs.FormalSums.{Each, Key}
+use Rattle.monomial_orders.specs.Kept.{IsWeighed, Monomial}
 use Rattle.module_vectors.specs.Rings.{variables}
 use Rattle.module_vectors.specs.Stops.{HasMonomial}
-use Rattle.module_vectors.specs.Trails.{AreMet, HasKey, IsChain, IsMet, IsOfStep, IsTrail, Step, last_step, product_lead}
+use Rattle.module_vectors.specs.Trails.{AreMet, HasKey, IsChain, IsMet, IsTrail, Step, last_step, product_lead}
 use Rattle.module_vectors.specs.Vectors.{sum_of}
 use Rattle.module_vectors.specs.declared.key.Key.{Key as CodeKey}
 use Rattle.module_vectors.specs.declared.ring.Ring.{Ring}
@@ -13,7 +14,7 @@ use Rattle.vector_division.specs.Divisions.{IsDivisionTrail}
 use Rattle.vector_division.specs.Reductions.{step_of}
 use Rattle.vector_division.specs.declared.reduction.Quotient.{Quotient}
 use Rattle.basis_core.specs.Members.{Tracked}
-use Rattle.basis_core.specs.Rows.{cofactors_in, vectors_in}
+use Rattle.basis_core.specs.Rows.{vectors_in}
 use Rattle.s_vectors.proofs.Linking.{pair_front, pair_more, steps_through}
 use Rattle.s_vectors.specs.Divided.{HasKeysMet}
 use Rattle.s_vectors.specs.Parts.{IsGreatPart}
@@ -31,20 +32,19 @@ pub steps-append : (xs ys : List Quotient) → map step_of (xs ++ ys) ≡ map st
 steps-append [] ys = refl
 steps-append (x ∷ xs) ys = ap (λ l. step_of x ∷ l) (steps-append xs ys)
 
-module _ (n : ℕ) (ms : List Tracked) (k : Key n) where
-  -- a part that is too great for its member's vector or cofactors
+module _ (n : ℕ) (ws : List ℕ) (ms : List Tracked) (k : Key n) where
+  -- a part that is too great for its member's vector
   pub great_chain :
-      (list : List (List (CodeKey × ℕ))) (parts : List Quotient) (number : ℕ) (last : List ℕ) (steps : List Step)
-      → ((s : Step) → HasMonomial (get_or list s.0 []) last → IsOfStep (vectors_in ms) (Some (cofactors_in ms)) s last)
-      → ArePairSteps n (vectors_in ms) k (map step_of parts) → IsGreatPart list parts number last
+      (parts : List Quotient) (number : ℕ) (last : Monomial) (steps : List Step)
+      → ArePairSteps n ws (vectors_in ms) k (map step_of parts) → IsGreatPart (vectors_in ms) parts number last
       → (number < length parts → steps ≡ map step_of (take (number + 1) parts))
-      → IsPairChain n ms k steps last
-  great_chain list parts number last steps f h g e = record {
+      → IsPairChain n ws ms k steps last
+  great_chain parts number last steps h g e = record {
     front = map step_of g.front;
     step = step_of g.part;
     split = is;
-    pair = subst (ArePairSteps n (vectors_in ms) k) (sym is) (pair_front n (vectors_in ms) k (map step_of g.front ++ step_of g.part ∷ []) (map step_of g.back) (subst (ArePairSteps n (vectors_in ms) k) whole h));
-    monomial = f (step_of g.part) g.monomial;
+    pair = subst (ArePairSteps n ws (vectors_in ms) k) (sym is) (pair_front n (vectors_in ms) ws k (map step_of g.front ++ step_of g.part ∷ []) (map step_of g.back) (subst (ArePairSteps n ws (vectors_in ms) k) whole h));
+    monomial = g.monomial;
     too_great = g.too_great;
   }
     where
@@ -65,33 +65,33 @@ last_split first (s ∷ later) = let r = last_split s later in (first ∷ r.0, a
 -- where the vector of the division has the keys of a pair's products, the steps of its trail are behind them
 pub division_chain :
     (ring : Ring) (ms : List Tracked) (k : Key (variables ring)) (v : List (CodeKey × ℕ)) (top : List Step) (t : KeptTrail) (steps : List Step)
-    → 0 < length top → ArePairSteps (variables ring) (vectors_in ms) k top → HasKeysMet (variables ring) v (vectors_in ms) top
+    → 0 < length top → ArePairSteps (variables ring) ring.weights (vectors_in ms) k top → HasKeysMet (variables ring) v (vectors_in ms) top
     → IsDivisionTrail ring v (vectors_in ms) t → steps ≡ top ++ t.steps.items
-    → IsPairChain (variables ring) ms k steps t.last
+    → IsPairChain (variables ring) ring.weights ms k steps t.last
 division_chain ring ms k v [] t steps some h keys d e = absurd (omega arith)
 division_chain ring ms k v (first ∷ top) t steps some h keys d e = go d.trail
   where
-    go : IsTrail t → IsPairChain (variables ring) ms k steps t.last
+    go : IsTrail t → IsPairChain (variables ring) ring.weights ms k steps t.last
     go (s, later, c) =
         let n = variables ring in
         let list = vectors_in ms in
-        let chain : IsChain n t s later = subst (λ r. IsChain (variables r) t s later) d.over c in
+        let chain : IsChain n t s later = subst (λ (r : Ring). IsChain (variables r) t s later) d.over c in
         let sp = last_split s later in
         let met : (l : Key (variables ring)) → HasKey (sum_of (variables ring) v) l → IsMet (variables ring) [] (vectors_in ms) (first ∷ top) l =
         λ l h. at_key (λ z. IsMet (variables ring) [] (vectors_in ms) (first ∷ top) z) (sum_of (variables ring) v) l keys h in
         let begins : HasKey (sum_of n v) (product_lead n list s) = rw (d.start, d.vector, d.members) at chain.begins in
         let follow : AreMet n (sum_of n v) list (s ∷ []) later = rw (d.vector, d.members) at chain.met in
         let known : Each (λ z. z.0 < length list) (s ∷ later) = subst (λ l. Each (λ z. z.0 < length l) (s ∷ later)) d.members chain.known in
-        let last : HasMonomial (get_or list (last_step s later).0 []) t.last = rw (d.members, d.cofs) at chain.last in
-        let all : ArePairSteps n list k ((first ∷ top) ++ s ∷ later) =
-        pair_more n list k first top (s ∷ later) h known chain.variables
+        let last : HasMonomial (get_or list (last_step s later).0 []) t.last = rw d.members at chain.last in
+        let all : ArePairSteps n ring.weights list k ((first ∷ top) ++ s ∷ later) =
+        pair_more n list ring.weights k first top (s ∷ later) h known (subst (λ (r : Ring). Each (λ z. IsWeighed n r.weights z.1) (s ∷ later)) d.over chain.variables)
         (subst (λ l. AreMet n [] list l (s ∷ later)) (append-nil (first ∷ top)) (steps_through n list (sum_of n v) (first ∷ top) [] (s ∷ later) met (inl begins, follow))) in
         let is : steps ≡ (first ∷ top) ++ s ∷ later = e ∙ ap (λ l. (first ∷ top) ++ l) chain.steps in
         record {
           front = (first ∷ top) ++ sp.0;
           step = last_step s later;
           split = is ∙ ap (λ l. (first ∷ top) ++ l) sp.1 ∙ sym (append_assoc (first ∷ top) sp.0 (last_step s later ∷ []));
-          pair = subst (ArePairSteps n list k) (sym is) all;
-          monomial = inl last;
+          pair = subst (ArePairSteps n ring.weights list k) (sym is) all;
+          monomial = last;
           too_great = chain.too_great;
         }

@@ -30,7 +30,7 @@ use Rattle.s_vectors.specs.Parts.{IsFactorOf, IsTopPart}
 pub shared_lawful : (n : ℕ) (shared : Shared) → IsLawful (setting_of n shared)
 shared_lawful n shared = record {
   domain = is_modulus-domain shared.ring.modulus.value shared.ring.modulus.table;
-  order = key_comparison_order shared.ring.module_order shared.ring.order n shared.rank;
+  order = key_comparison_order shared.ring.module_order shared.ring.order shared.ring.weights n shared.rank;
 }
 
 -- a monic vector is not zero
@@ -47,14 +47,14 @@ length_sums n list = length-map list (λ v. sum_of n v)
 
 -- what takes a lead to the lcm is a part of the S-vector
 pub top_part :
-    (n m : ℕ) (list : List (List (CodeKey × ℕ))) (k : CodeKey) (index residue : ℕ) (v : List (CodeKey × ℕ)) (q : Quotient)
-    → m ≡ n → v ≡ get_or list index [] → IsFactorOf m k v q.monomial → q.index ≡ index → q.residue ≡ residue
-    → IsTopPart n list k index residue q
-top_part n m list k index residue v q e is f at c =
-    let g : IsFactorOf n k (get_or list index []) q.monomial = subst (λ w. IsFactorOf n k w q.monomial) is (subst (λ z. IsFactorOf z k v q.monomial) e f) in
-    record { at = at; residue_is = c; variables = g.variables; exponents = g.exponents; product = g.product }
+    (n : ℕ) (ws : List ℕ) (list : List (List (CodeKey × ℕ))) (k : CodeKey) (index residue : ℕ) (v : List (CodeKey × ℕ)) (q : Quotient)
+    → v ≡ get_or list index [] → IsFactorOf n ws k v q.monomial → q.index ≡ index → q.residue ≡ residue
+    → IsTopPart n ws list k index residue q
+top_part n ws list k index residue v q is f at c =
+    let g : IsFactorOf n ws k (get_or list index []) q.monomial = subst (λ w. IsFactorOf n ws k w q.monomial) is f in
+    record { at = at; residue_is = c; weighed = g.weighed; exponents = g.exponents; product = g.product }
 
-module _ (n : ℕ) (shared : Shared) (ms : List Tracked) (x : CodePair) (monic : Each (IsMonicMember (setting_of n shared)) (vectors (members_of n ms))) (real : IsPair (vectors (members_of n ms)) (pair_of x)) (has : HasLcm n ms x) where
+module _ (n : ℕ) (shared : Shared) (ms : List Tracked) (x : CodePair) (monic : Each (IsMonicMember (setting_of n shared)) (vectors (members_of n ms))) (real : IsPair (vectors (members_of n ms)) (pair_of x)) {ws : List ℕ} (has : HasLcm n ws ms x) where
   pub left_within : x.i < length (vectors_in ms)
   left_within = let a = real.ordered in let b = real.within in let e = ap length (vectors_are n ms) in let l = length_sums n (vectors_in ms) in omega arith
 
@@ -74,20 +74,20 @@ module _ (n : ℕ) (shared : Shared) (ms : List Tracked) (x : CodePair) (monic :
   pub lcm_position : x.lcm.position ≡ (lead_at n (vectors_in ms) x.i).0
   lcm_position = ap (λ k. k.0) has.lcm ∙ ap (λ k. k.0) (lead_is n ms x.i)
 
-  pub lcm_exponents : exponents_of n x.lcm.monomial ≡ lcm (lead_at n (vectors_in ms) x.i).1 (lead_at n (vectors_in ms) x.j).1
+  pub lcm_exponents : exponents_of n x.lcm.monomial.exponents ≡ lcm (lead_at n (vectors_in ms) x.i).1 (lead_at n (vectors_in ms) x.j).1
   lcm_exponents = ap (λ k. k.1) has.lcm ∙ ap₂ (λ a b. lcm a.1 b.1) (lead_is n ms x.i) (lead_is n ms x.j)
 
   pub same_position : (lead_at n (vectors_in ms) x.i).0 ≡ (lead_at n (vectors_in ms) x.j).0
   same_position = sym (ap (λ k. k.0) (lead_is n ms x.i)) ∙ real.position ∙ ap (λ k. k.0) (lead_is n ms x.j)
 
   -- which both leads divide
-  pub left_divides : Divides (lead_at n (vectors_in ms) x.i).1 (exponents_of n x.lcm.monomial)
+  pub left_divides : Divides (lead_at n (vectors_in ms) x.i).1 (exponents_of n x.lcm.monomial.exponents)
   left_divides =
       let a = (lead_at n (vectors_in ms) x.i).1 in
       let b = (lead_at n (vectors_in ms) x.j).1 in
       (quotient (lcm a b) a, times-quotient a b ∙ sym lcm_exponents)
 
-  pub right_divides : Divides (lead_at n (vectors_in ms) x.j).1 (exponents_of n x.lcm.monomial)
+  pub right_divides : Divides (lead_at n (vectors_in ms) x.j).1 (exponents_of n x.lcm.monomial.exponents)
   right_divides =
       let a = (lead_at n (vectors_in ms) x.i).1 in
       let b = (lead_at n (vectors_in ms) x.j).1 in
@@ -98,12 +98,10 @@ module _ (n : ℕ) (shared : Shared) (ms : List Tracked) (x : CodePair) (monic :
   factor_some i v lt e = subst (λ w. 0 < length w) (sym e) (member_some i lt)
 
   pub factor_divides :
-      (m i : ℕ) (v : List (CodeKey × ℕ))
-      → m ≡ n → v ≡ get_or (vectors_in ms) i [] → Divides (lead_at n (vectors_in ms) i).1 (exponents_of n x.lcm.monomial)
-      → Divides (head_key (sum_of m v)).1 (exponents_of m x.lcm.monomial)
-  factor_divides m i v e is d =
-      subst (λ z. Divides (head_key (sum_of z v)).1 (exponents_of z x.lcm.monomial)) (sym e)
-      (subst (λ w. Divides (head_key (sum_of n w)).1 (exponents_of n x.lcm.monomial)) (sym is) d)
+      (i : ℕ) (v : List (CodeKey × ℕ))
+      → v ≡ get_or (vectors_in ms) i [] → Divides (lead_at n (vectors_in ms) i).1 (exponents_of n x.lcm.monomial.exponents)
+      → Divides (head_key (sum_of n v)).1 (exponents_of n x.lcm.monomial.exponents)
+  factor_divides i v is d = subst (λ w. Divides (head_key (sum_of n w)).1 (exponents_of n x.lcm.monomial.exponents)) (sym is) d
 
 -- -1 modulo p
 pub minus_one : (p c : ℕ) → 1 < p → c ≡ (p - 1) % p → c ≡ p - 1

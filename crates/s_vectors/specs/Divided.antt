@@ -25,7 +25,7 @@ use Rattle.s_vectors.specs.Steps.{ArePairSteps}
 pub record AreOfPair (m : MembersShown) (x : CodePair) : Type 0 where
   pub monic : Each (IsMonicMember (setting_of (variables m.shared.ring) m.shared)) (vectors (members_of (variables m.shared.ring) m.list))
   pub real : IsPair (vectors (members_of (variables m.shared.ring) m.list)) (pair_of x)
-  pub lcm : HasLcm (variables m.shared.ring) m.list x
+  pub lcm : HasLcm (variables m.shared.ring) m.shared.ring.weights m.list x
 
 -- the same product with the residue of -c for c
 abbrev pub negated : ℕ → Quotient → Quotient
@@ -37,7 +37,7 @@ HasKeysMet n v list steps = Each (λ t. IsMet n [] list steps t.0) (sum_of n v)
 
 -- v is the S-vector, the sum of these two parts
 pub record IsTopVector (m : MembersShown) (x : CodePair) (parts : List Quotient) (v : List (CodeKey × ℕ)) : Type 0 where
-  pub two : ArePairParts (variables m.shared.ring) m.shared.ring.modulus.value (vectors_in m.list) x parts
+  pub two : ArePairParts (variables m.shared.ring) m.shared.ring.weights m.shared.ring.modulus.value (vectors_in m.list) x parts
   pub vector : IsVectorOver m.shared.ring (ring_comparison m.shared.ring) v
   pub sum : StandsFor m.shared.ring v (combination (sums_of (variables m.shared.ring) (vectors_in m.list)) (cofactors_of (variables m.shared.ring) parts))
 
@@ -52,8 +52,8 @@ pub record IsRestOf {n : ℕ} (m : MembersShown) (x : CodePair) (rest : FormalSu
 
 -- the parts, which come of the pair, make up what is left of its S-vector
 pub record IsDivided (m : MembersShown) (x : CodePair) (parts : List Quotient) (rest : List (CodeKey × ℕ)) : Type 0 where
-  pub steps : ArePairSteps (variables m.shared.ring) (vectors_in m.list) (key_of (variables m.shared.ring) x.lcm) (map step_of parts)
-  pub each : Each (IsPart (variables m.shared.ring) m.shared.ring.modulus.value (length m.list)) parts
+  pub steps : ArePairSteps (variables m.shared.ring) m.shared.ring.weights (vectors_in m.list) (key_of (variables m.shared.ring) x.lcm) (map step_of parts)
+  pub each : Each (IsPart (variables m.shared.ring) m.shared.ring.weights m.shared.ring.modulus.value (length m.list)) parts
   pub vector : IsVectorOver m.shared.ring (ring_comparison m.shared.ring) rest
   pub sum : StandsFor m.shared.ring rest (combination (sums_of (variables m.shared.ring) (vectors_in m.list)) (cofactors_of (variables m.shared.ring) parts))
   pub left : IsRestOf m x (sum_of (variables m.shared.ring) rest)

@@ -1,6 +1,7 @@
 -- The products of members that make up a vector
 use Rattle.std.specs.Prelude.{List, [], get_or, length, ⊤, ℕ, ◌++◌, ◌-◌, ◌<◌, ◌∷◌, ◌≡◌}
 use Rattle.monomials.specs.Exponents.{exponents_of, quotient, times}
+use Rattle.monomial_orders.specs.Kept.{IsWeighed, Monomial}
 use Rattle.module_vectors.specs.Stops.{HasMonomial, IsTooGreat}
 use Rattle.bases.specs.Leads.{head_key}
 use Rattle.module_vectors.specs.Trails.{lead_at}
@@ -12,14 +13,14 @@ use Rattle.s_vectors.specs.declared.sums.SumStop.{SumStop}
 use Rattle.s_vectors.specs.declared.sums.SumStop.TheVariants.{Memory, Degree}
 use Rattle.pair_criteria.specs.declared.pair.Pair.{Pair as CodePair}
 
--- a residue times a monomial of n variables times a vector of a list of so many
-pub record IsPart (n p count : ℕ) (q : Quotient) : Type 0 where
+-- a residue times a monomial in n variables of these weights times a vector of a list of so many
+pub record IsPart (n : ℕ) (ws : List ℕ) (p count : ℕ) (q : Quotient) : Type 0 where
   pub index : q.index < count
-  pub variables : length q.monomial ≡ n
+  pub weighed : IsWeighed n ws q.monomial
   pub reduced : q.residue < p
 
 -- the part with this number, and a monomial of its vector that is too great for it
-pub record IsGreatPart (list : List (List (CodeKey × ℕ))) (parts : List Quotient) (number : ℕ) (m : List ℕ) : Type 0 where
+pub record IsGreatPart (list : List (List (CodeKey × ℕ))) (parts : List Quotient) (number : ℕ) (m : Monomial) : Type 0 where
   pub front : List Quotient
   pub part : Quotient
   pub back : List Quotient
@@ -34,29 +35,29 @@ SumStops list parts Memory = ⊤
 SumStops list parts (Degree number m) = IsGreatPart list parts number m
 
 -- t times the lead of v is the lcm
-pub record IsFactorOf (n : ℕ) (lcm : CodeKey) (v : List (CodeKey × ℕ)) (t : List ℕ) : Type 0 where
-  pub variables : length t ≡ n
-  pub exponents : exponents_of n t ≡ quotient (exponents_of n lcm.monomial) (head_key (sum_of n v)).1
-  pub product : times (exponents_of n t) (head_key (sum_of n v)).1 ≡ exponents_of n lcm.monomial
+pub record IsFactorOf (n : ℕ) (ws : List ℕ) (lcm : CodeKey) (v : List (CodeKey × ℕ)) (t : Monomial) : Type 0 where
+  pub weighed : IsWeighed n ws t
+  pub exponents : exponents_of n t.exponents ≡ quotient (exponents_of n lcm.monomial.exponents) (head_key (sum_of n v)).1
+  pub product : times (exponents_of n t.exponents) (head_key (sum_of n v)).1 ≡ exponents_of n lcm.monomial.exponents
 
 -- this residue times the monomial that takes the lead of the vector with this index to the lcm
-pub record IsTopPart (n : ℕ) (list : List (List (CodeKey × ℕ))) (lcm : CodeKey) (index residue : ℕ) (q : Quotient) : Type 0 where
+pub record IsTopPart (n : ℕ) (ws : List ℕ) (list : List (List (CodeKey × ℕ))) (lcm : CodeKey) (index residue : ℕ) (q : Quotient) : Type 0 where
   pub at : q.index ≡ index
   pub residue_is : q.residue ≡ residue
-  pub variables : length q.monomial ≡ n
-  pub exponents : exponents_of n q.monomial ≡ quotient (exponents_of n lcm.monomial) (lead_at n list index).1
-  pub product : times (exponents_of n q.monomial) (lead_at n list index).1 ≡ exponents_of n lcm.monomial
+  pub weighed : IsWeighed n ws q.monomial
+  pub exponents : exponents_of n q.monomial.exponents ≡ quotient (exponents_of n lcm.monomial.exponents) (lead_at n list index).1
+  pub product : times (exponents_of n q.monomial.exponents) (lead_at n list index).1 ≡ exponents_of n lcm.monomial.exponents
 
 -- the two parts of the pair's S-vector (IVA chapter 2, section 6)
-pub record ArePairParts (n p : ℕ) (list : List (List (CodeKey × ℕ))) (x : CodePair) (parts : List Quotient) : Type 0 where
+pub record ArePairParts (n : ℕ) (ws : List ℕ) (p : ℕ) (list : List (List (CodeKey × ℕ))) (x : CodePair) (parts : List Quotient) : Type 0 where
   pub left : Quotient
   pub right : Quotient
   pub two : parts ≡ left ∷ right ∷ []
-  pub first : IsTopPart n list x.lcm x.i 1 left
-  pub second : IsTopPart n list x.lcm x.j (p - 1) right
+  pub first : IsTopPart n ws list x.lcm x.i 1 left
+  pub second : IsTopPart n ws list x.lcm x.j (p - 1) right
 
 -- the product with this number and a monomial of its vector are too great
-pub record IsGreatProduct (xs : List Product) (number : ℕ) (m : List ℕ) : Type 0 where
+pub record IsGreatProduct (xs : List Product) (number : ℕ) (m : Monomial) : Type 0 where
   pub front : List Product
   pub product : Product
   pub back : List Product

@@ -1,38 +1,37 @@
--- What has been done of a job: rows that represent some of its pairs, and the products that they are made of
-use Rattle.std.specs.Prelude.{List, None, Option, Some, [], length, map, ℕ, ◌++◌, ◌∷◌, ◌≡◌, ◌≤◌}
-use Rattle.formal_sums.specs.FormalSums.{Each}
+-- What has been done of a job: rows that represent some of its pairs, and the products that they are sums of
+use Rattle.std.specs.Prelude.{List, None, Option, Some, [], length, ℕ, ◌++◌, ◌∷◌, ◌≤◌}
+use Rattle.formal_sums.specs.FormalSums.{Each, FormalSum}
+use Rattle.bases.specs.Settings.{Setting}
 use Rattle.basis_steps.specs.Criteria.{IsRepresented}
-use Rattle.basis_steps.specs.Divisions.{IsCombined}
-use Rattle.basis_steps.specs.Outcomes.{AreJobProducts, HasLeadBelowJob, IsMadeOf}
+use Rattle.basis_steps.specs.Outcomes.{AreJobProducts, HasLeadBelowJob, IsRow}
 use Rattle.basis_steps.specs.Pairs.{Pair}
-use Rattle.basis_steps.specs.States.{Member, Product, Run, cofactor_lists, vectors}
-use Rattle.cofactor_track.specs.declared.member.Member.{Member as CodeMember}
+use Rattle.basis_steps.specs.States.{Member, Product, vectors}
+use Rattle.member_products.specs.declared.member.Row.{Row as CodeRow}
+use Rattle.monomial_orders.specs.Kept.{IsWeighed}
 use Rattle.module_vectors.specs.Rings.{variables}
 use Rattle.pair_criteria.specs.declared.pair.Pair.{Pair as CodePair}
 use Rattle.basis_core.specs.Jobs.{pair_of}
-use Rattle.basis_core.specs.Members.{IsOver, MembersShown, members_of, tracked_of}
-use Rattle.basis_core.specs.Outcomes.{products_of, work_of}
+use Rattle.basis_core.specs.Members.{IsRunRow, MembersShown, members_of, rows_of, setting_of}
+use Rattle.basis_core.specs.Outcomes.{products_of}
 use Rattle.s_vectors.specs.declared.division.Division.{Division}
 
--- the rows of these pairs, at most one a pair
-pub record IsSolved {n : ℕ} (r : Run n) (members : List (Member n)) (job : List Pair) (rows : List (Member n)) (products : List (Product n)) : Type 0 where
-  pub represented : Each (IsRepresented r.setting (vectors members ++ vectors rows)) job
+-- the rows of these pairs of the members G, at most one a pair
+pub record IsSolved {n : ℕ} (S : Setting n) (G : List (FormalSum n)) (job : List Pair) (rows : List (Member n)) (products : List (Product n)) : Type 0 where
+  pub represented : Each (IsRepresented S (G ++ vectors rows)) job
   pub few : length rows ≤ length job
-  pub low : Each (λ m. HasLeadBelowJob r.setting (vectors members) job m.vector) rows
-  pub combined : Each (IsCombined r.setting.modulus r.generators) rows
-  pub job_products : AreJobProducts r.setting.modulus (vectors members) job products
-  pub vectors_made : Each (λ m. IsMadeOf r.setting.modulus (vectors members) products m.vector) rows
-  pub cofactors_made : Each (λ m. IsMadeOf r.setting.modulus (cofactor_lists members) products m.cofactors) rows
+  pub low : Each (λ m. HasLeadBelowJob S G job m.vector) rows
+  pub job_products : AreJobProducts S.modulus G job products
+  pub sums : Each (IsRow S.modulus G products) rows
 
 -- a row that may be there
-abbrev pub row_list : Option CodeMember → List CodeMember
+abbrev pub row_list : Option CodeRow → List CodeRow
 row_list None = []
-row_list (Some m) = m ∷ []
+row_list (Some row) = row ∷ []
 
--- the rows of one pair, and their products, which have the ring's variables
+-- the rows of one pair, and their products by monomials of the ring
 pub record IsSolvedPair (m : MembersShown) (x : CodePair) (d : Division) : Type 0 where
-  pub over : Each (λ r. IsOver m.shared r) (row_list d.row)
-  pub lengths : Each (λ t. length t.1 ≡ variables m.shared.ring) d.steps.items
+  pub over : Each (IsRunRow m.shared (length m.list)) (row_list d.row)
+  pub weighed : Each (λ t. IsWeighed (variables m.shared.ring) m.shared.ring.weights t.1) d.steps.items
   pub solved :
-      IsSolved (work_of (variables m.shared.ring) m.shared) (members_of (variables m.shared.ring) m.list) (pair_of x ∷ [])
-      (members_of (variables m.shared.ring) (map (λ r. tracked_of r) (row_list d.row))) (products_of (variables m.shared.ring) d.steps.items)
+      IsSolved (setting_of (variables m.shared.ring) m.shared) (vectors (members_of (variables m.shared.ring) m.list)) (pair_of x ∷ [])
+      (rows_of (variables m.shared.ring) (row_list d.row)) (products_of (variables m.shared.ring) d.steps.items)

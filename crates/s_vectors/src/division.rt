@@ -1,5 +1,5 @@
 // The division of an S-vector by the members.
-ghost use Rattle.std.specs.Prelude.{◌≡◌, ◌<◌, ◌+◌, ◌++◌, ◌⊎◌, ℕ, List, IfOk, IfErr, OnOk, length, map, take};
+ghost use Rattle.std.specs.Prelude.{◌≡◌, ◌<◌, ◌+◌, ◌++◌, ℕ, List, IfOk, IfErr, OnOk, length, map, take};
 ghost use Rattle.formal_sums.specs.FormalSums.{Each, Key as KeyOf};
 ghost use Rattle.module_vectors.specs.Rings.{variables};
 ghost use Rattle.module_vectors.specs.Vectors.{key_of};
@@ -8,24 +8,22 @@ ghost use Rattle.module_vectors.specs.declared.ring.Ring.{Ring as RingValue};
 ghost use Rattle.vector_division.specs.Divisions.{DivisionStops};
 ghost use Rattle.vector_division.specs.Reductions.{step_of};
 ghost use Rattle.basis_core.specs.Members.{Tracked};
-ghost use Rattle.basis_core.specs.Rows.{cofactors_in, vectors_in};
+ghost use Rattle.basis_core.specs.Rows.{vectors_in};
 ghost use Rattle.s_vectors.specs.Divided.{AreOfPair, HasKeysMet, IsDivided, IsTopVector, negated};
 ghost use Rattle.s_vectors.specs.Parts.{SumStops};
 ghost use Rattle.s_vectors.specs.Solutions.{IsSolvedPair};
 ghost use Rattle.s_vectors.specs.Steps.{ArePairSteps, PairStops};
 
-use crate::cofactors::Cofactors;
 use crate::pairs::pair_parts;
 use crate::stops::{Chain, PairStop, steps_of};
 use crate::sums::{SumStop, sum_of_parts};
-use basis_core::Members;
-use cofactor_track::Member;
+use basis_core::{Members, quotient_products};
+use member_products::Row;
 use module_vectors::{KeptTrail, NoMemory, Ring, Vect, WorkStop};
 use monomial_orders::Mono;
 use pair_criteria::Pair;
 use std::alloc::Global;
 use std::collections::VecDeque;
-use std::sync::Arc;
 use vector_division::{Quotient, reduce};
 use zp_field::Modulus;
 
@@ -33,7 +31,7 @@ use zp_field::Modulus;
 #[derive(Drop)]
 pub(crate) struct Division {
     pub(crate) steps: Vec<(u64, Mono)>,
-    pub(crate) row: Option<Member>,
+    pub(crate) row: Option<Row>,
 }
 
 // The steps of the first parts, up to the one with this number.
@@ -51,9 +49,10 @@ fn steps_to(
     steps_of(alloc, parts)
 }
 
-// The stop where the sum of the parts' vectors or cofactors stopped.
+// The stop where the sum of the parts stopped.
 fn stop_of_sum(alloc: Global, parts: Vec<Quotient>, stop: SumStop) -> PairStop
-    ensures { (n : ℕ) (ms : List Tracked) (k : KeyOf n) → ArePairSteps n (vectors_in ms) k (map step_of parts.items) → SumStops (vectors_in ms) parts.items stop ⊎ SumStops (cofactors_in ms) parts.items stop → PairStops n ms k result }
+    ensures { (n : ℕ) (ws : List ℕ) (ms : List Tracked) (k : KeyOf n) → ArePairSteps n ws (vectors_in ms) k (map step_of parts.items)
+        → SumStops (vectors_in ms) parts.items stop → PairStops n ws ms k result }
 {
     match stop {
         SumStop::Memory => PairStop::Memory,
@@ -80,7 +79,9 @@ fn steps_before(
 
 // The stop where the division of a vector with these parts stopped.
 fn stop_of_division(alloc: Global, parts: Vec<Quotient>, stop: WorkStop) -> PairStop
-    ensures { (ring : RingValue) (ms : List Tracked) (k : KeyOf (variables ring)) (v : List (KeyValue × ℕ)) → 0 < length parts.items → ArePairSteps (variables ring) (vectors_in ms) k (map step_of parts.items) → HasKeysMet (variables ring) v (vectors_in ms) (map step_of parts.items) → DivisionStops ring v (vectors_in ms) stop → PairStops (variables ring) ms k result }
+    ensures { (ring : RingValue) (ms : List Tracked) (k : KeyOf (variables ring)) (v : List (KeyValue × ℕ)) → 0 < length parts.items
+        → ArePairSteps (variables ring) ring.weights (vectors_in ms) k (map step_of parts.items)
+        → HasKeysMet (variables ring) v (vectors_in ms) (map step_of parts.items) → DivisionStops ring v (vectors_in ms) stop → PairStops (variables ring) ring.weights ms k result }
 {
     match stop {
         WorkStop::Memory => PairStop::Memory,
@@ -114,7 +115,7 @@ fn take_quotients(
     Ok(())
 }
 
-// What is left becomes a row: its cofactors are the sum of the parts' products with the members' cofactors.
+// What is left becomes a row, the sum of the parts' products.
 fn make_row(
     alloc: Global,
     ring: &Ring,
@@ -122,24 +123,17 @@ fn make_row(
     pair: &Pair,
     parts: Vec<Quotient>,
     vector: Vect,
-) -> Result<Division, PairStop>
+) -> Result<Division, NoMemory>
     requires over { ring.now ≡ members.now.shared.ring }
     requires pair { AreOfPair members.now pair.now }
     requires divided { IsDivided members.now pair.now parts.items vector }
     requires some { 0 < length vector }
-    ensures solved { IfOk result (IsSolvedPair members.now pair.now) }
-    ensures stop { let n = variables ring.now in IfErr result (PairStops n members.now.list (key_of n pair.now.lcm)) }
+    ensures { IfOk result (IsSolvedPair members.now pair.now) }
 {
     members.kept();
-    let cof = match sum_of_parts(alloc, ring, &parts, &Cofactors { members }) {
-        Ok(cof) => cof,
-        Err(stop) => return Err(stop_of_sum(alloc, parts, stop)),
-    };
-    let row = Member {
-        shared: Arc::try_clone(members.shared())?,
-        vector,
-        cof,
-    };
+    let _pair = pair;
+    let products = quotient_products(alloc, ring, &parts)?;
+    let row = Row { vector, products };
     Ok(Division {
         steps: steps_of(alloc, parts)?,
         row: Some(row),
@@ -160,7 +154,7 @@ fn divide_vector(
     requires some { 0 < length vector.now }
     requires top { IsTopVector members.now pair.now parts.items vector.now }
     ensures solved { IfOk result (IsSolvedPair members.now pair.now) }
-    ensures stop { let n = variables ring.now in IfErr result (PairStops n members.now.list (key_of n pair.now.lcm)) }
+    ensures stop { let n = variables ring.now in IfErr result (PairStops n ring.now.weights members.now.list (key_of n pair.now.lcm)) }
 {
     members.kept();
     let mut parts = parts;
@@ -175,7 +169,8 @@ fn divide_vector(
             row: None,
         });
     }
-    make_row(alloc, ring, members, pair, parts, reduction.rest)
+    let division = make_row(alloc, ring, members, pair, parts, reduction.rest)?;
+    Ok(division)
 }
 
 // The S-vector of the pair, divided: `ring` is that of the members.
@@ -188,7 +183,7 @@ fn divide_over(
     requires over { ring.now ≡ members.now.shared.ring }
     requires pair { AreOfPair members.now pair.now }
     ensures solved { IfOk result (IsSolvedPair members.now pair.now) }
-    ensures stop { let n = variables ring.now in IfErr result (PairStops n members.now.list (key_of n pair.now.lcm)) }
+    ensures stop { let n = variables ring.now in IfErr result (PairStops n ring.now.weights members.now.list (key_of n pair.now.lcm)) }
 {
     members.kept();
     let parts = pair_parts(alloc, ring, members, pair)?;
@@ -205,8 +200,8 @@ fn divide_over(
     divide_vector(alloc, ring, members, pair, parts, &vector)
 }
 
-/// Divides the pair's S-vector by the members, greatest term first. What is left becomes a row with its cofactors over
-/// the generators, unless it is zero. IVA chapter 2, section 7.
+/// Divides the pair's S-vector by the members, greatest term first. What is left becomes a row with the products that
+/// make it, unless it is zero. IVA chapter 2, section 7.
 pub(crate) fn divide_pair(
     alloc: Global,
     members: &Members,
@@ -214,7 +209,8 @@ pub(crate) fn divide_pair(
 ) -> Result<Division, PairStop>
     requires pair { AreOfPair members.now pair.now }
     ensures solved { IfOk result (IsSolvedPair members.now pair.now) }
-    ensures stop { let n = variables members.now.shared.ring in IfErr result (PairStops n members.now.list (key_of n pair.now.lcm)) }
+    ensures stop { let n = variables members.now.shared.ring in
+        IfErr result (PairStops n members.now.shared.ring.weights members.now.list (key_of n pair.now.lcm)) }
 {
-    divide_over(alloc, &members.shared().ring, members, pair)
+    divide_over(alloc, members.ring(), members, pair)
 }

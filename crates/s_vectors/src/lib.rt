@@ -1,8 +1,7 @@
 //! A job of the basis core is solved by plain division of its S-vectors by its members: what is left of each becomes a
-//! row, with its cofactors over the generators. IVA chapter 2, section 7.
+//! row, with the products that make it. IVA chapter 2, section 7.
 #![tactic(auto)]
 
-mod cofactors;
 mod division;
 mod pairs;
 mod solving;

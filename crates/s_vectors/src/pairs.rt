@@ -4,7 +4,7 @@ ghost use Rattle.monomials.specs.Exponents.{Divides, exponents_of};
 ghost use Rattle.formal_sums.specs.FormalSums.{Each};
 ghost use Rattle.bases.specs.Leads.{head_key};
 ghost use Rattle.module_vectors.specs.Rings.{ring_comparison, variables};
-ghost use Rattle.module_vectors.specs.Vectors.{AreVectorsOver, HasVariables, sum_of};
+ghost use Rattle.module_vectors.specs.Vectors.{AreVectorsOver, IsMonomialOver, sum_of};
 ghost use Rattle.basis_steps.specs.Criteria.{IsPair};
 ghost use Rattle.basis_steps.specs.Divisions.{IsMonicMember};
 ghost use Rattle.basis_steps.specs.States.{vectors};
@@ -21,11 +21,12 @@ use std::alloc::Global;
 use vector_division::Quotient;
 
 // The monomial that takes the lead of a vector to the lcm, which it divides.
-fn factor_of(alloc: Global, lcm: &Key, v: &Vect) -> Result<Mono, NoMemory>
-    requires variables { Each (HasVariables (length lcm.now.monomial)) v.now }
+fn factor_of(alloc: Global, _ring: &Ring, lcm: &Key, v: &Vect) -> Result<Mono, NoMemory>
+    requires lcm { IsMonomialOver _ring.now lcm.now.monomial }
+    requires vector { Each (λ t. IsMonomialOver _ring.now t.0.monomial) v.now }
     requires some { 0 < length v.now }
-    requires divides { let n = length lcm.now.monomial in Divides (head_key (sum_of n v.now)).1 (exponents_of n lcm.now.monomial) }
-    ensures { IfOk result (IsFactorOf (length lcm.now.monomial) lcm.now v.now) }
+    requires divides { let n = variables _ring.now in Divides (head_key (sum_of n v.now)).1 (exponents_of n lcm.now.monomial.exponents) }
+    ensures { IfOk result (IsFactorOf (variables _ring.now) _ring.now.weights lcm.now v.now) }
 {
     match v.lead() {
         None => unreachable!(),
@@ -47,19 +48,20 @@ pub(crate) fn pair_parts(
     requires list { AreVectorsOver ring.now (ring_comparison ring.now) (vectors_in members.now.list) }
     requires monic { let n = variables ring.now in Each (IsMonicMember (setting_of n members.now.shared)) (vectors (members_of n members.now.list)) }
     requires real { IsPair (vectors (members_of (variables ring.now) members.now.list)) (pair_of pair.now) }
-    requires lcm { HasLcm (variables ring.now) members.now.list pair.now }
-    ensures { IfOk result (λ parts. ArePairParts (variables ring.now) ring.now.modulus.value (vectors_in members.now.list) pair.now parts.items) }
+    requires lcm { HasLcm (variables ring.now) ring.now.weights members.now.list pair.now }
+    ensures { IfOk result (λ parts. ArePairParts (variables ring.now) ring.now.weights ring.now.modulus.value
+        (vectors_in members.now.list) pair.now parts.items) }
 {
     let left = Quotient {
         index: pair.i,
         residue: 1,
-        monomial: factor_of(alloc, &pair.lcm, members.at(pair.i as usize))?,
+        monomial: factor_of(alloc, ring, &pair.lcm, members.at(pair.i as usize))?,
     };
     ring.modulus.domain();
     let right = Quotient {
         index: pair.j,
         residue: ring.modulus.neg(1),
-        monomial: factor_of(alloc, &pair.lcm, members.at(pair.j as usize))?,
+        monomial: factor_of(alloc, ring, &pair.lcm, members.at(pair.j as usize))?,
     };
     Ok(vec![in alloc; left, right]?)
 }

@@ -1,7 +1,5 @@
 // All pairs of a job.
-ghost use Rattle.std.specs.Prelude.{◌≡◌, ◌++◌, IfOk, IfErr, OnOk, map};
-ghost use Rattle.formal_sums.specs.FormalSums.{Each};
-ghost use Rattle.basis_core.specs.Members.{IsOver, tracked_of};
+ghost use Rattle.std.specs.Prelude.{◌≡◌, ◌++◌, IfOk, IfErr, OnOk};
 ghost use Rattle.basis_core.specs.Outcomes.{IsOutcomeOver};
 ghost use Rattle.s_vectors.specs.Solutions.{row_list};
 ghost use Rattle.s_vectors.specs.Trails.{JobStops};
@@ -10,7 +8,7 @@ use crate::division::{Division, divide_pair};
 use crate::stops::PairStop;
 use crate::trails::keep_trail;
 use basis_core::{Job, Outcome};
-use cofactor_track::Member;
+use member_products::Row;
 use module_vectors::{NoMemory, WorkStop};
 use monomial_orders::Mono;
 use std::alloc::Global;
@@ -18,7 +16,7 @@ use std::alloc::Global;
 // Rows of a job and the products that they are made of.
 #[derive(Drop)]
 struct Solution {
-    rows: Vec<Member>,
+    rows: Vec<Row>,
     products: Vec<(u64, Mono)>,
 }
 
@@ -37,8 +35,7 @@ fn add_division(solution: &mut Solution, division: Division) -> Result<(), NoMem
 
 // The rows of all pairs of the job, one pair after another.
 fn solve_pairs(alloc: Global, job: &Job) -> Result<Solution, WorkStop>
-    ensures over { IfOk result (λ s. Each (λ m. IsOver job.now.shared m) s.rows.items) }
-    ensures outcome { IfOk result (λ s. IsOutcomeOver (record { job = job.now; rows = map (λ m. tracked_of m) s.rows.items; products = s.products.items })) }
+    ensures outcome { IfOk result (λ s. IsOutcomeOver (record { job = job.now; rows = s.rows.items; products = s.products.items })) }
     ensures stop { IfErr result (JobStops job.now) }
 {
     job.kept();
@@ -59,9 +56,9 @@ fn solve_pairs(alloc: Global, job: &Job) -> Result<Solution, WorkStop>
 }
 
 /// Solves a job by plain division: the S-vector of each of its pairs is divided by its members, and what is left becomes
-/// a row, with its cofactors over the generators. IVA chapter 2, section 7.
+/// a row, with the products that make it. IVA chapter 2, section 7.
 ///
-/// `Degree` comes with a trail of the job to a product of total degree above 65,535, `Memory` where there is none; both
+/// `Degree` comes with a trail of the job to a product of degree above 65,535, `Memory` where there is none; both
 /// give the job back.
 pub fn solve(alloc: Global, job: Job) -> Result<Outcome, (WorkStop, Job)>
     ensures job { IfOk result (λ o. o.job ≡ job) }

@@ -9,7 +9,7 @@ use std::alloc::{AllocError, Global};
 use std::collections::VecDeque;
 use vector_division::Quotient;
 
-/// Products that come of a pair, and a monomial of the last one's member or cofactors that is too great for it.
+/// Products that come of a pair, and a monomial of the last one's member that is too great for it.
 #[derive(Drop)]
 pub(crate) struct Chain {
     pub(crate) steps: Vec<(u64, Mono)>,

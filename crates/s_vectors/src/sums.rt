@@ -15,7 +15,7 @@ use monomial_orders::Mono;
 use std::alloc::Global;
 use vector_division::Quotient;
 
-// The greatest total degree of a monomial.
+// The greatest degree of a monomial.
 const MAX_DEGREE: u128 = 65535;
 
 /// Why there is no such sum.
@@ -104,10 +104,11 @@ pub(crate) fn sum_of_parts<L: Vectors>(
     parts: &[Quotient],
     list: &L,
 ) -> Result<Vect, SumStop>
-    requires parts { Each (IsPart (variables ring.now) ring.now.modulus.value (length (L.listed list.now))) parts.now }
+    requires parts { Each (IsPart (variables ring.now) ring.now.weights ring.now.modulus.value (length (L.listed list.now))) parts.now }
     requires list { AreVectorsOver ring.now (ring_comparison ring.now) (L.listed list.now) }
     ensures vector { IfOk result (IsVectorOver ring.now (ring_comparison ring.now)) }
-    ensures sum { let n = variables ring.now in IfOk result (λ v. StandsFor ring.now v (combination (sums_of n (L.listed list.now)) (cofactors_of n parts.now))) }
+    ensures sum { let n = variables ring.now in
+        IfOk result (λ v. StandsFor ring.now v (combination (sums_of n (L.listed list.now)) (cofactors_of n parts.now))) }
     ensures stop { IfErr result (SumStops (L.listed list.now) parts.now) }
 {
     let products = products_of(alloc, parts, list)?;

@@ -2,11 +2,11 @@
 ghost use Rattle.std.specs.Prelude.{◌≡◌, ◌<◌, IfOk, length, get_or};
 ghost use Rattle.module_vectors.specs.Rings.{variables};
 ghost use Rattle.module_vectors.specs.Vectors.{key_of};
+ghost use Rattle.basis_core.specs.Jobs.{pairs_of};
+ghost use Rattle.basis_core.specs.Stops.{IsTrailBy};
 ghost use Rattle.pair_criteria.specs.declared.pair.Pair.{Pair as CodePair};
 ghost use Rattle.s_vectors.specs.Steps.{IsPairChain};
-ghost use Rattle.s_vectors.specs.Trails.{IsJobTrail};
 
-use crate::cofactors::Cofactors;
 use crate::stops::Chain;
 use basis_core::Job;
 use module_vectors::{KeptTrail, NoMemory, TrailStart, Vect, VectList};
@@ -20,8 +20,9 @@ pub(crate) fn keep_trail(
     chain: Chain,
 ) -> Result<KeptTrail, NoMemory>
     requires known { number < length job.now.pairs }
-    requires chain { let n = variables job.now.shared.ring in (x : CodePair) → x ≡ get_or job.now.pairs number x → IsPairChain n job.now.members (key_of n x.lcm) chain.steps.items chain.last }
-    ensures { IfOk result (IsJobTrail job.now) }
+    requires chain { let n = variables job.now.shared.ring in (x : CodePair) → x ≡ get_or job.now.pairs number x
+        → IsPairChain n job.now.shared.ring.weights job.now.members (key_of n x.lcm) chain.steps.items chain.last }
+    ensures { IfOk result (IsTrailBy job.now.shared job.now.members (pairs_of job.now.pairs)) }
 {
     job.kept();
     let pair = &job.pairs()[number];
@@ -36,7 +37,6 @@ pub(crate) fn keep_trail(
         start: TrailStart::Pair(pair.i, pair.j),
         vector: Vect::zero(alloc),
         members: VectList::copy_of(alloc, members)?,
-        cofs: Some(VectList::copy_of(alloc, &Cofactors { members })?),
         steps: chain.steps,
         last: chain.last,
     })

@@ -14,6 +14,7 @@ use Rattle.orders.proofs.RoomBelow.{room_falls}
 use Rattle.orders.specs.KeyOrders.{IsKeyOrder}
 use Rattle.bases.specs.Leads.{HasReducedResidues, head_coefficient, head_key}
 use Rattle.bases.specs.Settings.{IsLawful, Setting}
+use Rattle.monomial_orders.specs.Kept.{Monomial}
 use Rattle.module_vectors.proofs.NormalVectors.{residues_of}
 use Rattle.module_vectors.proofs.SumsOfProducts.{Each_member}
 use Rattle.module_vectors.proofs.Monomials.{monomial_at}
@@ -34,9 +35,9 @@ use Rattle.vector_division.proofs.Subtracting.{Terms, after, each_key, product_u
 pub bound_at :
     (n : ℕ) (v : Terms) (at : ℕ) (t : CodeKey × ℕ)
     → at < length v → t ≡ get_or v at t → t.0.position ≤ last_position
-    → IsWithin 65535 (exponents_of n t.0.monomial) → HasBoundedHead (drop at (sum_of n v))
+    → IsWithin 65535 (exponents_of n t.0.monomial.exponents) → HasBoundedHead (drop at (sum_of n v))
 bound_at n [] at t lt e position within = absurd (omega arith)
-bound_at n (w ∷ v) zero t lt e position within = subst (λ x. (x.0.position ≤ last_position) × IsWithin 65535 (exponents_of n x.0.monomial)) e (position, within)
+bound_at n (w ∷ v) zero t lt e position within = subst (λ x. (x.0.position ≤ last_position) × IsWithin 65535 (exponents_of n x.0.monomial.exponents)) e (position, within)
 bound_at n (w ∷ v) (suc at) t lt e position within = bound_at n v at t (omega arith) e position within
 
 pub residue_at :
@@ -48,14 +49,14 @@ residue_at n (w ∷ v) (suc at) t lt e = residue_at n v at t (omega arith) e
 
 -- ---- what one subtraction of the code is
 pub subtraction_is :
-    (n p : ℕ) (compare : Key n → Key n → Ordering) (t : List ℕ) (g : Terms) (at : ℕ) (old new : Terms)
+    (n : ℕ) (weights : List ℕ) (p : ℕ) (compare : Key n → Key n → Ordering) (t : Monomial) (g : Terms) (at : ℕ) (old new : Terms)
     (c negative q : ℕ) (x y : CodeKey × ℕ)
     → q ≡ p → IsFactor q x.1 y.1 c → at < length old → x ≡ get_or old at x → 0 < length g → y ≡ get_or g 0 y
-    → negative ≡ (q - c) % q → IsVector n p compare new
-    → IsSame p (sum_of n new) (sum_of n old ++ scale negative (exponents_of n t) (sum_of n g))
+    → negative ≡ (q - c) % q → IsVector n weights p compare new
+    → IsSame p (sum_of n new) (sum_of n old ++ scale negative (exponents_of n t.exponents) (sum_of n g))
     → (0 < negative → Fits t g) → HasBoundedHead (drop at (sum_of n new))
-    → IsSubtraction n p compare t g at old new c
-subtraction_is n p compare t g at old new c negative q x y eq factor lt ex some ey en vector sum fits bound =
+    → IsSubtraction n weights p compare t g at old new c
+subtraction_is n weights p compare t g at old new c negative q x y eq factor lt ex some ey en vector sum fits bound =
     let small : c < q = factor.reduced in
     let pos : 0 < c = factor.nonzero in
     let less : q - c < q = omega arith in
@@ -67,7 +68,7 @@ subtraction_is n p compare t g at old new c negative q x y eq factor lt ex some 
       product = subst (λ z. (c * head_coefficient (sum_of n g)) % z ≡ head_coefficient (drop at (sum_of n old))) eq
           (ap (λ z. (c * z) % q) (residue_at n g 0 y some ey) ∙ factor.product ∙ sym (residue_at n old at x lt ex));
       vector = vector;
-      sum = subst (λ z. IsSame p (sum_of n new) (sum_of n old ++ scale z (exponents_of n t) (sum_of n g))) is sum;
+      sum = subst (λ z. IsSame p (sum_of n new) (sum_of n old ++ scale z (exponents_of n t.exponents) (sum_of n g))) is sum;
       fits = fits more;
       bound = bound;
     }
@@ -96,9 +97,9 @@ met_later n v list earlier s k (inl h) = inl h
 met_later n v list earlier s k (inr (x, c, p)) = inr (x, Contains-append_left earlier (s ∷ []) x c, p)
 
 module _
-    (n p : ℕ) (compare : Key n → Key n → Ordering) (order : IsKeyOrder 0 compare) (domain : IsDomain p) (v : Terms) (list : List Terms) (qs : List Quotient) (old new : Terms) (at : ℕ) (s : Step) (c : ℕ)
-    (lists : Each (IsVector n p compare) list) (d : IsDivisor n list (head_key (drop at (sum_of n old))) s)
-    (h : IsSubtraction n p compare s.1 (get_or list s.0 []) at old new c) (pr : IsProgress n p compare v list qs old)
+    (n : ℕ) (weights : List ℕ) (p : ℕ) (compare : Key n → Key n → Ordering) (order : IsKeyOrder 0 compare) (domain : IsDomain p) (v : Terms) (list : List Terms) (qs : List Quotient) (old new : Terms) (at : ℕ) (s : Step) (c : ℕ)
+    (lists : Each (IsVector n weights p compare) list) (d : IsDivisor n weights list (head_key (drop at (sum_of n old))) s)
+    (h : IsSubtraction n weights p compare s.1 (get_or list s.0 []) at old new c) (pr : IsProgress n weights p compare v list qs old)
   where
     abbrev S : Setting n
     S = record { modulus = p; weights = []; rank = 0; compare = compare }
@@ -116,7 +117,7 @@ module _
     V = sum_of n v
 
     abbrev E : Exponents n
-    E = exponents_of n s.1
+    E = exponents_of n s.1.exponents
 
     abbrev quotient : Quotient
     quotient = record { index = s.0; residue = c; monomial = s.1 }
@@ -137,14 +138,14 @@ module _
       same : IsSame p B (A ++ scale (p - c) E (u ∷ g))
       same = subst (λ x. IsSame p B (A ++ scale (p - c) E (sum_of n x))) member h.sum
 
-      divisor : IsVector n p compare (w ∷ ws)
-      divisor = subst (IsVector n p compare) member (Each_member (IsVector n p compare) list s.0 [] lists d.index)
+      divisor : IsVector n weights p compare (w ∷ ws)
+      divisor = subst (IsVector n weights p compare) member (Each_member (IsVector n weights p compare) list s.0 [] lists d.index)
 
       rA : HasReducedResidues S A
-      rA = residues_of n p old pr.vector.each
+      rA = residues_of n weights p old pr.vector.each
 
       rB : HasReducedResidues S B
-      rB = residues_of n p new h.vector.each
+      rB = residues_of n weights p new h.vector.each
 
       lead_is : product_lead n list s ≡ t.0
       lead_is = d.lead ∙ ap head_key here
@@ -165,7 +166,7 @@ module _
 
       more : combination (sums_of n list) (cofactors_of n (qs ++ quotient ∷ [])) ≡ combination (sums_of n list) (cofactors_of n qs) ++ scale c E (u ∷ g)
       more =
-          ap (combination (sums_of n list)) (map-append (λ q. ((q.index, exponents_of n q.monomial), q.residue)) qs (quotient ∷ []))
+          ap (combination (sums_of n list)) (map-append (λ q. ((q.index, exponents_of n q.monomial.exponents), q.residue)) qs (quotient ∷ []))
           ∙ combination-append (sums_of n list) (cofactors_of n qs) (cofactors_of n (quotient ∷ []))
           ∙ ap (λ z. combination (sums_of n list) (cofactors_of n qs) ++ z) one
 
@@ -175,9 +176,9 @@ module _
           let taken : IsSame p A (scale c E (u ∷ g) ++ B) = with_taken S lawful A B at t r u g E c pr.vector.descends h.vector.descends rA rB divisor.descends here lead h.reduced product same A (IsSame_refl p A) in
           IsSame_trans pr.sum (IsSame_trans (IsSame_append (IsSame_refl p combined) taken) (IsSame_of p _ _ (sym (append_assoc combined (scale c E (u ∷ g)) B) ∙ ap (λ z. z ++ B) (sym more))))
 
-      pub progress_by : IsProgress n p compare v list (qs ++ quotient ∷ []) new
+      pub progress_by : IsProgress n weights p compare v list (qs ++ quotient ∷ []) new
       progress_by = record {
-        quotients = Each_append (IsQuotient n p list) qs (quotient ∷ []) pr.quotients (record { index = d.index; variables = d.variables; nonzero = h.nonzero; reduced = h.reduced; fits = h.fits }, tt);
+        quotients = Each_append (IsQuotient n weights p list) qs (quotient ∷ []) pr.quotients (record { index = d.index; variables = d.variables; nonzero = h.nonzero; reduced = h.reduced; fits = h.fits }, tt);
         met = met_push n V list [] qs quotient pr.met (subst (IsMet n V list (map step_of qs)) (sym lead_is) met_here);
         bounded = Each_append (λ q. compare (product_lead n list (step_of q)) (head_key V) ≡ Greater → ⊥) qs (quotient ∷ []) pr.bounded (subst (λ k. compare k (head_key V) ≡ Greater → ⊥) (sym lead_is) up_to_here, tt);
         sum = whole;
@@ -198,13 +199,13 @@ module _
             falls = subst (λ z. room_of compare (drop at B) < room_of compare z) (sym here) (less_room compare order t r (drop at B) h.bound a.2);
           }
 
-    pub advanced : at < length old → IsProgress n p compare v list (qs ++ quotient ∷ []) new × IsBelow n compare old new at
+    pub advanced : at < length old → IsProgress n weights p compare v list (qs ++ quotient ∷ []) new × IsBelow n compare old new at
     advanced lt = go (drop at A) refl (get_or list s.0 []) refl
       where
         go :
             (x : FormalSum n)
             → drop at A ≡ x → (m : Terms) → get_or list s.0 [] ≡ m
-            → IsProgress n p compare v list (qs ++ quotient ∷ []) new × IsBelow n compare old new at
+            → IsProgress n weights p compare v list (qs ++ quotient ∷ []) new × IsBelow n compare old new at
         go [] e m f =
             let some : length (drop at A) ≡ length old - at = length-drop at A ∙ ap (λ z. z - at) (length-map old (λ x. (key_of n x.0, x.1))) in
             let none : length (drop at A) ≡ 0 = ap length e in
@@ -223,12 +224,12 @@ head_from P zero (t ∷ v) lt h = h.0
 head_from P (suc at) (t ∷ v) lt h = head_from P at v (omega arith) h.1
 
 pub failing_step :
-    (n p : ℕ) (compare : Key n → Key n → Ordering) (v : Terms) (list : List Terms) (qs : List Quotient) (old : Terms)
-    (at : ℕ) (s : Step) (g : Terms) (stop : VectStop) (a last : List ℕ)
-    → at < length old → Each (IsVector n p compare) list
-    → IsDivisor n list (head_key (drop at (sum_of n old))) s → IsProgress n p compare v list qs old
-    → g ≡ get_or list s.0 [] → stop ≡ Degree a last → SubtractionStops s.1 g stop → IsFailingStep n v list qs s last
-failing_step n p compare v list qs old at s g stop a last lt lists d pr eg es h =
+    (n : ℕ) (weights : List ℕ) (p : ℕ) (compare : Key n → Key n → Ordering) (v : Terms) (list : List Terms) (qs : List Quotient) (old : Terms)
+    (at : ℕ) (s : Step) (g : Terms) (stop : VectStop) (a last : Monomial)
+    → at < length old → Each (IsVector n weights p compare) list
+    → IsDivisor n weights list (head_key (drop at (sum_of n old))) s → IsProgress n weights p compare v list qs old
+    → g ≡ get_or list s.0 [] → stop ≡ Degree a last → SubtractionStops s.1 g stop → IsFailingStep n weights v list qs s last
+failing_step n weights p compare v list qs old at s g stop a last lt lists d pr eg es h =
     let e : SubtractionStops s.1 (get_or list s.0 []) (Degree a last) = subst₂ (SubtractionStops s.1) eg es h in
     record {
       index = d.index;
@@ -236,6 +237,6 @@ failing_step n p compare v list qs old at s g stop a last lt lists d pr eg es h 
       met = subst (IsMet n (sum_of n v) list (map step_of qs)) (sym d.lead)
           (head_from (IsMet n (sum_of n v) list (map step_of qs)) at (sum_of n old) (subst (λ z. at < z) (sym (length-map old (λ x. (key_of n x.0, x.1)))) lt) pr.keys);
       monomial = e.1;
-      last_variables = monomial_at n p compare list s.0 last lists e.1;
+      last_variables = monomial_at n weights p compare list s.0 last lists e.1;
       too_great = subst (λ z. IsTooGreat z last) e.0 e.2;
     }

@@ -19,6 +19,7 @@ use Rattle.module_vectors.proofs.Descending.{over_join}
 use Rattle.module_vectors.proofs.NormalVectors.{residues_of}
 use Rattle.module_vectors.proofs.SumsOfProducts.{Each_member}
 use Rattle.module_vectors.proofs.Monomials.{monomial_at}
+use Rattle.monomial_orders.specs.Kept.{IsWeighed, Monomial}
 use Rattle.module_vectors.specs.Stops.{IsTooGreat}
 use Rattle.module_vectors.specs.Trails.{HasKey, IsMet, Step, product_lead}
 use Rattle.module_vectors.specs.Vectors.{IsVector, key_of, sum_of, sums_of}
@@ -48,10 +49,10 @@ not_in_total n compare order k runs below h =
     not_itself order k (less_of_greater order k k g)
 
 module _
-    (n p : ℕ) (compare : Key n → Key n → Ordering) (order : IsKeyOrder 0 compare) (domain : IsDomain p) (v : Terms) (list : List Terms)
-    (qs : List Quotient) (k : CodeKey) (r : ℕ) (old : List Terms) (variables : length k.monomial ≡ n) (pos : 0 < r) (lt : r < p)
+    (n : ℕ) (weights : List ℕ) (p : ℕ) (compare : Key n → Key n → Ordering) (order : IsKeyOrder 0 compare) (domain : IsDomain p) (v : Terms) (list : List Terms)
+    (qs : List Quotient) (k : CodeKey) (r : ℕ) (old : List Terms) (variables : IsWeighed n weights k.monomial) (pos : 0 < r) (lt : r < p)
     (below : AreBelow n compare (key_of n k) old)
-    (pr : IsUnderway n p compare v list qs ((key_of n k, r) ∷ total n old))
+    (pr : IsUnderway n weights p compare v list qs ((key_of n k, r) ∷ total n old))
   where
     abbrev S : Setting n
     S = record { modulus = p; weights = []; rank = 0; compare = compare }
@@ -91,9 +92,9 @@ module _
 
     -- ---- the step that cannot be made
     pub failing_product :
-        (s : Step) (g : Terms) (stop : VectStop) (a last : List ℕ)
-        → Each (IsVector n p compare) list → IsDivisor n list K s → g ≡ get_or list s.0 [] → stop ≡ Degree a last
-        → SubtractionStops s.1 g stop → IsFailingStep n v list qs s last
+        (s : Step) (g : Terms) (stop : VectStop) (a last : Monomial)
+        → Each (IsVector n weights p compare) list → IsDivisor n weights list K s → g ≡ get_or list s.0 [] → stop ≡ Degree a last
+        → SubtractionStops s.1 g stop → IsFailingStep n weights v list qs s last
     failing_product s g stop a last lists d eg es h =
         let e : SubtractionStops s.1 (get_or list s.0 []) (Degree a last) = subst₂ (SubtractionStops s.1) eg es h in
         record {
@@ -101,17 +102,17 @@ module _
           variables = d.variables;
           met = subst (IsMet n V list (map step_of qs)) (sym d.lead) met_here;
           monomial = e.1;
-          last_variables = monomial_at n p compare list s.0 last lists e.1;
+          last_variables = monomial_at n weights p compare list s.0 last lists e.1;
           too_great = subst (λ z. IsTooGreat z last) e.0 e.2;
         }
 
     module _
-        (new : List Terms) (B : Terms) (s : Step) (c : ℕ) (lists : Each (IsVector n p compare) list) (d : IsDivisor n list K s)
-        (h : IsSubtraction n p compare s.1 (get_or list s.0 []) 0 ((k, r) ∷ []) B c)
+        (new : List Terms) (B : Terms) (s : Step) (c : ℕ) (lists : Each (IsVector n weights p compare) list) (d : IsDivisor n weights list K s)
+        (h : IsSubtraction n weights p compare s.1 (get_or list s.0 []) 0 ((k, r) ∷ []) B c)
         (added : IsSame p (total n new) (total n old ++ sum_of n B))
       where
         abbrev E : Exponents n
-        E = exponents_of n s.1
+        E = exponents_of n s.1.exponents
 
         abbrev A : FormalSum n
         A = (K, r) ∷ []
@@ -135,17 +136,17 @@ module _
           same : IsSame p (sum_of n B) (A ++ scale (p - c) E (u ∷ g))
           same = subst (λ x. IsSame p (sum_of n B) (A ++ scale (p - c) E (sum_of n x))) member h.sum
 
-          divisor : IsVector n p compare (w ∷ ws)
-          divisor = subst (IsVector n p compare) member (Each_member (IsVector n p compare) list s.0 [] lists d.index)
+          divisor : IsVector n weights p compare (w ∷ ws)
+          divisor = subst (IsVector n weights p compare) member (Each_member (IsVector n weights p compare) list s.0 [] lists d.index)
 
           dA : Descends compare A
           dA = (tt, tt)
 
           rA : HasReducedResidues S A
-          rA = residues_of n p ((k, r) ∷ []) (record { variables = variables; nonzero = pos; reduced = lt }, tt)
+          rA = residues_of n weights p ((k, r) ∷ []) (record { weighed = variables; nonzero = pos; reduced = lt }, tt)
 
           rB : HasReducedResidues S (sum_of n B)
-          rB = residues_of n p B h.vector.each
+          rB = residues_of n weights p B h.vector.each
 
           pub product_below : IsOver compare K (sum_of n B)
           product_below = (after S lawful A (sum_of n B) 0 (K, r) [] u g E c dA h.vector.descends rA rB divisor.descends refl lead h.reduced product same).2
@@ -179,13 +180,13 @@ module _
 
           more : combination (sums_of n list) (cofactors_of n (qs ++ quotient ∷ [])) ≡ combination (sums_of n list) (cofactors_of n qs) ++ scale c E (u ∷ g)
           more =
-              ap (combination (sums_of n list)) (map-append (λ q. ((q.index, exponents_of n q.monomial), q.residue)) qs (quotient ∷ []))
+              ap (combination (sums_of n list)) (map-append (λ q. ((q.index, exponents_of n q.monomial.exponents), q.residue)) qs (quotient ∷ []))
               ∙ combination-append (sums_of n list) (cofactors_of n qs) (cofactors_of n (quotient ∷ []))
               ∙ ap (λ z. combination (sums_of n list) (cofactors_of n qs) ++ z) (append-nil _ ∙ ap (scale c E) (sums_at n list s.0 ∙ ap (sum_of n) member))
 
-          pub underway_by : IsUnderway n p compare v list (qs ++ quotient ∷ []) (total n new)
+          pub underway_by : IsUnderway n weights p compare v list (qs ++ quotient ∷ []) (total n new)
           underway_by = record {
-            quotients = Each_append (IsQuotient n p list) qs (quotient ∷ []) pr.quotients (record { index = d.index; variables = d.variables; nonzero = h.nonzero; reduced = h.reduced; fits = h.fits }, tt);
+            quotients = Each_append (IsQuotient n weights p list) qs (quotient ∷ []) pr.quotients (record { index = d.index; variables = d.variables; nonzero = h.nonzero; reduced = h.reduced; fits = h.fits }, tt);
             met = met_push n V list [] qs quotient pr.met (subst (IsMet n V list (map step_of qs)) (sym lead_is) met_here);
             bounded = Each_append (λ q. compare (product_lead n list (step_of q)) (head_key V) ≡ Greater → ⊥) qs (quotient ∷ []) pr.bounded (subst (λ l. compare l (head_key V) ≡ Greater → ⊥) (sym lead_is) up_to_here, tt);
             keys = subst (λ x. (l : Key n) → (IsCongruent p (coefficient (total n new) l) 0 → ⊥) → IsMet n V list x l) (sym (map-append step_of qs (quotient ∷ [])))
@@ -202,13 +203,13 @@ module _
               (IsSame_of p _ _ (sym (append_assoc combined (scale c E (u ∷ g)) (x ++ total n new)) ∙ ap (λ z. z ++ (x ++ total n new)) (sym more))))
 
         pub carried :
-            IsOver compare K (sum_of n B) × IsUnderway n p compare v list (qs ++ quotient ∷ []) (total n new)
+            IsOver compare K (sum_of n B) × IsUnderway n weights p compare v list (qs ++ quotient ∷ []) (total n new)
             × ((x : FormalSum n) → StandsWith n p v list qs x ((K, r) ∷ R) → StandsWith n p v list (qs ++ quotient ∷ []) x (total n new))
         carried = go (get_or list s.0 []) refl
           where
             go :
                 (m : Terms) → get_or list s.0 [] ≡ m
-                → IsOver compare K (sum_of n B) × IsUnderway n p compare v list (qs ++ quotient ∷ []) (total n new)
+                → IsOver compare K (sum_of n B) × IsUnderway n weights p compare v list (qs ++ quotient ∷ []) (total n new)
                 × ((x : FormalSum n) → StandsWith n p v list qs x ((K, r) ∷ R) → StandsWith n p v list (qs ++ quotient ∷ []) x (total n new))
             go [] f =
                 let none : length (get_or list s.0 []) ≡ 0 = ap length f in

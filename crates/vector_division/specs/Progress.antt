@@ -8,6 +8,7 @@ use Rattle.formal_sums.specs.FormalSums.{Each, FormalSum, IsSame, Key, scale, sh
 use Rattle.orders.specs.KeyOrders.{KeyDivides}
 use Rattle.orders.specs.Room.{room}
 use Rattle.bases.specs.Leads.{head_coefficient, head_key}
+use Rattle.monomial_orders.specs.Kept.{IsWeighed, Monomial}
 use Rattle.module_vectors.specs.Stops.{Fits, HasMonomial, IsTooGreat}
 use Rattle.module_vectors.specs.Trails.{IsMet, Step, product_lead}
 use Rattle.module_vectors.specs.Vectors.{HasVariables, IsVector, sum_of, sums_of}
@@ -22,26 +23,30 @@ use Rattle.vector_division.specs.declared.reduction.Quotient.{Quotient}
 abbrev pub HaveVariables : ℕ → List (List (CodeKey × ℕ)) → Type 0
 HaveVariables n list = Each (λ v. Each (HasVariables n) v) list
 
+-- the monomials of the list are in n variables of these weights
+abbrev pub AreWeighed : ℕ → List ℕ → List (List (CodeKey × ℕ)) → Type 0
+AreWeighed n weights list = Each (λ v. Each (λ t. IsWeighed n weights t.0.monomial) v) list
+
 -- t times the lead of v, which is not zero, is k; or the lead does not divide k
-abbrev pub IsTried : (n : ℕ) → List (CodeKey × ℕ) → Key n → Option (List ℕ) → Type 0
-IsTried n v k None = 0 < length v → KeyDivides (head_key (sum_of n v)) k → ⊥
-IsTried n v k (Some t) = (0 < length v) × (length t ≡ n) × (shift (exponents_of n t) (head_key (sum_of n v)) ≡ k)
+abbrev pub IsTried : (n : ℕ) → List ℕ → List (CodeKey × ℕ) → Key n → Option Monomial → Type 0
+IsTried n weights v k None = 0 < length v → KeyDivides (head_key (sum_of n v)) k → ⊥
+IsTried n weights v k (Some t) = (0 < length v) × IsWeighed n weights t × (shift (exponents_of n t.exponents) (head_key (sum_of n v)) ≡ k)
 
 -- none of the first i vectors that are not zero has a lead that divides k
 abbrev pub AreTried : (n : ℕ) → List (List (CodeKey × ℕ)) → Key n → ℕ → Type 0
-AreTried n list k i = (j : ℕ) → j < i → IsTried n (get_or list j []) k None
+AreTried n list k i = (j : ℕ) → j < i → 0 < length (get_or list j []) → KeyDivides (head_key (sum_of n (get_or list j []))) k → ⊥
 
 -- a step whose product has the lead k
-pub record IsDivisor (n : ℕ) (list : List (List (CodeKey × ℕ))) (k : Key n) (s : Step) : Type 0 where
+pub record IsDivisor (n : ℕ) (weights : List ℕ) (list : List (List (CodeKey × ℕ))) (k : Key n) (s : Step) : Type 0 where
   pub index : s.0 < length list
   pub some : 0 < length (get_or list s.0 [])
-  pub variables : length s.1 ≡ n
+  pub variables : IsWeighed n weights s.1
   pub lead : product_lead n list s ≡ k
 
 -- such a step, or none where no lead of the list divides k
-abbrev pub IsFound : (n : ℕ) → List (List (CodeKey × ℕ)) → Key n → Option Step → Type 0
-IsFound n list k None = IsUncovered (sums_of n list) k
-IsFound n list k (Some s) = IsDivisor n list k s
+abbrev pub IsFound : (n : ℕ) → List ℕ → List (List (CodeKey × ℕ)) → Key n → Option Step → Type 0
+IsFound n weights list k None = IsUncovered (sums_of n list) k
+IsFound n weights list k (Some s) = IsDivisor n weights list k s
 
 -- c is the residue a / b
 pub record IsFactor (p a b c : ℕ) : Type 0 where
@@ -50,18 +55,19 @@ pub record IsFactor (p a b c : ℕ) : Type 0 where
   pub product : (c * b) % p ≡ a
 
 -- what was taken away and what is left of v stand for v; each key of what is left is met, and none is above v's first
-pub record IsProgress (n p : ℕ) (compare : Key n → Key n → Ordering) (v : List (CodeKey × ℕ)) (list : List (List (CodeKey × ℕ))) (qs : List Quotient) (work : List (CodeKey × ℕ)) : Type 0 where
-  pub quotients : Each (IsQuotient n p list) qs
+pub record IsProgress (n : ℕ) (weights : List ℕ) (p : ℕ) (compare : Key n → Key n → Ordering) (v : List (CodeKey × ℕ))
+    (list : List (List (CodeKey × ℕ))) (qs : List Quotient) (work : List (CodeKey × ℕ)) : Type 0 where
+  pub quotients : Each (IsQuotient n weights p list) qs
   pub met : AreMetFrom n (sum_of n v) list [] qs
   pub bounded : HaveLeadsUpTo n compare list (head_key (sum_of n v)) qs
   pub sum : IsSame p (sum_of n v) (combination (sums_of n list) (cofactors_of n qs) ++ sum_of n work)
-  pub vector : IsVector n p compare work
+  pub vector : IsVector n weights p compare work
   pub keys : Each (λ t. IsMet n (sum_of n v) list (map step_of qs) t.0) (sum_of n work)
   pub up_to : Each (λ t. compare t.0 (head_key (sum_of n v)) ≡ Greater → ⊥) (sum_of n work)
 
 -- the greatest position that a key can have
 abbrev pub last_position : ℕ
-last_position = 340282366920938463463374607431768211455
+last_position = 18446744073709551615
 
 -- the first key has a position and exponents that the code can hold
 abbrev pub HasBoundedHead : {n : ℕ} → FormalSum n → Type 0
@@ -83,30 +89,32 @@ pub record IsBelow (n : ℕ) (compare : Key n → Key n → Ordering) (old new :
 abbrev pub AreKnown : ℕ → List Quotient → Type 0
 AreKnown count qs = Each (λ q. q.index < count) qs
 
--- the quotients' monomials have n variables
-abbrev pub HaveLengths : ℕ → List Quotient → Type 0
-HaveLengths n qs = Each (λ q. length q.monomial ≡ n) qs
+-- the quotients' monomials are in n variables of these weights
+abbrev pub HaveLengths : ℕ → List ℕ → List Quotient → Type 0
+HaveLengths n weights qs = Each (λ q. IsWeighed n weights q.monomial) qs
 
 -- a step of n variables that is met by v or by the quotients' products, and too great for a monomial of its vector
-pub record IsFailingStep (n : ℕ) (v : List (CodeKey × ℕ)) (list : List (List (CodeKey × ℕ))) (qs : List Quotient) (s : Step) (last : List ℕ) : Type 0 where
+pub record IsFailingStep (n : ℕ) (weights : List ℕ) (v : List (CodeKey × ℕ)) (list : List (List (CodeKey × ℕ))) (qs : List Quotient) (s : Step)
+    (last : Monomial) : Type 0 where
   pub index : s.0 < length list
-  pub variables : length s.1 ≡ n
+  pub variables : IsWeighed n weights s.1
   pub met : IsMet n (sum_of n v) list (map step_of qs) (product_lead n list s)
   pub monomial : HasMonomial (get_or list s.0 []) last
-  pub last_variables : length last ≡ n
+  pub last_variables : IsWeighed n weights last
   pub too_great : IsTooGreat s.1 last
 
 -- c t g is taken away: the term of `old` at this index has the residue c times that of the lead of g
-pub record IsSubtraction (n p : ℕ) (compare : Key n → Key n → Ordering) (t : List ℕ) (g : List (CodeKey × ℕ)) (at : ℕ) (old new : List (CodeKey × ℕ)) (c : ℕ) : Type 0 where
+pub record IsSubtraction (n : ℕ) (weights : List ℕ) (p : ℕ) (compare : Key n → Key n → Ordering) (t : Monomial) (g : List (CodeKey × ℕ)) (at : ℕ)
+    (old new : List (CodeKey × ℕ)) (c : ℕ) : Type 0 where
   pub nonzero : 0 < c
   pub reduced : c < p
   pub product : (c * head_coefficient (sum_of n g)) % p ≡ head_coefficient (drop at (sum_of n old))
-  pub vector : IsVector n p compare new
-  pub sum : IsSame p (sum_of n new) (sum_of n old ++ scale (p - c) (exponents_of n t) (sum_of n g))
+  pub vector : IsVector n weights p compare new
+  pub sum : IsSame p (sum_of n new) (sum_of n old ++ scale (p - c) (exponents_of n t.exponents) (sum_of n g))
   pub fits : Fits t g
   pub bound : HasBoundedHead (drop at (sum_of n new))
 
 -- Degree comes where t times a monomial of g has too great a degree, and carries the two
-abbrev pub SubtractionStops : List ℕ → List (CodeKey × ℕ) → VectStop → Type 0
+abbrev pub SubtractionStops : Monomial → List (CodeKey × ℕ) → VectStop → Type 0
 SubtractionStops t g Memory = ⊤
 SubtractionStops t g (Degree a b) = (a ≡ t) × HasMonomial g b × IsTooGreat a b

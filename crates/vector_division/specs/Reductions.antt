@@ -4,6 +4,7 @@ use Rattle.std.specs.declared.cmp.Ordering.{Ordering}
 use Rattle.std.specs.declared.cmp.Ordering.TheVariants.{Greater}
 use Rattle.monomials.specs.Exponents.{exponents_of}
 use Rattle.formal_sums.specs.FormalSums.{Each, FormalSum, Key}
+use Rattle.monomial_orders.specs.Kept.{IsWeighed}
 use Rattle.module_vectors.specs.Stops.{Fits}
 use Rattle.module_vectors.specs.Trails.{IsMet, Step, product_lead}
 use Rattle.module_vectors.specs.declared.key.Key.{Key as CodeKey}
@@ -19,12 +20,12 @@ term_of q = (record { position = q.index; monomial = q.monomial }, q.residue)
 
 -- the quotients as cofactors of the list: position i for vector i
 abbrev pub cofactors_of : (n : ℕ) → List Quotient → FormalSum n
-cofactors_of n qs = map (λ q. ((q.index, exponents_of n q.monomial), q.residue)) qs
+cofactors_of n qs = map (λ q. ((q.index, exponents_of n q.monomial.exponents), q.residue)) qs
 
--- a term of a quotient: of a vector of the list, with n variables, a residue that is not 0, and a product that fits
-pub record IsQuotient (n p : ℕ) (list : List (List (CodeKey × ℕ))) (q : Quotient) : Type 0 where
+-- a term of a quotient: of a vector of the list, with n variables of these weights, a residue that is not 0, and a product that fits
+pub record IsQuotient (n : ℕ) (weights : List ℕ) (p : ℕ) (list : List (List (CodeKey × ℕ))) (q : Quotient) : Type 0 where
   pub index : q.index < length list
-  pub variables : length q.monomial ≡ n
+  pub variables : IsWeighed n weights q.monomial
   pub nonzero : 0 < q.residue
   pub reduced : q.residue < p
   pub fits : Fits q.monomial (get_or list q.index [])

@@ -36,7 +36,7 @@ pub struct Reduction {
 /// Takes products of the list's vectors away from `v` until no key of it is divisible by a lead of the list. No clause
 /// says which of the divisors is taken. IVA chapter 2, section 3.
 ///
-/// `Degree` comes with a trail to a product of total degree above 65,535, `Memory` where a growth was refused; both leave
+/// `Degree` comes with a trail to a product of degree above 65,535, `Memory` where a growth was refused; both leave
 /// every argument as it was.
 pub fn reduce<F: Frame, L: Vectors>(
     alloc: Global,
@@ -46,10 +46,14 @@ pub fn reduce<F: Frame, L: Vectors>(
 ) -> Result<Reduction, WorkStop>
     requires vector { IsVectorOver (F.over frame.now) (F.compare frame.now) v.now }
     requires list { AreVectorsOver (F.over frame.now) (F.compare frame.now) (L.listed list.now) }
-    ensures quotients { IfOk result (λ r. Each (IsQuotient (variables (F.over frame.now)) (F.over frame.now).modulus.value (L.listed list.now)) r.quotients.items) }
+    ensures quotients { IfOk result (λ r. Each (IsQuotient (variables (F.over frame.now)) (F.over frame.now).weights (F.over frame.now).modulus.value
+        (L.listed list.now)) r.quotients.items) }
     ensures met { let n = variables (F.over frame.now) in IfOk result (λ r. AreMetFrom n (sum_of n v.now) (L.listed list.now) [] r.quotients.items) }
-    ensures bounded { let n = variables (F.over frame.now) in IfOk result (λ r. HaveLeadsUpTo n (F.compare frame.now n) (L.listed list.now) (head_key (sum_of n v.now)) r.quotients.items) }
-    ensures sum { let n = variables (F.over frame.now) in IfOk result (λ r. StandsFor (F.over frame.now) v.now (combination (sums_of n (L.listed list.now)) (cofactors_of n r.quotients.items) ++ sum_of n r.rest)) }
+    ensures bounded { let n = variables (F.over frame.now) in
+        IfOk result (λ r. HaveLeadsUpTo n (F.compare frame.now n) (L.listed list.now) (head_key (sum_of n v.now)) r.quotients.items) }
+    ensures sum { let n = variables (F.over frame.now) in
+        IfOk result (λ r. StandsFor (F.over frame.now) v.now
+        (combination (sums_of n (L.listed list.now)) (cofactors_of n r.quotients.items) ++ sum_of n r.rest)) }
     ensures rest { IfOk result (λ r. IsVectorOver (F.over frame.now) (F.compare frame.now) r.rest) }
     ensures reduced { let n = variables (F.over frame.now) in IfOk result (λ r. IsFreeOfLeads (sums_of n (L.listed list.now)) (sum_of n r.rest)) }
     ensures stop { IfErr result (DivisionStops (F.over frame.now) v.now (L.listed list.now)) }
@@ -96,10 +100,14 @@ pub fn reduce_lead<F: Frame, L: Vectors>(
 ) -> Result<Reduction, WorkStop>
     requires vector { IsVectorOver (F.over frame.now) (F.compare frame.now) v.now }
     requires list { AreVectorsOver (F.over frame.now) (F.compare frame.now) (L.listed list.now) }
-    ensures quotients { IfOk result (λ r. Each (IsQuotient (variables (F.over frame.now)) (F.over frame.now).modulus.value (L.listed list.now)) r.quotients.items) }
+    ensures quotients { IfOk result (λ r. Each (IsQuotient (variables (F.over frame.now)) (F.over frame.now).weights (F.over frame.now).modulus.value
+        (L.listed list.now)) r.quotients.items) }
     ensures met { let n = variables (F.over frame.now) in IfOk result (λ r. AreMetFrom n (sum_of n v.now) (L.listed list.now) [] r.quotients.items) }
-    ensures bounded { let n = variables (F.over frame.now) in IfOk result (λ r. HaveLeadsUpTo n (F.compare frame.now n) (L.listed list.now) (head_key (sum_of n v.now)) r.quotients.items) }
-    ensures sum { let n = variables (F.over frame.now) in IfOk result (λ r. StandsFor (F.over frame.now) v.now (combination (sums_of n (L.listed list.now)) (cofactors_of n r.quotients.items) ++ sum_of n r.rest)) }
+    ensures bounded { let n = variables (F.over frame.now) in
+        IfOk result (λ r. HaveLeadsUpTo n (F.compare frame.now n) (L.listed list.now) (head_key (sum_of n v.now)) r.quotients.items) }
+    ensures sum { let n = variables (F.over frame.now) in
+        IfOk result (λ r. StandsFor (F.over frame.now) v.now
+        (combination (sums_of n (L.listed list.now)) (cofactors_of n r.quotients.items) ++ sum_of n r.rest)) }
     ensures rest { IfOk result (λ r. IsVectorOver (F.over frame.now) (F.compare frame.now) r.rest) }
     ensures reduced { let n = variables (F.over frame.now) in IfOk result (λ r. HasReducedLead (sums_of n (L.listed list.now)) (sum_of n r.rest)) }
     ensures stop { IfErr result (DivisionStops (F.over frame.now) v.now (L.listed list.now)) }
@@ -114,7 +122,7 @@ pub fn reduce_lead<F: Frame, L: Vectors>(
                 rest: work,
             });
         }
-        match find_divisor(alloc, &work.terms()[0].0, list, &marks)? {
+        match find_divisor(alloc, frame, &work.terms()[0].0, list, &marks)? {
             None => {
                 return Ok(Reduction {
                     quotients,

@@ -1,5 +1,5 @@
 use Rattle.std.proofs.Common.{Bool, [], IsTrue, arith, false, refl, subst, sym, ◌∷◌, ◌≡◌}
-use Rattle.basis_steps.specs.Steps.{HasStopped}
+use Rattle.basis_steps.specs.Histories.{HasStopped}
 use Rattle.basis_core.specs.Views.{history_of}
 use Rattle.basis_core.proofs.Asked.{not_stopped_more, stopped_at}
 use Rattle.basis_core.proofs.asking.has_stopped.Goals as goal
@@ -14,7 +14,8 @@ returns-then-is_stop c n ms kept = (
 pub loop-event-preserved : goal.loop-event-preserved
 loop-event-preserved c n ms kept =
     not_stopped_more n ms kept c.args.worker c.args.history.now c.loop-event.event-index c.event-item.result (omega arith) (c.loop-event.invariant n ms kept)
-    (λ h. never c.is_stop.result c.if-is_stop.false ((c.is_stop.ensures n ms kept).1 (subst (λ e. HasStopped c.args.worker (history_of n ms kept (e ∷ []))) (sym c.event-item.is) h)))
+    (λ h. never c.is_stop.result c.if-is_stop.false
+    ((c.is_stop.ensures n ms kept).1 (subst (λ e. HasStopped c.args.worker (history_of n ms kept (e ∷ []))) (sym c.event-item.is) h)))
   where
     never : (b : Bool) → b ≡ false → IsTrue b → ⊥
     never b f t = absurd cc

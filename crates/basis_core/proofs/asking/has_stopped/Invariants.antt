@@ -1,5 +1,5 @@
 use Rattle.std.proofs.Common.{List, Option, take, ℕ}
-use Rattle.basis_steps.specs.Steps.{HasStopped}
+use Rattle.basis_steps.specs.Histories.{HasStopped}
 use Rattle.basis_core.specs.declared.stop.StopReason.{StopReason}
 use Rattle.basis_core.specs.Members.{Tracked}
 use Rattle.basis_core.specs.Views.{history_of}

@@ -1,4 +1,4 @@
-use Rattle.std.proofs.Common.{Some, ap, refl, ◌∙◌, ◌≡◌}
+use Rattle.std.proofs.Common.{ap, refl, ◌∙◌, ◌≡◌}
 use Rattle.basis_core.specs.Members.{Shared, shared_of}
 use Rattle.basis_core.proofs.copies.trail_over.Goals as goal
 
@@ -12,8 +12,7 @@ returns c =
       below = c.new.ensures.items;
       start_is = refl;
       vector_is = refl;
-      members = c.in_ok-vectors.ensures.vectors;
-      cofactors = ap Some c.in_ok-vectors.ensures.cofactors;
+      members = c.in_ok-vectors.ensures;
       steps_are = refl;
       last_is = refl;
     }

@@ -12,7 +12,10 @@ returns-then-is_in_product-clause-met c =
     let n : ℕ = variables c.args.members.now.shared.ring in
     let vs : List (List (CodeKey × ℕ)) = vectors_in c.args.members.now.list in
     subst (λ (z : Step × Step). IsInProduct n vs (product_lead n vs z.0) z.1)
-    (λ i. (step_is c.args.all.now c.args.at c.index-all-at.result c.requires.within c.index-all-at.is i, step_is c.args.all.now c.loop-j.j c.index-all-j.result (omega (arith, c.requires.within, c.loop-j-test.true)) c.index-all-j.is i))
+    (λ i. (
+      step_is c.args.all.now c.args.at c.index-all-at.result c.requires.within c.index-all-at.is i,
+      step_is c.args.all.now c.loop-j.j c.index-all-j.result (omega (arith, c.requires.within, c.loop-j-test.true)) c.index-all-j.is i,
+    ))
     (c.is_in_product.ensures.met c.if-is_in_product.true)
 
 pub loop-j-preserved : goal.loop-j-preserved
@@ -22,7 +25,10 @@ loop-j-preserved c =
     none_below (λ (s : Step). IsInProduct n vs (product_lead n vs (step_at c.args.all.now c.args.at)) s) c.args.all.now c.loop-j.j c.loop-j.invariant
     (λ h. c.is_in_product.ensures.apart c.if-is_in_product.false
     (subst (λ (z : Step × Step). IsInProduct n vs (product_lead n vs z.0) z.1)
-    (λ i. (sym (step_is c.args.all.now c.args.at c.index-all-at.result c.requires.within c.index-all-at.is) i, sym (step_is c.args.all.now c.loop-j.j c.index-all-j.result (omega (arith, c.requires.within, c.loop-j-test.true)) c.index-all-j.is) i)) h))
+    (λ i. (
+      sym (step_is c.args.all.now c.args.at c.index-all-at.result c.requires.within c.index-all-at.is) i,
+      sym (step_is c.args.all.now c.loop-j.j c.index-all-j.result (omega (arith, c.requires.within, c.loop-j-test.true)) c.index-all-j.is) i,
+    )) h))
 
 pub returns-clause-earlier : goal.returns-clause-earlier
 returns-clause-earlier c = absurd (c.loop-j.invariant c.requires.some.0 (omega (arith, c.requires.some.1)) c.requires.some.2)

@@ -9,4 +9,5 @@ use Rattle.basis_core.proofs.trails.find_earlier.Given as goal
 abbrev pub invariant-loop-j : goal.invariant-loop-j
 invariant-loop-j l =
     (j : ℕ) → j < l.j
-    → IsInProduct (variables l.members.shared.ring) (vectors_in l.members.list) (product_lead (variables l.members.shared.ring) (vectors_in l.members.list) (step_at l.all l.at)) (step_at l.all j) → ⊥
+    → IsInProduct (variables l.members.shared.ring) (vectors_in l.members.list)
+    (product_lead (variables l.members.shared.ring) (vectors_in l.members.list) (step_at l.all l.at)) (step_at l.all j) → ⊥

@@ -1,8 +1,10 @@
-use Rattle.std.proofs.Common.{List, ap, length, subst, sym, ℕ, ◌++◌, ◌∙◌, ◌≡◌}
+use Rattle.std.proofs.Common.{List, ap, subst, sym, ℕ, ◌++◌, ◌∙◌, ◌≡◌}
 use Rattle.formal_sums.specs.FormalSums.{Each}
 use Rattle.module_vectors.specs.Rings.{variables}
 use Rattle.module_vectors.specs.Trails.{Step}
+use Rattle.module_vectors.specs.Vectors.{IsMonomialOver}
 use Rattle.module_vectors.specs.declared.key.Key.{Key as CodeKey}
+use Rattle.module_vectors.specs.declared.ring.Ring.{Ring}
 use Rattle.module_vectors.specs.declared.trail.KeptTrail.{KeptTrail}
 use Rattle.pair_criteria.specs.declared.pair.Pair.{Pair as CodePair}
 use Rattle.basis_core.specs.Chains.{AreTraced, IsStep, IsTracedTo}
@@ -11,14 +13,15 @@ use Rattle.basis_core.specs.Members.{Shared, Tracked}
 use Rattle.basis_core.specs.Outcomes.{OutcomeShown}
 use Rattle.basis_core.specs.Rows.{vectors_in}
 use Rattle.basis_core.proofs.Tracing.{HasStoppedRow, all_known, all_traced}
-use Rattle.basis_core.proofs.Trailing.{has_stopped_row, lcm_variables, members_nonzero, trail_at}
+use Rattle.basis_core.proofs.Trailing.{ends_as, has_stopped_row, lcm_weighed, members_nonzero, trail_at}
 use Rattle.basis_core.proofs.trails.put_trail.Goals as goal
 
 -- the row that stops, at the call that traces back
-stopped : (c : goal.After-deref-2) → HasStoppedRow c.args.members.now.shared c.args.members.now.list c.args.outcome.now.job.members c.args.outcome.now.rows c.args.outcome.now.job.pairs c.args.outcome.now.products (c.requires.row).0 c.args.trail.steps.items c.args.trail.last
+stopped : (c : goal.After-deref-2) → HasStoppedRow c.args.members.now.shared c.args.members.now.list c.args.outcome.now.job.members
+    c.args.outcome.now.rows c.args.outcome.now.job.pairs c.args.outcome.now.products (c.requires.row).0 c.args.trail.steps.items c.args.trail.last
 stopped c =
-    has_stopped_row c.args.members.now.shared c.args.members.now.list c.args.outcome.now c.rows.result.now c.args.trail.steps.items c.args.trail.last
-    c.kept.ensures c.requires.shared c.kept-2.ensures (subst IsJobOver c.job-job.ensures c.kept-3.ensures) c.rows.ensures.over c.rows.ensures.terms c.requires.base c.requires.row
+    has_stopped_row c.args.members.now.shared c.args.members.now.list c.args.outcome.now c.args.trail.steps.items c.args.trail.last
+    c.kept.ensures c.requires.shared c.kept-2.ensures (subst IsJobOver c.job-job.ensures c.kept-3.ensures) c.requires.base c.requires.row
 
 pub trace_back-requires-clause-nonzero : goal.trace_back-requires-clause-nonzero
 trace_back-requires-clause-nonzero c = members_nonzero c.args.members.now.shared c.args.members.now.list c.requires.monic
@@ -26,9 +29,10 @@ trace_back-requires-clause-nonzero c = members_nonzero c.args.members.now.shared
 pub trace_back-requires-clause-pairs : goal.trace_back-requires-clause-pairs
 trace_back-requires-clause-pairs c =
     let o : OutcomeShown = c.args.outcome.now in
-    let n : ℕ = variables c.args.members.now.shared.ring in
+    let ring : Ring = c.args.members.now.shared.ring in
     let pairs : c.pairs.result.now ≡ o.job.pairs = c.pairs.ensures ∙ ap (λ (j : JobShown). j.pairs) c.job-job.ensures in
-    subst (Each (λ (x : CodePair). length x.lcm.monomial ≡ n)) (sym pairs) (lcm_variables n o.job.members o.job.pairs (stopped c).lcms)
+    subst (Each (λ (x : CodePair). IsMonomialOver ring x.lcm.monomial)) (sym pairs)
+    (lcm_weighed (variables ring) ring.weights o.job.members o.job.pairs (stopped c).lcms)
 
 pub trace_back-requires-clause-all : goal.trace_back-requires-clause-all
 trace_back-requires-clause-all c =
@@ -36,7 +40,7 @@ trace_back-requires-clause-all c =
     let n : ℕ = variables c.args.members.now.shared.ring in
     let vs : List (List (CodeKey × ℕ)) = vectors_in c.args.members.now.list in
     let all : c.deref-2.result.now ≡ o.products ++ c.args.trail.steps.items = c.deref-2.ensures.value ∙ c.in_ok-all.ensures ∙ (λ i. c.products.ensures i ++ c.deref.ensures.value i) in
-    subst (Each (IsStep n vs)) (sym all)
+    subst (Each (IsStep n c.args.members.now.shared.ring.weights vs)) (sym all)
     (all_known c.args.members.now.shared c.args.members.now.list o.job.members o.rows o.job.pairs o.products (c.requires.row).0 c.args.trail.steps.items c.args.trail.last (stopped c))
 
 pub trace_back-requires-clause-traced : goal.trace_back-requires-clause-traced
@@ -45,25 +49,30 @@ trace_back-requires-clause-traced c =
     let n : ℕ = variables c.args.members.now.shared.ring in
     let vs : List (List (CodeKey × ℕ)) = vectors_in c.args.members.now.list in
     let pairs : c.pairs.result.now ≡ o.job.pairs = c.pairs.ensures ∙ ap (λ (j : JobShown). j.pairs) c.job-job.ensures in
-    let all : c.deref-2.result.now ≡ o.products ++ c.args.trail.steps.items = c.deref-2.ensures.value ∙ c.in_ok-all.ensures ∙ (λ i. c.products.ensures i ++ c.deref.ensures.value i) in
+    let all : c.deref-2.result.now ≡ o.products ++ c.args.trail.steps.items = c.deref-2.ensures.value ∙ c.in_ok-all.ensures
+    ∙ (λ i. c.products.ensures i ++ c.deref.ensures.value i) in
     subst (λ (z : List CodePair × List Step). AreTraced n vs z.0 z.1) (λ i. (sym pairs i, sym all i))
-    (all_traced c.args.members.now.shared c.args.members.now.list o.job.members o.rows o.job.pairs o.products (c.requires.row).0 c.args.trail.steps.items c.args.trail.last (stopped c))
+    (all_traced c.args.members.now.shared c.args.members.now.list o.job.members o.rows o.job.pairs o.products
+    (c.requires.row).0 c.args.trail.steps.items c.args.trail.last (stopped c))
 
-pub returns : goal.returns
-returns c =
+pub returns-clause-trail : goal.returns-clause-trail
+returns-clause-trail c =
     let ms : List Tracked = c.args.members.now.list in
     let shared : Shared = c.args.members.now.shared in
     let o : OutcomeShown = c.args.outcome.now in
     let n : ℕ = variables shared.ring in
+    let ws : List ℕ = shared.ring.weights in
     let vs : List (List (CodeKey × ℕ)) = vectors_in ms in
     let pairs : c.pairs.result.now ≡ o.job.pairs = c.pairs.ensures ∙ ap (λ (j : JobShown). j.pairs) c.job-job.ensures in
     let all : c.deref-2.result.now ≡ o.products ++ c.args.trail.steps.items = c.deref-2.ensures.value ∙ c.in_ok-all.ensures ∙ (λ i. c.products.ensures i ++ c.deref.ensures.value i) in
-    let traced : IsTracedTo n vs o.job.pairs (o.products ++ c.args.trail.steps.items) c.in_ok-steps.steps.items c.in_ok-steps.i c.in_ok-steps.j =
-    subst (λ (z : List CodePair × List Step). IsTracedTo n vs z.0 z.1 c.in_ok-steps.steps.items c.in_ok-steps.i c.in_ok-steps.j) (λ i. (pairs i, all i)) c.in_ok-steps.ensures in
-    let row = has_stopped_row shared ms o c.rows.result.now c.args.trail.steps.items c.args.trail.last c.kept.ensures c.requires.shared c.kept-2.ensures (subst IsJobOver c.job-job.ensures c.kept-3.ensures) c.rows.ensures.over c.rows.ensures.terms c.requires.base c.requires.row in
+    let traced : IsTracedTo n ws vs o.job.pairs (o.products ++ c.args.trail.steps.items) c.in_ok-steps.steps.items c.in_ok-steps.i c.in_ok-steps.j =
+    subst (λ (z : List CodePair × List Step). IsTracedTo n ws vs z.0 z.1 c.in_ok-steps.steps.items c.in_ok-steps.i c.in_ok-steps.j)
+    (λ i. (pairs i, all i)) c.in_ok-steps.ensures in
+    let row = has_stopped_row shared ms o c.args.trail.steps.items c.args.trail.last c.kept.ensures c.requires.shared c.kept-2.ensures (subst IsJobOver c.job-job.ensures c.kept-3.ensures) c.requires.base c.requires.row in
     let t : KeptTrail = c.in_ok-kept.kept in
     let over = c.in_ok-kept.ensures in
-    trail_at shared ms o (c.requires.row).0 c.args.trail.steps.items c.args.trail.last row c.in_ok-steps.steps.items c.in_ok-steps.i c.in_ok-steps.j traced (members_nonzero shared ms c.requires.monic) t over.steps_are over.below
+    trail_at shared ms o (c.requires.row).0 c.args.trail.steps.items c.args.trail.last row c.in_ok-steps.steps.items c.in_ok-steps.i c.in_ok-steps.j
+    traced (members_nonzero shared ms c.requires.monic) t over.steps_are over.below
     (λ i. record t {
       ring = over.ring i;
       rank = over.rank i;
@@ -71,6 +80,33 @@ returns c =
       start = over.start_is i;
       vector = (over.vector_is ∙ c.zero.ensures) i;
       members = over.members i;
-      cofs = over.cofactors i;
+      last = over.last_is i;
+    })
+
+pub returns-clause-ends : goal.returns-clause-ends
+returns-clause-ends c =
+    let ms : List Tracked = c.args.members.now.list in
+    let shared : Shared = c.args.members.now.shared in
+    let o : OutcomeShown = c.args.outcome.now in
+    let n : ℕ = variables shared.ring in
+    let ws : List ℕ = shared.ring.weights in
+    let vs : List (List (CodeKey × ℕ)) = vectors_in ms in
+    let pairs : c.pairs.result.now ≡ o.job.pairs = c.pairs.ensures ∙ ap (λ (j : JobShown). j.pairs) c.job-job.ensures in
+    let all : c.deref-2.result.now ≡ o.products ++ c.args.trail.steps.items = c.deref-2.ensures.value ∙ c.in_ok-all.ensures ∙ (λ i. c.products.ensures i ++ c.deref.ensures.value i) in
+    let traced : IsTracedTo n ws vs o.job.pairs (o.products ++ c.args.trail.steps.items) c.in_ok-steps.steps.items c.in_ok-steps.i c.in_ok-steps.j =
+    subst (λ (z : List CodePair × List Step). IsTracedTo n ws vs z.0 z.1 c.in_ok-steps.steps.items c.in_ok-steps.i c.in_ok-steps.j)
+    (λ i. (pairs i, all i)) c.in_ok-steps.ensures in
+    let row = has_stopped_row shared ms o c.args.trail.steps.items c.args.trail.last c.kept.ensures c.requires.shared c.kept-2.ensures (subst IsJobOver c.job-job.ensures c.kept-3.ensures) c.requires.base c.requires.row in
+    let t : KeptTrail = c.in_ok-kept.kept in
+    let over = c.in_ok-kept.ensures in
+    ends_as shared ms o (c.requires.row).0 c.args.trail.steps.items c.args.trail.last row c.in_ok-steps.steps.items c.in_ok-steps.i c.in_ok-steps.j
+    traced t over.steps_are
+    (λ i. record t {
+      ring = over.ring i;
+      rank = over.rank i;
+      generators = over.generators i;
+      start = over.start_is i;
+      vector = (over.vector_is ∙ c.zero.ensures) i;
+      members = over.members i;
       last = over.last_is i;
     })

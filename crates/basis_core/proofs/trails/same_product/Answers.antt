@@ -12,14 +12,26 @@ same_sums a b c d w x y z k ea eb ec ed h =
 
 pub returns-then-first-i-clause-apart : goal.returns-then-first-i-clause-apart
 returns-then-first-i-clause-apart c z e =
-    c.if-first-i.true (same_sums c.args.t.now c.args.key.now.monomial c.args.u.now c.args.other.now.monomial c.exponents-first.result.now c.exponents-second.result.now c.exponents-third.result.now c.exponents-fourth.result.now c.loop-i.i
+    let n : ℕ = length c.args.t.now.exponents in
+    let a : List ℕ = c.args.t.now.exponents in
+    let b : List ℕ = c.args.key.now.monomial.exponents in
+    let d : List ℕ = c.args.u.now.exponents in
+    let f : List ℕ = c.args.other.now.monomial.exponents in
+    c.if-first-i.true (same_sums a b d f
+    c.exponents-first.result.now c.exponents-second.result.now c.exponents-third.result.now c.exponents-fourth.result.now c.loop-i.i
     c.exponents-first.ensures.value c.exponents-second.ensures.value c.exponents-third.ensures.value c.exponents-fourth.ensures.value
-    (times_apart (length c.args.t.now) c.args.t.now c.args.key.now.monomial c.args.u.now c.args.other.now.monomial (omega arith) c.requires.left c.requires.right c.requires.other (ap (λ (k : Key (length c.args.t.now)). k.1) e) c.loop-i.i (omega (arith, ap length c.exponents-first.ensures.value))))
+    (times_apart n a b d f (omega arith) c.requires.left c.requires.right c.requires.other (ap (λ (k : Key n). k.1) e) c.loop-i.i
+    (omega (arith, ap length c.exponents-first.ensures.value))))
 
 pub returns-clause-same : goal.returns-clause-same
 returns-clause-same c z =
+    let a : List ℕ = c.args.t.now.exponents in
+    let b : List ℕ = c.args.key.now.monomial.exponents in
+    let d : List ℕ = c.args.u.now.exponents in
+    let f : List ℕ = c.args.other.now.monomial.exponents in
     ap₂ (λ i m. (i, m)) c.if-key-other.false
-    (times_same (length c.args.t.now) c.args.t.now c.args.key.now.monomial c.args.u.now c.args.other.now.monomial (omega arith) c.requires.left c.requires.right c.requires.other
-    (λ k l. same_sums c.exponents-first.result.now c.exponents-second.result.now c.exponents-third.result.now c.exponents-fourth.result.now c.args.t.now c.args.key.now.monomial c.args.u.now c.args.other.now.monomial k
-    (sym c.exponents-first.ensures.value) (sym c.exponents-second.ensures.value) (sym c.exponents-third.ensures.value) (sym c.exponents-fourth.ensures.value)
-    (c.loop-i.invariant k (omega (arith, l, ap length c.exponents-first.ensures.value)))))
+    (times_same (length a) a b d f (omega arith) c.requires.left c.requires.right c.requires.other
+    (λ k l. same_sums
+    c.exponents-first.result.now c.exponents-second.result.now c.exponents-third.result.now c.exponents-fourth.result.now a b d f k
+    (sym c.exponents-first.ensures.value) (sym c.exponents-second.ensures.value) (sym c.exponents-third.ensures.value)
+    (sym c.exponents-fourth.ensures.value) (c.loop-i.invariant k (omega (arith, l, ap length c.exponents-first.ensures.value)))))

@@ -13,16 +13,21 @@ pub find_pair-requires-clause-unit : goal.find_pair-requires-clause-unit
 find_pair-requires-clause-unit c =
     let n : ℕ = variables c.args.members.now.shared.ring in
     let first : c.index-all-0.result ≡ step_at c.args.all.now 0 = step_is c.args.all.now 0 c.index-all-0.result c.requires.some c.index-all-0.is in
-    let known : IsStep n (vectors_in c.args.members.now.list) c.index-all-0.result = each_item (IsStep n (vectors_in c.args.members.now.list)) c.args.all.now 0 c.index-all-0.result c.requires.all c.requires.some c.index-all-0.is in
-    let same : c.variables.result ≡ n = c.variables.ensures ∙ ap (λ (s : Step). length s.1) (sym c.index-all-0.is) ∙ known.1 in
-    subst (λ k. exponents_of k c.in_ok-one.one ≡ unit k) same c.in_ok-one.ensures.ok.exponents
+    let ws : List ℕ = c.args.members.now.shared.ring.weights in
+    let vs : List (List (CodeKey × ℕ)) = vectors_in c.args.members.now.list in
+    let known : IsStep n ws vs c.index-all-0.result =
+    each_item (IsStep n ws vs) c.args.all.now 0 c.index-all-0.result c.requires.all c.requires.some c.index-all-0.is in
+    let same : c.variables.result ≡ n = c.variables.ensures ∙ ap (λ (s : Step). length s.1.exponents) (sym c.index-all-0.is) ∙ known.1.variables in
+    subst (λ k. exponents_of k c.in_ok-one.one.exponents ≡ unit k) same c.in_ok-one.ensures.ok.exponents
 
 pub find_earlier-at-requires-clause-some : goal.find_earlier-at-requires-clause-some
 find_earlier-at-requires-clause-some c =
     let n : ℕ = variables c.args.members.now.shared.ring in
     let vs : List (List (CodeKey × ℕ)) = vectors_in c.args.members.now.list in
-    let here : c.index-all-at-in-loop-pair.result ≡ step_at c.args.all.now c.loop-pair.at = step_is c.args.all.now c.loop-pair.at c.index-all-at-in-loop-pair.result c.loop-pair.invariant.within c.index-all-at-in-loop-pair.is in
-    let go : (((x : CodePair) × IsLcmOf n c.args.pairs.now (product_lead n vs (step_at c.args.all.now c.loop-pair.at)) x) ⊎ ((j : ℕ) × (j < c.loop-pair.at) × IsInProduct n vs (product_lead n vs (step_at c.args.all.now c.loop-pair.at)) (step_at c.args.all.now j)))
+    let here : c.index-all-at-in-loop-pair.result ≡ step_at c.args.all.now c.loop-pair.at =
+    step_is c.args.all.now c.loop-pair.at c.index-all-at-in-loop-pair.result c.loop-pair.invariant.within c.index-all-at-in-loop-pair.is in
+    let go : (((x : CodePair) × IsLcmOf n c.args.pairs.now (product_lead n vs (step_at c.args.all.now c.loop-pair.at)) x)
+    ⊎ ((j : ℕ) × (j < c.loop-pair.at) × IsInProduct n vs (product_lead n vs (step_at c.args.all.now c.loop-pair.at)) (step_at c.args.all.now j)))
     → (j : ℕ) × (j < c.loop-pair.at) × IsInProduct n vs (product_lead n vs (step_at c.args.all.now c.loop-pair.at)) (step_at c.args.all.now j) =
     λ z. elim z [
       | inl x ↦ absurd (c.in_default.ensures.none x.0 (subst (λ (s : Step). IsLcmOf n c.args.pairs.now (product_lead n vs s) x.0) (sym here) x.1))

@@ -8,7 +8,8 @@ use Rattle.basis_core.proofs.trails.trace_back.Given as goal
 abbrev pub invariant-loop-pair : goal.invariant-loop-pair
 invariant-loop-pair l = record {
   within : l.at < length l.all;
-  chain : IsChainTo (variables l.members.shared.ring) (vectors_in l.members.list) l.all (step_at l.all l.at) (reverse l.chain.items);
+  chain : IsChainTo (variables l.members.shared.ring) l.members.shared.ring.weights (vectors_in l.members.list)
+      l.all (step_at l.all l.at) (reverse l.chain.items);
 }
 
 abbrev pub decreases-loop-pair : goal.decreases-loop-pair

@@ -1,4 +1,5 @@
 use Rattle.std.proofs.Common.{[], ap, refl, subst, sym, ◌++◌, ◌∙◌, ◌∷◌, ◌≡◌, ℕ, ◌<◌}
+use Rattle.basis_steps.specs.Histories.{HasStopped}
 use Rattle.basis_steps.specs.Steps as steps
 use Rattle.basis_core.specs.Shown.{Shown}
 use Rattle.basis_core.specs.Stops.{reason_of}
@@ -14,7 +15,7 @@ pub stop-requires-clause-first : goal.stop-requires-clause-first
 stop-requires-clause-first g c =
     let s : Shown = c.take-state.result in
     let h = (may_stop s c.args.seat.now.place.me.0 c.kept.ensures.replays c.take-state.ensures.sees (base c.args.lock.now.table.shared.key.value) c.args.reason c.take-state.ensures.base c.requires.may).1 in
-    subst (λ (w : ℕ). steps.HasStopped w (state_of (variables_of s) s).history → ⊥) (sym c.args.seat.now.own) h
+    subst (λ (w : ℕ). HasStopped w (state_of (variables_of s) s).history → ⊥) (sym c.args.seat.now.own) h
 
 pub stop-requires-clause-reason : goal.stop-requires-clause-reason
 stop-requires-clause-reason g c =

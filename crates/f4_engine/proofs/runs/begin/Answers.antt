@@ -1,5 +1,5 @@
 use Rattle.std.proofs.Common.{List, subst, sym, ℕ}
-use Rattle.cofactor_track.specs.Members.{AreGenerators}
+use Rattle.member_products.specs.Generators.{AreGenerators}
 use Rattle.module_vectors.specs.declared.key.Key.{Key as CodeKey}
 use Rattle.module_vectors.specs.declared.ring.Ring.{Ring}
 use Rattle.run_endings.proofs.Closings.{are_generators}

@@ -16,7 +16,7 @@ pub is_covered-requires-clause-variables : goal.is_covered-requires-clause-varia
 is_covered-requires-clause-variables g c =
     let ring = g.F.Frame.over c.args.frame.now in
     let n = variables ring in
-    (n, have_variables n ring.modulus.value (g.F.Frame.compare c.args.frame.now n) (g.L.Vectors.listed c.args.list.now) n refl c.requires)
+    (n, have_variables n ring.weights ring.modulus.value (g.F.Frame.compare c.args.frame.now n) (g.L.Vectors.listed c.args.list.now) c.requires)
 
 pub loop-i-preserved : goal.loop-i-preserved
 loop-i-preserved g c =
@@ -29,7 +29,7 @@ loop-i-preserved g c =
     let i = c.loop-i.i-index in
     let lt : i < length order = omega arith in
     let x = get_or order i 0 in
-    let vars : HaveVariables n list = have_variables n ring.modulus.value compare list n refl c.requires in
+    let vars : HaveVariables n list = have_variables n ring.weights ring.modulus.value compare list c.requires in
     let so_far : AreNeededSoFar n compare list (take i order) (x ∷ drop (i + 1) order) c.loop-i.kept.items = subst (λ z. AreNeededSoFar n compare list (take i order) z c.loop-i.kept.items) (drop_more order i 0 lt) c.loop-i.invariant in
     let more : take (i + 1) order ≡ take i order ++ x ∷ [] = take_item order i x lt (get_or_default order i 0 x lt) in
     let rest = drop (i + 1) order in

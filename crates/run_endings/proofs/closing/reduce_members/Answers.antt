@@ -3,7 +3,7 @@ use Rattle.module_vectors.specs.Rings.{ring_comparison}
 use Rattle.module_vectors.specs.Vectors.{AreVectorsOver, HasPositions}
 use Rattle.module_vectors.specs.declared.ring.Ring.{Ring}
 use Rattle.formal_sums.specs.FormalSums.{Each}
-use Rattle.cofactor_track.specs.declared.shared.Shared.{Shared as CodeShared}
+use Rattle.member_products.specs.declared.shared.Shared.{Shared as CodeShared}
 use Rattle.basis_core.specs.Members.{Shared}
 use Rattle.basis_core.specs.Rows.{vectors_in}
 use Rattle.basis_core.proofs.Tracking.{vectors_over}

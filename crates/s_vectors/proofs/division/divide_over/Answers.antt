@@ -1,6 +1,7 @@
-use Rattle.std.proofs.Common.{[], inl, length, subst, subst₂, sym, ◌∙◌, ◌∷◌, ◌≡◌}
+use Rattle.std.proofs.Common.{[], subst, subst₂, sym, ◌∙◌, ◌∷◌, ◌≡◌}
 use Rattle.formal_sums.specs.Combinations.{combination}
 use Rattle.formal_sums.specs.FormalSums.{Each}
+use Rattle.monomial_orders.specs.Kept.{IsWeighed}
 use Rattle.module_vectors.specs.Rings.{ring_comparison, variables}
 use Rattle.module_vectors.specs.Vectors.{AreVectorsOver, IsVectorOver, StandsFor, key_of, sums_of}
 use Rattle.module_vectors.specs.declared.ring.Ring.{Ring}
@@ -11,7 +12,7 @@ use Rattle.basis_steps.specs.States.{vectors}
 use Rattle.basis_core.proofs.Tracking.{vectors_over}
 use Rattle.basis_core.specs.Jobs.{HasLcm, pair_of}
 use Rattle.basis_core.specs.Members.{members_of, setting_of}
-use Rattle.basis_core.specs.Outcomes.{products_of, work_of}
+use Rattle.basis_core.specs.Outcomes.{products_of}
 use Rattle.basis_core.specs.Rows.{vectors_in}
 use Rattle.s_vectors.proofs.Leaving.{divided_zero, first_steps}
 use Rattle.s_vectors.proofs.Lists.{empty_list}
@@ -38,7 +39,7 @@ pair_parts-requires-clause-real c =
 
 pub pair_parts-requires-clause-lcm : goal.pair_parts-requires-clause-lcm
 pair_parts-requires-clause-lcm c =
-    subst (λ (r : Ring). HasLcm (variables r) c.args.members.now.list c.args.pair.now) (sym c.requires.over) c.requires.pair.lcm
+    subst (λ (r : Ring). HasLcm (variables r) r.weights c.args.members.now.list c.args.pair.now) (sym c.requires.over) c.requires.pair.lcm
 
 pub sum_of_parts-requires-clause-list : goal.sum_of_parts-requires-clause-list
 sum_of_parts-requires-clause-list c =
@@ -50,11 +51,11 @@ returns-in-Err-clause-stop c =
     let m = c.args.members.now in
     let x = c.args.pair.now in
     let n = variables m.shared.ring in
-    let two : ArePairParts n m.shared.ring.modulus.value (vectors_in m.list) x c.in_ok-parts.parts.items =
-    subst (λ (r : Ring). ArePairParts (variables r) r.modulus.value (vectors_in m.list) x c.in_ok-parts.parts.items) c.requires.over c.in_ok-parts.ensures in
-    subst (λ (r : Ring). PairStops (variables r) m.list (key_of (variables r) x.lcm) c.stop_of_sum.result) (sym c.requires.over)
-    (c.stop_of_sum.ensures n m.list (key_of n x.lcm) (first_steps m x c.requires.pair c.in_ok-parts.parts.items two)
-    (inl (subst (λ ps. SumStops (vectors_in m.list) ps c.in-Err.stop) c.deref.ensures.value c.in-Err.ensures.stop)))
+    let two : ArePairParts n m.shared.ring.weights m.shared.ring.modulus.value (vectors_in m.list) x c.in_ok-parts.parts.items =
+    subst (λ (r : Ring). ArePairParts (variables r) r.weights r.modulus.value (vectors_in m.list) x c.in_ok-parts.parts.items) c.requires.over c.in_ok-parts.ensures in
+    subst (λ (r : Ring). PairStops (variables r) r.weights m.list (key_of (variables r) x.lcm) c.stop_of_sum.result) (sym c.requires.over)
+    (c.stop_of_sum.ensures n m.shared.ring.weights m.list (key_of n x.lcm) (first_steps m x c.requires.pair c.in_ok-parts.parts.items two)
+    (subst (λ ps. SumStops (vectors_in m.list) ps c.in-Err.stop) c.deref.ensures.value c.in-Err.ensures.stop))
 
 pub returns-then-is_empty-clause-solved : goal.returns-then-is_empty-clause-solved
 returns-then-is_empty-clause-solved c =
@@ -64,16 +65,16 @@ returns-then-is_empty-clause-solved c =
     let parts = c.in_ok-parts.parts.items in
     let none : c.in-Ok.vector ≡ [] = sym c.terms.ensures ∙ empty_list c.terms.result.now (sym c.is_empty.ensures ∙ c.if-is_empty.true) in
     let top : IsTopVector m x parts c.in-Ok.vector = record {
-      two = subst (λ (r : Ring). ArePairParts (variables r) r.modulus.value (vectors_in m.list) x parts) c.requires.over c.in_ok-parts.ensures;
+      two = subst (λ (r : Ring). ArePairParts (variables r) r.weights r.modulus.value (vectors_in m.list) x parts) c.requires.over c.in_ok-parts.ensures;
       vector = subst (λ (r : Ring). IsVectorOver r (ring_comparison r) c.in-Ok.vector) c.requires.over c.in-Ok.ensures.vector;
       sum = subst₂ (λ (r : Ring) ps. StandsFor r c.in-Ok.vector (combination (sums_of (variables r) (vectors_in m.list)) (cofactors_of (variables r) ps))) c.requires.over c.deref.ensures.value c.in-Ok.ensures.sum;
     } in
     let d : IsDivided m x parts [] = divided_zero m x c.requires.pair parts c.in-Ok.vector top none in
     record {
       over = tt;
-      lengths = subst (Each (λ t. length t.1 ≡ n)) (sym c.in_ok-steps_of.ensures) d.steps.variables;
+      weighed = subst (Each (λ t. IsWeighed n m.shared.ring.weights t.1)) (sym c.in_ok-steps_of.ensures) d.steps.weighed;
       solved =
-          subst (λ ts. IsSolved (work_of n m.shared) (members_of n m.list) (pair_of x ∷ []) [] (products_of n ts)) (sym c.in_ok-steps_of.ensures)
+          subst (λ ts. IsSolved (setting_of n m.shared) (vectors (members_of n m.list)) (pair_of x ∷ []) [] (products_of n ts)) (sym c.in_ok-steps_of.ensures)
           (solved_zero m x c.requires.pair c.kept.ensures parts d);
     }
 
@@ -83,7 +84,7 @@ divide_vector-requires-clause-top c =
     let x = c.args.pair.now in
     let parts = c.in_ok-parts.parts.items in
     record {
-      two = subst (λ (r : Ring). ArePairParts (variables r) r.modulus.value (vectors_in m.list) x parts) c.requires.over c.in_ok-parts.ensures;
+      two = subst (λ (r : Ring). ArePairParts (variables r) r.weights r.modulus.value (vectors_in m.list) x parts) c.requires.over c.in_ok-parts.ensures;
       vector = subst (λ (r : Ring). IsVectorOver r (ring_comparison r) c.in-Ok.vector) c.requires.over c.in-Ok.ensures.vector;
       sum = subst₂ (λ (r : Ring) ps. StandsFor r c.in-Ok.vector (combination (sums_of (variables r) (vectors_in m.list)) (cofactors_of (variables r) ps))) c.requires.over c.deref.ensures.value c.in-Ok.ensures.sum;
     }

@@ -1,13 +1,15 @@
 use Rattle.std.proofs.Common.{[], ap, arith, length, subst, sym, ◌<◌, ◌∙◌, ◌∷◌, ◌≡◌}
 use Rattle.formal_sums.proofs.Combining.{Each_map}
 use Rattle.formal_sums.specs.FormalSums.{Each}
+use Rattle.monomial_orders.specs.Kept.{IsWeighed}
 use Rattle.module_vectors.specs.Rings.{ring_comparison, variables}
 use Rattle.module_vectors.specs.Vectors.{AreVectorsOver, IsVectorOver, key_of}
 use Rattle.module_vectors.specs.declared.ring.Ring.{Ring}
 use Rattle.basis_core.proofs.Tracking.{vectors_over}
 use Rattle.basis_core.specs.Jobs.{pair_of}
-use Rattle.basis_core.specs.Members.{members_of}
-use Rattle.basis_core.specs.Outcomes.{products_of, work_of}
+use Rattle.basis_steps.specs.States.{vectors}
+use Rattle.basis_core.specs.Members.{members_of, setting_of}
+use Rattle.basis_core.specs.Outcomes.{products_of}
 use Rattle.basis_core.specs.Rows.{vectors_in}
 use Rattle.vector_division.specs.Divisions.{DivisionStops}
 use Rattle.s_vectors.proofs.Leaving.{divided_over, first_steps, keys_met}
@@ -32,7 +34,7 @@ returns-in-Err-clause-stop c =
     let x = c.args.pair.now in
     let n = variables m.shared.ring in
     let some : 0 < length c.args.parts.items = omega (arith, ap length c.requires.top.two.two) in
-    subst (λ (r : Ring). PairStops (variables r) m.list (key_of (variables r) x.lcm) c.stop_of_division.result) (sym c.requires.over)
+    subst (λ (r : Ring). PairStops (variables r) r.weights m.list (key_of (variables r) x.lcm) c.stop_of_division.result) (sym c.requires.over)
     (c.stop_of_division.ensures m.shared.ring m.list (key_of n x.lcm) c.args.vector.now some
     (first_steps m x c.requires.pair c.args.parts.items c.requires.top.two)
     (keys_met m x c.requires.pair c.args.parts.items c.args.vector.now c.requires.top)
@@ -54,9 +56,9 @@ returns-then-is_empty-clause-solved c =
     c.requires.over c.requires.some c.in_ok-take_quotients.ensures f.quotients f.met f.bounded f.sum f.rest) in
     record {
       over = tt;
-      lengths = subst (Each (λ t. length t.1 ≡ n)) (sym c.in_ok-steps_of.ensures) d.steps.variables;
+      weighed = subst (Each (λ t. IsWeighed n m.shared.ring.weights t.1)) (sym c.in_ok-steps_of.ensures) d.steps.weighed;
       solved =
-          subst (λ ts. IsSolved (work_of n m.shared) (members_of n m.list) (pair_of x ∷ []) [] (products_of n ts)) (sym c.in_ok-steps_of.ensures)
+          subst (λ ts. IsSolved (setting_of n m.shared) (vectors (members_of n m.list)) (pair_of x ∷ []) [] (products_of n ts)) (sym c.in_ok-steps_of.ensures)
           (solved_zero m x c.requires.pair c.kept.ensures c.take_quotients.new.parts.items d);
     }
 

@@ -1,60 +1,43 @@
-use Rattle.std.proofs.Common.{[], ap, inr, length, subst, subst₂, sym, ◌∙◌, ◌∷◌, ◌≡◌}
-use Rattle.formal_sums.specs.Combinations.{combination}
+use Rattle.std.proofs.Common.{List, [], length, subst, subst₂, sym, ◌<◌, ◌∷◌}
 use Rattle.formal_sums.specs.FormalSums.{Each}
-use Rattle.module_vectors.specs.Rings.{ring_comparison, variables}
-use Rattle.module_vectors.specs.Vectors.{AreVectorsOver, IsVectorOver, StandsFor, key_of, sums_of}
+use Rattle.monomial_orders.specs.Kept.{IsWeighed}
+use Rattle.module_vectors.specs.Rings.{variables}
+use Rattle.module_vectors.specs.Vectors.{IsMonomialOver, StandsFor}
 use Rattle.module_vectors.specs.declared.ring.Ring.{Ring}
-use Rattle.cofactor_track.specs.Members.{IsCombined}
+use Rattle.member_products.specs.Generators.{IsVectorOf}
 use Rattle.vector_division.specs.Reductions.{cofactors_of}
-use Rattle.basis_core.proofs.Tracking.{cofactors_over}
+use Rattle.vector_division.specs.declared.reduction.Quotient.{Quotient}
+use Rattle.basis_steps.specs.States.{vectors}
 use Rattle.basis_core.specs.Jobs.{pair_of}
-use Rattle.basis_core.specs.Members.{Shared, member_of, members_of, shared_of}
-use Rattle.basis_core.specs.Outcomes.{products_of, work_of}
-use Rattle.basis_core.specs.Rows.{cofactors_in}
-use Rattle.s_vectors.proofs.Combined.{row_combined}
+use Rattle.basis_core.specs.Members.{members_of, row_of, setting_of}
+use Rattle.basis_core.specs.Outcomes.{products_of}
+use Rattle.s_vectors.proofs.Listed.{divided_ranked, part_terms, row_ranked}
 use Rattle.s_vectors.proofs.Solved.{solved_row}
-use Rattle.s_vectors.specs.Parts.{SumStops}
 use Rattle.s_vectors.specs.Solutions.{IsSolved}
-use Rattle.s_vectors.specs.Steps.{PairStops}
 use Rattle.s_vectors.proofs.division.make_row.Goals as goal
 
-pub sum_of_parts-requires-clause-list : goal.sum_of_parts-requires-clause-list
-sum_of_parts-requires-clause-list c =
-    subst (λ (r : Ring). AreVectorsOver r (ring_comparison r) (cofactors_in c.args.members.now.list)) (sym c.requires.over)
-    (cofactors_over c.args.members.now.shared c.args.members.now.list c.kept.ensures)
-
-pub returns-in-Err-clause-stop : goal.returns-in-Err-clause-stop
-returns-in-Err-clause-stop c =
+pub quotient_products-requires : goal.quotient_products-requires
+quotient_products-requires c =
     let m = c.args.members.now in
-    let n = variables m.shared.ring in
-    subst (λ (r : Ring). PairStops (variables r) m.list (key_of (variables r) c.args.pair.now.lcm) c.stop_of_sum.result) (sym c.requires.over)
-    (c.stop_of_sum.ensures n m.list (key_of n c.args.pair.now.lcm) c.requires.divided.steps
-    (inr (subst (λ ps. SumStops (cofactors_in m.list) ps c.in-Err.stop) c.deref.ensures.value c.in-Err.ensures.stop)))
+    let parts = c.args.parts.items in
+    subst (Each (λ q. IsMonomialOver c.args.ring.now q.monomial × (q.residue < c.args.ring.now.modulus.value))) (sym c.deref.ensures.value)
+    (subst (λ (r : Ring). Each (λ q. IsMonomialOver r q.monomial × (q.residue < r.modulus.value)) parts) (sym c.requires.over)
+    (part_terms (variables m.shared.ring) m.shared.ring.weights m.shared.ring.modulus.value (length m.list) parts c.requires.divided.each))
 
-pub invariant_of-row : goal.invariant_of-row
-invariant_of-row c =
-    let m = c.args.members.now in
-    let d = c.requires.divided in
-    record {
-      combined = subst (λ (s : Shared). IsCombined s.ring s.rank s.generators c.args.vector c.in-Ok.cof) (sym (ap shared_of c.in_ok-try_clone.ensures ∙ c.shared.ensures))
-          (row_combined m.shared m.list (cofactors_of (variables m.shared.ring) c.args.parts.items) c.args.vector c.in-Ok.cof c.kept.ensures d.vector
-          (subst (λ (r : Ring). IsVectorOver r (ring_comparison r) c.in-Ok.cof) c.requires.over c.in-Ok.ensures.vector)
-          d.sum
-          (subst₂ (λ (r : Ring) ps. StandsFor r c.in-Ok.cof (combination (sums_of (variables r) (cofactors_in m.list)) (cofactors_of (variables r) ps))) c.requires.over c.deref.ensures.value c.in-Ok.ensures.sum));
-    }
-
-pub returns-clause-solved : goal.returns-clause-solved
-returns-clause-solved c =
+pub returns : goal.returns
+returns c =
     let m = c.args.members.now in
     let x = c.args.pair.now in
     let d = c.requires.divided in
     let n = variables m.shared.ring in
+    let parts = c.args.parts.items in
+    let products = c.in_ok-products.products in
+    let iv = subst (λ (r : Ring). IsVectorOf r products) c.requires.over c.in_ok-products.ensures.vector in
+    let same = subst₂ (λ (r : Ring) (ps : List Quotient). StandsFor r products (cofactors_of (variables r) ps)) c.requires.over c.deref.ensures.value c.in_ok-products.ensures.sum in
     record {
-      over = (ap shared_of c.in_ok-try_clone.ensures ∙ c.shared.ensures, tt);
-      lengths = subst (Each (λ t. length t.1 ≡ n)) (sym c.in_ok-steps_of.ensures) d.steps.variables;
+      over = (record { vector = divided_ranked m x parts c.args.vector c.kept.ensures d; products = row_ranked m.shared parts products iv same (length m.list) d.each }, tt);
+      weighed = subst (Each (λ t. IsWeighed n m.shared.ring.weights t.1)) (sym c.in_ok-steps_of.ensures) d.steps.weighed;
       solved =
-          subst (λ ts. IsSolved (work_of n m.shared) (members_of n m.list) (pair_of x ∷ []) (member_of n (record { vector = c.args.vector; cof = c.in-Ok.cof }) ∷ []) (products_of n ts)) (sym c.in_ok-steps_of.ensures)
-          (solved_row m x c.requires.pair c.kept.ensures c.args.parts.items c.args.vector c.in-Ok.cof d c.requires.some
-          (subst (λ (r : Ring). IsVectorOver r (ring_comparison r) c.in-Ok.cof) c.requires.over c.in-Ok.ensures.vector)
-          (subst₂ (λ (r : Ring) ps. StandsFor r c.in-Ok.cof (combination (sums_of (variables r) (cofactors_in m.list)) (cofactors_of (variables r) ps))) c.requires.over c.deref.ensures.value c.in-Ok.ensures.sum));
+          subst (λ ts. IsSolved (setting_of n m.shared) (vectors (members_of n m.list)) (pair_of x ∷ []) (row_of n (record { vector = c.args.vector; products = products }) ∷ []) (products_of n ts)) (sym c.in_ok-steps_of.ensures)
+          (solved_row m x c.requires.pair c.kept.ensures parts c.args.vector products d c.requires.some iv same);
     }

@@ -1,7 +1,8 @@
 use Rattle.std.proofs.Common.{List, ap, arith, get_or, length, subst, subst₂, sym, ◌∙◌, ◌≡◌, ◌<◌, ◌≤◌}
 use Rattle.formal_sums.proofs.WeightedSums.{Each_append}
 use Rattle.formal_sums.specs.FormalSums.{Each}
-use Rattle.basis_core.specs.Members.{IsOver, Shared, Tracked}
+use Rattle.basis_core.specs.Members.{IsRunRow, Shared, Tracked}
+use Rattle.monomial_orders.specs.Kept.{IsWeighed}
 use Rattle.module_vectors.specs.Rings.{variables}
 use Rattle.s_vectors.proofs.Collecting.{solved_job, solved_step}
 use Rattle.s_vectors.proofs.JobTrails.{job_pair}
@@ -31,8 +32,8 @@ loop-number-preserved c =
     let s : IsSolvedPair (record { shared = j.shared; list = j.members }) x c.in-Ok.division =
     subst₂ (λ (s : Shared) (l : List Tracked). IsSolvedPair (record { shared = s; list = l }) x c.in-Ok.division) c.members.ensures.shared c.members.ensures.list c.in-Ok.ensures.solved in
     record {
-      over = subst (Each (λ m. IsOver j.shared m)) (sym c.in_ok-add_division-in-Ok.ensures.rows) (Each_append _ c.loop-number.solution.rows.items (row_list c.in-Ok.division.row) i.over s.over);
-      lengths = subst (Each (λ t. length t.1 ≡ n)) (sym c.in_ok-add_division-in-Ok.ensures.products) (Each_append _ c.loop-number.solution.products.items c.in-Ok.division.steps.items i.lengths s.lengths);
+      over = subst (Each (IsRunRow j.shared (length j.members))) (sym c.in_ok-add_division-in-Ok.ensures.rows) (Each_append _ c.loop-number.solution.rows.items (row_list c.in-Ok.division.row) i.over s.over);
+      weighed = subst (Each (λ t. IsWeighed n j.shared.ring.weights t.1)) (sym c.in_ok-add_division-in-Ok.ensures.products) (Each_append _ c.loop-number.solution.products.items c.in-Ok.division.steps.items i.weighed s.weighed);
       solved = solved_step j c.loop-number.number x c.loop-number.solution.rows.items (row_list c.in-Ok.division.row) c.add_division.new.solution.rows.items c.loop-number.solution.products.items c.in-Ok.division.steps.items c.add_division.new.solution.products.items
           c.kept.ensures lt is c.in_ok-add_division-in-Ok.ensures.rows c.in_ok-add_division-in-Ok.ensures.products i.solved s.solved;
     }
@@ -42,4 +43,4 @@ returns-clause-outcome c =
     let j = c.args.job.now in
     let i = c.loop-number.invariant in
     let le : length j.pairs ≤ c.loop-number.number = omega (arith, ap length c.pairs-pair-items.ensures) in
-    solved_job j c.loop-number.number c.loop-number.solution.rows.items c.loop-number.solution.products.items c.kept.ensures le i.lengths i.solved
+    solved_job j c.loop-number.number c.loop-number.solution.rows.items c.loop-number.solution.products.items c.kept.ensures le i.over i.weighed i.solved

@@ -1,9 +1,11 @@
-use Rattle.std.proofs.Common.{length, map, take, ◌≡◌}
+use Rattle.std.proofs.Common.{length, take}
 use Rattle.formal_sums.specs.FormalSums.{Each}
+use Rattle.monomial_orders.specs.Kept.{IsWeighed}
 use Rattle.module_vectors.specs.Rings.{variables}
+use Rattle.basis_steps.specs.States.{vectors}
 use Rattle.basis_core.specs.Jobs.{pairs_of}
-use Rattle.basis_core.specs.Members.{IsOver, members_of, tracked_of}
-use Rattle.basis_core.specs.Outcomes.{products_of, work_of}
+use Rattle.basis_core.specs.Members.{IsRunRow, members_of, rows_of, setting_of}
+use Rattle.basis_core.specs.Outcomes.{products_of}
 use Rattle.s_vectors.specs.Solutions.{IsSolved}
 use Rattle.s_vectors.proofs.solving.solve_pairs.Given as goal
 
@@ -11,9 +13,9 @@ abbrev pub invariant-loop-number : goal.invariant-loop-number
 invariant-loop-number l =
     let n = variables l.job.shared.ring in
     record {
-      over : Each (λ m. IsOver l.job.shared m) l.solution.rows.items;
-      lengths : Each (λ t. length t.1 ≡ n) l.solution.products.items;
+      over : Each (IsRunRow l.job.shared (length l.job.members)) l.solution.rows.items;
+      weighed : Each (λ t. IsWeighed n l.job.shared.ring.weights t.1) l.solution.products.items;
       solved :
-          IsSolved (work_of n l.job.shared) (members_of n l.job.members) (pairs_of (take l.number l.job.pairs))
-          (members_of n (map (λ m. tracked_of m) l.solution.rows.items)) (products_of n l.solution.products.items);
+          IsSolved (setting_of n l.job.shared) (vectors (members_of n l.job.members)) (pairs_of (take l.number l.job.pairs))
+          (rows_of n l.solution.rows.items) (products_of n l.solution.products.items);
     }

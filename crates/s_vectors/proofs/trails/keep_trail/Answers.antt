@@ -1,8 +1,8 @@
-use Rattle.std.proofs.Common.{List, Some, ap, get_or, refl, subst₂, ◌∙◌, ◌≡◌}
-use Rattle.basis_core.specs.Members.{Shared, Tracked}
-use Rattle.basis_core.specs.Rows.{cofactors_in, vectors_in}
-use Rattle.cofactor_track.specs.declared.shared.Shared.{Shared as CodeShared}
-use Rattle.s_vectors.proofs.Combined.{AreCombined}
+use Rattle.std.proofs.Common.{List, ap, get_or, refl, subst₂, ◌∙◌, ◌≡◌}
+use Rattle.formal_sums.specs.FormalSums.{Each}
+use Rattle.basis_core.specs.Members.{IsTracked, Shared, Tracked}
+use Rattle.basis_core.specs.Rows.{vectors_in}
+use Rattle.member_products.specs.declared.shared.Shared.{Shared as CodeShared}
 use Rattle.s_vectors.proofs.JobTrails.{job_trail}
 use Rattle.s_vectors.proofs.trails.keep_trail.Goals as goal
 
@@ -12,11 +12,10 @@ returns c =
     let x = c.index-pairs-number.result in
     let is : x ≡ get_or j.pairs c.args.number x = c.index-pairs-number.is ∙ ap (λ xs. get_or xs c.args.number x) c.pairs.ensures in
     job_trail j c.args.number x _ c.kept.ensures
-    (subst₂ (λ (s : Shared) (l : List Tracked). AreCombined s l) c.members-members.ensures.shared c.members-members.ensures.list c.kept-2.ensures)
+    (subst₂ (λ (s : Shared) (l : List Tracked). Each (IsTracked s) l) c.members-members.ensures.shared c.members-members.ensures.list c.kept-2.ensures)
     c.requires.known is (c.requires.chain x is)
     (c.in_ok-try_copy.ensures ∙ ap (λ (s : CodeShared). s.ring) c.deref.ensures ∙ ap (λ (s : Shared). s.ring) c.shared-shared.ensures)
     (ap (λ (s : CodeShared). s.rank) c.deref-2.ensures ∙ ap (λ (s : Shared). s.rank) c.shared-shared.ensures)
     (c.in_ok-copy_of.ensures ∙ ap (λ (s : CodeShared). s.generators) c.deref-3.ensures ∙ ap (λ (s : Shared). s.generators) c.shared-shared.ensures)
     c.new.ensures.items refl c.zero.ensures
     (c.in_ok-copy_of-2.ensures ∙ ap vectors_in c.members-members.ensures.list)
-    (ap Some (c.in_ok-copy_of-3.ensures ∙ ap cofactors_in c.members-members.ensures.list))

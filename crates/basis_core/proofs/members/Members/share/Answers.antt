@@ -1,9 +1,7 @@
-use Rattle.std.proofs.Common.{List, ap, arith, map, subst, sym, take, ◌∙◌, ◌≡◌}
+use Rattle.std.proofs.Common.{List, ap, arith, subst, sym, take, ◌∙◌, ◌≡◌}
 use Rattle.std.proofs.lemmas.List.{take_all}
-use Rattle.std.specs.Arc.{arc_value}
-use Rattle.formal_sums.specs.FormalSums.{Each}
-use Rattle.basis_core.specs.Members.{IsOver, shared_of, tracked_of}
-use Rattle.basis_core.proofs.Handles.{Handle, none_copied, one_copied, same_over, same_terms, shared_by}
+use Rattle.basis_core.specs.Members.{AreRunMembers, MembersShown, shared_of}
+use Rattle.basis_core.proofs.Handles.{Handle, none_copied, one_copied, shared_by}
 use Rattle.basis_core.proofs.members.Members.share.Goals as goal
 
 pub loop-handle-init : goal.loop-handle-init
@@ -15,7 +13,9 @@ loop-handle-init c = record {
 
 pub loop-handle-preserved : goal.loop-handle-preserved
 loop-handle-preserved c = record {
-  copied = one_copied c.deref-handle-items.result.now c.loop-handle.handles.items c.push_reserved.new.self.items c.loop-handle.handle-index c.handle-item.result c.in_ok-try_clone.field-0 c.loop-handle-test.true c.handle-item.is c.in_ok-try_clone.ensures c.push_reserved.ensures.items c.loop-handle.invariant.copied;
+  copied = one_copied c.deref-handle-items.result.now c.loop-handle.handles.items c.push_reserved.new.self.items c.loop-handle.handle-index
+      c.handle-item.result c.in_ok-try_clone.field-0 c.loop-handle-test.true c.handle-item.is c.in_ok-try_clone.ensures c.push_reserved.ensures.items
+      c.loop-handle.invariant.copied;
   long = omega (arith, c.push_reserved.ensures.len, c.loop-handle.invariant.long);
   room = omega (arith, c.push_reserved.ensures.capacity, c.loop-handle.invariant.room);
 }
@@ -26,15 +26,16 @@ push_reserved-requires c = omega (arith, c.loop-handle.invariant.long, c.loop-ha
 pub invariant_of-result : goal.invariant_of-result
 invariant_of-result c =
     let items : List Handle = c.deref-handle-items.result.now in
-    let all : take c.loop-handle.handle-index items ≡ c.self.inside.handles.items = take_all c.loop-handle.handle-index items c.loop-handle-test.false ∙ c.deref-handle-items.ensures.value in
+    let all : take c.loop-handle.handle-index items ≡ c.self.inside.handles.items =
+    take_all c.loop-handle.handle-index items c.loop-handle-test.false ∙ c.deref-handle-items.ensures.value in
     let same : shared_by c.loop-handle.handles.items ≡ shared_by c.self.inside.handles.items = c.loop-handle.invariant.copied.members ∙ ap shared_by all in
-    subst (λ shared. Each (λ (h : Handle). IsOver shared (arc_value h)) c.loop-handle.handles.items) (sym (ap shared_of c.in_ok-try_clone-2.ensures))
-    (same_over (shared_of (arc_value c.self.inside.shared)) c.self.inside.handles.items c.loop-handle.handles.items same c.self.invariant)
+    subst (λ (z : MembersShown). AreRunMembers z.shared z.list)
+    (λ i. record { shared = shared_of (sym c.in_ok-try_clone-2.ensures i); list = sym same i }) c.self.invariant
 
 pub returns : goal.returns
 returns c =
     let items : List Handle = c.deref-handle-items.result.now in
-    let all : take c.loop-handle.handle-index items ≡ c.self.inside.handles.items = take_all c.loop-handle.handle-index items c.loop-handle-test.false ∙ c.deref-handle-items.ensures.value in
+    let all : take c.loop-handle.handle-index items ≡ c.self.inside.handles.items =
+    take_all c.loop-handle.handle-index items c.loop-handle-test.false ∙ c.deref-handle-items.ensures.value in
     let same : shared_by c.loop-handle.handles.items ≡ shared_by c.self.inside.handles.items = c.loop-handle.invariant.copied.members ∙ ap shared_by all in
-    let terms : map (λ (h : Handle). tracked_of (arc_value h)) c.loop-handle.handles.items ≡ map (λ (h : Handle). tracked_of (arc_value h)) c.self.inside.handles.items = same_terms c.self.inside.handles.items c.loop-handle.handles.items same in
-    (λ i. record { shared = shared_of (c.in_ok-try_clone-2.ensures i); list = terms i }) ∙ c.self.view_is
+    (λ i. record { shared = shared_of (c.in_ok-try_clone-2.ensures i); list = same i }) ∙ c.self.view_is

@@ -30,11 +30,12 @@ invariant_of-self c =
     let e = c.ending_at-ending.result in
     let end : IsEnd w s e c.mark_ended.new.ended.items = record {
       may = subst (MayEnd w) (sym c.self.view_is) c.requires;
-      answers = end_answer (variables_of s) s e c.as_slice.result.now (ap pairs_of c.as_slice.ensures) (c.ending_at-ending.ensures (variables_of s));
+      answers = end_answer (variables_of s) s e c.queued.result.now (ap pairs_of c.queued.ensures.queue) (c.ending_at-ending.ensures (variables_of s));
       marks = c.mark_ended.ensures.marks;
       leaves = c.mark_ended.ensures.leaves;
     } in
-    end_kept c.self.inside w e c.mark_ended.new.ended c.push_reserved.new.self c.self.invariant end c.push_reserved.ensures.items c.push_reserved.ensures.capacity
+    end_kept c.self.inside w e c.mark_ended.new.ended c.push_reserved.new.self c.self.invariant end c.push_reserved.ensures.items
+    c.push_reserved.ensures.capacity
 
 pub returns-clause-step : goal.returns-clause-step
 returns-clause-step c =
@@ -43,7 +44,7 @@ returns-clause-step c =
     let e = c.ending_at-ending.result in
     let end : IsEnd w s e c.mark_ended.new.ended.items = record {
       may = subst (MayEnd w) (sym c.self.view_is) c.requires;
-      answers = end_answer (variables_of s) s e c.as_slice.result.now (ap pairs_of c.as_slice.ensures) (c.ending_at-ending.ensures (variables_of s));
+      answers = end_answer (variables_of s) s e c.queued.result.now (ap pairs_of c.queued.ensures.queue) (c.ending_at-ending.ensures (variables_of s));
       marks = c.mark_ended.ensures.marks;
       leaves = c.mark_ended.ensures.leaves;
     } in
@@ -58,4 +59,5 @@ returns-clause-event c =
     let e = c.ending_at-ending.result in
     let t : Shown = after_end s c.mark_ended.new.ended.items c.push_reserved.new.self.items in
     subst (λ (z : Shown). Adds (EndNote w (ending_of e)) z t) c.self.view_is
-    (ends_more s t c.self.invariant.replays c.self.invariant.read (record { shared = refl; budget = refl; workers = refl }) refl w e c.push_reserved.ensures.items)
+    (ends_more s t c.self.invariant.replays c.self.invariant.read
+    (record { shared = refl; budget = refl; workers = refl }) refl w e c.push_reserved.ensures.items)

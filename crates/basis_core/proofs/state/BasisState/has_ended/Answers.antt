@@ -18,4 +18,5 @@ returns c =
     let s : Shown = shown c.self.inside in
     let long : length s.ended ≡ s.workers = ended_length (run_of (variables_of s) s) (state_of (variables_of s) s) c.self.invariant.replays in
     let known : c.args.worker < s.workers = subst (λ (z : Shown). c.args.worker < z.workers) (sym c.self.view_is) c.requires in
-    get_or_read s.ended c.args.worker c.index.result.now (omega (arith, long, known)) c.index.ensures true ∙ ap (λ (z : Shown). get_or z.ended c.args.worker true) c.self.view_is
+    get_or_read s.ended c.args.worker c.index.result.now (omega (arith, long, known)) c.index.ensures true
+    ∙ ap (λ (z : Shown). get_or z.ended c.args.worker true) c.self.view_is

@@ -11,14 +11,16 @@ use Rattle.basis_core.proofs.state.BasisState.kept.Goals as goal
 
 pub returns-clause-lawful : goal.returns-clause-lawful
 returns-clause-lawful c =
-    subst (λ (s : Shown). IsLawfulRun (run_of (variables_of s) s)) c.self.view_is (lawful_run (variables_of (shown c.self.inside)) (shown c.self.inside) c.domain.ensures c.self.invariant.some)
+    subst (λ (s : Shown). IsLawfulRun (run_of (variables_of s) s)) c.self.view_is
+    (lawful_run (variables_of (shown c.self.inside)) (shown c.self.inside) c.domain.ensures c.self.invariant.some)
 
 pub returns-clause-replays : goal.returns-clause-replays
 returns-clause-replays c = subst (λ (s : Shown). Replays (run_of (variables_of s) s) (state_of (variables_of s) s)) c.self.view_is c.self.invariant.replays
 
 pub returns-clause-holds : goal.returns-clause-holds
 returns-clause-holds c =
-    subst (λ (s : Shown). HoldsInvariant (run_of (variables_of s) s) (state_of (variables_of s) s)) c.self.view_is (replayed_holds (variables_of (shown c.self.inside)) (shown c.self.inside) c.domain.ensures c.self.invariant.some c.self.invariant.replays)
+    subst (λ (s : Shown). HoldsInvariant (run_of (variables_of s) s) (state_of (variables_of s) s)) c.self.view_is
+    (replayed_holds (variables_of (shown c.self.inside)) (shown c.self.inside) c.domain.ensures c.self.invariant.some c.self.invariant.replays)
 
 pub returns-clause-read : goal.returns-clause-read
 returns-clause-read c = subst (λ (s : Shown). Each (IsRead (length s.members) s.stop) s.history) c.self.view_is c.self.invariant.read

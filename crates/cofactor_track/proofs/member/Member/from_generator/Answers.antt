@@ -3,8 +3,8 @@ use Rattle.std.proofs.lemmas.List.{get_or_default}
 use Rattle.std.specs.Arc.{arc_value}
 use Rattle.cofactor_track.proofs.CombinedSums.{combined_generator}
 use Rattle.cofactor_track.specs.Changes.{IsUnitVector}
-use Rattle.cofactor_track.specs.Members.{IsVectorOf}
-use Rattle.cofactor_track.specs.declared.shared.Shared.{Shared}
+use Rattle.member_products.specs.Generators.{IsVectorOf}
+use Rattle.member_products.specs.declared.shared.Shared.{Shared}
 use Rattle.cofactor_track.proofs.member.Member.from_generator.Goals as goal
 
 pub invariant_of-result : goal.invariant_of-result

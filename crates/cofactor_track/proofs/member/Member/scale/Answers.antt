@@ -4,8 +4,8 @@ use Rattle.monomials.specs.Exponents.{unit}
 use Rattle.module_vectors.specs.Rings.{variables}
 use Rattle.cofactor_track.proofs.CombinedSums.{combined_multiple}
 use Rattle.cofactor_track.specs.Changes.{IsScaled}
-use Rattle.cofactor_track.specs.Members.{IsVectorOf}
-use Rattle.cofactor_track.specs.declared.shared.Shared.{Shared}
+use Rattle.member_products.specs.Generators.{IsVectorOf}
+use Rattle.member_products.specs.declared.shared.Shared.{Shared}
 use Rattle.cofactor_track.proofs.member.Member.scale.Goals as goal
 
 pub scale-requires-clause-vector : goal.scale-requires-clause-vector

@@ -4,8 +4,9 @@ use Rattle.monomials.specs.Exponents.{exponents_of}
 use Rattle.module_vectors.specs.Rings.{variables}
 use Rattle.cofactor_track.proofs.CombinedSums.{combined_sum}
 use Rattle.cofactor_track.specs.Changes.{IsLess}
-use Rattle.cofactor_track.specs.Members.{IsCombined, IsVectorOf}
-use Rattle.cofactor_track.specs.declared.shared.Shared.{Shared}
+use Rattle.member_products.specs.Generators.{IsVectorOf}
+use Rattle.cofactor_track.specs.Members.{IsCombined}
+use Rattle.member_products.specs.declared.shared.Shared.{Shared}
 use Rattle.cofactor_track.proofs.member.Member.subtract.Goals as goal
 
 pub subtract_vector-requires-clause-left : goal.subtract_vector-requires-clause-left
@@ -32,7 +33,7 @@ invariant_of-self-2 c =
     let a = c.subtract_vector-2.new.u in
     let other = c.args.other.now in
     record {
-      combined = combined_sum s.ring s.rank s.generators (s.ring.modulus.value - c.args.c) (exponents_of (variables s.ring) c.args.t.now) c.args.self.now.vector c.args.self.now.cof other.vector other.cof u a
+      combined = combined_sum s.ring s.rank s.generators (s.ring.modulus.value - c.args.c) (exponents_of (variables s.ring) c.args.t.now.exponents) c.args.self.now.vector c.args.self.now.cof other.vector other.cof u a
           c.args.self.now.combined
           (subst (λ (s : Shared). IsCombined s.ring s.rank s.generators other.vector other.cof) c.requires.shared other.combined)
           (subst (λ (s : Shared). IsVectorOf s.ring u) c.deref.ensures c.in_ok-subtract_vector.ensures.vector)

@@ -4,8 +4,9 @@ use Rattle.monomials.specs.Exponents.{exponents_of}
 use Rattle.module_vectors.specs.Rings.{variables}
 use Rattle.cofactor_track.proofs.CombinedSums.{combined_multiple}
 use Rattle.cofactor_track.specs.Changes.{IsTimes}
-use Rattle.cofactor_track.specs.Members.{IsCombined, IsVectorOf}
-use Rattle.cofactor_track.specs.declared.shared.Shared.{Shared}
+use Rattle.member_products.specs.Generators.{IsVectorOf}
+use Rattle.cofactor_track.specs.Members.{IsCombined}
+use Rattle.member_products.specs.declared.shared.Shared.{Shared}
 use Rattle.cofactor_track.proofs.member.Member.times.Goals as goal
 
 pub times_vector-requires-clause-vector : goal.times_vector-requires-clause-vector
@@ -20,7 +21,7 @@ pub invariant_of-result : goal.invariant_of-result
 invariant_of-result c =
     let s = arc_value c.in_ok-shared.shared in
     record {
-      combined = combined_multiple s.ring s.rank s.generators 1 (exponents_of (variables s.ring) c.args.t.now) c.args.self.now.vector c.args.self.now.cof c.in_ok-vector.vector c.in_ok-cof.cof
+      combined = combined_multiple s.ring s.rank s.generators 1 (exponents_of (variables s.ring) c.args.t.now.exponents) c.args.self.now.vector c.args.self.now.cof c.in_ok-vector.vector c.in_ok-cof.cof
           (subst (λ (s : Shared). IsCombined s.ring s.rank s.generators c.args.self.now.vector c.args.self.now.cof) (sym c.in_ok-shared.ensures) c.args.self.now.combined)
           (subst (λ (s : Shared). IsVectorOf s.ring c.in_ok-vector.vector) c.deref.ensures c.in_ok-vector.ensures.vector)
           (subst (λ (s : Shared). IsVectorOf s.ring c.in_ok-cof.cof) c.deref-2.ensures c.in_ok-cof.ensures.vector)

@@ -1,0 +1,25 @@
+use Rattle.std.proofs.Common.{subst, ℕ}
+use Rattle.basis_steps.specs.Queues.{QueuesNewPairs}
+use Rattle.pair_queue.specs.Leads.{LeadsShown, setting_of as setting_by, sums_shown}
+use Rattle.basis_core.specs.Jobs.{pairs_of}
+use Rattle.basis_core.proofs.KnownByLeads.{leads_count, leads_joined, queues_known}
+use Rattle.basis_core.proofs.putting.add_pairs.Goals as goal
+
+pub returns-clause-leads : goal.returns-clause-leads
+returns-clause-leads c =
+    leads_joined c.args.members.now.shared c.args.members.now.list c.args.first c.add.new.self.leads c.args.pairs.now.leads c.in_ok-keys.keys.items
+    c.in_ok-add.ensures.leads c.requires.leads c.in_ok-keys.ensures.leads
+
+pub returns-clause-queues : goal.returns-clause-queues
+returns-clause-queues c =
+    let shared = c.args.members.now.shared in
+    let ms = c.args.members.now.list in
+    let first : ℕ = c.args.first in
+    let there : QueuesNewPairs (setting_by (c.add.new.self.leads).variables c.add.new.self.leads) first (sums_shown c.add.new.self.leads)
+    (pairs_of c.args.pairs.now.queue) (pairs_of c.add.new.self.queue) =
+    subst (λ (k : ℕ). QueuesNewPairs (setting_by (c.add.new.self.leads).variables c.add.new.self.leads) k (sums_shown c.add.new.self.leads)
+    (pairs_of c.args.pairs.now.queue) (pairs_of c.add.new.self.queue))
+    (leads_count shared ms first c.args.pairs.now.leads c.requires.first c.requires.leads) c.in_ok-add.ensures.queues in
+    queues_known shared ms first (pairs_of c.args.pairs.now.queue) (pairs_of c.add.new.self.queue)
+    (subst (λ (l : LeadsShown). QueuesNewPairs (setting_by l.variables l) first (sums_shown l) (pairs_of c.args.pairs.now.queue)
+    (pairs_of c.add.new.self.queue)) (returns-clause-leads c) there)

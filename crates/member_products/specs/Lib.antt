@@ -1,0 +1,4 @@
+-- what public clauses cite
+pub mod Generators
+pub mod Propositions
+pub mod Members

@@ -1,0 +1,67 @@
+use Rattle.std.proofs.Common.{ap, arith, length, length-append, refl, subst, sym, take, ℕ, ◌∙◌, ◌≡◌, ◌≤◌}
+use Rattle.formal_sums.specs.FormalSums.{Each}
+use Rattle.basis_steps.specs.Queues.{IsSorted}
+use Rattle.basis_steps.specs.States.{pairs_out}
+use Rattle.pair_queue.proofs.Adding.{leads_back, reals_added, sorted_added}
+use Rattle.pair_queue.proofs.Handing.{same_coherent}
+use Rattle.pair_queue.proofs.Knowing.{indices_queued}
+use Rattle.pair_queue.proofs.Mirroring.{no_change}
+use Rattle.pair_queue.proofs.SameLeads.{each_within}
+use Rattle.pair_queue.specs.Leads.{LeadsShown, setting_of, sums_shown}
+use Rattle.pair_queue.specs.Pairs.{IsRealPair, outs_of, pairs_of}
+use Rattle.pair_queue.specs.Skipping.{IsKnown}
+use Rattle.pair_queue.specs.Tables.{AreIndices, flag}
+use Rattle.pair_queue.proofs.pairs.PairQueue.add.Goals as goal
+
+pub queue_new_pairs-requires-clause-real : goal.queue_new_pairs-requires-clause-real
+queue_new_pairs-requires-clause-real c =
+    subst (λ (z : LeadsShown). Each (IsRealPair z) c.self.inside.queue.items) (sym c.in_ok-append.ensures.ok)
+    (reals_added c.self.inside.leads c.args.keys.items c.self.inside.queue.items c.self.invariant.real)
+
+pub queue_new_pairs-requires-clause-within : goal.queue_new_pairs-requires-clause-within
+queue_new_pairs-requires-clause-within c =
+    subst (λ k. Each (AreIndices k) (pairs_of c.self.inside.queue.items)) (sym c.len-first.ensures)
+    (indices_queued c.self.inside.leads c.self.inside.queue.items c.self.invariant.real)
+
+pub queue_new_pairs-requires-clause-sorted : goal.queue_new_pairs-requires-clause-sorted
+queue_new_pairs-requires-clause-sorted c =
+    subst (λ (z : LeadsShown). IsSorted (setting_of z.variables z) (sums_shown z) (pairs_of c.self.inside.queue.items)) (sym c.in_ok-append.ensures.ok)
+    (sorted_added c.self.inside.leads c.args.keys.items (pairs_of c.self.inside.queue.items)
+    (indices_queued c.self.inside.leads c.self.inside.queue.items c.self.invariant.real) c.self.invariant.sorted)
+
+pub invariant_of-self : goal.invariant_of-self
+invariant_of-self c = same_coherent c.self.inside c.append.new.self c.self.inside.queue c.self.inside.waits c.self.inside.due
+    c.in_err-append.ensures.err refl (no_change c.self.inside.waits) (no_change c.self.inside.due) c.self.invariant
+
+pub invariant_of-self-in-Err : goal.invariant_of-self-in-Err
+invariant_of-self-in-Err c =
+    let first : ℕ = c.len-first.result in
+    let back : c.truncate.new.self ≡ c.self.inside.leads =
+    c.truncate.ensures ∙ ap (λ (z : LeadsShown). record z { keys = take first z.keys }) c.in_ok-append.ensures.ok
+    ∙ leads_back c.self.inside.leads c.args.keys.items first c.len-first.ensures in
+    same_coherent c.self.inside c.truncate.new.self c.queue_new_pairs.new.queue c.queue_new_pairs.new.waits c.queue_new_pairs.new.due back
+    c.in-Err.ensures.queue_kept c.in-Err.ensures.waits_kept c.in-Err.ensures.due_kept c.self.invariant
+
+pub invariant_of-self-in_default : goal.invariant_of-self-in_default
+invariant_of-self-in_default c =
+    let i = c.self.inside in
+    let inv = c.self.invariant in
+    let first : ℕ = c.len-first.result in
+    let new : LeadsShown = c.append.new.self in
+    let is = c.in_ok-append.ensures.ok in
+    let more : length i.leads.keys ≤ length new.keys =
+    omega (arith, ap (λ (z : LeadsShown). length z.keys) is, length-append i.leads.keys c.args.keys.items) in
+    let back : record new { keys = take first new.keys } ≡ i.leads = ap (λ (z : LeadsShown). record z { keys = take first z.keys }) is
+    ∙ leads_back i.leads c.args.keys.items first c.len-first.ensures in
+    let h = c.in_default.ensures in
+    record {
+      real = h.real;
+      sorted = h.queues.sorted;
+      within = each_within (length i.leads.keys) (length new.keys) (pairs_out (outs_of i.out.items)) more inv.within;
+      waits_size = h.waits;
+      due_size = h.due;
+      table = h.table (outs_of i.out.items)
+          (subst (λ k. Each (AreIndices k) (pairs_out (outs_of i.out.items))) (sym c.len-first.ensures) inv.within) inv.table;
+      known = h.known (outs_of i.out.items) inv.table
+          (subst (λ (z : LeadsShown). Each (IsKnown z (flag i.waits) (flag i.due)) (pairs_of i.queue.items)) (sym back) inv.known);
+    }

@@ -1,0 +1,28 @@
+use Rattle.std.proofs.Common.{length, subst, sym, ◌∙◌, List, ℕ}
+use Rattle.formal_sums.specs.FormalSums.{Each}
+use Rattle.basis_steps.specs.Pairs.{Pair}
+use Rattle.basis_steps.specs.States.{pairs_out}
+use Rattle.pair_queue.proofs.Handing.{others_within}
+use Rattle.pair_queue.proofs.Knowing.{indices_queued}
+use Rattle.pair_queue.proofs.SameLeads.{each_out}
+use Rattle.pair_queue.specs.Pairs.{outs_of, pairs_of}
+use Rattle.pair_queue.specs.Tables.{AreIndices}
+use Rattle.pair_queue.proofs.pairs.PairQueue.give_back.Goals as goal
+
+pub close_job-requires-clause-within : goal.close_job-requires-clause-within
+close_job-requires-clause-within c = each_out (AreIndices (length c.self.inside.leads.keys)) c.self.inside.out.items c.self.invariant.within
+
+pub invariant_of-self : goal.invariant_of-self
+invariant_of-self c =
+    let inv = c.self.invariant in
+    let i = c.self.inside in
+    record {
+      real = inv.real;
+      sorted = inv.sorted;
+      within = subst (λ (l : List (Pair × ℕ)). Each (AreIndices (length i.leads.keys)) (pairs_out l)) (sym c.close_job.ensures.out)
+          (others_within (AreIndices (length i.leads.keys)) c.args.worker (outs_of i.out.items) inv.within);
+      waits_size = c.close_job.ensures.waits_size ∙ inv.waits_size;
+      due_size = c.close_job.ensures.due_size ∙ inv.due_size;
+      table = c.close_job.ensures.table (pairs_of i.queue.items) inv.table;
+      known = c.close_job.ensures.known (pairs_of i.queue.items) (indices_queued i.leads i.queue.items inv.real) inv.table inv.known;
+    }

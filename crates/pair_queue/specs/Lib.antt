@@ -1,0 +1,10 @@
+pub mod Leads
+pub mod Pairs
+pub mod Queues
+pub mod Queueing
+pub mod Rows
+pub mod Tables
+pub mod Skipping
+pub mod Giving
+pub mod Inside
+pub mod Shown

@@ -1,0 +1,24 @@
+//! The pairs of a basis run: which are queued, which are out with a worker, and which are skipped since a criterion
+//! applies. It knows the members of the run by their leads alone.
+#![tactic(auto)]
+
+mod closing;
+mod comparing;
+mod flags;
+mod given;
+mod giving;
+mod leads;
+mod merging;
+mod out;
+mod pairs;
+mod queue;
+mod queueing;
+mod row;
+mod sharing;
+mod skipping;
+mod sorting;
+mod table;
+
+pub use given::Given;
+pub use out::Out;
+pub use pairs::PairQueue;

@@ -1,0 +1,190 @@
+// The pairs of a run.
+ghost use Rattle.std.specs.Prelude.{ℕ, ◌≡◌, ◌<◌, ◌≤◌, ◌+◌, ◌++◌, [], length, IfOk, OnOk, OnErr};
+ghost use Rattle.formal_sums.specs.FormalSums.{Each};
+ghost use Rattle.monomial_orders.specs.Kept.{IsWeighed};
+ghost use Rattle.basis_steps.specs.Queues.{QueuesNewPairs};
+ghost use Rattle.basis_steps.specs.States.{with_others};
+ghost use Rattle.pair_queue.specs.Leads.{LeadsShown, setting_of, sums_shown};
+ghost use Rattle.pair_queue.specs.Pairs.{IsRealPair, outs_of, pairs_of};
+ghost use Rattle.pair_queue.specs.Shown.{IsGiven};
+
+use crate::given::Given;
+use crate::giving::{close_job, give};
+use crate::leads::Leads;
+use crate::out::Out;
+use crate::queue::{Queue, blank_pairs};
+use crate::queueing::queue_new_pairs;
+use crate::sharing::share_of;
+use crate::skipping::skip;
+use crate::table::Table;
+use module_vectors::{Key, NoMemory};
+use monomial_orders::{ModOrder, Order, Weights};
+use pair_criteria::Pair;
+use std::alloc::Global;
+use std::marker::Model;
+
+/// The pairs of a run: those that are queued, in their order, and those that are out with a worker; and the leads of the
+/// members. Contracts see these three. It knows of each queued pair whether a criterion applies to it.
+#[derive(Drop)]
+pub struct PairQueue {
+    leads: Leads,
+    queue: Queue,
+    out: Vec<Out>,
+    // Which pairs wait, in the queue or out.
+    waits: Table,
+    // Of the queued pairs those to which no criterion applies; what it says of others is not read.
+    due: Table,
+}
+
+impl Model for PairQueue {
+    ghost use Rattle.pair_queue.specs.Shown.{PairsShown};
+    ghost use Rattle.pair_queue.specs.Inside.{IsCoherent, shown};
+
+    ghost Value = { PairsShown };
+
+    ghost view = { shown };
+
+    ghost invariant = { IsCoherent };
+}
+
+impl PairQueue {
+    /// No leads and no pairs yet, over a ring with these orders and a variable of each of these weights, and a free module
+    /// of this rank.
+    pub fn new(
+        alloc: Global,
+        order: Order,
+        module_order: ModOrder,
+        weights: Weights,
+        rank: u128,
+    ) -> PairQueue
+        ensures leads { result.leads ≡ record {
+          order = order;
+          module_order = module_order;
+          variables = length weights;
+          weights = weights;
+          rank = rank;
+          keys = [];
+        } }
+        ensures queue { result.queue ≡ [] }
+        ensures out { result.out ≡ [] }
+    {
+        PairQueue {
+            leads: Leads::new(alloc, order, module_order, weights, rank),
+            queue: Queue::new(alloc),
+            out: Vec::new(alloc),
+            waits: Table::new(alloc),
+            due: Table::new(alloc),
+        }
+    }
+
+    /// New members have these leads: their pairs with every earlier member whose lead stands at the same position are
+    /// queued, each in its place.
+    ///
+    /// After `NoMemory` nothing has changed: the members are not there, and no pair is queued.
+    pub fn add(&mut self, alloc: Global, mut keys: Vec<Key>) -> Result<(), NoMemory>
+        requires { Each (λ k. IsWeighed self.old.leads.variables self.old.leads.weights k.monomial) keys.items }
+        ensures leads { OnOk result (self.new.leads ≡ record self.old.leads { keys = self.old.leads.keys ++ keys.items }) }
+        ensures queues { OnOk result (QueuesNewPairs (setting_of self.new.leads.variables self.new.leads) (length self.old.leads.keys)
+            (sums_shown self.new.leads) (pairs_of self.old.queue) (pairs_of self.new.queue)) }
+        ensures out { OnOk result (self.new.out ≡ self.old.out) }
+        ensures err { OnErr result (self.new ≡ self.old) }
+    {
+        let first = self.leads.len();
+        self.leads.append(&mut keys)?;
+        if let Err(stop) = queue_new_pairs(
+            alloc,
+            &self.leads,
+            first,
+            &mut self.queue,
+            &mut self.waits,
+            &mut self.due,
+        ) {
+            self.leads.truncate(first);
+            return Err(stop);
+        }
+        Ok(())
+    }
+
+    /// Skips the queued pairs to which a criterion applies, each time the first one, and gives the worker the first of those
+    /// left: at most `most` and what the budget leaves, and its share of those whose lcm has the least degree. IVA chapter
+    /// 2, section 10.
+    ///
+    /// There are `workers` workers, at least one, and `taken` pairs of the budget are taken already. After `NoMemory` nothing
+    /// has changed: no pair was skipped or given.
+    pub fn take(
+        &mut self,
+        alloc: Global,
+        worker: u32,
+        budget: u64,
+        workers: u32,
+        taken: u64,
+        most: u64,
+    ) -> Result<Given, NoMemory>
+        requires workers { 0 < workers }
+        requires taken { taken ≤ budget }
+        ensures ok { IfOk result (λ g. IsGiven self.old worker budget workers taken most g self.new) }
+        ensures budget { IfOk result (λ g. taken + length g.pairs.items ≤ budget) }
+        ensures err { OnErr result (self.new ≡ self.old) }
+    {
+        let count = self.queue.len();
+        let most_given = most.min(count as u64) as usize;
+        let mut skipped = Vec::with_capacity(alloc, count)?;
+        let mut given = Vec::with_capacity(alloc, most_given)?;
+        let mut pairs = blank_pairs(alloc, most_given)?;
+        self.out.reserve(most_given)?;
+        skip(
+            &self.leads,
+            &mut self.waits,
+            &mut self.due,
+            &mut self.queue,
+            &mut skipped,
+        );
+        let left = self.queue.as_slice();
+        let none_left = left.is_empty();
+        let share = share_of(budget, workers, taken, most, left);
+        pairs.truncate(share as usize);
+        self.queue.take_front(&mut pairs);
+        give(worker, &pairs, &mut self.out, &mut given);
+        // They came in lists with room for as many as were asked for.
+        skipped.shrink_to_fit();
+        given.shrink_to_fit();
+        pairs.shrink_to_fit();
+        Ok(Given {
+            skipped,
+            given,
+            pairs,
+            none_left,
+        })
+    }
+
+    /// The pairs of the worker are out no more, nor do they wait. It takes no memory.
+    pub fn give_back(&mut self, worker: u32)
+        ensures leads { self.new.leads ≡ self.old.leads }
+        ensures queue { self.new.queue ≡ self.old.queue }
+        ensures out { self.new.out ≡ with_others worker self.old.out }
+    {
+        close_job(
+            worker,
+            &mut self.out,
+            &self.leads,
+            &mut self.waits,
+            &mut self.due,
+        );
+    }
+
+    /// The queued pairs, each with its lcm, in their order: by the degree of the lcm, its monomial, the later member and the
+    /// earlier one.
+    pub fn queued(&self) -> &[Pair]
+        ensures queue { result.now ≡ self.now.queue }
+        ensures real { Each (IsRealPair self.now.leads) result.now }
+    {
+        self.queue.as_slice()
+    }
+
+    /// The pairs that are out.
+    pub fn out(&self) -> &[Out]
+        ensures { outs_of result.now ≡ self.now.out }
+    {
+        &self.out
+    }
+}

@@ -1,0 +1,63 @@
+// New pairs join the queue.
+ghost use Rattle.std.specs.Prelude.{ℕ, ◌≡◌, ◌<◌, ◌≤◌, List, length, take, OnOk, OnErr};
+ghost use Rattle.formal_sums.specs.FormalSums.{Each};
+ghost use Rattle.basis_steps.specs.Pairs.{Pair as PlainPair};
+ghost use Rattle.basis_steps.specs.Queues.{IsSorted, QueuesNewPairs};
+ghost use Rattle.basis_steps.specs.States.{pairs_out};
+ghost use Rattle.pair_queue.specs.Leads.{lead_sums, setting_of, sums_shown};
+ghost use Rattle.pair_queue.specs.Pairs.{IsRealPair, pairs_of};
+ghost use Rattle.pair_queue.specs.Skipping.{IsKnown};
+ghost use Rattle.pair_queue.specs.Tables.{AreIndices, HasSameFlags, IsTable, flag, size};
+
+use crate::flags::{flag_pairs, new_pairs};
+use crate::leads::Leads;
+use crate::merging::merge;
+use crate::queue::Queue;
+use crate::sorting::sort_pairs;
+use crate::table::Table;
+use module_vectors::NoMemory;
+use std::alloc::Global;
+use std::mem::replace;
+
+/// Queues the pairs of the members from number `first` on with every earlier one whose lead stands at the same position,
+/// each in its place, and flags them. After an error queue and flags are as before.
+pub(crate) fn queue_new_pairs(
+    alloc: Global,
+    leads: &Leads,
+    first: usize,
+    queue: &mut Queue,
+    waits: &mut Table,
+    due: &mut Table,
+) -> Result<(), NoMemory>
+    requires first { first ≤ length leads.now.keys }
+    requires real { Each (IsRealPair leads.now) queue.old.items }
+    requires within { Each (AreIndices first) (pairs_of queue.old.items) }
+    requires sorted { IsSorted (setting_of leads.now.variables leads.now) (sums_shown leads.now) (pairs_of queue.old.items) }
+    requires waits { size waits.old ≡ first }
+    requires due { size due.old ≡ first }
+    ensures real { OnOk result (Each (IsRealPair leads.now) queue.new.items) }
+    ensures queues { OnOk result (QueuesNewPairs (setting_of leads.now.variables leads.now) first
+        (sums_shown leads.now) (pairs_of queue.old.items) (pairs_of queue.new.items)) }
+    ensures waits { OnOk result (size waits.new ≡ length leads.now.keys) }
+    ensures due { OnOk result (size due.new ≡ length leads.now.keys) }
+    ensures table { OnOk result ((out : List (PlainPair × ℕ)) → Each (AreIndices first) (pairs_out out)
+        → IsTable (flag waits.old) (pairs_of queue.old.items) out → IsTable (flag waits.new) (pairs_of queue.new.items) out) }
+    ensures known { OnOk result ((out : List (PlainPair × ℕ)) → IsTable (flag waits.old) (pairs_of queue.old.items) out
+        → Each (IsKnown (record leads.now { keys = take first leads.now.keys }) (flag waits.old) (flag due.old)) (pairs_of queue.old.items)
+        → Each (IsKnown leads.now (flag waits.new) (flag due.new)) (pairs_of queue.new.items)) }
+    ensures queue_kept { OnErr result (queue.new.items ≡ queue.old.items) }
+    ensures waits_kept { OnErr result (HasSameFlags waits.old waits.new) }
+    ensures due_kept { OnErr result (HasSameFlags due.old due.new) }
+{
+    let added = new_pairs(alloc, leads, first)?;
+    let pairs = sort_pairs(alloc, leads, added)?;
+    let room = Vec::with_capacity(alloc, queue.as_slice().len() + pairs.len())?;
+    waits.reserve(alloc, leads.len())?;
+    due.reserve(alloc, leads.len())?;
+    waits.grow(leads.len());
+    due.grow(leads.len());
+    flag_pairs(leads, &pairs, waits, due);
+    let queued = replace(queue, Queue::new(alloc)).into_pairs();
+    *queue = Queue::from_vec(merge(leads, queued, pairs, room));
+    Ok(())
+}

@@ -1,0 +1,167 @@
+// A flag for each pair.
+ghost use Rattle.std.specs.Prelude.{ℕ, ◌≡◌, ◌<◌, ◌≤◌, ◌+◌, ◌&&◌, OnErr, OnOk, cond, false, get_or, true, length, nat_eq};
+ghost use Rattle.basis_steps.specs.Pairs.{Pair as PlainPair, is_same_pair, pair_of};
+ghost use Rattle.pair_queue.specs.Tables.{AreWide, AreWideTo, HasSameFlags, flag, has_at, room, size};
+
+use crate::row::Row;
+use module_vectors::NoMemory;
+use std::alloc::Global;
+use std::marker::Model;
+
+/// A flag for each pair of members, kept in the rows of both.
+#[derive(Drop)]
+pub(crate) struct Table {
+    members: usize,
+    // A row for each member, with a flag for each; and what is there for more, where no flag is set.
+    rows: Vec<Row>,
+}
+
+impl Model for Table {
+    ghost use Rattle.pair_queue.specs.Tables.{AreMirrored, TableShown};
+
+    ghost Value = { TableShown };
+
+    ghost view = { λ t. record { members = t.members; rows = t.rows.items } };
+
+    ghost invariant = { λ t. AreMirrored (record { members = t.members; rows = t.rows.items }) };
+}
+
+// Sets the flag of member c in the row of member a, or takes it away.
+fn put_at(rows: &mut Vec<Row>, a: usize, c: usize, set: bool)
+    requires a { a < length rows.old.items }
+    requires wide { AreWide (length rows.old.items) rows.old.items }
+    requires c { c < length rows.old.items }
+    ensures len { length rows.new.items ≡ length rows.old.items }
+    ensures wide { AreWide (length rows.old.items) rows.new.items }
+    ensures flags { (b d : ℕ) → has_at rows.new.items b d ≡ cond (nat_eq b a && nat_eq d c) set (has_at rows.old.items b d) }
+{
+    rows[a].put(c, set);
+}
+
+// Makes room for so many flags in the row of member a.
+fn widen_at(rows: &mut Vec<Row>, a: usize, width: usize) -> Result<(), NoMemory>
+    requires { a < length rows.old.items }
+    ensures len { length rows.new.items ≡ length rows.old.items }
+    ensures wide { OnOk result (AreWideTo a width rows.old.items → AreWideTo (a + 1) width rows.new.items) }
+    ensures wider { (k : ℕ) → AreWide k rows.old.items → AreWide k rows.new.items }
+    ensures flags { (b d : ℕ) → has_at rows.new.items b d ≡ has_at rows.old.items b d }
+{
+    rows[a].reserve(width)
+}
+
+// Makes room for so many flags in each row. After an error some have it.
+fn widen(rows: &mut Vec<Row>, width: usize) -> Result<(), NoMemory>
+    ensures len { length rows.new.items ≡ length rows.old.items }
+    ensures wide { OnOk result (AreWide width rows.new.items) }
+    ensures wider { (k : ℕ) → AreWide k rows.old.items → AreWide k rows.new.items }
+    ensures flags { (b d : ℕ) → has_at rows.new.items b d ≡ has_at rows.old.items b d }
+{
+    for a in 0..rows.len() {
+        widen_at(rows, a, width)?;
+    }
+    Ok(())
+}
+
+// Appends a row for so many flags, of which none is set.
+fn push_row(alloc: Global, rows: &mut Vec<Row>, width: usize) -> Result<(), NoMemory>
+    requires { AreWide width rows.old.items }
+    ensures len { OnOk result (length rows.new.items ≡ length rows.old.items + 1) }
+    ensures wide { OnOk result (AreWide width rows.new.items) }
+    ensures flags { OnOk result ((b d : ℕ) → has_at rows.new.items b d ≡ has_at rows.old.items b d) }
+    ensures err { OnErr result (rows.new.items ≡ rows.old.items) }
+{
+    let mut row = Row::new(alloc);
+    row.reserve(width)?;
+    rows.push(row)?;
+    Ok(())
+}
+
+// Appends rows for so many flags until there are so many rows. After an error some are there.
+fn push_rows(alloc: Global, rows: &mut Vec<Row>, width: usize) -> Result<(), NoMemory>
+    requires wide { AreWide width rows.old.items }
+    requires few { length rows.old.items ≤ width }
+    ensures more { length rows.old.items ≤ length rows.new.items }
+    ensures few { length rows.new.items ≤ width }
+    ensures enough { OnOk result (width ≤ length rows.new.items) }
+    ensures wide { AreWide width rows.new.items }
+    ensures flags { (b d : ℕ) → has_at rows.new.items b d ≡ has_at rows.old.items b d }
+{
+    while rows.len() < width {
+        push_row(alloc, rows, width)?;
+    }
+    Ok(())
+}
+
+impl Table {
+    /// A table for no members.
+    pub(crate) fn new(alloc: Global) -> Table
+        ensures sizes { size result ≡ 0 }
+        ensures flags { (x : PlainPair) → (flag result) x ≡ false }
+    {
+        Table {
+            members: 0,
+            rows: Vec::new(alloc),
+        }
+    }
+
+    /// Makes room for so many members. The flags stay, after `NoMemory` too.
+    pub(crate) fn reserve(&mut self, alloc: Global, count: usize) -> Result<(), NoMemory>
+        ensures same { HasSameFlags self.old self.new }
+        ensures room { OnOk result (count ≤ room self.new) }
+    {
+        if count <= self.rows.len() {
+            return Ok(());
+        }
+        // Members come one at a time: the next 63 ask each row for nothing.
+        let width = count.saturating_add(63);
+        widen(&mut self.rows, width)?;
+        push_rows(alloc, &mut self.rows, width)
+    }
+
+    /// Now it is for so many members, for which it has room. The flags stay, and the pairs of new members have none.
+    pub(crate) fn grow(&mut self, count: usize)
+        requires more { size self.old ≤ count }
+        requires room { count ≤ room self.old }
+        ensures sizes { size self.new ≡ count }
+        ensures flags { (x : PlainPair) → (flag self.new) x ≡ (flag self.old) x }
+    {
+        self.members = count;
+    }
+
+    /// Has the pair of i and j its flag?
+    pub(crate) fn has(&self, i: usize, j: usize) -> bool
+        requires order { i < j }
+        requires within { j < size self.now }
+        ensures { result ≡ (flag self.now) (i, j) }
+    {
+        self.rows[j].has(i)
+    }
+
+    /// Gives the pair of i and j its flag, or takes it away.
+    pub(crate) fn put(&mut self, i: usize, j: usize, set: bool)
+        requires order { i < j }
+        requires within { j < size self.old }
+        ensures sizes { size self.new ≡ size self.old }
+        ensures flags { (x : PlainPair) → (flag self.new) x ≡ cond (is_same_pair x (i, j)) set ((flag self.old) x) }
+    {
+        put_at(&mut self.rows, j, i, set);
+        put_at(&mut self.rows, i, j, set);
+    }
+
+    /// The first member from `first` on whose pair with a has its flag here, and whose pair with b has none in the other
+    /// table; the number of members where there is none.
+    pub(crate) fn first_without(&self, a: usize, other: &Table, b: usize, first: usize) -> usize
+        requires a { a < size self.now }
+        requires b { b < size self.now }
+        requires sizes { size other.now ≡ size self.now }
+        ensures before { (c : ℕ) → first ≤ c → c < result → (flag self.now) (pair_of a c) ≡ true → (flag other.now) (pair_of b c) ≡ true }
+        ensures here { result < size self.now → (flag self.now) (pair_of a result) ≡ true }
+        ensures there { result < size self.now → (flag other.now) (pair_of b result) ≡ false }
+        ensures later { result < size self.now → first ≤ result }
+    {
+        match self.rows[a].first_without(&other.rows[b], first) {
+            Some(member) => member,
+            None => self.members,
+        }
+    }
+}
