@@ -1,12 +1,11 @@
 -- Statements that say the same do the same
-use Rattle.std.proofs.Common.{List, Some, [], ap, ap₂, codes, false, refl, subst, subst₂, sym, true, ℕ, ◌++◌, ◌∙◌, ◌∷◌, ◌≡◌}
+use Rattle.std.proofs.Common.{List, Some, [], ap, ap₂, codes, false, length, refl, subst, subst₂, sym, true, ℕ, ◌++◌, ◌∙◌, ◌∷◌, ◌≡◌}
 use mathlib.Core.Bool.{Bool-set}
 use mathlib.Core.HLevel.{is_prop→PathP}
+use Rattle.std.proofs.Math.Nat.{ℕ_set}
 use Rattle.std.specs.Prelude.{string_bytes}
 use Rattle.zp_field.specs.Moduli.{is_modulus}
 use Rattle.zp_field.specs.declared.modulus.Modulus.{Modulus}
-use Rattle.monomial_orders.specs.declared.order.ModOrder.{ModOrder}
-use Rattle.monomial_orders.specs.declared.order.Order.{Order}
 use Rattle.module_vectors.specs.declared.key.Key.{Key}
 use Rattle.module_vectors.specs.declared.ring.Ring.{Ring}
 use Rattle.poly_text.specs.Texts.{names_of, poly_text}
@@ -25,15 +24,19 @@ Terms = List (Key × ℕ)
 some_same : {X : Type 0} {x y : X} → Some x ≡ Some y → x ≡ y
 some_same e = cc
 
--- rings of one modulus, with the same names and orders, are one
+-- rings of one modulus, with the same names, orders and weights, are one
 modulus_same : (m n : Modulus) → m.value ≡ n.value → m ≡ n
 modulus_same m n e = λ i. record { value = e i; table = is_prop→PathP (λ i. is_modulus (e i) ≡ true) (λ i. Bool-set (is_modulus (e i)) true) m.table n.table i }
 
-abbrev ring_of : Modulus → List (List ℕ) → Order → ModOrder → Ring
-ring_of m v o d = record { modulus = m; vars = v; order = o; module_order = d }
-
-ring_same : (r s : Ring) → r.modulus ≡ s.modulus → r.vars ≡ s.vars → r.order ≡ s.order → r.module_order ≡ s.module_order → r ≡ s
-ring_same r s a b c d = λ i. ring_of (a i) (b i) (c i) (d i)
+ring_same : (r s : Ring) → r.modulus ≡ s.modulus → r.vars ≡ s.vars → r.order ≡ s.order → r.module_order ≡ s.module_order → r.weights ≡ s.weights → r ≡ s
+ring_same r s a b c d e = λ i. record {
+  modulus = a i;
+  vars = b i;
+  order = c i;
+  module_order = d i;
+  weights = e i;
+  weighted = is_prop→PathP (λ i. length (e i) ≡ length (b i)) (λ i. ℕ_set (length (e i)) (length (b i))) r.weighted s.weighted i;
+}
 
 abbrev stated : Ring → State
 stated r = record { ring = Some r; values = [] }
@@ -42,7 +45,7 @@ abbrev given : State → List ℕ → List Terms → State
 given before name list = record { ring = before.ring; values = with_value (record { name = name; rank = 1; list = list; kept = false }) before.values }
 
 stated_once : (r s : Ring) → IsSameStatement (statements.Ring r) (statements.Ring s) → stated r ≡ stated s
-stated_once r s e = ap stated (ring_same r s (modulus_same r.modulus s.modulus e.0) e.1 e.2 e.3)
+stated_once r s e = ap stated (ring_same r s (modulus_same r.modulus s.modulus e.0) e.1 e.2 e.3 e.4)
 
 module _ (before : State) where
   -- a polynomial is printed one way
@@ -58,7 +61,8 @@ module _ (before : State) where
       → x ≡ listing (codes "gens") r v v.list → y ≡ listing (codes "gens") s w w.list → x ≡ y
   listed_once m n r s v w x y e has has' text text' =
       let there : HasValue before m s w = subst (λ z. HasValue before z s w) (sym e) has' in
-      text ∙ ap₂ (λ ring value. listing (codes "gens") ring value value.list) (one_ring before m m r s v w has there) (one_value before m r s v w has there) ∙ sym text'
+      text ∙ ap₂ (λ ring value. listing (codes "gens") ring value value.list) (one_ring before m m r s v w has there) (one_value before m r s v w has there)
+      ∙ sym text'
 
   asked_once : (m n : List ℕ) (a b : Asked) (x y : List ℕ) → m ≡ n → a ≡ b → Answers before m a x → Answers before n b y → x ≡ y
   asked_once m n a b x y e f g h = answers_once before m a x y g (subst₂ (λ name asked. Answers before name asked y) (sym e) (sym f) h)
@@ -103,14 +107,23 @@ module _ (before : State) where
   does_once (statements.Gb m) (statements.Gb n) p q x y e a b =
       (a.0 ∙ kept_once (string_bytes m) (string_bytes n) e ∙ sym b.0, asked_once (string_bytes m) (string_bytes n) basis basis x y e refl a.1 b.1)
   does_once (statements.Gb m) _ p q x y e a b = absurd e
-  does_once (statements.Size m) (statements.Size n) p q x y e a b =
-      (a.0 ∙ kept_once (string_bytes m) (string_bytes n) e ∙ sym b.0, asked_once (string_bytes m) (string_bytes n) sizes_of_basis sizes_of_basis x y e refl a.1 b.1)
+  does_once (statements.Size m) (statements.Size n) p q x y e a b = (
+    a.0 ∙ kept_once (string_bytes m) (string_bytes n) e ∙ sym b.0,
+    asked_once (string_bytes m)
+        (string_bytes n) sizes_of_basis sizes_of_basis x y e refl a.1 b.1,
+  )
   does_once (statements.Size m) _ p q x y e a b = absurd e
-  does_once (statements.NormalForm m v) (statements.NormalForm n w) p q x y e a b =
-      (a.0 ∙ kept_once (string_bytes m) (string_bytes n) e.0 ∙ sym b.0, asked_once (string_bytes m) (string_bytes n) (normal_form v) (normal_form w) x y e.0 (ap normal_form e.1) a.1 b.1)
+  does_once (statements.NormalForm m v) (statements.NormalForm n w) p q x y e a b = (
+    a.0 ∙ kept_once (string_bytes m) (string_bytes n) e.0
+        ∙ sym b.0,
+    asked_once (string_bytes m) (string_bytes n) (normal_form v) (normal_form w) x y e.0 (ap normal_form e.1) a.1 b.1,
+  )
   does_once (statements.NormalForm m v) _ p q x y e a b = absurd e
-  does_once (statements.Member m v) (statements.Member n w) p q x y e a b =
-      (a.0 ∙ kept_once (string_bytes m) (string_bytes n) e.0 ∙ sym b.0, asked_once (string_bytes m) (string_bytes n) (member v) (member w) x y e.0 (ap member e.1) a.1 b.1)
+  does_once (statements.Member m v) (statements.Member n w) p q x y e a b = (
+    a.0 ∙ kept_once (string_bytes m) (string_bytes n) e.0
+        ∙ sym b.0,
+    asked_once (string_bytes m) (string_bytes n) (member v) (member w) x y e.0 (ap member e.1) a.1 b.1,
+  )
   does_once (statements.Member m v) _ p q x y e a b = absurd e
   does_once (statements.Equal k m) (statements.Equal l n) p q x y e a b =
       let c = a.1 in

@@ -32,7 +32,8 @@ rank_of None = None
 rank_of (Some v) = Some v.rank
 
 -- what is told of a name is the rank of the value that has it
-pub ranks_told : (values : List Value) (infos : List NameInfo) (text : List ℕ) → AreInfosOf values infos → rank_named infos text ≡ rank_of (value_named values text)
+pub ranks_told : (values : List Value) (infos : List NameInfo) (text : List ℕ) → AreInfosOf values infos
+    → rank_named infos text ≡ rank_of (value_named values text)
 ranks_told [] [] text h = refl
 ranks_told [] (i ∷ infos) text h = absurd h
 ranks_told (v ∷ values) [] text h = absurd h
@@ -65,7 +66,7 @@ module _ (ring : Option Ring) (infos more : List NameInfo) (line : List ℕ) (sa
   other_rank (equal_line s t) (q, r, e, f, ne) = (q, r, sym (same (text_of line s)) ∙ e, sym (same (text_of line t)) ∙ f, ne)
   other_rank (ideal_line t ps) h = h
   other_rank nothing h = h
-  other_rank (ring_line m first rest o) h = h
+  other_rank (ring_line words) h = h
   other_rank (show_line p) h = h
   other_rank (ask_line q t) h = h
 
@@ -125,7 +126,8 @@ module _ (values : List Value) (infos : List NameInfo) (line : List ℕ) (told :
           apart : {X : Type 0} {x : X} → None ≡ Some x → ⊥
           apart e = cc
 
-      go : (o : Option ℕ) → rank_named infos (text_of line t) ≡ o → (v : Value) × (value_named values (text_of line t) ≡ Some v) × (rank_named infos (text_of line t) ≡ Some v.rank)
+      go : (o : Option ℕ) → rank_named infos (text_of line t) ≡ o → (v : Value) × (value_named values (text_of line t) ≡ Some v)
+          × (rank_named infos (text_of line t) ≡ Some v.rank)
       go None e = absurd (free kinds.Name (w, is, inl (t, inr stands, (λ h. free kinds.OfKind (w, is, inr (t, stands, h))), none_there e)))
       go (Some r) e =
           let x = value_of_rank (value_named values (text_of line t)) r (sym (ranks_told values infos (text_of line t) told) ∙ e) in
@@ -137,7 +139,8 @@ module _ (values : List Value) (infos : List NameInfo) (line : List ℕ) (told :
   at_name ring name text v e h = record { stated = refl; named = ap (value_named values) e ∙ h }
 
   given :
-      (ring : Ring) (w : Written) (t : Token) (name : List ℕ) → IsLine line w → ((kind : Kind) → Holds (Some ring) infos line kind → ⊥) → Contains (value_places w) t → name ≡ text_of line t
+      (ring : Ring) (w : Written) (t : Token) (name : List ℕ) → IsLine line w → ((kind : Kind) → Holds (Some ring) infos line kind → ⊥)
+      → Contains (value_places w) t → name ≡ text_of line t
       → (v : Value) × HasValue (record { ring = Some ring; values = values }) name ring v × (rank_named infos (text_of line t) ≡ Some v.rank)
   given ring w t name is free stands e =
       let x = placed ring w t is free stands in
@@ -182,8 +185,8 @@ module _ (values : List Value) (infos : List NameInfo) (line : List ℕ) (told :
       → Says ring line w s → IsFit (record { ring = ring; values = values }) s
   fit ring nothing statements.Nothing is free h = tt
   fit ring nothing _ is free h = absurd h
-  fit ring (ring_line m first rest o) (statements.Ring r) is free h = tt
-  fit ring (ring_line m first rest o) _ is free h = absurd h
+  fit ring (ring_line words) (statements.Ring r) is free h = tt
+  fit ring (ring_line words) _ is free h = absurd h
   fit (Some r) (show_line p) (statements.Show v) is free h = (r, refl, h.0)
   fit (Some r) (show_line p) _ is free h = absurd h
   fit None (show_line p) s is free h = absurd h
@@ -206,5 +209,6 @@ module _ (values : List Value) (infos : List NameInfo) (line : List ℕ) (told :
   fit ring (equal_line s t) (statements.Equal a b) is free h = compared ring s t (string_bytes a) (string_bytes b) is free h.0 h.1
   fit ring (equal_line s t) _ is free h = absurd h
 
-pub stated_fits : (before : State) (infos : List NameInfo) (line : List ℕ) (s : Statement) → AreInfosOf before.values infos → States before.ring infos line s → IsFit before s
+pub stated_fits : (before : State) (infos : List NameInfo) (line : List ℕ) (s : Statement) → AreInfosOf before.values infos → States before.ring infos line s
+    → IsFit before s
 stated_fits before infos line s told h = fit before.values infos line told before.ring h.written s h.is_line h.free h.says

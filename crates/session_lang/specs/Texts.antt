@@ -1,6 +1,6 @@
 -- What is printed of a value
 use Rattle.std.specs.List.{range_with_len}
-use Rattle.std.specs.Prelude.{Bool, List, [], codes, false, flat_map, if◌then◌else◌, length, max, sum, suc, true, ℕ, ◌+◌, ◌++◌, ◌==◌, ◌∷◌}
+use Rattle.std.specs.Prelude.{Bool, List, [], codes, false, flat_map, if◌then◌else◌, length, max, suc, true, ℕ, ◌+◌, ◌++◌, ◌==◌, ◌∷◌}
 use Rattle.std.specs.Fmt.{decimal}
 use Rattle.module_vectors.specs.declared.key.Key.{Key}
 use Rattle.module_vectors.specs.declared.ring.Ring.{Ring}
@@ -15,10 +15,10 @@ heading word name count = word ++ 32 ∷ (name ++ 32 ∷ (decimal count ++ 10 �
 abbrev pub listing : List ℕ → Ring → Value → List (List (Key × ℕ)) → List ℕ
 listing word ring value list = heading word value.name (length list) ++ list_text (names_of ring) value.rank list
 
--- the total degree of the first key, 0 where there is none
+-- the degree of the first key by the weights of its variables, 0 where there is none
 abbrev pub lead_degree : List (Key × ℕ) → ℕ
 lead_degree [] = 0
-lead_degree (t ∷ v) = sum t.0.monomial
+lead_degree (t ∷ v) = t.0.monomial.degree
 
 -- how many vectors have a lead of this degree
 abbrev pub degree_count : List (List (Key × ℕ)) → ℕ → ℕ

@@ -266,7 +266,7 @@ impl Session {
     /// Does a line and appends its text, or answers the first kind of refusal that holds of it.
     ///
     /// `Memory` comes where a growth was refused, while the line was read or done; `Pairs` and `Degree` where a run that
-    /// the line needs met its budget or needed a product of total degree above 65,535; `Trail`, with the chain of products
+    /// the line needs met its budget or needed a product of degree above 65,535; `Trail`, with the chain of products
     /// to it, where a division by a reduced basis needed one. After a refusal and after each error session and text are as
     /// before, so no basis is kept that was not. The engine counts and keeps a run that stopped; else its count and the
     /// run that it keeps are as before, and its settings always are.

@@ -7,7 +7,7 @@ use crate::texts::{append_heading, whole_or_none};
 use itoa::Buffer;
 use module_vectors::{NoMemory, Vect};
 
-/// The total degree of the lead, 0 at zero.
+/// The degree of the lead by the weights of its variables, 0 at zero.
 fn lead_degree(v: &Vect) -> u128
     ensures { result ≡ lead_degree v.now }
 {

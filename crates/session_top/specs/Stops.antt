@@ -1,6 +1,9 @@
 -- When a run of a line, or a division in it, stops a script, and the line that tells it.
-use Rattle.std.specs.Prelude.{◌≡◌, ℕ, ◌+◌, ◌⊎◌, List, [], ◌∷◌, ◌++◌, Option, None, Some, length, sum, codes}
+use Rattle.std.specs.Prelude.{◌≡◌, ℕ, ◌+◌, ◌⊎◌, List, [], ◌∷◌, ◌++◌, Option, None, Some, length, codes}
 use Rattle.std.specs.Fmt.{decimal}
+use Rattle.monomials.specs.Exponents.{exponents_of}
+use Rattle.monomials.specs.Weights.{weighted_degree}
+use Rattle.monomial_orders.specs.Kept.{Monomial}
 use Rattle.module_vectors.specs.Rings.{variables}
 use Rattle.module_vectors.specs.Trails.{Step, last_step}
 use Rattle.module_vectors.specs.declared.trail.KeptTrail.{KeptTrail}
@@ -16,14 +19,18 @@ use Rattle.session_lang.specs.Names.{State}
 use Rattle.session_lang.specs.Stops.{TrailOf}
 use Rattle.session_top.specs.Limits.{Limits}
 
--- the degree of the product that these steps lead to, by this last monomial
-abbrev pub product_degree : List Step → List ℕ → ℕ
-product_degree [] last = 0
-product_degree (first ∷ later) last = sum (last_step first later).1 + sum last
+-- the degree of a monomial by these weights
+abbrev pub degree_by : List ℕ → Monomial → ℕ
+degree_by ws m = weighted_degree ws (exponents_of (length m.exponents) m.exponents)
 
--- the degree of the product that a trail leads to
+-- the degree of the product that these steps lead to, by this last monomial
+abbrev pub product_degree : (weights : List ℕ) → List Step → (last : Monomial) → ℕ
+product_degree ws [] last = 0
+product_degree ws (first ∷ later) last = degree_by ws (last_step first later).1 + degree_by ws last
+
+-- the degree of the product that a trail leads to, by the weights of its ring
 abbrev pub trail_degree : KeptTrail → ℕ
-trail_degree t = product_degree t.steps.items t.last
+trail_degree t = product_degree t.ring.weights t.steps.items t.last
 
 -- the line that tells a stop by the budget: how many pairs were taken, and how many are queued
 abbrev pub pairs_line : Shown → List ℕ

@@ -254,5 +254,7 @@ pub fn do_lines<R: Threads + Wait + Sync, K: Sink>(
         session: Session::new(alloc),
         out: Vec::new(alloc),
     };
-    do_all(rt, alloc, &mut desk, sink, text, is_cut)
+    let result = do_all(rt, alloc, &mut desk, sink, text, is_cut);
+    drop(desk);
+    result
 }

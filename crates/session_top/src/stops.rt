@@ -1,33 +1,49 @@
 // The line that tells a stop.
-ghost use Rattle.std.specs.Prelude.{◌≡◌, ◌<◌, ◌^◌, ◌++◌, OnOk, OnErr, sum};
+ghost use Rattle.std.specs.Prelude.{◌≡◌, ◌<◌, ◌^◌, ◌++◌, OnOk, OnErr, drop};
 ghost use Rattle.std.specs.Fmt.{decimal};
 ghost use Rattle.std.specs.Io.KnownBytes.{Appends};
+ghost use Rattle.monomials.specs.Weights.{first_weight};
 ghost use Rattle.byte_ports.specs.Causes.{AppendsFront, HasCause};
-ghost use Rattle.session_top.specs.Stops.{degree_line, pairs_line, stop_line, trail_degree};
+ghost use Rattle.session_top.specs.Stops.{degree_by, degree_line, pairs_line, stop_line, trail_degree};
 
 use crate::early::Kept;
 use basis_core::BasisState;
 use byte_ports::{Failed, Sink, write_all_to};
 use itoa::Buffer;
 use module_vectors::KeptTrail;
-use monomial_orders::Mono;
+use monomial_orders::{Mono, Weights};
 
-/// The total degree of a monomial. Two such sums fit: an exponent has 16 bits, and the number of exponents has 64.
-fn degree_of(monomial: &Mono) -> u128
-    ensures value { result ≡ sum monomial.now }
-    ensures small { result < 2 ^ 80 }
+/// The weight of the variable with this index, from 0: 1 where there is none.
+fn weight_at(weights: &Weights, k: usize) -> u8
+    ensures { result ≡ first_weight (drop k weights.now) }
 {
-    monomial.bounds();
-    let _variables = monomial.variables();
-    monomial.degree()
+    match weights.as_slice().get(k) {
+        Some(weight) => *weight,
+        None => 1,
+    }
 }
 
-/// The total degree of the product that a trail leads to, 0 for one without steps.
+/// The degree of a monomial by these weights. Two such degrees fit: a weight has 8 bits, an exponent 16, and the number of
+/// exponents 64.
+fn degree_of(weights: &Weights, monomial: &Mono) -> u128
+    ensures value { result ≡ degree_by weights.now monomial.now }
+    ensures small { result < 2 ^ 88 }
+{
+    let exponents = monomial.exponents();
+    let mut degree: u128 = 0;
+    for k in 0..exponents.len() {
+        degree += u128::from(weight_at(weights, k)) * u128::from(exponents[k]);
+    }
+    degree
+}
+
+/// The degree of the product that a trail leads to, by the weights of its ring; 0 for one without steps.
 fn trail_degree(trail: &KeptTrail) -> u128
     ensures { result ≡ trail_degree trail.now }
 {
+    let weights = &trail.ring.weights;
     match trail.steps.split_last() {
-        Some((step, _)) => degree_of(&step.1) + degree_of(&trail.last),
+        Some((step, _)) => degree_of(weights, &step.1) + degree_of(weights, &trail.last),
         None => 0,
     }
 }

@@ -96,11 +96,12 @@ const LINES: &str = "ring 7 x lex\nshow x\nshow x+1\nshow y";
 const BASIS: &str = "ring 101 x,y grevlex\nideal I = x^2+y, x*y\ngb I\n";
 
 /// How many cases there are.
-const CASES: usize = 14;
+const CASES: usize = 15;
 
 /// Each case by its number: words that are not of the form; a script without a fault that is met, with a read that fails, with
 /// a write that fails, and with one that fails within the stop line; a run that meets its budget; and each kind of stop by a
-/// degree: in a run where a tail is divided, in one where a pair is worked on, before a run has a state, and in a division.
+/// degree: in a run where a tail is divided, in one where a pair is worked on, before a run has a state, in a division, and in
+/// a division by weights.
 fn case_of(number: usize) -> Case {
     match number {
         0 => calm("p", "", "error words\n", plain(2, 0)),
@@ -136,10 +137,16 @@ fn case_of(number: usize) -> Case {
             "stop degree 65935\n",
             degree_stop(4, None, ("term", 2, 1, 65, 64935, 1000)),
         ),
-        _ => calm(
+        13 => calm(
             "p run",
             "ring 101 b,c lex\nideal D = b-c^1000\ngb D\nnf D b^1000\n",
             "gb D 1\nb+100*c^1000\nstop degree 65935\n",
+            degree_stop(4, None, ("term", 0, 1, 65, 64935, 1000)),
+        ),
+        _ => calm(
+            "p run",
+            "ring 101 b,c lex weights 1,200\nideal D = b-c^5\ngb D\nnf D b^1000\n",
+            "gb D 1\nb+100*c^5\nstop degree 65935\n",
             degree_stop(4, None, ("term", 0, 1, 65, 64935, 1000)),
         ),
     }

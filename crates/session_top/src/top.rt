@@ -27,8 +27,8 @@ use worker_gate::{Gate, SharedGate};
 pub struct Ended {
     /// 0: all lines were done and the input was read to its end. 1: a line was refused, or the script
     /// is too long. 2: the words are not of the form. 3: a read failed. 4: a write failed. 5: memory
-    /// ran out. 6: a basis run met its budget of pairs. 7: a product of total degree above 65,535 was
-    /// needed.
+    /// ran out. 6: a basis run met its budget of pairs. 7: a product of degree above 65,535, by the
+    /// ring's weights, was needed.
     pub status: u8,
 
     /// The line that was refused (0 for the length of the script) or that stopped, or under status 5

@@ -9,5 +9,5 @@ pub returns-clause-stops : goal.returns-clause-stops
 returns-clause-stops g c =
     let same : limits_in c.new.result ≡ limits_of c.args.request = λ i. (c.new.ensures.pairs i, c.new.ensures.workers i) in
     subst
-    (λ l. IfErr c.do_all.result (LinesStop (g.K.Sink.taken c.args.sink.now) (g.K.Sink.taken c.do_all.new.sink) l (lines_in c.args.is_cut c.args.text.now) (last_of c.args.is_cut)))
-    same c.do_all.ensures.stops
+    (λ l. IfErr c.do_all-result.result (LinesStop (g.K.Sink.taken c.args.sink.now) (g.K.Sink.taken c.do_all-result.new.sink) l (lines_in c.args.is_cut c.args.text.now) (last_of c.args.is_cut)))
+    same c.do_all-result.ensures.stops

@@ -4,5 +4,6 @@ use Rattle.session_top.proofs.stops.trail_degree.Goals as goal
 
 pub returns-in-Some : goal.returns-in-Some
 returns-in-Some c =
-    ap₂ (λ x y. x + y) c.degree_of.ensures.value c.degree_of-in-Some.ensures.value
-    ∙ degree_at c.args.trail.now.steps.items _ _ c.args.trail.now.last (sym c.deref.ensures.value ∙ c.in-Some.ensures.cases.0)
+    let trail = c.args.trail.now in
+    ap₂ ◌+◌ c.degree_of.ensures.value c.degree_of-in-Some.ensures.value
+    ∙ degree_at trail.ring.weights trail.steps.items _ _ trail.last (sym c.deref.ensures.value ∙ c.in-Some.ensures.cases.0)

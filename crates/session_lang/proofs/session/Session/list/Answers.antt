@@ -16,9 +16,10 @@ use Rattle.session_lang.proofs.Values.{kept_as_many, place_bound, sound_at}
 use Rattle.session_lang.proofs.session.Session.list.Goals as goal
 
 -- vectors over a ring have its variables
-listed : (ring : Ring) (list : List (List (Key × ℕ))) → AreVectorsOver ring (ring_comparison ring) list → Each (λ v. Each (HasVariables (variables ring)) v) list
+listed : (ring : Ring) (list : List (List (Key × ℕ))) → AreVectorsOver ring (ring_comparison ring) list
+    → Each (λ v. Each (HasVariables (variables ring)) v) list
 listed ring [] h = tt
-listed ring (v ∷ list) h = (Each_map _ _ v (λ t x. x.variables) h.0.each, listed ring list h.1)
+listed ring (v ∷ list) h = (Each_map _ _ v (λ t x. x.weighed.variables) h.0.each, listed ring list h.1)
 
 pub unreachable-requires-in_default-place_of : goal.unreachable-requires-in_default-place_of
 unreachable-requires-in_default-place_of c =
@@ -35,7 +36,8 @@ pub index-requires : goal.index-requires
 index-requires c =
     let found : place_named c.self.inside.names.items c.args.name.now ≡ Some c.in-Some-place_of.i = search rules in
     let same = kept_as_many c.self.inside.ring c.self.inside.names.items c.self.inside.stored.items c.self.invariant in
-    let below : c.in-Some-place_of.i < length c.self.inside.stored.items = omega (arith, place_bound c.self.inside.names.items c.args.name.now c.in-Some-place_of.i found, same) in
+    let below : c.in-Some-place_of.i < length c.self.inside.stored.items =
+    omega (arith, place_bound c.self.inside.names.items c.args.name.now c.in-Some-place_of.i found, same) in
     search rules
 
 pub push_listing-requires : goal.push_listing-requires
@@ -62,7 +64,8 @@ returns-clause-text c =
       listing (codes "gens") c.in-Some.ring value value.list,
       (c.in-Some.ring, value, has, refl),
       subst
-          (λ n. c.push_listing.new.out.items ≡ c.args.out.now.items ++ (heading (codes "gens") n (length value.list) ++ list_text (names_of c.in-Some.ring) value.rank value.list))
+          (λ n. c.push_listing.new.out.items ≡ c.args.out.now.items ++
+          (heading (codes "gens") n (length value.list) ++ list_text (names_of c.in-Some.ring) value.rank value.list))
           name e,
     ))
     c.push_listing.ensures.ok
