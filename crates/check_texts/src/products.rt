@@ -1,6 +1,7 @@
 // Products of numbers and powers of variables.
 ghost use Rattle.std.specs.Prelude.{◌≡◌, ◌<◌, IfOk, IfSome, length};
 ghost use Rattle.module_vectors.specs.Rings.{variables};
+ghost use Rattle.module_vectors.specs.Vectors.{IsMonomialOver};
 
 use crate::no_value::NoValue;
 use module_vectors::Ring;
@@ -63,7 +64,7 @@ pub(crate) fn multiple_of(
     number: u128,
     text: &str,
 ) -> Result<(Mono, u32), NoValue>
-    ensures variables { IfOk result (λ t. length t.0 ≡ variables ring.now) }
+    ensures over { IfOk result (λ t. IsMonomialOver ring.now t.0) }
     ensures residue { IfOk result (λ t. t.1 < ring.now.modulus.value) }
 {
     let mut residue = ring.modulus.from_u128(number);
@@ -75,12 +76,13 @@ pub(crate) fn multiple_of(
             return Err(NoValue);
         }
     }
-    Ok((Mono::from_exponents(alloc, &exponents)?, residue))
+    let monomial = Mono::from_exponents(alloc, &ring.weights, &exponents)?;
+    Ok((monomial, residue))
 }
 
 /// The monomial and the residue of a text `FACTOR{*FACTOR}` with the factors `NUM`, `NAME` and `NAME^NUM`.
 pub fn product_of(alloc: Global, ring: &Ring, text: &str) -> Result<(Mono, u32), NoValue>
-    ensures variables { IfOk result (λ t. length t.0 ≡ variables ring.now) }
+    ensures over { IfOk result (λ t. IsMonomialOver ring.now t.0) }
     ensures residue { IfOk result (λ t. t.1 < ring.now.modulus.value) }
 {
     multiple_of(alloc, ring, 1, text)

@@ -134,22 +134,27 @@ impl Sheet {
         }
     }
 
+    /// Writes a vector, and by how much of each of `count` others it is made: the entries of `factors`.
+    pub fn made(&mut self, ring: &Ring, rank: u128, v: &Vect, count: u128, factors: &Vect) {
+        self.vector(ring, rank, v);
+        self.text(" by ");
+        if !have_variables(factors.terms(), ring.vars.len()) {
+            self.text("no vector of the ring");
+        } else if push_entries(self.alloc, &mut self.bytes, ring, count, factors).is_err() {
+            self.is_whole = false;
+        }
+    }
+
     /// Writes a member, and its cofactors over the generators.
     pub fn member(&mut self, member: &Member) {
         let shared = &member.shared;
         let count = shared.generators.len() as u128;
-        self.vector(&shared.ring, shared.rank, &member.vector);
-        self.text(" by ");
-        if push_entries(
-            self.alloc,
-            &mut self.bytes,
+        self.made(
             &shared.ring,
+            shared.rank,
+            &member.vector,
             count,
             &member.cof,
-        )
-        .is_err()
-        {
-            self.is_whole = false;
-        }
+        );
     }
 }

@@ -1,9 +1,9 @@
 // Vectors and lists of vectors.
 ghost use Rattle.std.specs.Prelude.{◌≡◌, ◌<◌, IfOk, OnOk};
 ghost use Rattle.formal_sums.specs.FormalSums.{Each};
-ghost use Rattle.module_vectors.specs.Rings.{ring_comparison, variables};
-ghost use Rattle.module_vectors.specs.Vectors.{AreTermsOver, AreVectorsOver, HasPositions, HasVariables, IsVectorOver};
-ghost use Rattle.cofactor_track.specs.Members.{AreGenerators, IsRanked};
+ghost use Rattle.module_vectors.specs.Rings.{ring_comparison};
+ghost use Rattle.module_vectors.specs.Vectors.{AreTermsOver, AreVectorsOver, HasPositions, IsMonomialOver, IsVectorOver};
+ghost use Rattle.member_products.specs.Generators.{AreGenerators, IsRanked};
 
 use crate::no_value::NoValue;
 use crate::products::multiple_of;
@@ -14,15 +14,15 @@ use std::alloc::Global;
 fn term_of(
     alloc: Global,
     ring: &Ring,
-    position: u128,
+    position: u64,
     number: u128,
     text: &str,
 ) -> Result<(Key, u32), NoValue>
-    ensures variables { IfOk result (HasVariables (variables ring.now)) }
+    ensures over { IfOk result (λ t. IsMonomialOver ring.now t.0.monomial) }
     ensures residue { IfOk result (λ t. t.1 < ring.now.modulus.value) }
 {
     let (product, place) = text.split_once('@').unwrap_or((text, ""));
-    let position = place.parse::<u128>().unwrap_or(position);
+    let position = place.parse::<u64>().unwrap_or(position);
     let (monomial, residue) = multiple_of(alloc, ring, number, product)?;
     Ok((Key { position, monomial }, residue))
 }
@@ -31,7 +31,7 @@ fn term_of(
 fn append_differences(
     alloc: Global,
     ring: &Ring,
-    position: u128,
+    position: u64,
     text: &str,
     terms: &mut Vec<(Key, u32)>,
 ) -> Result<(), NoValue>
@@ -53,7 +53,7 @@ fn append_differences(
 fn append_entry(
     alloc: Global,
     ring: &Ring,
-    position: u128,
+    position: u64,
     text: &str,
     terms: &mut Vec<(Key, u32)>,
 ) -> Result<(), NoValue>
@@ -76,7 +76,7 @@ fn terms_of(alloc: Global, ring: &Ring, text: &str) -> Result<Vec<(Key, u32)>, N
         .unwrap_or(text);
     let mut terms = Vec::new(alloc);
     for (position, entry) in inner.split(',').enumerate() {
-        append_entry(alloc, ring, position as u128, entry, &mut terms)?;
+        append_entry(alloc, ring, position as u64, entry, &mut terms)?;
     }
     Ok(terms)
 }

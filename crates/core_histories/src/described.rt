@@ -2,8 +2,10 @@
 use crate::play::{Play, Turn};
 use basis_core::{BasisState, Ending, Event, Outcome, StopReason};
 use check_texts::Sheet;
-use module_vectors::WorkStop;
+use cofactor_track::run_members;
+use module_vectors::{VectStop, WorkStop};
 use monomial_orders::Mono;
+use std::alloc::Global;
 
 fn write_pair(sheet: &mut Sheet, i: u64, j: u64) {
     sheet.count(" ", i);
@@ -19,12 +21,17 @@ fn write_pairs(sheet: &mut Sheet, pairs: &[(u64, u64)]) {
     }
 }
 
-fn write_members(sheet: &mut Sheet, state: &BasisState) {
-    let members = state.members();
-    for i in 0..members.len() {
+// Writes the members, each with its cofactors over the generators.
+fn write_members(alloc: Global, sheet: &mut Sheet, state: &BasisState) {
+    let members = match run_members(alloc, state) {
+        Ok(members) => members,
+        Err(VectStop::Memory) => return sheet.text("  no memory\n"),
+        Err(VectStop::Degree(_, _)) => return sheet.text("  cofactors of too great a degree\n"),
+    };
+    for (i, member) in members.iter().enumerate() {
         sheet.count("  ", i as u64);
         sheet.text(": ");
-        sheet.member(members.get(i));
+        sheet.member(member);
         sheet.text("\n");
     }
 }
@@ -95,8 +102,8 @@ fn write_event(sheet: &mut Sheet, event: &Event) {
 }
 
 /// Writes what all readers of the state say.
-pub fn write_state(sheet: &mut Sheet, state: &BasisState) {
-    write_members(sheet, state);
+pub fn write_state(alloc: Global, sheet: &mut Sheet, state: &BasisState) {
+    write_members(alloc, sheet, state);
     write_queued(sheet, state);
     write_out(sheet, state);
     write_ended(sheet, state);
@@ -107,16 +114,19 @@ pub fn write_state(sheet: &mut Sheet, state: &BasisState) {
     sheet.text("\n");
 }
 
-// Writes how many members the job had, and the rows of its outcome.
+// Writes how many members the job had, and the rows of its outcome by their products of these members.
 fn write_outcome(sheet: &mut Sheet, outcome: &Outcome) {
     sheet.count("job of ", outcome.job().base());
     sheet.text(" members, rows");
     if outcome.rows().is_empty() {
         sheet.text(" none");
     }
+    let members = outcome.job().members();
+    let shared = members.shared();
+    let count = members.len() as u128;
     for row in outcome.rows() {
         sheet.text(" ");
-        sheet.member(row);
+        sheet.made(&shared.ring, shared.rank, &row.vector, count, &row.products);
     }
 }
 

@@ -40,14 +40,14 @@ fn set(text: &mut String, more: &str) {
     }
 }
 
-fn write_begun(sheet: &mut Sheet, play: &Option<Play>) {
+fn write_begun(alloc: Global, sheet: &mut Sheet, play: &Option<Play>) {
     if let Some(play) = play {
-        write_state(sheet, play.state());
+        write_state(alloc, sheet, play.state());
     }
 }
 
 impl Input {
-    // `ring P NAME{,NAME} ORDER`
+    // `ring P VARIABLE{,VARIABLE} ORDER`
     fn set_ring(&mut self, text: &str) {
         self.ring.clear();
         set(&mut self.ring, text);
@@ -81,7 +81,7 @@ impl Desk {
     fn begin(&mut self, alloc: Global, sheet: &mut Sheet, text: &str) {
         let (workers, budget) = numbers_of(text);
         self.play = begin(alloc, sheet, &self.input, budget, small(workers));
-        write_begun(sheet, &self.play);
+        write_begun(alloc, sheet, &self.play);
     }
 
     // `take WORKER MOST`, `put WORKER`, `end WORKER`, `stop WORKER`
@@ -99,7 +99,7 @@ impl Desk {
             _ => return,
         };
         write_turn(sheet, play, worker, turn);
-        write_state(sheet, play.state());
+        write_state(alloc, sheet, play.state());
     }
 
     // `busy TAKES PUTS`

@@ -1,12 +1,11 @@
 // The leads of the members that no other member's lead divides.
 ghost use Rattle.std.specs.Prelude.{◌≡◌, ◌<◌, IfOk, IfSome, OnOk, length};
-ghost use Rattle.std.specs.Arc.{arc_value};
-ghost use Rattle.module_vectors.specs.Rings.{variables};
-ghost use Rattle.module_vectors.specs.Vectors.{AreTermsOver, HasVariables};
+ghost use Rattle.module_vectors.specs.Vectors.{AreTermsOver, IsMonomialOver};
+ghost use Rattle.member_products.specs.Generators.{IsVectorOf};
 
 use basis_core::{BasisState, Members};
 use check_texts::{NoValue, Sheet};
-use cofactor_track::Member;
+use member_products::Member;
 use module_vectors::{Key, Ring, Vect};
 use std::alloc::Global;
 
@@ -37,30 +36,30 @@ fn is_divided(members: &Members, index: usize) -> bool
     false
 }
 
-// The lead of a member.
-fn lead_of(alloc: Global, ring: &Ring, member: &Member) -> Result<Option<(Key, u32)>, NoValue>
-    requires { (arc_value member.now.shared).ring ≡ ring.now }
-    ensures { IfOk result (λ found. IfSome found (λ t. HasVariables (variables ring.now) t × (t.1 < ring.now.modulus.value))) }
+// The lead of a vector.
+fn lead_of(alloc: Global, ring: &Ring, v: &Vect) -> Result<Option<(Key, u32)>, NoValue>
+    requires { IsVectorOf ring.now v.now }
+    ensures { IfOk result (λ found. IfSome found (λ t. IsMonomialOver ring.now t.0.monomial × (t.1 < ring.now.modulus.value))) }
 {
     let _ring = ring;
-    match member.vector.lead() {
+    match v.lead() {
         Some(lead) => Ok(Some((lead.key.try_copy(alloc)?, lead.residue))),
         None => Ok(None),
     }
 }
 
-// Appends the lead of a member.
+// Appends the lead of a vector.
 fn push_lead(
     alloc: Global,
     ring: &Ring,
-    member: &Member,
+    v: &Vect,
     terms: &mut Vec<(Key, u32)>,
 ) -> Result<(), NoValue>
-    requires ring { (arc_value member.now.shared).ring ≡ ring.now }
+    requires vector { IsVectorOf ring.now v.now }
     requires terms { AreTermsOver ring.now terms.old.items }
     ensures { OnOk result (AreTermsOver ring.now terms.new.items) }
 {
-    match lead_of(alloc, ring, member)? {
+    match lead_of(alloc, ring, v)? {
         Some(lead) => Ok(terms.push(lead)?),
         None => Ok(()),
     }
@@ -76,7 +75,7 @@ fn minimal(alloc: Global, ring: &Ring, members: &Members) -> Result<Vec<(Key, u3
         if is_divided(members, i) {
             continue;
         }
-        push_lead(alloc, ring, members.get(i), &mut terms)?;
+        push_lead(alloc, ring, &members.get(i).vector, &mut terms)?;
     }
     Ok(terms)
 }

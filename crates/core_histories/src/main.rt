@@ -1,4 +1,4 @@
-//! Histories of the basis core. Standard input has lines `ring P NAME{,NAME} ORDER`, `rank N` and `generator VECTOR`, with
+//! Histories of the basis core. Standard input has lines `ring P VARIABLE{,VARIABLE} ORDER`, `rank N` and `generator VECTOR`, with
 //! texts of `check_texts`, and then `begin WORKERS BUDGET` and the events `take WORKER MOST`, `put WORKER`, `end WORKER` and
 //! `stop WORKER`, or `drive`, or `busy TAKES PUTS`. An outcome comes from plain division at its Take. After each event it
 //! prints the answer and what all readers of the state say. `drive` runs random legal events of 1, 2, 3 and 5 workers to

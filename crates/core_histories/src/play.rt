@@ -1,6 +1,7 @@
 // A state, and the outcomes that its workers have not handed in yet.
 ghost use Rattle.std.specs.Prelude.{ℕ, ◌≡◌, ◌<◌, None, Option, Some, IfOk, get_or};
-ghost use Rattle.basis_steps.specs.Steps.{HasStopped, MayEnd, MayTake};
+ghost use Rattle.basis_steps.specs.Histories.{HasStopped};
+ghost use Rattle.basis_steps.specs.Steps.{MayEnd, MayTake};
 ghost use Rattle.basis_core.specs.Outcomes.{OutcomeShown};
 ghost use Rattle.basis_core.specs.Views.{run_of, state_of, variables_of};
 ghost use Rattle.core_histories.specs.Waiting.{AreWaiting};

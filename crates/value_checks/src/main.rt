@@ -12,12 +12,12 @@
 //!     lead SETTING / VECTOR / LIST        the same until no lead divides the vector's lead
 //!     interreduce SETTING / LIST          the list interreduced
 //!     begin SETTING / LIST                the members of a run on the list, with cofactors, and the queued pairs
-//!     solve SETTING / LIST                the rows of the run's first job, with cofactors, and the products INDEX:MONOMIAL
+//!     solve SETTING / LIST                the rows of the run's first job, by members, and the products INDEX:MONOMIAL
 //!     basis SETTING / PAIRS / LIST        the reduced basis, where it takes at most so many pairs
 //!     line SETTING / LINE                 what a line states of the vector that it divides, or the kind of its refusal
 //!
-//! SETTING is `P NAME{,NAME} ORDER MODULE_ORDER RANK`; VECTOR, LIST and PRODUCT are texts of `check_texts`. A job that
-//! meets a product of too great a degree answers its trail. A line that begins with `#` is a comment.
+//! SETTING, VECTOR, LIST and PRODUCT are texts of `check_texts`. A job that meets a product of too great a degree answers its
+//! trail. A line that begins with `#` is a comment.
 #![tactic(auto)]
 
 mod divisions;
@@ -65,7 +65,7 @@ fn write_on_list<R: Threads + Sync>(
         }
         "add" => write_sum(alloc, sheet, ring, rank, argument, list),
         "combine" => write_combination(alloc, sheet, ring, rank, argument, list),
-        "pair" => write_pair(alloc, sheet, rank, argument, list),
+        "pair" => write_pair(alloc, sheet, ring, rank, argument, list),
         "interreduce" => {
             write_interreduction(rt, alloc, sheet, ring, rank, list);
             Ok(())

@@ -4,7 +4,8 @@ ghost use Rattle.std.specs.Arc.{arc_value};
 
 use crate::vectors::{number_of, write_stop};
 use check_texts::{NoValue, Sheet, product_of, setting_of, vectors_of};
-use cofactor_track::{Member, Shared};
+use cofactor_track::Member;
+use member_products::Shared;
 use module_vectors::VectStop;
 use std::alloc::Global;
 use std::sync::Arc;
@@ -94,6 +95,13 @@ fn change(
     Ok(())
 }
 
+/// Writes a member with its cofactors on a line of its own.
+pub fn write_member(sheet: &mut Sheet, member: &Member) {
+    sheet.text("  ");
+    sheet.member(member);
+    sheet.text("\n");
+}
+
 /// Writes a generator after changes, with its cofactors: `INDEX {CHANGE}`.
 pub fn write_tracked(
     alloc: Global,
@@ -106,8 +114,6 @@ pub fn write_tracked(
     let shared = shared_of(alloc, setting, text)?;
     let mut member = generator_of(alloc, &shared, index)?;
     change(alloc, sheet, &mut member, changes)?;
-    sheet.text("  ");
-    sheet.member(&member);
-    sheet.text("\n");
+    write_member(sheet, &member);
     Ok(())
 }

@@ -1,7 +1,8 @@
 // Pairs of leads, and the criteria that spare them.
 use crate::vectors::number_of;
 use check_texts::{NoValue, Sheet};
-use module_vectors::{Key, VectList};
+use module_vectors::{Key, Ring, VectList};
+use monomial_orders::Weights;
 use pair_criteria::{Pair, chain_applies, pair_of, product_applies};
 use std::alloc::Global;
 
@@ -18,16 +19,22 @@ fn leads_of(alloc: Global, list: &VectList) -> Result<Vec<Key>, NoValue> {
 }
 
 // The pair of the leads i and j, if there are so many.
-fn paired(alloc: Global, leads: &[Key], i: u64, j: u64) -> Result<Option<Pair>, NoValue> {
+fn paired(
+    alloc: Global,
+    weights: &Weights,
+    leads: &[Key],
+    i: u64,
+    j: u64,
+) -> Result<Option<Pair>, NoValue> {
     if i >= j || j >= leads.len() as u64 {
         return Err(NoValue);
     }
     let left = leads[i as usize].monomial.variables();
     let right = leads[j as usize].monomial.variables();
-    if left != right {
+    if left != right || left != weights.len() {
         return Err(NoValue);
     }
-    Ok(pair_of(alloc, leads, i, j)?)
+    Ok(pair_of(alloc, weights, leads, i, j)?)
 }
 
 fn applies_by_product(rank: u128, left: &Key, right: &Key) -> bool {
@@ -72,12 +79,13 @@ fn write_criteria(sheet: &mut Sheet, rank: u128, leads: &[Key], pair: &Pair) {
 fn write_paired(
     alloc: Global,
     sheet: &mut Sheet,
+    ring: &Ring,
     rank: u128,
     leads: &[Key],
     i: u64,
     j: u64,
 ) -> Result<(), NoValue> {
-    match paired(alloc, leads, i, j)? {
+    match paired(alloc, &ring.weights, leads, i, j)? {
         Some(pair) => {
             write_lcm(sheet, &pair.lcm);
             write_criteria(sheet, rank, leads, &pair);
@@ -91,6 +99,7 @@ fn write_paired(
 pub fn write_pair(
     alloc: Global,
     sheet: &mut Sheet,
+    ring: &Ring,
     rank: u128,
     indices: &str,
     list: &VectList,
@@ -99,5 +108,5 @@ pub fn write_pair(
     let i = number_of(i)?;
     let j = number_of(j)?;
     let leads = leads_of(alloc, list)?;
-    write_paired(alloc, sheet, rank, &leads, i, j)
+    write_paired(alloc, sheet, ring, rank, &leads, i, j)
 }

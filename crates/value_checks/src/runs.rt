@@ -3,11 +3,12 @@ ghost use Rattle.formal_sums.specs.FormalSums.{Each};
 ghost use Rattle.module_vectors.specs.Rings.{ring_comparison};
 ghost use Rattle.module_vectors.specs.Vectors.{AreVectorsOver, HasPositions};
 
+use crate::members::write_member;
 use crate::trails::{write_run_stop, write_trail};
-use crate::vectors::{number_of, write_list};
-use basis_core::{BasisState, Job, Outcome, Taken};
+use crate::vectors::{number_of, write_list, write_stop, write_vector};
+use basis_core::{BasisState, Job, Members, Outcome, Taken};
 use check_texts::{NoValue, Sheet, setting_of, vectors_of};
-use cofactor_track::Member;
+use cofactor_track::run_members;
 use groebner_iface::Stop;
 use module_vectors::{Ring, VectList, WorkStop};
 use plain_buchberger::PlainEngine;
@@ -29,18 +30,32 @@ fn begun(
     Ok(BasisState::begin(alloc, ring, rank, list, MOST, 1))
 }
 
-fn write_member(sheet: &mut Sheet, member: &Member) {
-    sheet.text("  ");
-    sheet.member(member);
-    sheet.text("\n");
+// Writes the vectors of members.
+fn write_vectors(sheet: &mut Sheet, members: &Members) {
+    let shared = members.shared();
+    for i in 0..members.len() {
+        write_vector(sheet, &shared.ring, shared.rank, &members.get(i).vector);
+    }
 }
 
-// Writes the members with their cofactors, and the queued pairs.
-fn write_state(sheet: &mut Sheet, state: &BasisState) {
-    let members = state.members();
-    for i in 0..members.len() {
-        write_member(sheet, members.get(i));
+// Writes the members, with their cofactors unless these are of too great a degree.
+fn write_members(alloc: Global, sheet: &mut Sheet, state: &BasisState) {
+    match run_members(alloc, state) {
+        Ok(members) => {
+            for member in &members {
+                write_member(sheet, member);
+            }
+        }
+        Err(stop) => {
+            write_stop(sheet, &stop);
+            write_vectors(sheet, state.members());
+        }
     }
+}
+
+// Writes the members, and the queued pairs.
+fn write_state(alloc: Global, sheet: &mut Sheet, state: &BasisState) {
+    write_members(alloc, sheet, state);
     sheet.text("  queued");
     for pair in state.queued() {
         sheet.count(" ", pair.i);
@@ -57,19 +72,24 @@ pub fn write_beginning(
     text: &str,
 ) -> Result<(), NoValue> {
     match begun(alloc, setting, text)? {
-        Ok(state) => write_state(sheet, &state),
+        Ok(state) => write_state(alloc, sheet, &state),
         Err(stop) => write_run_stop(sheet, &stop),
     }
     Ok(())
 }
 
-// Writes the rows of a job, with their cofactors, and its products.
+// Writes the rows of a job by their products of its members, and all products.
 fn write_outcome(sheet: &mut Sheet, outcome: &Outcome) {
+    let members = outcome.job().members();
+    let shared = members.shared();
+    let count = members.len() as u128;
     for row in outcome.rows() {
-        write_member(sheet, row);
+        sheet.text("  ");
+        sheet.made(&shared.ring, shared.rank, &row.vector, count, &row.products);
+        sheet.text("\n");
     }
     sheet.text("  products");
-    sheet.products(&outcome.job().shared().ring, outcome.products());
+    sheet.products(&shared.ring, outcome.products());
     sheet.text("\n");
 }
 

@@ -3,18 +3,26 @@ use check_texts::Sheet;
 use module_vectors::{KeptTrail, Ring, TrailStart, WorkStop};
 use monomial_orders::{ModOrder, Order};
 
-fn write_names(sheet: &mut Sheet, names: &[String]) {
-    let mut before = " ";
-    for name in names {
-        sheet.text(before);
-        sheet.text(name.as_str());
-        before = ",";
+// Writes a variable behind a space or a comma, with its weight unless that is 1.
+fn write_variable(sheet: &mut Sheet, is_first: bool, name: &str, weight: u8) {
+    sheet.text(if is_first { " " } else { "," });
+    sheet.text(name);
+    if weight != 1 {
+        sheet.count(":", u64::from(weight));
+    }
+}
+
+fn write_variables(sheet: &mut Sheet, ring: &Ring) {
+    let mut is_first = true;
+    for (name, weight) in ring.vars.as_slice().iter().zip(ring.weights.as_slice()) {
+        write_variable(sheet, is_first, name.as_str(), *weight);
+        is_first = false;
     }
 }
 
 fn write_ring(sheet: &mut Sheet, ring: &Ring) {
     sheet.count("  ring ", u64::from(ring.modulus.value()));
-    write_names(sheet, ring.vars.as_slice());
+    write_variables(sheet, ring);
     match ring.order {
         Order::Lex => sheet.text(" lex"),
         Order::Grevlex => sheet.text(" grevlex"),
@@ -47,19 +55,6 @@ fn write_start(sheet: &mut Sheet, start: TrailStart) {
     }
 }
 
-// The members and their cofactors.
-fn write_lists(sheet: &mut Sheet, rank: u128, trail: &KeptTrail) {
-    sheet.text("  members");
-    sheet.vectors(&trail.ring, rank, trail.members.as_slice());
-    sheet.text("\n  cofactors");
-    let count = trail.generators.len() as u128;
-    match &trail.cofs {
-        Some(list) => sheet.vectors(&trail.ring, count, list.as_slice()),
-        None => sheet.text(" not kept"),
-    }
-    sheet.text("\n");
-}
-
 /// Writes a trail of vectors of this rank.
 pub fn write_trail(sheet: &mut Sheet, rank: u128, trail: &KeptTrail) {
     write_ring(sheet, &trail.ring);
@@ -67,9 +62,9 @@ pub fn write_trail(sheet: &mut Sheet, rank: u128, trail: &KeptTrail) {
     write_start(sheet, trail.start);
     sheet.text(", vector ");
     sheet.vector(&trail.ring, rank, &trail.vector);
-    sheet.text("\n");
-    write_lists(sheet, rank, trail);
-    sheet.text("  steps");
+    sheet.text("\n  members");
+    sheet.vectors(&trail.ring, rank, trail.members.as_slice());
+    sheet.text("\n  steps");
     sheet.products(&trail.ring, &trail.steps);
     sheet.text("\n  last ");
     sheet.monomial(&trail.ring, &trail.last);

@@ -1,7 +1,7 @@
 use Rattle.formal_sums.specs.FormalSums.{Each}
 use Rattle.module_vectors.specs.Rings.{ring_comparison}
 use Rattle.module_vectors.specs.Vectors.{AreVectorsOver, HasPositions}
-use Rattle.cofactor_track.specs.Members.{AreGenerators}
+use Rattle.member_products.specs.Generators.{AreGenerators}
 use Rattle.check_texts.proofs.vectors.vectors_of.Given as goal
 
 abbrev pub invariant-loop-part : goal.invariant-loop-part
