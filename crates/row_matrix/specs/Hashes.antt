@@ -1,0 +1,57 @@
+-- Keys that are found by their hashes
+use Rattle.std.specs.Prelude.{List, [], fold, get_or, length, map, ℕ, ◌%◌, ◌*◌, ◌+◌, ◌++◌, ◌-◌, ◌/◌, ◌<◌, ◌∷◌, ◌^◌, ◌≡◌, ◌≤◌, ◌⊎◌}
+use Rattle.module_vectors.specs.declared.key.Key.{Key}
+
+-- the monomial 1 of no variables, where a list has no key
+abbrev pub no_key : Key
+no_key = record { position = 0; monomial = record { exponents = []; degree = 0 } }
+
+-- one exponent after another
+abbrev pub hash_step : ℕ → ℕ → ℕ
+hash_step hash exponent = ((hash + exponent) % 2 ^ 64 * 11400714819323198485) % 2 ^ 64
+
+-- the hash of a key
+abbrev pub hash_of : Key → ℕ
+hash_of key = fold hash_step key.position key.monomial.exponents
+
+-- the bucket of a hash, of so many
+abbrev pub bucket_of : ℕ → ℕ → ℕ
+bucket_of count hash = hash * count / 2 ^ 64
+
+-- the bucket of the key with this number
+abbrev pub bucket_at : ℕ → List ℕ → ℕ → ℕ
+bucket_at count hashes i = bucket_of count (get_or hashes i 0)
+
+-- 1 and the number of a key before `limit` in the bucket, or 0
+pub record IsLink (count limit : ℕ) (hashes : List ℕ) (bucket link : ℕ) : Type 0 where
+  pub within : link ≤ limit
+  pub together : 0 < link → bucket_at count hashes (link - 1) ≡ bucket
+
+-- the first keys, so many, are chained: from each bucket's last one over those before it one comes to all of the bucket
+pub record IsChained (count limit : ℕ) (hashes earlier last : List ℕ) : Type 0 where
+  pub last_all : (j : ℕ) → j < limit → j < get_or last (bucket_at count hashes j) 0
+  pub last_link : (b : ℕ) → b < count → IsLink count limit hashes b (get_or last b 0)
+  pub earlier_all : (i j : ℕ) → i < limit → j < i → bucket_at count hashes j ≡ bucket_at count hashes i → j < get_or earlier i 0
+  pub earlier_link : (i : ℕ) → i < limit → IsLink count i hashes (bucket_at count hashes i) (get_or earlier i 0)
+
+-- no key of the list is this one
+abbrev pub Lacks : List Key → Key → Type 0
+Lacks keys key = (i : ℕ) → i < length keys → get_or keys i no_key ≡ key → ⊥
+
+-- no key of the list has two numbers
+abbrev pub AreApart : List Key → Type 0
+AreApart keys = (i j : ℕ) → i < j → j < length keys → get_or keys i no_key ≡ get_or keys j no_key → ⊥
+
+-- the keys are apart, and found by their hashes
+pub record IsTable (keys : List Key) (hashes earlier last : List ℕ) : Type 0 where
+  pub apart : AreApart keys
+  pub hashed : hashes ≡ map hash_of keys
+  pub lengths : length earlier ≡ length keys
+  pub some : 0 < length last
+  pub chained : IsChained (length last) (length keys) hashes earlier last
+
+-- the key has this number, and may have been put at the end
+pub record IsNumbered (old new : List Key) (key : Key) (i : ℕ) : Type 0 where
+  pub within : i < length new
+  pub there : get_or new i no_key ≡ key
+  pub grown : (new ≡ old) ⊎ ((new ≡ old ++ key ∷ []) × (i ≡ length old))

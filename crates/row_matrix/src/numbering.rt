@@ -1,0 +1,95 @@
+// Columns: the keys of a table, strictly descending.
+ghost use Rattle.std.specs.Prelude.{◌≡◌, ◌<◌, ◌≤◌, ◌+◌, ◌-◌, ◌++◌, List, [], ◌∷◌, ℕ, Contains, length, get_or, IfOk, OnOk};
+ghost use Rattle.std.specs.Vec.{vec_len, vec_capacity};
+ghost use Rattle.formal_sums.specs.FormalSums.{Each};
+ghost use Rattle.module_vectors.specs.Rings.{variables};
+ghost use Rattle.row_matrix.specs.Hashes.{IsNumbered, no_key};
+ghost use Rattle.row_matrix.specs.Naming.{Falls, IsNumbering, by_descent};
+ghost use Rattle.row_matrix.specs.Rows.{AreKeys};
+
+use module_vectors::{Frame, Key, NoMemory};
+use std::alloc::Global;
+use std::cmp::Ordering;
+
+/// Module monomials that strictly descend, and for each number of a table the place of its key among them.
+#[derive(Drop)]
+pub struct Numbering {
+    pub columns: Vec<Key>,
+    pub places: Vec<usize>,
+}
+
+// Compares two numbers for a sort with the greatest key first. Numbers without a key, of which there are none, come last.
+fn descending<F: Frame>(frame: &F, keys: &[Key], i: usize, j: usize) -> Ordering
+    requires { AreKeys (variables (F.over frame.now)) (F.over frame.now).weights keys.now }
+    ensures { let n = variables (F.over frame.now) in result ≡ by_descent n (F.compare frame.now n) keys.now i j }
+{
+    if i < keys.len() {
+        if j < keys.len() {
+            return frame.cmp(&keys[j], &keys[i]);
+        }
+        return Ordering::Less;
+    }
+    if j < keys.len() {
+        return Ordering::Greater;
+    }
+    Ordering::Equal
+}
+
+// The numbers below the count.
+fn numbers_below(alloc: Global, count: usize) -> Result<Vec<usize>, NoMemory>
+    ensures known { IfOk result (λ numbers. Each (λ i. i < count) numbers.items) }
+    ensures all { IfOk result (λ numbers. (i : ℕ) → i < count → Contains numbers.items i) }
+{
+    let mut numbers = Vec::with_capacity(alloc, count)?;
+    for i in 0..count {
+        numbers.push_reserved(i);
+    }
+    Ok(numbers)
+}
+
+// The numbers of the keys, the greatest key first.
+fn sorted_numbers<F: Frame>(alloc: Global, frame: &F, keys: &[Key]) -> Result<Vec<usize>, NoMemory>
+    requires { AreKeys (variables (F.over frame.now)) (F.over frame.now).weights keys.now }
+    ensures known { IfOk result (λ numbers. Each (λ i. i < length keys.now) numbers.items) }
+    ensures all { IfOk result (λ numbers. (i : ℕ) → i < length keys.now → Contains numbers.items i) }
+    ensures falls { let n = variables (F.over frame.now) in IfOk result (λ numbers. Falls n (F.compare frame.now n) keys.now numbers.items) }
+{
+    let mut numbers = numbers_below(alloc, keys.len())?;
+    numbers.sort_unstable_by(|i, j| descending(frame, keys, *i, *j));
+    Ok(numbers)
+}
+
+// The column of the key, which is put at the end unless it is the last one.
+fn column_of(alloc: Global, columns: &mut Vec<Key>, key: &Key) -> Result<usize, NoMemory>
+    ensures numbered { IfOk result (IsNumbered columns.old.items columns.new.items key.now) }
+    ensures fresh { IfOk result (λ at. at ≡ length columns.old.items → 0 < length columns.old.items
+        → get_or columns.old.items (length columns.old.items - 1) no_key ≡ key.now → ⊥) }
+{
+    let count = columns.len();
+    if count > 0 {
+        if columns[count - 1].equal(key) {
+            return Ok(count - 1);
+        }
+    }
+    columns.push(key.try_copy(alloc)?)?;
+    Ok(count)
+}
+
+/// The keys as columns.
+pub fn number_columns<F: Frame>(
+    alloc: Global,
+    frame: &F,
+    keys: &[Key],
+) -> Result<Numbering, NoMemory>
+    requires { AreKeys (variables (F.over frame.now)) (F.over frame.now).weights keys.now }
+    ensures { let n = variables (F.over frame.now) in
+        IfOk result (λ r. IsNumbering n (F.over frame.now).weights (F.compare frame.now n) keys.now r.columns.items r.places.items) }
+{
+    let numbers = sorted_numbers(alloc, frame, keys)?;
+    let mut columns = Vec::with_capacity(alloc, keys.len())?;
+    let mut places = vec![in alloc; 0; keys.len()]?;
+    for number in &numbers {
+        places[*number] = column_of(alloc, &mut columns, &keys[*number])?;
+    }
+    Ok(Numbering { columns, places })
+}

@@ -1,0 +1,73 @@
+// Products of monomials and vectors as rows.
+ghost use Rattle.std.specs.Prelude.{◌≡◌, ◌<◌, ◌≤◌, ◌+◌, ◌++◌, List, [], ◌∷◌, ℕ, length, get_or, IfOk, IfErr, OnOk};
+ghost use Rattle.monomials.specs.Exponents.{exponents_of};
+ghost use Rattle.formal_sums.specs.FormalSums.{Each, scale};
+ghost use Rattle.module_vectors.specs.Stops.{Fits};
+ghost use Rattle.module_vectors.specs.Vectors.{HasVariables, sum_of};
+ghost use Rattle.monomial_orders.specs.Kept.{IsWeighed};
+ghost use Rattle.row_matrix.specs.Naming.{AreNamed, IsGrown};
+ghost use Rattle.row_matrix.specs.Rows.{AreKeys};
+ghost use Rattle.row_matrix.specs.Products.{ProductStops};
+ghost use Rattle.row_matrix.specs.declared.products.ProductStop.TheVariants.{Memory};
+
+use crate::KeyTable;
+use module_vectors::{Key, NoMemory};
+use monomial_orders::{Mono, MonoStop};
+use std::alloc::{AllocError, Global};
+
+/// Why a product is no row.
+#[derive(Clone, Copy, Debug, PartialEq, Eq)]
+pub enum ProductStop {
+    Memory,
+    /// The product with the monomial of the term with this index is of too great a degree.
+    Degree(usize),
+}
+
+impl From<AllocError> for ProductStop {
+    ghost from_gives = { λ _ stop. stop ≡ Memory };
+
+    fn from(_error: AllocError) -> ProductStop {
+        ProductStop::Memory
+    }
+}
+
+impl From<NoMemory> for ProductStop {
+    ghost from_gives = { λ _ stop. stop ≡ Memory };
+
+    fn from(_error: NoMemory) -> ProductStop {
+        ProductStop::Memory
+    }
+}
+
+/// The product t v as a row: the number of each key and its residue. Keys that have no number yet are put into the
+/// table, after an error too.
+pub fn product_row(
+    alloc: Global,
+    keys: &mut KeyTable,
+    t: &Mono,
+    v: &[(Key, u32)],
+) -> Result<Vec<(usize, u32)>, ProductStop>
+    requires { Each (HasVariables (length t.now.exponents)) v.now }
+    ensures named { let n = length t.now.exponents in
+        IfOk result (λ entries. AreNamed n keys.new entries.items (scale 1 (exponents_of n t.now.exponents) (sum_of n v.now))) }
+    ensures grown { IfOk result (λ entries. IsGrown keys.old keys.new entries.items) }
+    ensures weighed { let n = length t.now.exponents in OnOk result ((ws : List ℕ) → IsWeighed n ws t.now
+        → Each (λ u. IsWeighed n ws u.0.monomial) v.now → AreKeys n ws keys.old → AreKeys n ws keys.new) }
+    ensures fits { OnOk result (Fits t.now v.now) }
+    ensures stop { IfErr result (ProductStops t.now v.now) }
+{
+    let mut entries = Vec::with_capacity(alloc, v.len())?;
+    for (i, term) in v.iter().enumerate() {
+        let monomial = match Mono::mul(alloc, t, &term.0.monomial) {
+            Ok(monomial) => monomial,
+            Err(MonoStop::Memory) => return Err(ProductStop::Memory),
+            Err(MonoStop::Degree) => return Err(ProductStop::Degree(i)),
+        };
+        let key = Key {
+            position: term.0.position,
+            monomial,
+        };
+        entries.push_reserved((keys.number_of(alloc, key)?, term.1));
+    }
+    Ok(entries)
+}

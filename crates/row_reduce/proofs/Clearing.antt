@@ -1,0 +1,258 @@
+-- A column is cleared
+use Rattle.std.proofs.Common.{List, [], ap, ap₂, arith, drop, get_or, get_or-set_other, get_or-set_same, inl, inr, length, set, subst, sym, ℕ, ◌%◌, ◌*◌, ◌+◌, ◌++◌, ◌-◌, ◌<◌, ◌∙◌, ◌∷◌, ◌≡◌}
+use Rattle.std.proofs.lemmas.Bool.{cases_eq}
+use Rattle.std.proofs.lemmas.List.{get_or-map, get_or_default, length-set, map-append, set-get_or, set-set}
+use Rattle.residues.proofs.Congruences.{IsCongruent_add, IsCongruent_mod, IsCongruent_multiply, IsCongruent_of, IsCongruent_refl, IsCongruent_sym, IsCongruent_trans}
+use native.Mathlib.Nat.{mod_self, zero-mod}
+use Rattle.residues.specs.Residues.{IsCongruent}
+use Rattle.monomials.specs.Exponents.{unit}
+use Rattle.formal_sums.proofs.Combining.{IsSame_combination, combination-append, combination-scale}
+use Rattle.formal_sums.proofs.Sameness.{IsSame_append, IsSame_of, IsSame_refl, IsSame_scale, IsSame_sym, IsSame_trans, coefficient-scale_unit}
+use Rattle.formal_sums.proofs.WeightedSums.{Each_append, coefficient-append}
+use Rattle.formal_sums.specs.Combinations.{combination}
+use Rattle.formal_sums.specs.FormalSums.{Each, FormalSum, IsSame, Key, coefficient, indicator, scale}
+use Rattle.row_laws.proofs.RowSpans.{IsInSpan_append, IsInSpan_itself, IsInSpan_scale}
+use Rattle.row_laws.specs.Rows.{IsInSpan}
+use Rattle.row_matrix.specs.Rows.{AreEntries, Entry, IsRow, RowShown, first_column, row_sum, source_key}
+use Rattle.module_vectors.proofs.Scaling.{Each_at}
+use Rattle.row_reduce.proofs.Adding.{Each_set, dense_add}
+use Rattle.row_reduce.proofs.Entries.{entries_from, entries_push, entries_widen, monic_entries}
+use Rattle.row_reduce.specs.Dense.{AddsMultiple, IsDense, dense_sum}
+use Rattle.row_reduce.specs.Pivots.{ArePivots, lead_column, no_row, row_at, row_vectors}
+use Rattle.row_reduce.specs.Underway.{AreCombined, IsReducedTo, IsUnderway}
+
+-- the number at a column is its residue, which is taken out
+pub dense_clear :
+    {n p : ℕ} → 0 < p → (key : ℕ → Key n) (c residue : ℕ) (numbers : List ℕ)
+    → c < length numbers → residue ≡ get_or numbers c 0 % p
+    → IsSame p (dense_sum key 0 numbers) (dense_sum key 0 (set numbers c 0) ++ (key c, residue) ∷ [])
+dense_clear {n} {p} pos key c residue numbers lt e =
+    let a = get_or numbers c 0 in
+    let back : set (set numbers c 0) c a ≡ numbers = set-set numbers c 0 a ∙ set-get_or numbers c 0 in
+    let zero : get_or (set numbers c 0) c 0 ≡ 0 = get_or-set_same numbers c 0 0 lt in
+    let one : IsCongruent p a (get_or (set numbers c 0) c 0 + residue) =
+    IsCongruent_trans (IsCongruent_sym (IsCongruent_mod p a)) (IsCongruent_of p (a % p) (get_or (set numbers c 0) c 0 + residue) (omega arith)) in
+    subst (λ xs. IsSame p (dense_sum key 0 xs) (dense_sum key 0 (set numbers c 0) ++ (key c, residue) ∷ [])) back
+    (dense_add pos key c a residue (set numbers c 0) (omega (arith, length-set numbers c 0)) one)
+
+module _ {n : ℕ} (p : ℕ) (pos : 0 < p) (key : ℕ → Key n) (c residue : ℕ) (numbers : List ℕ) (lt : c < length numbers) (is : residue ≡ get_or numbers c 0 % p) where
+  cleared : List ℕ
+  cleared = set numbers c 0
+
+  -- nothing stood there
+  pub none_left :
+      (left : List Entry)
+      → residue ≡ 0
+      → IsSame p (row_sum key left ++ dense_sum key 0 (set numbers c 0)) (row_sum key left ++ dense_sum key 0 numbers)
+  none_left left z = IsSame_append (IsSame_refl p (row_sum key left)) (record {
+    by_key = λ k.
+        IsCongruent_trans
+        (IsCongruent_of p (coefficient (dense_sum key 0 (set numbers c 0)) k) (coefficient (dense_sum key 0 (set numbers c 0) ++ (key c, residue) ∷ []) k)
+        (sym (coefficient-append (dense_sum key 0 (set numbers c 0)) ((key c, residue) ∷ []) k ∙ ap (λ r. coefficient (dense_sum key 0 (set numbers c 0)) k + (r * indicator k (key c) + 0)) z ∙ omega arith)))
+        (IsCongruent_sym ((dense_clear pos key c residue numbers lt is).by_key k));
+  })
+
+  -- what stood there is left
+  pub one_left :
+      (left : List Entry)
+      → IsSame p (row_sum key (left ++ (c, residue) ∷ []) ++ dense_sum key 0 (set numbers c 0)) (row_sum key left ++ dense_sum key 0 numbers)
+  one_left left = record {
+    by_key = λ k.
+        let l = coefficient (row_sum key left) k in
+        let d = coefficient (dense_sum key 0 (set numbers c 0)) k in
+        let w = indicator k (key c) in
+        IsCongruent_trans
+        (IsCongruent_of p _ (l + (d + (residue * w + 0)))
+        (coefficient-append (row_sum key (left ++ (c, residue) ∷ [])) (dense_sum key 0 (set numbers c 0)) k
+        ∙ ap (λ x. coefficient x k + d) (map-append (λ (e : Entry). (key e.0, e.1)) left ((c, residue) ∷ []))
+        ∙ ap (λ x. x + d) (coefficient-append (row_sum key left) ((key c, residue) ∷ []) k) ∙ omega arith))
+        (IsCongruent_trans
+        (IsCongruent_add (IsCongruent_refl p l) (IsCongruent_trans (IsCongruent_of p _ _ (sym (coefficient-append (dense_sum key 0 (set numbers c 0)) ((key c, residue) ∷ []) k))) (IsCongruent_sym ((dense_clear pos key c residue numbers lt is).by_key k))))
+        (IsCongruent_of p _ _ (sym (coefficient-append (row_sum key left) (dense_sum key 0 numbers) k))));
+  }
+
+  -- a multiple of the pivot was added, whose first entry cleared the column
+  pub pivot_added :
+      (left pivot tail : List Entry) (factor : ℕ) (numbers' : List ℕ)
+      → pivot ≡ (c, 1) ∷ tail → IsCongruent p (factor + residue) 0
+      → IsSame p (dense_sum key 0 numbers') (dense_sum key 0 (set numbers c 0) ++ scale factor (unit n) (row_sum key tail))
+      → IsSame p (row_sum key left ++ dense_sum key 0 numbers') ((row_sum key left ++ dense_sum key 0 numbers) ++ scale factor (unit n) (row_sum key pivot))
+  pivot_added left pivot tail factor numbers' e zero h = record {
+    by_key = λ k.
+        let l = coefficient (row_sum key left) k in
+        let d = coefficient (dense_sum key 0 (set numbers c 0)) k in
+        let w = indicator k (key c) in
+        let t = coefficient (row_sum key tail) k in
+        let m = coefficient (dense_sum key 0 numbers) k in
+        let new : IsCongruent p (coefficient (dense_sum key 0 numbers') k) (d + factor * t) =
+        IsCongruent_trans (h.by_key k) (IsCongruent_of p _ _ (coefficient-append (dense_sum key 0 (set numbers c 0)) (scale factor (unit n) (row_sum key tail)) k ∙ ap (λ x. d + x) (coefficient-scale_unit factor (row_sum key tail) k))) in
+        let old : IsCongruent p m (d + residue * w) =
+        IsCongruent_trans ((dense_clear pos key c residue numbers lt is).by_key k) (IsCongruent_of p _ _ (coefficient-append (dense_sum key 0 (set numbers c 0)) ((key c, residue) ∷ []) k ∙ omega arith)) in
+        let piv : coefficient (scale factor (unit n) (row_sum key pivot)) k ≡ factor * (1 * w + t) =
+        coefficient-scale_unit factor (row_sum key pivot) k ∙ ap (λ es. factor * coefficient (row_sum key es) k) e in
+        IsCongruent_trans (IsCongruent_of p _ _ (coefficient-append (row_sum key left) (dense_sum key 0 numbers') k))
+        (IsCongruent_trans (IsCongruent_add (IsCongruent_refl p l) new)
+        (IsCongruent_trans (IsCongruent_of p (l + (d + factor * t)) (l + (d + factor * t) + 0 * w) (omega arith))
+        (IsCongruent_trans (IsCongruent_add (IsCongruent_refl p (l + (d + factor * t))) (IsCongruent_sym (IsCongruent_multiply zero (IsCongruent_refl p w))))
+        (IsCongruent_trans (IsCongruent_of p (l + (d + factor * t) + (factor + residue) * w) ((l + (d + residue * w)) + factor * (1 * w + t)) (omega arith))
+        (IsCongruent_trans (IsCongruent_add (IsCongruent_add (IsCongruent_refl p l) (IsCongruent_sym old)) (IsCongruent_refl p (factor * (1 * w + t))))
+        (IsCongruent_of p _ _ (sym (coefficient-append (row_sum key left ++ dense_sum key 0 numbers) (scale factor (unit n) (row_sum key pivot)) k ∙ ap₂ ◌+◌ (coefficient-append (row_sum key left) (dense_sum key 0 numbers) k) piv))))))));
+  }
+
+-- ---- what the steps keep
+-- the same vector
+pub reduced_same :
+    {n : ℕ} (p : ℕ) (rows : List (FormalSum n)) (v t t' : FormalSum n)
+    → IsSame p t' t → IsReducedTo p rows v t → IsReducedTo p rows v t'
+reduced_same p rows v t t' e h = record {
+  taken = h.taken;
+  spanned = h.spanned;
+  sums = IsSame_trans h.sums (IsSame_append (IsSame_sym e) (IsSame_refl p h.taken));
+}
+
+-- a row's multiple was added
+pub reduced_more :
+    {n : ℕ} (p : ℕ) (rows : List (FormalSum n)) (v t t' row : FormalSum n) (factor residue : ℕ)
+    → IsInSpan p rows row → IsCongruent p (factor + residue) 0 → IsSame p t' (t ++ scale factor (unit n) row)
+    → IsReducedTo p rows v t → IsReducedTo p rows v t'
+reduced_more {n} p rows v t t' row factor residue span zero e h = record {
+  taken = h.taken ++ scale residue (unit n) row;
+  spanned = IsInSpan_append rows h.taken (scale residue (unit n) row) h.spanned (IsInSpan_scale rows residue row span);
+  sums = record {
+    by_key = λ k.
+        let a = coefficient t k in
+        let b = coefficient h.taken k in
+        let r = coefficient row k in
+        let a' = coefficient t' k in
+        let new : IsCongruent p a' (a + factor * r) = IsCongruent_trans (e.by_key k) (IsCongruent_of p _ _ (coefficient-append t (scale factor (unit n) row) k ∙ ap (λ x. a + x) (coefficient-scale_unit factor row k))) in
+        IsCongruent_trans (h.sums.by_key k)
+        (IsCongruent_trans (IsCongruent_of p _ (a + b + 0 * r) (coefficient-append t h.taken k ∙ omega arith))
+        (IsCongruent_trans (IsCongruent_add (IsCongruent_refl p (a + b)) (IsCongruent_sym (IsCongruent_multiply zero (IsCongruent_refl p r))))
+        (IsCongruent_trans (IsCongruent_of p (a + b + (factor + residue) * r) ((a + factor * r) + (b + residue * r)) (omega arith))
+        (IsCongruent_trans (IsCongruent_add (IsCongruent_sym new) (IsCongruent_refl p (b + residue * r)))
+        (IsCongruent_of p _ _ (sym (coefficient-append t' (h.taken ++ scale residue (unit n) row) k ∙ ap (λ x. a' + x) (coefficient-append h.taken (scale residue (unit n) row) k ∙ ap (λ x. b + x) (coefficient-scale_unit residue row k)))))))));
+  };
+}
+
+-- the combination of the input rows grows by the same multiple
+pub combined_more :
+    {n : ℕ} (p : ℕ) → 0 < p → (F : List (FormalSum n)) (key : ℕ → Key n) (row : RowShown) (sources sources' : List ℕ) (t t' : FormalSum n) (factor : ℕ)
+    → IsSame p (combination F (row_sum (source_key n) row.sources)) (row_sum key row.entries)
+    → IsSame p (dense_sum (source_key n) 0 sources') (dense_sum (source_key n) 0 sources ++ scale factor (unit n) (row_sum (source_key n) row.sources))
+    → IsSame p t' (t ++ scale factor (unit n) (row_sum key row.entries))
+    → IsSame p (combination F (dense_sum (source_key n) 0 sources)) t
+    → IsSame p (combination F (dense_sum (source_key n) 0 sources')) t'
+combined_more {n} p pos F key row sources sources' t t' factor from more e h =
+    IsSame_trans (IsSame_combination pos F _ _ more)
+    (IsSame_trans (IsSame_of p _ _ (combination-append F (dense_sum (source_key n) 0 sources) (scale factor (unit n) (row_sum (source_key n) row.sources)) ∙ ap (λ x. combination F (dense_sum (source_key n) 0 sources) ++ x) (combination-scale F factor (unit n) (row_sum (source_key n) row.sources))))
+    (IsSame_trans (IsSame_append h (IsSame_scale pos factor (unit n) from)) (IsSame_sym e)))
+
+-- ---- the record of the way
+module _ (p c columns inputs : ℕ) (pivots : List ℕ) (left : List Entry) (numbers sources : List ℕ) (h : IsUnderway p c columns inputs pivots left numbers sources) (lt : c < length numbers) where
+  cleared_more : (j : ℕ) → j < c + 1 → get_or (set numbers c 0) j 0 ≡ 0
+  cleared_more j l = elim (cases_eq j c) [
+    | inl e ↦ ap (λ k. get_or (set numbers c 0) k 0) e ∙ get_or-set_same numbers c 0 0 lt
+    | inr ne ↦ get_or-set_other numbers c j 0 0 ne ∙ h.cleared j (omega arith)
+  ]
+
+  small_set : IsDense p (set numbers c 0)
+  small_set =
+      let a : get_or numbers c 0 < p * p = Each_at (λ a. a < p * p) numbers c (get_or numbers c 0) h.small lt (get_or_default numbers c 0 (get_or numbers c 0) lt) in
+      Each_set (λ a. a < p * p) numbers c 0 h.small (omega arith)
+
+  pub underway_none : IsUnderway p (c + 1) columns inputs pivots left (set numbers c 0) sources
+  underway_none = record {
+    numbered = length-set numbers c 0 ∙ h.numbered;
+    sourced = h.sourced;
+    small = small_set;
+    sources_small = h.sources_small;
+    cleared = cleared_more;
+    entries = entries_widen p 0 c (c + 1) left (omega arith) h.entries;
+    free = h.free;
+  }
+
+  pub underway_left :
+      (r : ℕ) (left' : List Entry)
+      → 0 < r → r < p → get_or pivots c 0 ≡ 0 → left' ≡ left ++ (c, r) ∷ []
+      → IsUnderway p (c + 1) columns inputs pivots left' (set numbers c 0) sources
+  underway_left r left' pos small none e = record {
+    numbered = length-set numbers c 0 ∙ h.numbered;
+    sourced = h.sourced;
+    small = small_set;
+    sources_small = h.sources_small;
+    cleared = cleared_more;
+    entries = subst (AreEntries p 0 (c + 1)) (sym e) (entries_push p 0 c r left h.entries pos small);
+    free = subst (Each (λ x. get_or pivots x.0 0 ≡ 0)) (sym e) (Each_append (λ (x : Entry). get_or pivots x.0 0 ≡ 0) left ((c, r) ∷ []) h.free (none, tt));
+  }
+
+  pub underway_pivot :
+      (factor : ℕ) (tail more : List Entry) (numbers' sources' : List ℕ)
+      → AreEntries p (c + 1) columns tail → AddsMultiple p factor tail (set numbers c 0) numbers' → AddsMultiple p factor more sources sources'
+      → IsUnderway p (c + 1) columns inputs pivots left numbers' sources'
+  underway_pivot factor tail more numbers' sources' es a b = record {
+    numbered = a.count ∙ length-set numbers c 0 ∙ h.numbered;
+    sourced = b.count ∙ h.sourced;
+    small = a.small;
+    sources_small = b.small;
+    cleared = λ j l. a.before j (entries_from p (c + 1) columns j tail es l) ∙ cleared_more j l;
+    entries = entries_widen p 0 c (c + 1) left (omega arith) h.entries;
+    free = h.free;
+  }
+
+-- ---- the pivot of a column
+-- its entries begin there, and its vector is that of a row
+pub record IsPivot (p c columns inputs : ℕ) (rows : List RowShown) (row : RowShown) : Type 0 where
+  pub number : ℕ
+  pub within : number < length rows
+  pub at : row ≡ row_at rows number
+  pub entries : row.entries ≡ (c, 1) ∷ drop 1 row.entries
+  pub tail : AreEntries p (c + 1) columns (drop 1 row.entries)
+
+pub pivot_of :
+    (p c columns inputs : ℕ) (rows : List RowShown) (pivots : List ℕ) (pivot : ℕ) (row : RowShown)
+    → ArePivots p columns inputs rows pivots → c < columns → pivot ≡ get_or pivots c 0 → 0 < pivot
+    → row ≡ get_or rows (pivot - 1) row → IsPivot p c columns inputs rows row
+pivot_of p c columns inputs rows pivots pivot row h lt e pos is =
+    let named = h.named c lt (subst (λ x. 0 < x) e pos) in
+    let l : pivot - 1 < length rows = subst (λ x. x - 1 < length rows) (sym e) named.0 in
+    let at : row ≡ row_at rows (pivot - 1) = is ∙ get_or_default rows (pivot - 1) row no_row l in
+    let good : IsRow p columns inputs row = Each_at (IsRow p columns inputs) rows (pivot - 1) row h.monic l is in
+    let first : first_column row.entries ≡ c = ap (λ (r : RowShown). first_column r.entries) at ∙ ap (λ x. lead_column rows (x - 1)) e ∙ named.1 in
+    let m = monic_entries p 0 columns row.entries good.entries good.monic in
+    record {
+      number = pivot - 1;
+      within = l;
+      at = at;
+      entries = m.0 ∙ ap (λ x. (x, 1) ∷ drop 1 row.entries) first;
+      tail = subst (λ x. AreEntries p (x + 1) columns (drop 1 row.entries)) first m.1;
+    }
+
+-- its vector is in the span of the rows
+pub pivot_spanned :
+    {n : ℕ} (p c columns inputs : ℕ) (rows : List RowShown) (row : RowShown) (key : ℕ → Key n)
+    → IsPivot p c columns inputs rows row → IsInSpan p (row_vectors key rows) (row_sum key row.entries)
+pivot_spanned {n} p c columns inputs rows row key h =
+    subst (IsInSpan p (row_vectors key rows))
+    (get_or-map (λ (r : RowShown). row_sum key r.entries) rows h.number no_row [] h.within ∙ ap (λ (r : RowShown). row_sum key r.entries) (sym h.at))
+    (IsInSpan_itself p (row_vectors key rows) h.number)
+
+-- it is the combination of the input rows by its sources
+pub pivot_combined :
+    {n : ℕ} (p c columns inputs : ℕ) (F : List (FormalSum n)) (rows : List RowShown) (row : RowShown) (key : ℕ → Key n)
+    → IsPivot p c columns inputs rows row → AreCombined p F key rows
+    → IsSame p (combination F (row_sum (source_key n) row.sources)) (row_sum key row.entries)
+pivot_combined {n} p c columns inputs F rows row key h g =
+    Each_at (λ (r : RowShown). IsSame p (combination F (row_sum (source_key n) r.sources)) (row_sum key r.entries)) rows h.number row g h.within
+    (h.at ∙ get_or_default rows h.number no_row row h.within)
+
+-- the factor by which it is added cancels the residue
+pub factor_cancels : (p residue : ℕ) → residue < p → IsCongruent p ((p - residue) % p + residue) 0
+factor_cancels p residue lt =
+    IsCongruent_trans (IsCongruent_add (IsCongruent_mod p (p - residue)) (IsCongruent_refl p residue))
+    (IsCongruent_trans (IsCongruent_of p (p - residue + residue) p (omega arith)) (record { same = mod_self p ∙ sym (zero-mod p) }))
+
+-- the number that the code reads, modulo the number that it divides by
+pub residue_is :
+    (p q c a : ℕ) (numbers : List ℕ)
+    → a ≡ get_or numbers c a → c < length numbers → q ≡ p → a % q ≡ get_or numbers c 0 % p
+residue_is p q c a numbers e lt f = ap₂ ◌%◌ (e ∙ get_or_default numbers c a 0 lt) f

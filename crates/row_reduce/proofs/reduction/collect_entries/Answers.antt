@@ -1,0 +1,37 @@
+use Rattle.std.proofs.Common.{ap, arith, get_or, subst, sym, take, ◌%◌, ◌*◌, ◌+◌, ◌++◌, ◌∙◌, ◌∷◌, ◌≡◌, []}
+use Rattle.residues.specs.Residues.{IsCongruent}
+use Rattle.monomials.specs.Exponents.{unit}
+use Rattle.formal_sums.specs.FormalSums.{IsSame, scale}
+use Rattle.row_matrix.specs.Rows.{AreEntries, row_sum}
+use Rattle.row_reduce.specs.Dense.{dense_sum}
+use Rattle.row_reduce.proofs.Entries.{entries_push, entries_widen}
+use Rattle.row_reduce.proofs.Reducing.{collect_none, collect_one, product_is}
+use Rattle.row_reduce.proofs.reduction.collect_entries.Goals as goal
+use Rattle.row_reduce.proofs.reduction.collect_entries.Goals.{then-product-ne0+in_ok-push, else-product-ne0}
+
+pub loop-i-preserved : goal.loop-i-preserved
+loop-i-preserved c =
+    let p = c.args.modulus.now.value in
+    let i = c.loop-i.i in
+    let f = c.args.factor in
+    let numbers = c.args.numbers.now in
+    let is : IsCongruent p c.mul-product.result (f * get_or numbers i 0) =
+    product_is p f (get_or numbers i 0) (get_or numbers i 0 % c.from.result) c.mul-product.result c.mul-product.ensures.value (ap (λ q. get_or numbers i 0 % q) (c.from.ensures ∙ c.value.ensures)) in
+    elim c.if-product-ne0.branch [
+      | then-product-ne0+in_ok-push w ↦ (
+          let e : c.if-product-ne0.entries.items ≡ c.loop-i.entries.items ++ (i, c.mul-product.result) ∷ [] = ap (λ v. v.items) w.entries-is ∙ w.in_ok-push.ensures.items in
+          let ne : c.mul-product.result ≡ 0 → ⊥ = w.if-product-ne0.true in
+          record {
+            entries = subst (AreEntries p 0 (i + 1)) (sym e) (entries_push p 0 i c.mul-product.result c.loop-i.entries.items c.loop-i.invariant.entries (omega arith) c.mul-product.ensures.small);
+            sum = λ n key. subst (λ es. IsSame p (row_sum key es) (scale f (unit n) (dense_sum key 0 (take (i + 1) numbers)))) (sym e)
+                (collect_one key f i c.mul-product.result c.loop-i.entries.items numbers c.loop-i-test.true is (c.loop-i.invariant.sum n key));
+          })
+      | else-product-ne0 w ↦ (
+          let e : c.if-product-ne0.entries.items ≡ c.loop-i.entries.items = ap (λ v. v.items) w.entries-is in
+          let z : c.mul-product.result ≡ 0 = w.if-product-ne0.false in
+          record {
+            entries = subst (AreEntries p 0 (i + 1)) (sym e) (entries_widen p 0 i (i + 1) c.loop-i.entries.items (omega arith) c.loop-i.invariant.entries);
+            sum = λ n key. subst (λ es. IsSame p (row_sum key es) (scale f (unit n) (dense_sum key 0 (take (i + 1) numbers)))) (sym e)
+                (collect_none key f i c.mul-product.result c.loop-i.entries.items numbers c.loop-i-test.true is z (c.loop-i.invariant.sum n key));
+          })
+    ]

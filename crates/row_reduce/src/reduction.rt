@@ -1,0 +1,215 @@
+// The reduction of a row by pivots.
+ghost use Rattle.std.specs.Prelude.{◌≡◌, ◌<◌, ◌≤◌, ◌*◌, ◌+◌, ◌-◌, ◌%◌, List, [], ℕ, drop, map, length, get_or, IfOk, MatchOption, OnOk};
+ghost use Rattle.std.specs.Vec.{vec_len};
+ghost use Rattle.monomials.specs.Exponents.{unit};
+ghost use Rattle.formal_sums.specs.FormalSums.{Each, FormalSum, IsSame, Key as KeyOf, scale};
+ghost use Rattle.row_matrix.specs.Rows.{AreEntries, IsRow, first_column, row_sum};
+ghost use Rattle.row_reduce.specs.Dense.{AddsMultiple, IsDense, dense_sum};
+ghost use Rattle.row_reduce.specs.Pivots.{ArePivots};
+ghost use Rattle.row_reduce.specs.Underway.{AreCombined, IsCombinedDense, IsDone, IsLeftRow, IsReducedDense, IsRemainder};
+ghost use Rattle.row_reduce.specs.Underway.{IsSpanned, IsUnderway, rescaled};
+
+use crate::accumulating::add_multiple;
+use module_vectors::NoMemory;
+use row_matrix::Row;
+use std::alloc::Global;
+use zp_field::Modulus;
+
+/// A row on its way: what is left at the columns that are done, a number for each column from there on, and one for each
+/// input row.
+#[derive(Drop)]
+pub(crate) struct Work {
+    pub(crate) left: Vec<(usize, u32)>,
+    pub(crate) numbers: Vec<u64>,
+    pub(crate) sources: Vec<u64>,
+}
+
+// Takes a pivot away, `residue` times. Its first column is done, and is left out.
+fn take_pivot(modulus: &Modulus, row: &Row, residue: u32, work: &mut Work)
+    requires residue { residue < modulus.now.value }
+    requires row { IsRow modulus.now.value (length work.old.numbers.items) (length work.old.sources.items) row.now }
+    requires small { IsDense modulus.now.value work.old.numbers.items }
+    requires sources_small { IsDense modulus.now.value work.old.sources.items }
+    ensures left { work.new.left ≡ work.old.left }
+    ensures numbers { AddsMultiple modulus.now.value ((modulus.now.value - residue) % modulus.now.value) (drop 1 row.now.entries)
+        work.old.numbers.items work.new.numbers.items }
+    ensures sources { AddsMultiple modulus.now.value ((modulus.now.value - residue) % modulus.now.value) row.now.sources
+        work.old.sources.items work.new.sources.items }
+{
+    let factor = modulus.neg(residue);
+    let entries = row.entries();
+    add_multiple(modulus, &mut work.numbers, factor, &entries[1..]);
+    add_multiple(modulus, &mut work.sources, factor, row.sources());
+}
+
+// Clears a column, by its pivot if it has one; else what stands there is left.
+fn clear_column(
+    modulus: &Modulus,
+    rows: &[Row],
+    pivots: &[usize],
+    work: &mut Work,
+    c: usize,
+) -> Result<(), NoMemory>
+    requires at { c < length work.old.numbers.items }
+    requires pivots { ArePivots modulus.now.value (length work.old.numbers.items) (length work.old.sources.items) rows.now pivots.now }
+    requires underway { IsUnderway modulus.now.value c (length pivots.now) (length work.old.sources.items) pivots.now
+        work.old.left.items work.old.numbers.items work.old.sources.items }
+    ensures underway { OnOk result (IsUnderway modulus.now.value (c + 1) (length pivots.now) (length work.old.sources.items) pivots.now
+        work.new.left.items work.new.numbers.items work.new.sources.items) }
+    ensures combined { (n : ℕ) (F : List (FormalSum n)) (key : ℕ → KeyOf n) → AreCombined modulus.now.value F key rows.now
+        → IsCombinedDense modulus.now.value F key work.old.left.items work.old.numbers.items work.old.sources.items
+        → OnOk result (IsCombinedDense modulus.now.value F key work.new.left.items work.new.numbers.items work.new.sources.items) }
+    ensures reduced { (n : ℕ) (key : ℕ → KeyOf n) (v : FormalSum n)
+        → IsReducedDense modulus.now.value rows.now key v work.old.left.items work.old.numbers.items
+        → OnOk result (IsReducedDense modulus.now.value rows.now key v work.new.left.items work.new.numbers.items) }
+{
+    modulus.domain();
+    let residue = (work.numbers[c] % u64::from(modulus.value())) as u32;
+    work.numbers[c] = 0;
+    if residue == 0 {
+        return Ok(());
+    }
+    let pivot = pivots[c];
+    if pivot == 0 {
+        work.left.push((c, residue))?;
+        return Ok(());
+    }
+    take_pivot(modulus, &rows[pivot - 1], residue, work);
+    Ok(())
+}
+
+// The entries of `factor` times these numbers.
+fn collect_entries(
+    alloc: Global,
+    modulus: &Modulus,
+    factor: u32,
+    numbers: &[u64],
+) -> Result<Vec<(usize, u32)>, NoMemory>
+    requires { factor < modulus.now.value }
+    ensures entries { IfOk result (λ es. AreEntries modulus.now.value 0 (length numbers.now) es.items) }
+    ensures sum { (n : ℕ) (key : ℕ → KeyOf n)
+        → IfOk result (λ es. IsSame modulus.now.value (row_sum key es.items) (scale factor (unit n) (dense_sum key 0 numbers.now))) }
+{
+    modulus.domain();
+    let mut entries = Vec::new(alloc);
+    for i in 0..numbers.len() {
+        let residue = (numbers[i] % u64::from(modulus.value())) as u32;
+        let product = modulus.mul(factor, residue);
+        if product != 0 {
+            entries.push((i, product))?;
+        }
+    }
+    Ok(entries)
+}
+
+// The entries with each residue c times itself.
+fn rescaled_entries(
+    alloc: Global,
+    modulus: &Modulus,
+    c: u32,
+    entries: &[(usize, u32)],
+) -> Result<Vec<(usize, u32)>, NoMemory>
+    requires factor { c < modulus.now.value }
+    requires residues { Each (λ e. e.1 < modulus.now.value) entries.now }
+    ensures { IfOk result (λ es. es.items ≡ rescaled modulus.now.value c entries.now) }
+{
+    let mut out = Vec::with_capacity(alloc, entries.len())?;
+    for entry in entries {
+        out.push_reserved((entry.0, modulus.mul(c, entry.1)));
+    }
+    Ok(out)
+}
+
+// The row that is left, monic, or none where nothing is left.
+fn left_row(alloc: Global, modulus: &Modulus, work: Work) -> Result<Option<Row>, NoMemory>
+    requires entries { AreEntries modulus.now.value 0 (length work.numbers.items) work.left.items }
+    ensures { IfOk result (λ r. MatchOption r (work.left.items ≡ [])
+        (IsLeftRow modulus.now.value (length work.numbers.items) (length work.sources.items) work.left.items work.sources.items)) }
+{
+    modulus.domain();
+    let left = work.left;
+    if left.len() == 0 {
+        return Ok(None);
+    }
+    match modulus.invert(left[0].1) {
+        None => unreachable!(),
+        Some(inverse) => {
+            let entries = rescaled_entries(alloc, modulus, inverse, &left)?;
+            let sources = collect_entries(alloc, modulus, inverse, &work.sources)?;
+            Ok(Some(Row::new(entries, sources)))
+        }
+    }
+}
+
+// The row with a number for each column and each input row.
+fn start_work(
+    alloc: Global,
+    modulus: &Modulus,
+    columns: usize,
+    inputs: usize,
+    row: &Row,
+) -> Result<Work, NoMemory>
+    requires { IsRow modulus.now.value columns inputs row.now }
+    ensures underway { (pivots : List ℕ)
+        → IfOk result (λ w. IsUnderway modulus.now.value (first_column row.now.entries) columns inputs pivots w.left.items w.numbers.items w.sources.items) }
+    ensures left { IfOk result (λ w. w.left.items ≡ []) }
+    ensures numbers { (n : ℕ) (key : ℕ → KeyOf n)
+        → IfOk result (λ w. IsSame modulus.now.value (dense_sum key 0 w.numbers.items) (row_sum key row.now.entries)) }
+    ensures sources { (n : ℕ) (key : ℕ → KeyOf n)
+        → IfOk result (λ w. IsSame modulus.now.value (dense_sum key 0 w.sources.items) (row_sum key row.now.sources)) }
+{
+    modulus.domain();
+    let mut numbers = vec![in alloc; 0; columns]?;
+    let mut sources = vec![in alloc; 0; inputs]?;
+    add_multiple(modulus, &mut numbers, 1, row.entries());
+    add_multiple(modulus, &mut sources, 1, row.sources());
+    Ok(Work {
+        left: Vec::new(alloc),
+        numbers,
+        sources,
+    })
+}
+
+// The row with all columns cleared from its first one on.
+fn clear_columns(
+    alloc: Global,
+    modulus: &Modulus,
+    rows: &[Row],
+    pivots: &[usize],
+    inputs: usize,
+    row: &Row,
+) -> Result<Work, NoMemory>
+    requires pivots { ArePivots modulus.now.value (length pivots.now) inputs rows.now pivots.now }
+    requires row { IsRow modulus.now.value (length pivots.now) inputs row.now }
+    ensures { IfOk result (λ w. IsDone modulus.now.value inputs rows.now pivots.now row.now w.left.items w.numbers.items w.sources.items) }
+{
+    modulus.domain();
+    let mut work = start_work(alloc, modulus, pivots.len(), inputs, row)?;
+    for c in row.entries()[0].0..pivots.len() {
+        clear_column(modulus, rows, pivots, &mut work, c)?;
+    }
+    Ok(work)
+}
+
+/// What the pivots leave of the row, monic, or none where it is in their span.
+pub(crate) fn reduce_row(
+    alloc: Global,
+    modulus: &Modulus,
+    rows: &[Row],
+    pivots: &[usize],
+    inputs: usize,
+    row: &Row,
+) -> Result<Option<Row>, NoMemory>
+    requires pivots { ArePivots modulus.now.value (length pivots.now) inputs rows.now pivots.now }
+    requires row { IsRow modulus.now.value (length pivots.now) inputs row.now }
+    ensures { IfOk result (λ r. MatchOption r (IsSpanned modulus.now.value rows.now row.now)
+        (IsRemainder modulus.now.value inputs rows.now pivots.now row.now)) }
+{
+    modulus.domain();
+    let work = clear_columns(alloc, modulus, rows, pivots, inputs, row)?;
+    let left = left_row(alloc, modulus, work)?;
+    match left {
+        None => Ok(None),
+        Some(rest) => Ok(Some(rest)),
+    }
+}

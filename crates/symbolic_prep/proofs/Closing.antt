@@ -1,0 +1,199 @@
+-- Plans that grow until each key that a lead divides is the lead of a row
+use Rattle.std.proofs.Common.{Bool, List, [], ap, arith, append-nil, append_assoc, false, get_or, inl, inr, length, refl, subst, sym, true, ℕ, ◌+◌, ◌++◌, ◌<◌, ◌∙◌, ◌∷◌, ◌≡◌, ◌⊎◌}
+use Rattle.std.proofs.lemmas.Bool.{cases_eq, cases_lt}
+use Rattle.std.proofs.lemmas.List.{get_or_append_left, get_or_default, get_or_push, length-append, length_push}
+use Rattle.monomials.proofs.Monomials.{times-quotient, times-quotient_right}
+use Rattle.monomials.specs.Exponents.{Divides, exponents_of, lcm, quotient}
+use Rattle.formal_sums.specs.FormalSums.{Each, Key}
+use Rattle.pair_criteria.specs.declared.pair.Pair.{Pair as CodePair}
+use Rattle.monomial_orders.specs.Kept.{IsWeighed, Monomial}
+use Rattle.module_vectors.proofs.Scaling.{Each_at}
+use Rattle.module_vectors.specs.Trails.{Step, lead_at, product_lead}
+use Rattle.module_vectors.specs.Vectors.{key_of, sums_of}
+use Rattle.module_vectors.specs.declared.key.Key.{Key as CodeKey}
+use Rattle.row_matrix.proofs.KeyPlaces.{key_exact}
+use Rattle.row_matrix.specs.Hashes.{AreApart, no_key}
+use Rattle.row_matrix.specs.Rows.{AreKeys, RowShown, column_key, first_column}
+use Rattle.symbolic_prep.proofs.Planning.{entries_some, lead_known}
+use Rattle.symbolic_prep.specs.Plans.{AreClosed, HasPairSteps, IsFactorOf, IsLaterPlan, IsMorePlanned, IsPairOf, IsPlan, IsPlannedRow, IsTopStep, no_row, row_at}
+use Rattle.symbolic_prep.specs.Traces.{no_step, step_at}
+use Rattle.vector_division.specs.Divisions.{IsUncovered}
+use Rattle.vector_division.specs.Progress.{IsDivisor}
+
+-- keys that are apart have one number each
+pub one_number :
+    (n : ℕ) (ws : List ℕ) (keys : List CodeKey) (a b : ℕ)
+    → AreApart keys → AreKeys n ws keys → a < length keys → b < length keys → column_key n keys a ≡ column_key n keys b → a ≡ b
+one_number n ws keys a b apart vars la lb e = elim (cases_eq a b) [
+  | inl f ↦ f
+  | inr ne ↦ elim (cases_lt a b) [
+    | inl lt ↦ absurd (apart a b lt lb same)
+    | inr ge ↦ absurd (apart b a (omega arith) la (sym same))
+  ]
+]
+  where
+    there : (i : ℕ) → i < length keys → IsWeighed n ws (get_or keys i no_key).monomial
+    there i l = Each_at (λ (k : CodeKey). IsWeighed n ws k.monomial) keys i (get_or keys i no_key) vars l (get_or_default keys i no_key (get_or keys i no_key) l)
+
+    same : get_or keys a no_key ≡ get_or keys b no_key
+    same = key_exact n ws (get_or keys a no_key) (get_or keys b no_key) (there a la) (there b lb) e
+
+pub key_stays : (n : ℕ) (keys added : List CodeKey) (c : ℕ) → c < length keys → column_key n (keys ++ added) c ≡ column_key n keys c
+key_stays n keys added c lt = ap (key_of n) (get_or_append_left keys added no_key c lt)
+
+-- the key that was to be the lead of a product is the first of its row
+pub lead_is :
+    (n : ℕ) (ws : List ℕ) (list : List (List (CodeKey × ℕ))) (old new : List CodeKey) (rows rows' : List RowShown) (steps steps' : List Step) (led led' : List Bool) (s : Step) (cursor : ℕ)
+    → (h : IsMorePlanned n ws list old new rows rows' steps steps' led led' s) → AreApart new → cursor < length old
+    → product_lead n list s ≡ column_key n old cursor → first_column h.rows_more.0.entries ≡ cursor
+lead_is n ws list old new rows rows' steps steps' led led' s cursor h apart lt e =
+    let r = h.rows_more.0 in
+    let i = length rows in
+    let size : length rows' ≡ length rows + 1 = ap length h.rows_more.1 ∙ length_push rows r in
+    let at : row_at rows' i ≡ r = ap (λ xs. get_or xs i no_row) h.rows_more.1 ∙ get_or_push rows r no_row i refl in
+    let row : IsPlannedRow n ws list new i (row_at rows' i) (step_at steps' i) = h.plan.each i (omega arith) in
+    let some = entries_some n list new (row_at rows' i).entries (step_at steps' i) row.named row.product.some in
+    let first : first_column r.entries < length new = subst (λ (x : RowShown). first_column x.entries < length new) at (lead_known (length new) (row_at rows' i).entries some row.named.known) in
+    let grown : length new ≡ length old + length h.added = ap length h.grown ∙ length-append old h.added in
+    let stays : column_key n new cursor ≡ column_key n old cursor = ap (λ ks. column_key n ks cursor) h.grown ∙ key_stays n old h.added cursor lt in
+    one_number n ws new (first_column r.entries) cursor apart h.plan.monomials first (omega arith) (h.rows_more.2 ∙ e ∙ sym stays)
+
+-- that key is marked
+pub lead_marked :
+    (n : ℕ) (ws : List ℕ) (list : List (List (CodeKey × ℕ))) (old new : List CodeKey) (rows rows' : List RowShown) (steps steps' : List Step) (led led' : List Bool) (s : Step) (cursor : ℕ)
+    → IsMorePlanned n ws list old new rows rows' steps steps' led led' s → AreApart new → cursor < length old
+    → product_lead n list s ≡ column_key n old cursor → get_or led' cursor false ≡ true
+lead_marked n ws list old new rows rows' steps steps' led led' s cursor h apart lt e =
+    subst (λ c. get_or led' c false ≡ true) (lead_is n ws list old new rows rows' steps steps' led led' s cursor h apart lt e) h.rows_more.3
+
+pub later_itself :
+    (n : ℕ) (ws : List ℕ) (list : List (List (CodeKey × ℕ))) (keys : List CodeKey) (rows : List RowShown) (steps : List Step) (led : List Bool)
+    → IsPlan n ws list keys rows steps led → IsLaterPlan n ws list keys steps led keys rows steps led
+later_itself n ws list keys rows steps led h = record {
+  plan = h;
+  added = [];
+  grown = sym (append-nil keys);
+  more = [];
+  steps_more = sym (append-nil steps);
+  kept = λ c e. e;
+}
+
+pub later_of_more :
+    (n : ℕ) (ws : List ℕ) (list : List (List (CodeKey × ℕ))) (old new : List CodeKey) (rows rows' : List RowShown) (steps steps' : List Step) (led led' : List Bool) (s : Step)
+    → IsMorePlanned n ws list old new rows rows' steps steps' led led' s → IsLaterPlan n ws list old steps led new rows' steps' led'
+later_of_more n ws list old new rows rows' steps steps' led led' s h = record {
+  plan = h.plan;
+  added = h.added;
+  grown = h.grown;
+  more = s ∷ [];
+  steps_more = h.steps_more;
+  kept = h.kept;
+}
+
+pub later_trans :
+    (n : ℕ) (ws : List ℕ) (list : List (List (CodeKey × ℕ))) (keys keys' keys'' : List CodeKey) (rows' rows'' : List RowShown) (steps steps' steps'' : List Step) (led led' led'' : List Bool)
+    → IsLaterPlan n ws list keys steps led keys' rows' steps' led' → IsLaterPlan n ws list keys' steps' led' keys'' rows'' steps'' led''
+    → IsLaterPlan n ws list keys steps led keys'' rows'' steps'' led''
+later_trans n ws list keys keys' keys'' rows' rows'' steps steps' steps'' led led' led'' a b = record {
+  plan = b.plan;
+  added = a.added ++ b.added;
+  grown = b.grown ∙ ap (λ ks. ks ++ b.added) a.grown ∙ append_assoc keys a.added b.added;
+  more = a.more ++ b.more;
+  steps_more = b.steps_more ∙ ap (λ ss. ss ++ b.more) a.steps_more ∙ append_assoc steps a.more b.more;
+  kept = λ c e. b.kept c (a.kept c e);
+}
+
+pub closed_more :
+    (n : ℕ) (ws : List ℕ) (list : List (List (CodeKey × ℕ))) (keys keys' : List CodeKey) (rows' : List RowShown) (steps steps' : List Step) (led led' : List Bool) (cursor : ℕ)
+    → AreClosed n list keys led cursor → IsLaterPlan n ws list keys steps led keys' rows' steps' led' → cursor < length keys
+    → (get_or led' cursor false ≡ true) ⊎ IsUncovered (sums_of n list) (column_key n keys cursor)
+    → AreClosed n list keys' led' (cursor + 1)
+closed_more n ws list keys keys' rows' steps steps' led led' cursor h later lt here c l m = elim (cases_eq c cursor) [
+  | inl e ↦ subst (λ x. (get_or led' x false ≡ true) ⊎ IsUncovered (sums_of n list) (column_key n keys' x)) (sym e) (moved cursor lt here)
+  | inr ne ↦ elim (h c (omega arith) (omega arith)) [
+    | inl f ↦ inl (later.kept c f)
+    | inr u ↦ moved c (omega arith) (inr u)
+  ]
+]
+  where
+    moved : (x : ℕ) → x < length keys → (get_or led' x false ≡ true) ⊎ IsUncovered (sums_of n list) (column_key n keys x) → (get_or led' x false ≡ true) ⊎ IsUncovered (sums_of n list) (column_key n keys' x)
+    moved x l (inl f) = inl f
+    moved x l (inr u) = inr (subst (IsUncovered (sums_of n list)) (sym (ap (λ ks. column_key n ks x) later.grown ∙ key_stays n keys later.added x l)) u)
+
+-- the code's key is that of the number
+pub key_read :
+    (n : ℕ) (ws : List ℕ) (keys read : List CodeKey) (cursor : ℕ) (key : CodeKey)
+    → AreKeys n ws keys → cursor < length keys → read ≡ keys → key ≡ get_or read cursor key
+    → IsWeighed n ws key.monomial × (key_of n key ≡ column_key n keys cursor)
+key_read n ws keys read cursor key vars lt e is =
+    let at : key ≡ get_or keys cursor key = is ∙ ap (λ ks. get_or ks cursor key) e in
+    (Each_at (λ (k : CodeKey). IsWeighed n ws k.monomial) keys cursor key vars lt at, ap (key_of n) (at ∙ get_or_default keys cursor key no_key lt))
+
+-- a product with its lead is there
+pub now_marked :
+    (n : ℕ) (ws : List ℕ) (list : List (List (CodeKey × ℕ))) (old new read : List CodeKey) (rows rows' : List RowShown) (steps steps' : List Step) (led led' : List Bool) (s : Step) (cursor : ℕ) (key : CodeKey)
+    → key_of n key ≡ column_key n old cursor → IsDivisor n ws list (key_of n key) s
+    → IsMorePlanned n ws list old new rows rows' steps steps' led led' s → read ≡ new → AreApart read → cursor < length old
+    → get_or led' cursor false ≡ true
+now_marked n ws list old new read rows rows' steps steps' led led' s cursor key same d h r apart lt =
+    lead_marked n ws list old new rows rows' steps steps' led led' s cursor h (subst AreApart r apart) lt (d.lead ∙ same)
+
+-- ---- the products of pairs
+pub top_step :
+    (n : ℕ) (ws : List ℕ) (list : List (List (CodeKey × ℕ))) (steps steps' : List Step) (lcm : CodeKey) (member : ℕ) (t : Monomial) (v : List (CodeKey × ℕ))
+    → v ≡ get_or list member [] → IsFactorOf n ws lcm v t → steps' ≡ steps ++ (member, t) ∷ []
+    → IsTopStep n list steps' lcm member (length steps)
+top_step n ws list steps steps' lcm member t v is h more =
+    let s : Step = (member, t) in
+    let at : step_at steps' (length steps) ≡ s = ap (λ xs. get_or xs (length steps) no_step) more ∙ get_or_push steps s no_step (length steps) refl in
+    let size : length steps' ≡ length steps + 1 = ap length more ∙ length_push steps s in
+    let f : IsFactorOf n ws lcm (get_or list member []) t = subst (λ w. IsFactorOf n ws lcm w t) is h in
+    record {
+      there = omega arith;
+      of = ap (λ (x : Step). x.0) at;
+      exponents = ap (λ (x : Step). exponents_of n x.1.exponents) at ∙ f.exponents;
+    }
+
+pub pair_divides :
+    (n : ℕ) (ws : List ℕ) (list : List (List (CodeKey × ℕ))) (x : CodePair)
+    → IsPairOf n ws list x → Divides (lead_at n list x.i).1 (exponents_of n x.lcm.monomial.exponents) × Divides (lead_at n list x.j).1 (exponents_of n x.lcm.monomial.exponents)
+pair_divides n ws list x h =
+    let e : exponents_of n x.lcm.monomial.exponents ≡ lcm (lead_at n list x.i).1 (lead_at n list x.j).1 = ap (λ (k : Key n). k.1) h.lcm in
+    (subst (Divides (lead_at n list x.i).1) (sym e) (quotient (lcm (lead_at n list x.i).1 (lead_at n list x.j).1) (lead_at n list x.i).1, times-quotient (lead_at n list x.i).1 (lead_at n list x.j).1), subst (Divides (lead_at n list x.j).1) (sym e) (quotient (lcm (lead_at n list x.i).1 (lead_at n list x.j).1) (lead_at n list x.j).1, times-quotient_right (lead_at n list x.i).1 (lead_at n list x.j).1))
+
+top_more :
+    (n : ℕ) (list : List (List (CodeKey × ℕ))) (steps more steps' : List Step) (lcm : CodeKey) (member number : ℕ)
+    → steps' ≡ steps ++ more → IsTopStep n list steps lcm member number → IsTopStep n list steps' lcm member number
+top_more n list steps more steps' lcm member number e h =
+    let at : step_at steps' number ≡ step_at steps number = ap (λ xs. get_or xs number no_step) e ∙ get_or_append_left steps more no_step number h.there in
+    let size : length steps' ≡ length steps + length more = ap length e ∙ length-append steps more in
+    record {
+      there = omega (arith, h.there);
+      of = ap (λ (x : Step). x.0) at ∙ h.of;
+      exponents = ap (λ (x : Step). exponents_of n x.1.exponents) at ∙ h.exponents;
+    }
+
+pub pairs_more :
+    (n : ℕ) (list : List (List (CodeKey × ℕ))) (steps more steps' : List Step) (pairs : List CodePair)
+    → steps' ≡ steps ++ more → Each (HasPairSteps n list steps) pairs → Each (HasPairSteps n list steps') pairs
+pairs_more n list steps more steps' [] e h = tt
+pairs_more n list steps more steps' (x ∷ pairs) e h = (
+  record {
+    left = h.0.left;
+    right = h.0.right;
+    first = top_more n list steps more steps' x.lcm x.i h.0.left e h.0.first;
+    second = top_more n list steps more steps' x.lcm x.j h.0.right e h.0.second;
+  },
+  pairs_more n list steps more steps' pairs e h.1,
+)
+
+pub both_tops :
+    (n : ℕ) (list : List (List (CodeKey × ℕ))) (steps steps' steps'' more : List Step) (x : CodePair)
+    → IsTopStep n list steps' x.lcm x.i (length steps) → steps'' ≡ steps' ++ more → IsTopStep n list steps'' x.lcm x.j (length steps')
+    → HasPairSteps n list steps'' x
+both_tops n list steps steps' steps'' more x a e b = record {
+  left = length steps;
+  right = length steps';
+  first = top_more n list steps' more steps'' x.lcm x.i (length steps) e a;
+  second = b;
+}

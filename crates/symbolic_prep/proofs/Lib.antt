@@ -1,0 +1,5 @@
+pub mod Planning
+pub mod Closing
+pub mod Matrices
+pub mod Tracing
+pub mod Counting

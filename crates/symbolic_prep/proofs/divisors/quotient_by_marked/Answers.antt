@@ -1,0 +1,16 @@
+use Rattle.std.proofs.Common.{None, false, length, subst, sym, ◌∙◌, ◌≡◌}
+use Rattle.formal_sums.proofs.Combining.{Each_map}
+use Rattle.module_vectors.specs.Vectors.{HasVariables, IsMonomialOver, key_of}
+use Rattle.vector_division.specs.Progress.{IsTried}
+use Rattle.symbolic_prep.proofs.divisors.quotient_by_marked.Goals as goal
+
+pub returns-then-not-is_possible : goal.returns-then-not-is_possible
+returns-then-not-is_possible c =
+    let ring = c.args.ring.now in
+    let v = c.args.v.now in
+    let key = c.args.key.now in
+    let n = length key.monomial.exponents in
+    let e = c.requires.key.variables in
+    let no : c.is_possible.result ≡ false = cc in
+    let have = Each_map (λ t. IsMonomialOver ring t.0.monomial) (HasVariables n) v (λ t h. h.variables ∙ sym e) c.requires.vector in
+    subst (λ m. IsTried m ring.weights v (key_of m key) None) e (c.is_possible.ensures no ring.weights v have c.requires.mark)

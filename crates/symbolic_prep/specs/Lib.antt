@@ -1,0 +1,5 @@
+-- what public clauses cite
+pub mod Prepared
+pub mod Traces
+pub mod Plans
+pub mod Counts

@@ -1,0 +1,105 @@
+// The products of a job's pairs.
+ghost use Rattle.std.specs.Prelude.{◌≡◌, ◌<◌, ◌≤◌, ◌+◌, ◌*◌, List, [], ℕ, Bool, Contains, false, true, length, get_or, IfOk, IfErr, OnOk};
+ghost use Rattle.monomials.specs.Exponents.{Divides, exponents_of, quotient, times};
+ghost use Rattle.formal_sums.specs.FormalSums.{Each};
+ghost use Rattle.bases.specs.Leads.{head_key};
+ghost use Rattle.module_vectors.specs.Rings.{variables};
+ghost use Rattle.module_vectors.specs.Trails.{lead_at};
+ghost use Rattle.module_vectors.specs.Vectors.{IsMonomialOver, key_of, sum_of};
+ghost use Rattle.vector_division.specs.Progress.{AreWeighed};
+ghost use Rattle.symbolic_prep.specs.Plans.{HasPairSteps, IsFactorOf, IsLaterPlan, IsPairOf, IsPlan, IsTopStep};
+ghost use Rattle.symbolic_prep.specs.Traces.{AreTraced, PlanStops};
+
+use crate::plan::{Plan, add_product};
+use crate::stop::PlanStop;
+use module_vectors::{Key, NoMemory, Ring, Vect, Vectors};
+use monomial_orders::Mono;
+use pair_criteria::Pair;
+use std::alloc::Global;
+
+// The monomial that takes the lead of a vector to the lcm, which it divides.
+fn factor_of(alloc: Global, _ring: &Ring, lcm: &Key, v: &Vect) -> Result<Mono, NoMemory>
+    requires lcm { IsMonomialOver _ring.now lcm.now.monomial }
+    requires vector { Each (λ t. IsMonomialOver _ring.now t.0.monomial) v.now }
+    requires some { 0 < length v.now }
+    requires divides { let n = variables _ring.now in Divides (head_key (sum_of n v.now)).1 (exponents_of n lcm.now.monomial.exponents) }
+    ensures { IfOk result (IsFactorOf (variables _ring.now) _ring.now.weights lcm.now v.now) }
+{
+    match v.lead() {
+        None => unreachable!(),
+        Some(lead) => match Mono::quotient(alloc, &lcm.monomial, &lead.key.monomial)? {
+            Some(monomial) => Ok(monomial),
+            None => unreachable!(),
+        },
+    }
+}
+
+// Puts the product of a pair's member that has the lcm as its lead behind the other rows.
+fn add_top<L: Vectors>(
+    alloc: Global,
+    ring: &Ring,
+    members: &L,
+    _pairs: &[Pair],
+    plan: &mut Plan,
+    pair: &Pair,
+    member: u64,
+) -> Result<(), PlanStop>
+    requires lcm { IsMonomialOver ring.now pair.now.lcm.monomial }
+    requires member { member < length (L.listed members.now) }
+    requires some { 0 < length (get_or (L.listed members.now) member []) }
+    requires position { (lead_at (variables ring.now) (L.listed members.now) member).0 ≡ pair.now.lcm.position }
+    requires divides { let n = variables ring.now in Divides (lead_at n (L.listed members.now) member).1 (exponents_of n pair.now.lcm.monomial.exponents) }
+    requires pair { Contains _pairs.now pair.now }
+    requires weighed { AreWeighed (variables ring.now) ring.now.weights (L.listed members.now) }
+    requires plan { IsPlan (variables ring.now) ring.now.weights (L.listed members.now)
+        plan.old.keys plan.old.rows.items plan.old.products.items plan.old.led.items }
+    requires traced { AreTraced (variables ring.now) (L.listed members.now) _pairs.now plan.old.products.items }
+    ensures later { OnOk result (IsLaterPlan (variables ring.now) ring.now.weights (L.listed members.now)
+        plan.old.keys plan.old.products.items plan.old.led.items
+        plan.new.keys plan.new.rows.items plan.new.products.items plan.new.led.items) }
+    ensures top { OnOk result (IsTopStep (variables ring.now) (L.listed members.now) plan.new.products.items
+        pair.now.lcm member (length plan.old.products.items)) }
+    ensures traced { OnOk result (AreTraced (variables ring.now) (L.listed members.now) _pairs.now plan.new.products.items) }
+    ensures one { OnOk result (length plan.new.rows.items ≡ length plan.old.rows.items + 1) }
+    ensures stop { IfErr result (PlanStops (variables ring.now) ring.now.weights (L.listed members.now) _pairs.now plan.new.products.items) }
+{
+    let t = factor_of(alloc, ring, &pair.lcm, members.at(member as usize))?;
+    match add_product(alloc, ring, members, plan, member, t) {
+        Ok(()) => Ok(()),
+        Err(stop) => Err(stop),
+    }
+}
+
+/// Puts both products of each pair behind the other rows.
+pub(crate) fn add_pairs<L: Vectors>(
+    alloc: Global,
+    ring: &Ring,
+    members: &L,
+    pairs: &[Pair],
+    plan: &mut Plan,
+) -> Result<(), PlanStop>
+    requires weighed { AreWeighed (variables ring.now) ring.now.weights (L.listed members.now) }
+    requires pairs { Each (IsPairOf (variables ring.now) ring.now.weights (L.listed members.now)) pairs.now }
+    requires plan { IsPlan (variables ring.now) ring.now.weights (L.listed members.now)
+        plan.old.keys plan.old.rows.items plan.old.products.items plan.old.led.items }
+    requires traced { AreTraced (variables ring.now) (L.listed members.now) pairs.now plan.old.products.items }
+    ensures later { OnOk result (IsLaterPlan (variables ring.now) ring.now.weights (L.listed members.now)
+        plan.old.keys plan.old.products.items plan.old.led.items
+        plan.new.keys plan.new.rows.items plan.new.products.items plan.new.led.items) }
+    ensures pairs { OnOk result (Each (HasPairSteps (variables ring.now) (L.listed members.now) plan.new.products.items) pairs.now) }
+    ensures traced { OnOk result (AreTraced (variables ring.now) (L.listed members.now) pairs.now plan.new.products.items) }
+    ensures count { OnOk result (length plan.new.rows.items ≡ length plan.old.rows.items + 2 * length pairs.now) }
+    ensures stop { IfErr result (PlanStops (variables ring.now) ring.now.weights (L.listed members.now) pairs.now plan.new.products.items) }
+{
+    for pair in pairs {
+        match add_top(alloc, ring, members, pairs, plan, pair, pair.i) {
+            Ok(()) => {}
+            Err(stop) => return Err(stop),
+        }
+        match add_top(alloc, ring, members, pairs, plan, pair, pair.j) {
+            Ok(()) => {}
+            Err(stop) => return Err(stop),
+        }
+    }
+    Ok(())
+}
