@@ -1,0 +1,8 @@
+pub mod Standing
+pub mod Stops
+pub mod Marks
+pub mod LoweredTerms
+pub mod KernelSteps
+pub mod Generated
+pub mod LeftOver
+pub mod OneLift

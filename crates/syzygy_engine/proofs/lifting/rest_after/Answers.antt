@@ -1,0 +1,11 @@
+use Rattle.module_vectors.specs.Rings.{variables}
+use Rattle.vector_division.specs.Reductions.{cofactors_of}
+use Rattle.syzygy_engine.proofs.LeftOver.{cofactor_rank}
+use Rattle.syzygy_engine.proofs.lifting.rest_after.Goals as goal
+
+pub returns-in-Ok-clause-sum : goal.returns-in-Ok-clause-sum
+returns-in-Ok-clause-sum c =
+    let ring = c.args.ring.now in
+    let n = variables ring in
+    let qs = c.in-Ok.reduction.quotients.items in
+    rw c.rest_of.ensures (cofactors_of n qs, cofactor_rank n ring.weights ring.modulus.value c.args.list.now qs c.in-Ok.ensures.quotients, c.in-Ok.ensures.sum)

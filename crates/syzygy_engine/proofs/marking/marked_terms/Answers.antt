@@ -1,0 +1,24 @@
+use Rattle.std.proofs.Common.{[], ap, subst, sym, ◌++◌, ◌∙◌, ◌∷◌}
+use Rattle.monomials.specs.Exponents.{unit}
+use Rattle.monomial_orders.specs.Kept.{IsWeighed}
+use Rattle.monomial_orders.specs.Monomials.{IsMonomial}
+use Rattle.module_vectors.specs.Rings.{variables}
+use Rattle.module_vectors.specs.Vectors.{AreTermsOver, sum_of}
+use Rattle.syzygy_engine.proofs.Marks.{marked_over, marked_sum}
+use Rattle.syzygy_engine.proofs.marking.marked_terms.Goals as goal
+
+pub returns-clause-terms : goal.returns-clause-terms
+returns-clause-terms c =
+    let ring = c.args.ring.now in
+    let m = c.in_ok-unit.field-0 in
+    let weighed = subst (λ z. IsWeighed z ring.weights m) c.len.ensures (c.in_ok-unit.ensures.weighed ring.weights) in
+    let whole = c.in_ok-push.ensures.items ∙ ap (λ z. z ++ (record { position = c.args.position; monomial = m }, 1) ∷ []) c.in_ok-terms.ensures in
+    subst (AreTermsOver ring) (sym whole) (marked_over ring c.args.v.now c.args.position m c.domain.ensures.above_one c.requires weighed)
+
+pub returns-clause-sum : goal.returns-clause-sum
+returns-clause-sum c =
+    let n = variables c.args.ring.now in
+    let m = c.in_ok-unit.field-0 in
+    let unit_of = subst (λ z. IsMonomial z (unit z) m.exponents) c.len.ensures c.in_ok-unit.ensures.ok in
+    let whole = c.in_ok-push.ensures.items ∙ ap (λ z. z ++ (record { position = c.args.position; monomial = m }, 1) ∷ []) c.in_ok-terms.ensures in
+    ap (sum_of n) whole ∙ marked_sum n c.args.v.now c.args.position m unit_of

@@ -1,0 +1,58 @@
+// The syzygies of a list.
+ghost use Rattle.std.specs.Prelude.{◌≡◌, ◌<◌, ◌≤◌, IfOk, IfErr, OnOk, length};
+ghost use Rattle.formal_sums.specs.FormalSums.{Each};
+ghost use Rattle.module_vectors.specs.Rings.{ring_comparison, variables};
+ghost use Rattle.module_vectors.specs.Vectors.{AreVectorsOver, HasPositions, sums_of};
+ghost use Rattle.groebner_iface.specs.Calls.{CallStops, NoTrail};
+ghost use Rattle.groebner_iface.specs.Runs.{IsReducedBasisOf};
+ghost use Rattle.syzygy_engine.specs.Kernels.{GeneratesSyzygies, IsSyzygyRun};
+
+use crate::marked_runs::syzygy_run;
+use groebner_iface::{Groebner, OpStop};
+use module_vectors::{Ring, VectList, lawful_setting};
+use monomial_orders::ModOrder;
+use std::alloc::Global;
+use std::sync::Wait;
+use std::thread::Threads;
+
+/// The reduced basis, in the ring's own order, of the syzygies of the list, vectors of this rank: the vectors a by which the
+/// combination of the list is zero. The component of a at position i is the cofactor of member i (UAG chapter 5, section 3).
+///
+/// Where the ring's order is by position first, one run on the list with marks shows it; else a second run takes what the
+/// first one shows into the ring's order.
+///
+/// `Pairs` and `Degree` are those of one of these runs, which the engine counted and kept; `Memory` where there is none;
+/// `Trail` never.
+pub fn syzygies<R: Threads + Wait + Sync, B: Groebner>(
+    rt: &R,
+    alloc: Global,
+    engine: &mut B,
+    ring: &Ring,
+    rank: u128,
+    list: &VectList,
+) -> Result<VectList, OpStop>
+    requires vectors { AreVectorsOver ring.now (ring_comparison ring.now) list.now }
+    requires positions { Each (HasPositions rank) list.now }
+    requires room { rank < 9223372036854775808 }
+    ensures basis { IfOk result (λ answer. IsReducedBasisOf ring.now (length list.now) answer answer) }
+    ensures syzygies { let n = variables ring.now in
+        IfOk result (λ answer. GeneratesSyzygies ring.now.modulus.value (sums_of n list.now) (sums_of n answer)) }
+    ensures same { OnOk result ((B.stops engine.new ≡ B.stops engine.old) × (B.stopped engine.new ≡ B.stopped engine.old)) }
+    ensures stop { IfErr result (CallStops (IsSyzygyRun ring.now rank list.now) NoTrail
+        (B.stops engine.old) (B.stops engine.new) (B.stopped engine.old) (B.stopped engine.new)) }
+    ensures later { B.stops engine.old ≤ B.stops engine.new }
+    ensures settings { B.settings engine.new ≡ B.settings engine.old }
+{
+    lawful_setting(ring);
+    let kernel = match syzygy_run(rt, alloc, engine, ring, rank, list) {
+        Ok(kernel) => kernel,
+        Err(stop) => return Err(stop),
+    };
+    match ring.module_order {
+        ModOrder::Pot => Ok(kernel),
+        ModOrder::Top => match engine.reduced(rt, alloc, ring, list.len() as u128, &kernel) {
+            Ok(basis) => Ok(basis),
+            Err(stop) => Err(OpStop::from(stop)),
+        },
+    }
+}
