@@ -1,0 +1,35 @@
+use Rattle.std.proofs.Common.{length, rules, subst, sym, true, ◌≡◌}
+use Rattle.monomials.specs.Exponents.{exponents_of}
+use Rattle.monomial_counts.specs.Counts.{has_divisor}
+use Rattle.hilbert_series.specs.Generators.{monomials}
+use Rattle.hilbert_series.proofs.Loops.{Sifting, sifting_drops, sifting_ends, sifting_keeps}
+use Rattle.hilbert_series.proofs.generators.without_earlier_multiples.Goals as goal
+
+pub loop-m-preserved-in-Continue-branch-2 : goal.loop-m-preserved-in-Continue-branch-2
+loop-m-preserved-in-Continue-branch-2 c =
+    let ws = c.args.weights.now in
+    let s = subst (λ r. Sifting (length ws) ws c.args.list.items r c.loop-m.kept.items) c.in-Some.ensures.items c.loop-m.invariant in
+    subst (λ k. Sifting (length ws) ws c.args.list.items c.pop.new.self.items k) (sym c.in_ok-push.ensures.items)
+    (sifting_keeps (length ws) ws c.args.list.items c.pop.new.self.items c.loop-m.kept.items c.in-Some.m s)
+
+pub loop-m-preserved-else-not-is_multiple : goal.loop-m-preserved-else-not-is_multiple
+loop-m-preserved-else-not-is_multiple c =
+    let ws = c.args.weights.now in
+    let s = subst (λ r. Sifting (length ws) ws c.args.list.items r c.loop-m.kept.items) c.in-Some.ensures.items c.loop-m.invariant in
+    sifting_drops (length ws) ws c.args.list.items c.pop.new.self.items c.loop-m.kept.items c.in-Some.m s
+    (subst (λ k. has_divisor (monomials (length ws) k) (exponents_of (length ws) c.in-Some.m.exponents) ≡ true) c.as_slice.ensures.value
+    (sym c.if-not-is_multiple.ensures))
+
+pub loop-m-preserved : goal.loop-m-preserved
+loop-m-preserved c =
+    let ws = c.args.weights.now in
+    let s = subst (λ r. Sifting (length ws) ws c.args.list.items r c.loop-m.kept.items) c.in-Some.ensures.items c.loop-m.invariant in
+    sifting_drops (length ws) ws c.args.list.items c.pop.new.self.items c.loop-m.kept.items c.in-Some.m s
+    (subst (λ k. has_divisor (monomials (length ws) k) (exponents_of (length ws) c.in-Some.m.exponents) ≡ true) c.as_slice.ensures.value
+    (sym c.if-not-is_multiple.ensures))
+
+pub returns : goal.returns
+returns c = record {
+  shorter = sifting_ends (length c.args.weights.now) c.args.weights.now c.args.list.items c.loop-m.list.items c.loop-m.kept.items (search rules)
+      c.loop-m.invariant;
+}

@@ -1,0 +1,12 @@
+use Rattle.std.proofs.Common.{arith, length, rules}
+use Rattle.hilbert_series.proofs.Lists.{split_by_pivot}
+use Rattle.hilbert_series.proofs.recurrence.split_by.Goals as goal
+
+pub returns : goal.returns
+returns c =
+    let ws = c.args.weights.now in
+    record {
+      split = split_by_pivot (length ws) ws c.args.list.now c.in_ok-left.left.items c.in_ok-all.all.items c.in_ok-right.right.items c.args.p.now
+          c.in_ok-degree.degree c.requires.monomial c.in_ok-degree.ensures c.in_ok-left.ensures.generators c.in_ok-left.ensures.same
+          (search (arith, rules)) c.in_ok-all.ensures.long c.in_ok-all.ensures.items c.in_ok-right.ensures.shorter;
+    }
