@@ -1,0 +1,71 @@
+-- Rows of a matrix as rows of an outcome
+use Rattle.std.proofs.Common.{List, [], ap, length, map, refl, ℕ, ◌++◌, ◌+◌, ◌<◌, ◌∷◌, ◌≡◌}
+use Rattle.formal_sums.specs.FormalSums.{Each}
+use Rattle.bases.proofs.NormalForms.{normal_unique}
+use Rattle.member_products.proofs.Ranks.{ring_lawful}
+use Rattle.module_vectors.proofs.NormalVectors.{residues_of}
+use Rattle.module_vectors.proofs.SumsOfProducts.{Each_member}
+use Rattle.module_vectors.specs.Rings.{ring_comparison, setting, variables}
+use Rattle.module_vectors.specs.Trails.{Step}
+use Rattle.module_vectors.specs.Vectors.{AreTermsOver, IsMonomialOver, IsVectorOver, StandsFor, sum_of}
+use Rattle.module_vectors.specs.declared.key.Key.{Key as CodeKey}
+use Rattle.module_vectors.specs.declared.ring.Ring.{Ring}
+use Rattle.monomial_orders.specs.Kept.{IsWeighed}
+use Rattle.member_products.specs.declared.member.Row.{Row as CodeRow}
+use Rattle.row_matrix.specs.Hashes.{no_key}
+use Rattle.row_matrix.specs.Rows.{AreEntries, AreKeys, Descend, Entry, IsRow, RowShown, column_key, row_sum, vector_of}
+use Rattle.row_reduce.proofs.Entries.{entries_within}
+use Rattle.row_reduce.proofs.Forms.{row_normal}
+use Rattle.symbolic_prep.specs.Traces.{no_step}
+use Rattle.vector_division.specs.declared.reduction.Quotient.{Quotient}
+use Rattle.f4_job.specs.Made.{AreMadeRows, AreWeighedSteps, IsMadeRow, entry_term, source_parts}
+
+-- the terms stand for the row's vector
+pub terms_sum : (n : ℕ) (columns : List CodeKey) (es : List Entry) → sum_of n (map (λ e. entry_term columns e) es) ≡ row_sum (column_key n columns) es
+terms_sum n columns [] = refl
+terms_sum n columns (e ∷ es) = ap (λ v. (column_key n columns e.0, e.1) ∷ v) (terms_sum n columns es)
+
+pub columns_within : (p low high : ℕ) (es : List Entry) → AreEntries p low high es → Each (λ e. e.0 < high) es
+columns_within p low high es h = go es (entries_within p low high es h)
+  where
+    go : (xs : List Entry) → Each (λ x. (x.0 < high) × (x.1 < p)) xs → Each (λ e. e.0 < high) xs
+    go [] w = tt
+    go (x ∷ xs) w = (w.0.0, go xs w.1)
+
+pub terms_over : (ring : Ring) (columns : List CodeKey) (low : ℕ) (es : List Entry)
+    → AreKeys (variables ring) ring.weights columns → AreEntries ring.modulus.value low (length columns) es
+    → AreTermsOver ring (map (λ e. entry_term columns e) es)
+terms_over ring columns low [] k h = tt
+terms_over ring columns low (e ∷ es) k h =
+    let w = entries_within ring.modulus.value low (length columns) (e ∷ es) h in (
+      (Each_member (λ (c : CodeKey). IsWeighed (variables ring) ring.weights c.monomial) columns e.0 no_key k w.0.0, w.0.1),
+      terms_over ring columns
+          (e.0 + 1) es k h.3,
+    )
+
+pub parts_over : (ring : Ring) (steps : List Step) (low : ℕ) (es : List Entry)
+    → AreWeighedSteps (variables ring) ring.weights steps → AreEntries ring.modulus.value low (length steps) es
+    → Each (λ (q : Quotient). IsMonomialOver ring q.monomial × (q.residue < ring.modulus.value)) (source_parts steps es)
+parts_over ring steps low [] k h = tt
+parts_over ring steps low (e ∷ es) k h =
+    let w = entries_within ring.modulus.value low (length steps) (e ∷ es) h in
+    ((Each_member (λ (s : Step). IsWeighed (variables ring) ring.weights s.1) steps e.0 no_step k w.0.0, w.0.1), parts_over ring steps (e.0 + 1) es k h.3)
+
+-- the vector of these terms is the row's
+pub vector_same : (ring : Ring) (columns : List CodeKey) (inputs : ℕ) (r : RowShown) (v : List (CodeKey × ℕ))
+    → Descend (variables ring) (ring_comparison ring (variables ring)) columns → IsRow ring.modulus.value (length columns) inputs r
+    → IsVectorOver ring (ring_comparison ring) v → StandsFor ring v (vector_of (variables ring) columns r)
+    → sum_of (variables ring) v ≡ vector_of (variables ring) columns r
+vector_same ring columns inputs r v descend good over sum =
+    let n = variables ring in
+    let normal = row_normal n (setting ring n (ring_comparison ring n) 0) (ring_lawful ring 0) columns descend inputs r good in
+    normal_unique (setting ring n (ring_comparison ring n) 0) (ring_lawful ring 0) (sum_of n v) (vector_of n columns r) over.descends normal.descends
+    (residues_of n ring.weights ring.modulus.value v over.each) normal.residues sum
+
+-- one row more
+pub made_more : (ring : Ring) (columns : List CodeKey) (steps : List Step) (rs : List RowShown) (ms : List CodeRow) (r : RowShown) (m : CodeRow)
+    → AreMadeRows ring columns steps rs ms → IsMadeRow ring columns steps r m → AreMadeRows ring columns steps (rs ++ r ∷ []) (ms ++ m ∷ [])
+made_more ring columns steps [] [] r m h g = (g, tt)
+made_more ring columns steps [] (x ∷ ms) r m h g = absurd h
+made_more ring columns steps (x ∷ rs) [] r m h g = absurd h
+made_more ring columns steps (x ∷ rs) (y ∷ ms) r m h g = (h.0, made_more ring columns steps rs ms r m h.1 g)

@@ -1,0 +1,71 @@
+// A job solved by its matrix.
+ghost use Rattle.std.specs.Prelude.{◌≡◌, IfOk, IfErr};
+ghost use Rattle.module_vectors.specs.Rings.{variables};
+ghost use Rattle.basis_core.specs.Outcomes.{IsOutcomeOver};
+ghost use Rattle.basis_core.specs.Members.{setting_of};
+ghost use Rattle.basis_core.specs.Rows.{vectors_in};
+ghost use Rattle.s_vectors.specs.Trails.{JobStops};
+ghost use Rattle.f4_job.specs.Solved.{AreNewRows};
+
+use crate::making::make_rows;
+use crate::solving::{NewRows, new_rows};
+use crate::stop::MatrixStop;
+use basis_core::{Job, Outcome};
+use member_products::Row;
+use module_vectors::{Ring, WorkStop};
+use monomial_orders::Mono;
+use std::alloc::Global;
+
+// The new rows of the job's matrix, where `ring` is that of the job.
+fn rows_over(alloc: Global, ring: &Ring, job: &Job) -> Result<NewRows, MatrixStop>
+    requires over { ring.now ≡ job.now.shared.ring }
+    ensures { let n = variables job.now.shared.ring in IfOk result (λ r. AreNewRows n (setting_of n job.now.shared)
+        (vectors_in job.now.members) job.now.pairs r.products.items r.columns.items r.rows.items) }
+{
+    job.kept();
+    let members = job.members();
+    members.kept();
+    let found = new_rows(alloc, ring, members, job.pairs())?;
+    Ok(found)
+}
+
+// Rows of a job and the products that they are made of.
+#[derive(Drop)]
+struct Solution {
+    rows: Vec<Row>,
+    products: Vec<(u64, Mono)>,
+}
+
+// The rows of the job's matrix, where `ring` is that of the job.
+fn solve_matrix(alloc: Global, ring: &Ring, job: &Job) -> Result<Solution, MatrixStop>
+    requires over { ring.now ≡ job.now.shared.ring }
+    ensures { IfOk result (λ s. IsOutcomeOver (record { job = job.now; rows = s.rows.items; products = s.products.items })) }
+{
+    job.kept();
+    let members = job.members();
+    members.kept();
+    let found = rows_over(alloc, ring, job)?;
+    let rows = make_rows(alloc, ring, &found.columns, &found.products, &found.rows)?;
+    Ok(Solution {
+        rows,
+        products: found.products,
+    })
+}
+
+/// Solves a job by the echelon form of its matrix: the rows with new leads become the outcome's rows, each with the
+/// products of which it is a combination (Faugère 1999, section 2). Where a product of the matrix has a degree above
+/// 65,535, the job is solved by plain division, which may need no such product.
+///
+/// `Degree` comes with a trail of the job to a product of degree above 65,535, `Memory` where there is none; both
+/// give the job back.
+pub fn solve(alloc: Global, job: Job) -> Result<Outcome, (WorkStop, Job)>
+    ensures job { IfOk result (λ o. o.job ≡ job) }
+    ensures back { IfErr result (λ e. e.1 ≡ job) }
+    ensures stop { IfErr result (λ e. JobStops job e.0) }
+{
+    match solve_matrix(alloc, &job.shared().ring, &job) {
+        Ok(solution) => Ok(Outcome::new(job, solution.rows, solution.products)),
+        Err(MatrixStop::Memory) => Err((WorkStop::Memory, job)),
+        Err(MatrixStop::Degree) => s_vectors::solve(alloc, job),
+    }
+}

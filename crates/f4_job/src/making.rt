@@ -1,0 +1,96 @@
+// Rows of a matrix as rows of an outcome.
+ghost use Rattle.std.specs.Prelude.{◌≡◌, ◌<◌, IfOk, length, map};
+ghost use Rattle.formal_sums.specs.FormalSums.{Each};
+ghost use Rattle.module_vectors.specs.Rings.{ring_comparison, variables};
+ghost use Rattle.row_matrix.specs.Rows.{AreKeys, Descend, IsRow};
+ghost use Rattle.f4_job.specs.Made.{AreMadeRows, AreWeighedSteps, IsMadeRow, entry_term, source_parts};
+
+use basis_core::quotient_products;
+use member_products::Row;
+use module_vectors::{Key, NoMemory, Ring, Vect};
+use monomial_orders::Mono;
+use row_matrix::Row as MatrixRow;
+use std::alloc::Global;
+use vector_division::Quotient;
+
+// The terms of a row.
+fn row_terms(
+    alloc: Global,
+    columns: &[Key],
+    entries: &[(usize, u32)],
+) -> Result<Vec<(Key, u32)>, NoMemory>
+    requires { Each (λ e. e.0 < length columns.now) entries.now }
+    ensures { IfOk result (λ terms. terms.items ≡ map (λ e. entry_term columns.now e) entries.now) }
+{
+    let mut terms = Vec::new(alloc);
+    for entry in entries {
+        let key = columns[entry.0].try_copy(alloc)?;
+        terms.push((key, entry.1))?;
+    }
+    Ok(terms)
+}
+
+// The products that a row's sources name, each with its residue.
+fn row_parts(
+    alloc: Global,
+    products: &[(u64, Mono)],
+    sources: &[(usize, u32)],
+) -> Result<Vec<Quotient>, NoMemory>
+    requires { Each (λ e. e.0 < length products.now) sources.now }
+    ensures { IfOk result (λ parts. parts.items ≡ source_parts products.now sources.now) }
+{
+    let mut parts = Vec::new(alloc);
+    for source in sources {
+        let product = &products[source.0];
+        let monomial = product.1.try_copy(alloc)?;
+        parts.push(Quotient {
+            index: product.0,
+            residue: source.1,
+            monomial,
+        })?;
+    }
+    Ok(parts)
+}
+
+// The row of an outcome that this row of a matrix is.
+fn make_row(
+    alloc: Global,
+    ring: &Ring,
+    columns: &[Key],
+    products: &[(u64, Mono)],
+    row: &MatrixRow,
+) -> Result<Row, NoMemory>
+    requires columns { AreKeys (variables ring.now) ring.now.weights columns.now }
+    requires descend { Descend (variables ring.now) (ring_comparison ring.now (variables ring.now)) columns.now }
+    requires products { AreWeighedSteps (variables ring.now) ring.now.weights products.now }
+    requires row { IsRow ring.now.modulus.value (length columns.now) (length products.now) row.now }
+    ensures { IfOk result (IsMadeRow ring.now columns.now products.now row.now) }
+{
+    let terms = row_terms(alloc, columns, row.entries())?;
+    let vector = Vect::from_terms(alloc, ring, terms)?;
+    let parts = row_parts(alloc, products, row.sources())?;
+    let products = quotient_products(alloc, ring, &parts)?;
+    Ok(Row { vector, products })
+}
+
+/// The rows of an outcome that these rows of a matrix are.
+pub(crate) fn make_rows(
+    alloc: Global,
+    ring: &Ring,
+    columns: &[Key],
+    products: &[(u64, Mono)],
+    rows: &[MatrixRow],
+) -> Result<Vec<Row>, NoMemory>
+    requires columns { AreKeys (variables ring.now) ring.now.weights columns.now }
+    requires descend { Descend (variables ring.now) (ring_comparison ring.now (variables ring.now)) columns.now }
+    requires products { AreWeighedSteps (variables ring.now) ring.now.weights products.now }
+    requires rows { Each (IsRow ring.now.modulus.value (length columns.now) (length products.now)) rows.now }
+    ensures { IfOk result (λ made. AreMadeRows ring.now columns.now products.now rows.now made.items) }
+{
+    let mut made = Vec::new(alloc);
+    for row in rows {
+        let next = make_row(alloc, ring, columns, products, row)?;
+        made.push(next)?;
+    }
+    Ok(made)
+}

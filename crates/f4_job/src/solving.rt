@@ -1,0 +1,60 @@
+// The new rows of a job.
+ghost use Rattle.std.specs.Prelude.{◌<◌, ℕ, IfOk};
+ghost use Rattle.formal_sums.specs.FormalSums.{Each};
+ghost use Rattle.module_vectors.specs.Rings.{ring_comparison, setting, variables};
+ghost use Rattle.module_vectors.specs.Vectors.{AreVectorsOver};
+ghost use Rattle.symbolic_prep.specs.Plans.{IsPairOf};
+ghost use Rattle.symbolic_prep.specs.Prepared.{IsMonicVector};
+ghost use Rattle.f4_job.specs.Solved.{AreNewRows};
+
+use crate::flags::{flags_of, unflagged_rows};
+use crate::stop::MatrixStop;
+use module_vectors::{Key, Ring, Vectors};
+use monomial_orders::Mono;
+use pair_criteria::Pair;
+use row_matrix::Row;
+use row_reduce::echelon;
+use std::alloc::Global;
+use symbolic_prep::{PrepareStop, prepare};
+
+/// Rows over columns that descend, and the products of members of which they are combinations.
+#[derive(Drop)]
+pub(crate) struct NewRows {
+    pub(crate) columns: Vec<Key>,
+    pub(crate) rows: Vec<Row>,
+    pub(crate) products: Vec<(u64, Mono)>,
+}
+
+/// The rows of the echelon form of these pairs' matrix whose lead is the lead of no row of the matrix (Faugère 1999,
+/// section 2).
+pub(crate) fn new_rows<L: Vectors>(
+    alloc: Global,
+    ring: &Ring,
+    members: &L,
+    pairs: &[Pair],
+) -> Result<NewRows, MatrixStop>
+    requires members { AreVectorsOver ring.now (ring_comparison ring.now) (L.listed members.now) }
+    requires monic { Each (IsMonicVector (variables ring.now)) (L.listed members.now) }
+    requires pairs { Each (IsPairOf (variables ring.now) ring.now.weights (L.listed members.now)) pairs.now }
+    ensures { let n = variables ring.now in (rank : ℕ) → IfOk result (λ r. AreNewRows n (setting ring.now n (ring_comparison ring.now n) rank)
+        (L.listed members.now) pairs.now r.products.items r.columns.items r.rows.items) }
+{
+    ring.modulus.domain();
+    let prepared = match prepare(alloc, ring, members, pairs) {
+        Ok(prepared) => prepared,
+        Err(PrepareStop::Memory) => return Err(MatrixStop::Memory),
+        Err(PrepareStop::Degree(_)) => return Err(MatrixStop::Degree),
+    };
+    let flags = flags_of(
+        alloc,
+        prepared.matrix.columns().len(),
+        prepared.matrix.rows(),
+    )?;
+    let form = echelon(alloc, &ring.modulus, prepared.matrix)?;
+    let rows = unflagged_rows(alloc, &flags, form.rows)?;
+    Ok(NewRows {
+        columns: form.columns,
+        rows,
+        products: prepared.products,
+    })
+}
