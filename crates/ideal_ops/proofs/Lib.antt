@@ -1,0 +1,5 @@
+mod Shared
+mod Free
+mod Witness
+mod Dividing
+mod Multiplied

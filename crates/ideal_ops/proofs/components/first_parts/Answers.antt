@@ -1,0 +1,21 @@
+use Rattle.std.proofs.Common.{[], ap, arith, map, subst₂, sym, take, ◌∙◌, ◌∷◌}
+use Rattle.std.proofs.lemmas.List.{map-append}
+use Rattle.operation_laws.specs.Operations.{first_components}
+use Rattle.module_vectors.specs.Rings.{variables}
+use Rattle.module_vectors.specs.Vectors.{sum_of, sums_of}
+use Rattle.ideal_ops.specs.Runs.{AreVectorsFor}
+use Rattle.ideal_ops.proofs.Shared.{take_next, vectors_next}
+use Rattle.ideal_ops.proofs.components.first_parts.Goals as goal
+
+pub loop-v-preserved : goal.loop-v-preserved
+loop-v-preserved c =
+    let ring = c.args.ring.now in
+    let n = variables ring in
+    let i = c.loop-v.v-index in
+    let items = c.as_slice-v-items.result.now in
+    let x = c.v-item.result in
+    let part = first_components c.args.rank in
+    subst₂ (AreVectorsFor ring)
+    (sym (ap (map part) (take_next n items i x (omega arith) c.v-item.is) ∙ map-append part (sums_of n (take i items)) (sum_of n x ∷ []))) (sym c.in_ok-push.ensures.items)
+    (vectors_next ring c.loop-v.parts.items (map part (sums_of n (take i items))) c.in_ok-first_part.field-0 (part (sum_of n x)) c.loop-v.invariant
+    c.in_ok-first_part.ensures.vector c.in_ok-first_part.ensures.sum)

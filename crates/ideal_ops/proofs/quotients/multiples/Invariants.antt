@@ -1,0 +1,8 @@
+use Rattle.operation_laws.specs.Operations.{multiples_of}
+use Rattle.module_vectors.specs.Rings.{variables}
+use Rattle.module_vectors.specs.Vectors.{sum_of}
+use Rattle.ideal_ops.specs.Runs.{AreVectorsFor}
+use Rattle.ideal_ops.proofs.quotients.multiples.Given as goal
+
+abbrev pub invariant-loop-position : goal.invariant-loop-position
+invariant-loop-position l = AreVectorsFor l.ring (multiples_of l.position (sum_of (variables l.ring) l.f)) l.list.items

@@ -1,0 +1,21 @@
+//! Operations on ideals and modules, over any engine that computes reduced Gröbner bases.
+//!
+//! Each operation is one run or two: a list is made, and where the answer is part of its basis, the members that have the
+//! property, or the components of syzygies, are run again in the ring's own order (IVA chapter 3, section 1 and chapter 4,
+//! section 3; UAG chapter 5, section 3).
+#![tactic(auto)]
+
+mod adding;
+mod comparing;
+mod components;
+mod eliminating;
+mod multiplying;
+mod quotients;
+mod sorting;
+
+pub use adding::sum;
+pub use comparing::equal;
+pub use eliminating::eliminate;
+pub use groebner_iface::OpStop;
+pub use multiplying::product;
+pub use quotients::quotient;

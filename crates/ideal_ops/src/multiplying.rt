@@ -1,0 +1,177 @@
+// The product of an ideal and a module.
+ghost use Rattle.std.specs.Prelude.{◌≡◌, ◌≤◌, ◌++◌, ◌∷◌, [], List, IfErr, IfOk, OnOk, map};
+ghost use Rattle.formal_sums.specs.FormalSums.{Each, FormalSum, product};
+ghost use Rattle.formal_sums.specs.Combinations.{IsMember};
+ghost use Rattle.operation_laws.specs.Operations.{products_of};
+ghost use Rattle.module_vectors.specs.Rings.{ring_comparison, variables};
+ghost use Rattle.module_vectors.specs.Stops.{CombinationStops};
+ghost use Rattle.module_vectors.specs.Vectors.{AreVectorsOver, HasPositions, IsVectorOver, StandsFor, sum_of, sums_of};
+ghost use Rattle.module_vectors.specs.declared.trail.TrailStart.TheVariants.{Product};
+ghost use Rattle.groebner_iface.specs.Calls.{CallStops};
+ghost use Rattle.ideal_ops.specs.Answers.{IsBasisOfThose};
+ghost use Rattle.ideal_ops.specs.Products.{IsProductRun, IsProductTrail, IsTrailOfProducts, IsTrailOfRow, WorkStops};
+ghost use Rattle.ideal_ops.specs.Runs.{AreVectorsFor};
+
+use groebner_iface::{Groebner, OpStop};
+use module_vectors::{
+    KeptTrail, NoMemory, Ring, TrailStart, Vect, VectList, VectStop, WorkStop, lawful_setting,
+};
+use monomial_orders::Mono;
+use std::alloc::Global;
+use std::sync::Wait;
+use std::thread::Threads;
+
+// The trail of the product of a monomial of b and one of the member.
+fn trail_of(
+    alloc: Global,
+    ring: &Ring,
+    b: &Vect,
+    member: VectList,
+    s: Mono,
+    t: Mono,
+) -> Result<KeptTrail, NoMemory>
+    ensures of { IfOk result (λ r. (r.ring ≡ ring.now) × (r.rank ≡ 0) × (r.generators ≡ []) × (r.below.items ≡ [])
+        × (r.start ≡ Product) × (r.vector ≡ b.now) × (r.members ≡ member)) }
+    ensures step { IfOk result (λ r. (r.steps.items ≡ (0, s) ∷ []) × (r.last ≡ t)) }
+{
+    Ok(KeptTrail {
+        ring: ring.try_copy(alloc)?,
+        rank: 0,
+        generators: VectList::new(alloc),
+        below: Vec::new(alloc),
+        start: TrailStart::Product,
+        vector: b.try_copy(alloc)?,
+        members: member,
+        steps: vec![in alloc; (0, s)]?,
+        last: t,
+    })
+}
+
+// The stop of the product with its trail.
+fn stop_of(alloc: Global, ring: &Ring, b: &Vect, member: VectList, stop: VectStop) -> WorkStop
+    requires b { IsVectorOver ring.now (ring_comparison ring.now) b.now }
+    requires b_positions { HasPositions 1 b.now }
+    requires stop { CombinationStops b.now member stop }
+    ensures { (c : _) → IsVectorOver ring.now (ring_comparison ring.now) c → member ≡ c ∷ []
+        → WorkStops (IsProductTrail ring.now b.now c) result }
+{
+    match stop {
+        VectStop::Memory => WorkStop::Memory,
+        VectStop::Degree(s, t) => match trail_of(alloc, ring, b, member, s, t) {
+            Ok(trail) => WorkStop::Degree(trail),
+            Err(_none) => WorkStop::Memory,
+        },
+    }
+}
+
+// b c, for a polynomial b.
+fn times(alloc: Global, ring: &Ring, b: &Vect, c: &Vect) -> Result<Vect, WorkStop>
+    requires b { IsVectorOver ring.now (ring_comparison ring.now) b.now }
+    requires b_positions { HasPositions 1 b.now }
+    requires c { IsVectorOver ring.now (ring_comparison ring.now) c.now }
+    ensures vector { IfOk result (IsVectorOver ring.now (ring_comparison ring.now)) }
+    ensures product { let n = variables ring.now in IfOk result (λ v. StandsFor ring.now v (product (sum_of n b.now) (sum_of n c.now))) }
+    ensures stop { IfErr result (WorkStops (IsProductTrail ring.now b.now c.now)) }
+{
+    let mut one = VectList::new(alloc);
+    one.push(c.try_copy(alloc)?)?;
+    match Vect::combine(alloc, ring, b, &one) {
+        Ok(v) => Ok(v),
+        Err(stop) => Err(stop_of(alloc, ring, b, one, stop)),
+    }
+}
+
+// b times each member.
+fn row(alloc: Global, ring: &Ring, b: &Vect, right: &VectList) -> Result<VectList, WorkStop>
+    requires b { IsVectorOver ring.now (ring_comparison ring.now) b.now }
+    requires b_positions { HasPositions 1 b.now }
+    requires right { AreVectorsOver ring.now (ring_comparison ring.now) right.now }
+    ensures list { let n = variables ring.now in
+        IfOk result (AreVectorsFor ring.now (map (product (sum_of n b.now)) (sums_of n right.now))) }
+    ensures stop { IfErr result (WorkStops (IsTrailOfRow ring.now b.now right.now)) }
+{
+    let mut list = Vec::new(alloc);
+    for j in 0..right.len() {
+        let c = &right.as_slice()[j];
+        let v = match times(alloc, ring, b, c) {
+            Ok(v) => v,
+            Err(stop) => return Err(stop),
+        };
+        list.push(v)?;
+    }
+    Ok(VectList::from_vec(list))
+}
+
+// The vectors of the one list and then those of the other. They are moved.
+fn followed(list: VectList, more: VectList) -> Result<VectList, NoMemory>
+    ensures { IfOk result (λ all. all ≡ list ++ more) }
+{
+    let mut all = list.into_vec();
+    for v in more.into_vec() {
+        all.push(v)?;
+    }
+    Ok(VectList::from_vec(all))
+}
+
+// The products of the members, those of the first list outermost.
+fn products(
+    alloc: Global,
+    ring: &Ring,
+    left: &VectList,
+    right: &VectList,
+) -> Result<VectList, WorkStop>
+    requires left { AreVectorsOver ring.now (ring_comparison ring.now) left.now }
+    requires left_positions { Each (HasPositions 1) left.now }
+    requires right { AreVectorsOver ring.now (ring_comparison ring.now) right.now }
+    ensures list { let n = variables ring.now in
+        IfOk result (AreVectorsFor ring.now (products_of (sums_of n left.now) (sums_of n right.now))) }
+    ensures stop { IfErr result (WorkStops (IsTrailOfProducts ring.now left.now right.now)) }
+{
+    let mut list = VectList::new(alloc);
+    for i in 0..left.len() {
+        let b = &left.as_slice()[i];
+        let more = match row(alloc, ring, b, right) {
+            Ok(more) => more,
+            Err(stop) => return Err(stop),
+        };
+        list = followed(list, more)?;
+    }
+    Ok(list)
+}
+
+/// The reduced basis of the product of an ideal and a module of this rank: one run, on the products of their members
+/// (IVA chapter 4, section 3).
+///
+/// `Pairs` and `Degree` are the run's, which the engine counted and kept; `Trail` comes with that of the product of two
+/// members; `Memory` where there is none.
+pub fn product<R: Threads + Wait + Sync, B: Groebner>(
+    rt: &R,
+    alloc: Global,
+    engine: &mut B,
+    ring: &Ring,
+    rank: u128,
+    left: &VectList,
+    right: &VectList,
+) -> Result<VectList, OpStop>
+    requires left { AreVectorsOver ring.now (ring_comparison ring.now) left.now }
+    requires left_positions { Each (HasPositions 1) left.now }
+    requires right { AreVectorsOver ring.now (ring_comparison ring.now) right.now }
+    requires right_positions { Each (HasPositions rank) right.now }
+    ensures basis { let n = variables ring.now in IfOk result
+        (IsBasisOfThose ring.now rank (IsMember ring.now.modulus.value (products_of (sums_of n left.now) (sums_of n right.now)))) }
+    ensures same { OnOk result ((B.stops engine.new ≡ B.stops engine.old) × (B.stopped engine.new ≡ B.stopped engine.old)) }
+    ensures stop { IfErr result (CallStops (IsProductRun ring.now rank left.now right.now) (IsTrailOfProducts ring.now left.now right.now)
+        (B.stops engine.old) (B.stops engine.new) (B.stopped engine.old) (B.stopped engine.new)) }
+    ensures later { B.stops engine.old ≤ B.stops engine.new }
+    ensures settings { B.settings engine.new ≡ B.settings engine.old }
+{
+    lawful_setting(ring);
+    let list = match products(alloc, ring, left, right) {
+        Ok(list) => list,
+        Err(stop) => return Err(OpStop::from(stop)),
+    };
+    match engine.reduced(rt, alloc, ring, rank, &list) {
+        Ok(basis) => Ok(basis),
+        Err(stop) => Err(OpStop::from(stop)),
+    }
+}

@@ -1,0 +1,96 @@
+// The quotient of a module by a polynomial.
+ghost use Rattle.std.specs.Prelude.{◌≡◌, ◌<◌, ◌≤◌, IfOk, IfErr, OnOk};
+ghost use Rattle.formal_sums.specs.FormalSums.{Each, IsOfRank, product};
+ghost use Rattle.formal_sums.specs.Combinations.{IsMember};
+ghost use Rattle.operation_laws.specs.Operations.{basis_vector, multiples_of};
+ghost use Rattle.module_vectors.specs.Rings.{ring_comparison, variables};
+ghost use Rattle.module_vectors.specs.Vectors.{AreTermsOver, AreVectorsOver, HasPositions, IsVectorOver, StandsFor, sum_of, sums_of};
+ghost use Rattle.groebner_iface.specs.Calls.{CallStops, NoTrail};
+ghost use Rattle.ideal_ops.specs.Answers.{IsBasisOfThose};
+ghost use Rattle.ideal_ops.specs.Components.{AreQuotientRuns, placed};
+ghost use Rattle.ideal_ops.specs.Runs.{AreVectorsFor};
+
+use crate::adding::joined;
+use crate::components::{as_position, first_parts};
+use groebner_iface::{Groebner, OpStop};
+use module_vectors::{Key, NoMemory, Ring, Vect, VectList, lawful_setting};
+use std::alloc::Global;
+use std::sync::Wait;
+use std::thread::Threads;
+use syzygy_engine::syzygy_run;
+
+// The terms, each moved to this position.
+fn placed_terms(alloc: Global, v: &Vect, position: u64) -> Result<Vec<(Key, u32)>, NoMemory>
+    ensures { IfOk result (λ terms. terms.items ≡ placed position v.now) }
+{
+    let mut terms = Vec::with_capacity(alloc, v.terms().len())?;
+    for term in v.terms() {
+        let mut key = term.0.try_copy(alloc)?;
+        key.position = position;
+        terms.push((key, term.1))?;
+    }
+    Ok(terms)
+}
+
+// The polynomial f at this position.
+fn multiple_at(alloc: Global, ring: &Ring, f: &Vect, position: u64) -> Result<Vect, NoMemory>
+    requires { AreTermsOver ring.now f.now }
+    ensures vector { IfOk result (IsVectorOver ring.now (ring_comparison ring.now)) }
+    ensures sum { let n = variables ring.now in IfOk result (λ v. StandsFor ring.now v (product (sum_of n f.now) (basis_vector position))) }
+{
+    Vect::from_terms(alloc, ring, placed_terms(alloc, f, position)?)
+}
+
+// The polynomial f at each position below the rank.
+fn multiples(alloc: Global, ring: &Ring, rank: u64, f: &Vect) -> Result<VectList, NoMemory>
+    requires { AreTermsOver ring.now f.now }
+    ensures { let n = variables ring.now in IfOk result (AreVectorsFor ring.now (multiples_of rank (sum_of n f.now))) }
+{
+    let mut list = Vec::new(alloc);
+    for position in 0..rank {
+        list.push(multiple_at(alloc, ring, f, position)?)?;
+    }
+    Ok(VectList::from_vec(list))
+}
+
+/// The reduced basis of the vectors v of this rank with f v in the module of the list: a run on f e_1 to f e_m and the list
+/// with marks, and one on the first m components of the syzygies that it shows (UAG chapter 5, section 3).
+///
+/// `Pairs` and `Degree` are those of one of the runs, which the engine counted and kept; `Memory` where there is none;
+/// `Trail` never.
+pub fn quotient<R: Threads + Wait + Sync, B: Groebner>(
+    rt: &R,
+    alloc: Global,
+    engine: &mut B,
+    ring: &Ring,
+    rank: u128,
+    list: &VectList,
+    f: &Vect,
+) -> Result<VectList, OpStop>
+    requires vectors { AreVectorsOver ring.now (ring_comparison ring.now) list.now }
+    requires positions { Each (HasPositions rank) list.now }
+    requires f { IsVectorOver ring.now (ring_comparison ring.now) f.now }
+    requires f_positions { HasPositions 1 f.now }
+    requires room { rank < 9223372036854775808 }
+    ensures basis { let n = variables ring.now in let p = ring.now.modulus.value in IfOk result
+        (IsBasisOfThose ring.now rank (λ v. IsOfRank p rank v × IsMember p (sums_of n list.now) (product (sum_of n f.now) v))) }
+    ensures same { OnOk result ((B.stops engine.new ≡ B.stops engine.old) × (B.stopped engine.new ≡ B.stopped engine.old)) }
+    ensures stop { IfErr result (CallStops (AreQuotientRuns ring.now rank list.now f.now) NoTrail
+        (B.stops engine.old) (B.stops engine.new) (B.stopped engine.old) (B.stopped engine.new)) }
+    ensures later { B.stops engine.old ≤ B.stops engine.new }
+    ensures settings { B.settings engine.new ≡ B.settings engine.old }
+{
+    lawful_setting(ring);
+    let end = as_position(rank);
+    let first = multiples(alloc, ring, end, f)?;
+    let stacked = joined(alloc, &first, list)?;
+    let kernel = match syzygy_run(rt, alloc, engine, ring, rank, &stacked) {
+        Ok(kernel) => kernel,
+        Err(stop) => return Err(stop),
+    };
+    let parts = first_parts(alloc, ring, &kernel, end)?;
+    match engine.reduced(rt, alloc, ring, rank, &parts) {
+        Ok(basis) => Ok(basis),
+        Err(stop) => Err(OpStop::from(stop)),
+    }
+}
