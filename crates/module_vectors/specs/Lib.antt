@@ -5,5 +5,6 @@ pub mod Products
 pub mod Stops
 pub mod Multiples
 pub mod Trails
+pub mod FrontVariables
 -- invariants of loops
 pub mod Merging

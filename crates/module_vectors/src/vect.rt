@@ -71,6 +71,15 @@ impl Vect {
         })
     }
 
+    /// The vector of these terms as they stand, which are one: strictly descending in the frame's order, with residues that
+    /// are not 0. No memory.
+    pub fn from_ordered<F: Frame>(_frame: &F, terms: Vec<(Key, u32)>) -> Vect
+        requires { IsVectorOver (F.over _frame.now) (F.compare _frame.now) terms.items }
+        ensures { result ≡ terms.items }
+    {
+        Vect { terms }
+    }
+
     /// The terms, the greatest first.
     pub fn terms(&self) -> &[(Key, u32)]
         ensures { result.now ≡ self.now }
@@ -143,6 +152,32 @@ impl Vect {
         let left = replace(&mut self.terms, Vec::new(alloc));
         self.terms = merge(frame, left, right, out);
         Ok(())
+    }
+
+    /// c t v, for a residue c that is not 0 and a monomial t.
+    ///
+    /// `Degree` exactly where t times a monomial of v has a degree above 65,535; it carries the two. `Memory` where there
+    /// is none.
+    pub fn scaled<F: Frame>(
+        alloc: Global,
+        frame: &F,
+        c: u32,
+        t: &Mono,
+        v: &Vect,
+    ) -> Result<Vect, VectStop>
+        requires nonzero { 0 < c }
+        requires factor { c < (F.over frame.now).modulus.value }
+        requires variables { IsMonomialOver (F.over frame.now) t.now }
+        requires vector { IsVectorOver (F.over frame.now) (F.compare frame.now) v.now }
+        ensures vector { IfOk result (λ u. IsVectorOver (F.over frame.now) (F.compare frame.now) u) }
+        ensures sum { let n = variables (F.over frame.now) in
+            IfOk result (λ u. StandsFor (F.over frame.now) u (scale c (exponents_of n t.now.exponents) (sum_of n v.now))) }
+        ensures fits { OnOk result (Fits t.now v.now) }
+        ensures stop { IfErr result (ScaledStops c t.now v.now) }
+    {
+        Ok(Vect {
+            terms: scaled_terms(alloc, frame, c, t, &v.terms)?,
+        })
     }
 
     /// c t v without its first term, for a residue c that is not 0, a monomial t and a vector v that is not zero.

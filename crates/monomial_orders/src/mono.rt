@@ -1,5 +1,5 @@
 // A monomial.
-ghost use Rattle.std.specs.Prelude.{ℕ, List, ◌≡◌, ◌≢◌, ◌<◌, ◌≤◌, ◌↔◌, ◌+◌, ◌*◌, length, max, min, slice_index, take};
+ghost use Rattle.std.specs.Prelude.{ℕ, List, ◌≡◌, ◌≢◌, ◌<◌, ◌≤◌, ◌↔◌, ◌+◌, ◌*◌, ◌∷◌, drop, length, max, min, slice_index, take};
 ghost use Rattle.std.specs.Prelude.{IsTrue, IsOk, Err, IfOk, IfErr, IfSome, OnOk};
 ghost use Rattle.monomials.specs.Exponents.{Divides, IsWithin, exponents_of, lcm, times, unit};
 ghost use Rattle.monomials.specs.Weights.{weighted_degree};
@@ -9,7 +9,8 @@ ghost use Rattle.monomial_orders.specs.Monomials.{IsMonomial, IsPlaceByPlace, Is
 
 use crate::places::total;
 use crate::storage::{
-    Stored, apart, differences, divides, equal, maxima, one_at, store, sums, zeros,
+    Stored, apart, differences, divides, equal, maxima, one_at, store, store_behind_zero, sums,
+    zeros,
 };
 use crate::{MonoStop, NoMemory, Weights};
 use std::alloc::Global;
@@ -163,6 +164,28 @@ impl Mono {
     {
         let stored = self.kept().try_copy(alloc)?;
         Ok(Mono { stored })
+    }
+
+    /// The same monomial in one more variable, in front, which it has not, of whatever weight.
+    pub fn with_front(&self, alloc: Global) -> Result<Mono, NoMemory>
+        ensures ok { IfOk result (λ m. m.exponents ≡ 0 ∷ self.now.exponents) }
+        ensures degree { IfOk result (λ m. m.degree ≡ self.now.degree) }
+        ensures no_memory { length self.now.exponents < 16 → IsOk result }
+    {
+        let stored = store_behind_zero(alloc, self.exponents())?;
+        Ok(Mono::keep(stored, self.kept().degree()))
+    }
+
+    /// The same monomial without the first variable, which it has not.
+    pub fn without_front(self, alloc: Global) -> Result<Mono, NoMemory>
+        requires some { 0 < length self.exponents }
+        requires none { slice_index self.exponents 0 ≡ 0 }
+        ensures ok { IfOk result (λ m. m.exponents ≡ drop 1 self.exponents) }
+        ensures degree { IfOk result (λ m. m.degree ≡ self.degree) }
+        ensures no_memory { length self.exponents ≤ 16 → IsOk result }
+    {
+        let stored = store(alloc, &self.exponents()[1..])?;
+        Ok(Mono::keep(stored, self.kept().degree()))
     }
 
     /// The product a b. `Degree` exactly where its degree is above 65,535; `Memory` over more than 16 variables alone.

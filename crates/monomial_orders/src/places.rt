@@ -1,5 +1,5 @@
 // Loops over lists of exponents.
-ghost use Rattle.std.specs.Prelude.{ℕ, ◌≡◌, ◌<◌, ◌≤◌, ◌↔◌, ◌+◌, ◌-◌, ◌*◌, IfOk, IsTrue, length, max, min, slice_index};
+ghost use Rattle.std.specs.Prelude.{ℕ, ◌≡◌, ◌<◌, ◌≤◌, ◌↔◌, ◌+◌, ◌-◌, ◌*◌, ◌∷◌, IfOk, IsTrue, length, max, min, slice_index};
 ghost use Rattle.monomials.specs.Exponents.{exponents_of};
 ghost use Rattle.monomials.specs.Weights.{weighted_degree};
 ghost use Rattle.monomial_orders.specs.Kept.{AreWeights};
@@ -47,6 +47,21 @@ pub(crate) fn copy_places(alloc: Global, places: &[u16]) -> Result<SmallVec<u16,
     ensures { IfOk result (λ again. again.items ≡ places.now) }
 {
     SmallVec::from_slice(alloc, places)
+}
+
+/// 0 and then these places.
+#[cold]
+#[inline(never)]
+pub(crate) fn places_behind_zero(
+    alloc: Global,
+    places: &[u16],
+) -> Result<SmallVec<u16, 16>, AllocError>
+    ensures { IfOk result (λ to. to.items ≡ 0 ∷ places.now) }
+{
+    let mut to = Vec::with_capacity(alloc, places.len().saturating_add(1))?;
+    to.push(0)?;
+    to.extend_from_slice(places)?;
+    Ok(SmallVec::from_vec(to))
 }
 
 /// The sums, which have room.

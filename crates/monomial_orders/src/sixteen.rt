@@ -1,5 +1,5 @@
 // Loops over 16 places.
-ghost use Rattle.std.specs.Prelude.{ℕ, ◌≡◌, ◌<◌, ◌≤◌, ◌↔◌, ◌+◌, ◌-◌, IsTrue, length, max, min, slice_index};
+ghost use Rattle.std.specs.Prelude.{ℕ, ◌≡◌, ◌<◌, ◌≤◌, ◌↔◌, ◌+◌, ◌-◌, ◌∷◌, IsTrue, length, max, min, slice_index};
 ghost use Rattle.monomial_orders.specs.Monomials.{IsPlaceByPlace};
 
 /// At most 16 exponents, with zeros behind them.
@@ -11,6 +11,19 @@ pub(crate) fn first_sixteen(exponents: &[u16]) -> [u16; 16]
     let mut to = [0; 16];
     for k in 0..exponents.len() {
         to[k] = exponents[k];
+    }
+    to
+}
+
+/// 0 and then at most 15 exponents, with zeros behind them.
+pub(crate) fn sixteen_behind_zero(exponents: &[u16]) -> [u16; 16]
+    requires { length exponents.now < 16 }
+    ensures places { (k : ℕ) → slice_index result k ≡ slice_index (0 ∷ exponents.now) k }
+    ensures bounded { (k : ℕ) → slice_index result k < 65536 }
+{
+    let mut to = [0; 16];
+    for k in 0..exponents.len() {
+        to[k + 1] = exponents[k];
     }
     to
 }

@@ -1,14 +1,16 @@
 // How a monomial stores its exponents.
-ghost use Rattle.std.specs.Prelude.{ℕ, ◌≡◌, ◌≢◌, ◌<◌, ◌≤◌, ◌↔◌, ◌+◌, ◌-◌, length, max, min, slice_index};
+ghost use Rattle.std.specs.Prelude.{ℕ, ◌≡◌, ◌≢◌, ◌<◌, ◌≤◌, ◌↔◌, ◌+◌, ◌-◌, ◌∷◌, length, max, min, slice_index};
 ghost use Rattle.std.specs.Prelude.{IsTrue, IsOk, IfOk};
 ghost use Rattle.monomial_orders.specs.Monomials.{IsPlaceByPlace};
 ghost use Rattle.monomial_orders.specs.Storage.{IsFilled, degree_kept, places_of, variables_of};
 
 use crate::places::{
-    add_places, are_apart, copy_places, count, divides_places, max_places, narrow, subtract_places,
+    add_places, are_apart, copy_places, count, divides_places, max_places, narrow,
+    places_behind_zero, subtract_places,
 };
 use crate::sixteen::{
-    add_sixteen, are_sixteen_apart, divides_sixteen, first_sixteen, max_sixteen, subtract_sixteen,
+    add_sixteen, are_sixteen_apart, divides_sixteen, first_sixteen, max_sixteen,
+    sixteen_behind_zero, subtract_sixteen,
 };
 use smallvec::SmallVec;
 use std::alloc::{AllocError, Global};
@@ -143,6 +145,21 @@ pub(crate) fn store(alloc: Global, exponents: &[u16]) -> Result<Stored, AllocErr
         return Ok(stored_few(alloc, first_sixteen(exponents), exponents.len()));
     }
     stored_many(copy_places(alloc, exponents)?)
+}
+
+/// 0 and then these exponents, with zeros behind them.
+pub(crate) fn store_behind_zero(alloc: Global, exponents: &[u16]) -> Result<Stored, AllocError>
+    ensures variables { IfOk result (λ s. variables_of s ≡ length (0 ∷ exponents.now)) }
+    ensures long { IfOk result (λ s. length (places_of s) ≡ max 16 (length (0 ∷ exponents.now))) }
+    ensures places { IfOk result (λ s. (k : ℕ) → slice_index (places_of s) k ≡ slice_index (0 ∷ exponents.now) k) }
+    ensures bounded { IfOk result (λ s. (k : ℕ) → slice_index (places_of s) k < 65536) }
+    ensures no_memory { length exponents.now < 16 → IsOk result }
+{
+    let n = exponents.len();
+    if n < 16 {
+        return Ok(stored_few(alloc, sixteen_behind_zero(exponents), n + 1));
+    }
+    stored_many(places_behind_zero(alloc, exponents)?)
 }
 
 /// The places of n variables, all 0.
