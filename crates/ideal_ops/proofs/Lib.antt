@@ -3,3 +3,6 @@ mod Free
 mod Witness
 mod Dividing
 mod Multiplied
+mod FrontBases
+mod OneMoreVariable
+mod Stacked

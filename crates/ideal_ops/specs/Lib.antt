@@ -2,3 +2,6 @@ pub mod Answers
 pub mod Runs
 pub mod Components
 pub mod Products
+pub mod FrontVariable
+-- between its steps
+pub mod FrontSteps

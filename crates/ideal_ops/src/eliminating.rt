@@ -46,8 +46,8 @@ fn has_none(exponents: &[u16], k: usize) -> bool
     true
 }
 
-// Has the vector, in n variables, none of the first k?
-fn is_free(v: &Vect, k: u32) -> bool
+/// Has the vector, in n variables, none of the first k?
+pub(crate) fn is_free(v: &Vect, k: u32) -> bool
     ensures { (n : ℕ) → Each (HasVariables n) v.now → result ≡ all_kept (has_none_of_first k) (sum_of n v.now) }
 {
     for term in v.terms() {

@@ -6,16 +6,25 @@
 #![tactic(auto)]
 
 mod adding;
+mod back;
+mod colons;
 mod comparing;
 mod components;
 mod eliminating;
+mod front;
+mod intersecting;
 mod multiplying;
 mod quotients;
+mod saturating;
 mod sorting;
+mod stacking;
 
 pub use adding::sum;
+pub use colons::colon;
 pub use comparing::equal;
 pub use eliminating::eliminate;
 pub use groebner_iface::OpStop;
+pub use intersecting::intersect;
 pub use multiplying::product;
 pub use quotients::quotient;
+pub use saturating::saturate;

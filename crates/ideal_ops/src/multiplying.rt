@@ -47,8 +47,14 @@ fn trail_of(
     })
 }
 
-// The stop of the product with its trail.
-fn stop_of(alloc: Global, ring: &Ring, b: &Vect, member: VectList, stop: VectStop) -> WorkStop
+/// The stop of the product with its trail.
+pub(crate) fn stop_of(
+    alloc: Global,
+    ring: &Ring,
+    b: &Vect,
+    member: VectList,
+    stop: VectStop,
+) -> WorkStop
     requires b { IsVectorOver ring.now (ring_comparison ring.now) b.now }
     requires b_positions { HasPositions 1 b.now }
     requires stop { CombinationStops b.now member stop }
@@ -102,8 +108,8 @@ fn row(alloc: Global, ring: &Ring, b: &Vect, right: &VectList) -> Result<VectLis
     Ok(VectList::from_vec(list))
 }
 
-// The vectors of the one list and then those of the other. They are moved.
-fn followed(list: VectList, more: VectList) -> Result<VectList, NoMemory>
+/// The vectors of the one list and then those of the other. They are moved.
+pub(crate) fn followed(list: VectList, more: VectList) -> Result<VectList, NoMemory>
     ensures { IfOk result (λ all. all ≡ list ++ more) }
 {
     let mut all = list.into_vec();

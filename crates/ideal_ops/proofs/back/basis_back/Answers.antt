@@ -1,0 +1,68 @@
+use Rattle.std.proofs.Common.{inl, inr, refl, subst, sym}
+use Rattle.module_vectors.specs.FrontVariables.{front_ring}
+use Rattle.module_vectors.specs.Rings.{ring_comparison}
+use Rattle.module_vectors.specs.Vectors.{AreVectorsOver}
+use Rattle.groebner_iface.specs.Calls.{NoTrail}
+use Rattle.groebner_iface.specs.Runs.{IsReducedBasisOf}
+use Rattle.syzygy_engine.proofs.Stops.{run_stops}
+use Rattle.ideal_ops.specs.FrontSteps.{AreRunsOnFront}
+use Rattle.ideal_ops.proofs.FrontBases.{back_positions}
+use Rattle.ideal_ops.proofs.Shared.{later_stops, loose_list}
+use Rattle.ideal_ops.proofs.back.basis_back.Goals as goal
+
+pub reduced-requires-clause-vectors : goal.reduced-requires-clause-vectors
+reduced-requires-clause-vectors g c = subst (λ r. AreVectorsOver r (ring_comparison r) c.args.list.now) (sym c.requires.front) c.requires.vectors
+
+pub returns-in-Err-clause-stop : goal.returns-in-Err-clause-stop
+returns-in-Err-clause-stop g c =
+    let ring = c.args.ring.now in
+    let rank = c.args.rank in
+    let list = c.args.list.now in
+    rw c.from.ensures
+    (run_stops _ _ _ _ (AreRunsOnFront ring rank list) NoTrail c.args.front.now rank list c.in-Err.stop (inl (c.requires.front, refl, refl)) c.in-Err.ensures.stop)
+
+pub members_back-requires : goal.members_back-requires
+members_back-requires g c =
+    let ring = c.args.ring.now in
+    let first = subst (λ r. IsReducedBasisOf r c.args.rank c.args.list.now c.in-Ok.basis) c.requires.front c.in-Ok.ensures.basis in
+    loose_list (front_ring ring) c.in-Ok.basis first.vectors
+
+pub reduced-requires-2-clause-positions : goal.reduced-requires-2-clause-positions
+reduced-requires-2-clause-positions g c =
+    let ring = c.args.ring.now in
+    let rank = c.args.rank in
+    let first = subst (λ r. IsReducedBasisOf r rank c.args.list.now c.in-Ok.basis) c.requires.front c.in-Ok.ensures.basis in
+    back_positions ring rank (c.lawful_setting.ensures rank) c.args.list.now c.in-Ok.basis c.in_ok-fewer.fewer first c.in_ok-fewer.ensures
+
+pub returns-clause-stop : goal.returns-clause-stop
+returns-clause-stop g c =
+    let ring = c.args.ring.now in
+    let rank = c.args.rank in
+    let list = c.args.list.now in
+    let first = subst (λ r. IsReducedBasisOf r rank list c.in-Ok.basis) c.requires.front c.in-Ok.ensures.basis in
+    rw c.from-in-Err-reduced.ensures
+    (later_stops _ _ _ _ _ _ (AreRunsOnFront ring rank list) NoTrail _ c.in-Ok.ensures.same
+    (run_stops _ _ _ _ (AreRunsOnFront ring rank list) NoTrail ring rank c.in_ok-fewer.fewer c.in-Err-reduced.stop
+    (inr (record {
+      first_ring = front_ring ring;
+      first_rank = rank;
+      first_list = list;
+      before = (refl, refl, refl);
+      basis = c.in-Ok.basis;
+      reduced = first;
+      kept = c.in_ok-fewer.ensures;
+      own_ring = refl;
+      own_rank = refl;
+    }))
+    c.in-Err-reduced.ensures.stop))
+
+pub returns-in-Ok-reduced-clause-basis : goal.returns-in-Ok-reduced-clause-basis
+returns-in-Ok-reduced-clause-basis g c =
+    let rank = c.args.rank in
+    record {
+      first = c.in-Ok.basis;
+      reduced = subst (λ r. IsReducedBasisOf r rank c.args.list.now c.in-Ok.basis) c.requires.front c.in-Ok.ensures.basis;
+      kept = c.in_ok-fewer.fewer;
+      members = c.in_ok-fewer.ensures;
+      second = c.in-Ok-reduced.ensures.basis;
+    }

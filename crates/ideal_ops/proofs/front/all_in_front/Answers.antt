@@ -1,0 +1,21 @@
+use Rattle.std.proofs.Common.{[], ap, arith, map, subst₂, sym, take, ◌∙◌, ◌∷◌}
+use Rattle.std.proofs.lemmas.List.{map-append}
+use Rattle.operation_laws.specs.Operations.{with_first}
+use Rattle.module_vectors.specs.FrontVariables.{front_ring}
+use Rattle.module_vectors.specs.Rings.{variables}
+use Rattle.module_vectors.specs.Vectors.{sum_of, sums_of}
+use Rattle.ideal_ops.specs.Runs.{AreVectorsFor}
+use Rattle.ideal_ops.proofs.Shared.{take_next, vectors_next}
+use Rattle.ideal_ops.proofs.front.all_in_front.Goals as goal
+
+pub loop-v-preserved : goal.loop-v-preserved
+loop-v-preserved c =
+    let ring = c.args.ring.now in
+    let n = variables ring in
+    let i = c.loop-v.v-index in
+    let items = c.as_slice-v-items.result.now in
+    let x = c.v-item.result in
+    subst₂ (AreVectorsFor (front_ring ring))
+    (sym (ap (map with_first) (take_next n items i x (omega arith) c.v-item.is) ∙ map-append with_first (sums_of n (take i items)) (sum_of n x ∷ []))) (sym c.in_ok-push.ensures.items)
+    (vectors_next (front_ring ring) c.loop-v.moved.items (map with_first (sums_of n (take i items))) c.in_ok-in_front.field-0 (with_first (sum_of n x)) c.loop-v.invariant
+    c.in_ok-in_front.ensures.vector c.in_ok-in_front.ensures.stand)

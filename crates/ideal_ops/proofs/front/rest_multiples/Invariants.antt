@@ -1,0 +1,10 @@
+use Rattle.std.proofs.Common.{map, take}
+use Rattle.operation_laws.specs.Operations.{times_rest}
+use Rattle.module_vectors.specs.FrontVariables.{front_ring}
+use Rattle.module_vectors.specs.Rings.{variables}
+use Rattle.module_vectors.specs.Vectors.{sums_of}
+use Rattle.ideal_ops.specs.Runs.{AreVectorsFor}
+use Rattle.ideal_ops.proofs.front.rest_multiples.Given as goal
+
+abbrev pub invariant-loop-i : goal.invariant-loop-i
+invariant-loop-i l = AreVectorsFor (front_ring l.ring) (map (times_rest l.ring.modulus.value) (sums_of (variables l.ring) (take l.i l.list))) l.multiples.items

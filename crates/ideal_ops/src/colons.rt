@@ -1,0 +1,125 @@
+// The polynomials that take one module into another.
+ghost use Rattle.std.specs.Prelude.{◌≡◌, ◌<◌, ◌≤◌, ◌*◌, ◌∷◌, [], IfOk, IfErr, OnOk, length};
+ghost use Rattle.formal_sums.specs.FormalSums.{Each, IsOfRank, product};
+ghost use Rattle.formal_sums.specs.Combinations.{IsMember};
+ghost use Rattle.operation_laws.specs.Operations.{basis_vector};
+ghost use Rattle.module_vectors.specs.Rings.{ring_comparison, variables};
+ghost use Rattle.module_vectors.specs.Vectors.{AreVectorsOver, HasPositions, IsVectorOver, StandsFor, sums_of};
+ghost use Rattle.groebner_iface.specs.Calls.{CallStops, NoTrail};
+ghost use Rattle.ideal_ops.specs.Answers.{IsBasisOfThose};
+ghost use Rattle.ideal_ops.specs.Components.{AreColonRuns};
+ghost use Rattle.ideal_ops.specs.Runs.{AreVectorsFor, IsRunFor};
+
+use crate::components::{as_position, first_parts};
+use crate::stacking::colon_list;
+use groebner_iface::{Groebner, OpStop};
+use module_vectors::{Key, NoMemory, Ring, Vect, VectList, lawful_setting};
+use monomial_orders::Mono;
+use std::alloc::Global;
+use std::sync::Wait;
+use std::thread::Threads;
+use syzygy_engine::syzygy_run;
+
+// The polynomial 1.
+fn one(alloc: Global, ring: &Ring) -> Result<Vect, NoMemory>
+    ensures vector { IfOk result (IsVectorOver ring.now (ring_comparison ring.now)) }
+    ensures sum { IfOk result (λ u. StandsFor ring.now u (basis_vector 0)) }
+{
+    ring.modulus.domain();
+    let key = Key {
+        position: 0,
+        monomial: Mono::unit(alloc, ring.vars.len())?,
+    };
+    let terms = vec![in alloc; (key, 1)]?;
+    Vect::from_terms(alloc, ring, terms)
+}
+
+// The list of the polynomial 1 alone.
+fn list_of_one(alloc: Global, ring: &Ring) -> Result<VectList, NoMemory>
+    ensures { IfOk result (AreVectorsFor ring.now (basis_vector 0 ∷ [])) }
+{
+    let mut list = VectList::new(alloc);
+    list.push(one(alloc, ring)?)?;
+    Ok(list)
+}
+
+// The reduced basis of all polynomials.
+fn all_polynomials<R: Threads + Wait + Sync, B: Groebner>(
+    rt: &R,
+    alloc: Global,
+    engine: &mut B,
+    ring: &Ring,
+) -> Result<VectList, OpStop>
+    ensures basis { IfOk result (IsBasisOfThose ring.now 1 (IsOfRank ring.now.modulus.value 1)) }
+    ensures same { OnOk result ((B.stops engine.new ≡ B.stops engine.old) × (B.stopped engine.new ≡ B.stopped engine.old)) }
+    ensures stop { IfErr result (CallStops (IsRunFor ring.now 1 (basis_vector 0 ∷ [])) NoTrail
+        (B.stops engine.old) (B.stops engine.new) (B.stopped engine.old) (B.stopped engine.new)) }
+    ensures later { B.stops engine.old ≤ B.stops engine.new }
+    ensures settings { B.settings engine.new ≡ B.settings engine.old }
+{
+    lawful_setting(ring);
+    let list = list_of_one(alloc, ring)?;
+    match engine.reduced(rt, alloc, ring, 1, &list) {
+        Ok(basis) => Ok(basis),
+        Err(stop) => Err(OpStop::from(stop)),
+    }
+}
+
+// The rank of vectors in s blocks.
+fn rank_of_blocks(rank: u128, s: usize) -> u128
+    requires { rank * s < 9223372036854775808 }
+    ensures { result ≡ rank * s }
+{
+    rank * s as u128
+}
+
+/// The reduced basis of the polynomials v with v c in the module of the list for each vector c of `by`, all of this rank:
+/// a run with marks on the vectors of `by` one below the other and the list in each block, and one on the first components
+/// of the syzygies that it shows (UAG chapter 5, section 3). By no vectors, one run, on the polynomial 1.
+///
+/// `Pairs` and `Degree` are those of one of the runs, which the engine counted and kept; `Memory` where there is none;
+/// `Trail` never.
+pub fn colon<R: Threads + Wait + Sync, B: Groebner>(
+    rt: &R,
+    alloc: Global,
+    engine: &mut B,
+    ring: &Ring,
+    rank: u128,
+    list: &VectList,
+    by: &VectList,
+) -> Result<VectList, OpStop>
+    requires vectors { AreVectorsOver ring.now (ring_comparison ring.now) list.now }
+    requires positions { Each (HasPositions rank) list.now }
+    requires by { AreVectorsOver ring.now (ring_comparison ring.now) by.now }
+    requires by_positions { Each (HasPositions rank) by.now }
+    requires room { rank * length by.now < 9223372036854775808 }
+    ensures basis { let n = variables ring.now in let p = ring.now.modulus.value in IfOk result
+        (IsBasisOfThose ring.now 1 (λ v. IsOfRank p 1 v × Each (λ c. IsMember p (sums_of n list.now) (product v c)) (sums_of n by.now))) }
+    ensures same { OnOk result ((B.stops engine.new ≡ B.stops engine.old) × (B.stopped engine.new ≡ B.stopped engine.old)) }
+    ensures stop { IfErr result (CallStops (AreColonRuns ring.now rank list.now by.now) NoTrail
+        (B.stops engine.old) (B.stops engine.new) (B.stopped engine.old) (B.stopped engine.new)) }
+    ensures later { B.stops engine.old ≤ B.stops engine.new }
+    ensures settings { B.settings engine.new ≡ B.settings engine.old }
+{
+    if by.len() == 0 {
+        return all_polynomials(rt, alloc, engine, ring);
+    }
+    lawful_setting(ring);
+    let stacked = colon_list(alloc, ring, as_position(rank), list, by)?;
+    let kernel = match syzygy_run(
+        rt,
+        alloc,
+        engine,
+        ring,
+        rank_of_blocks(rank, by.len()),
+        &stacked,
+    ) {
+        Ok(kernel) => kernel,
+        Err(stop) => return Err(stop),
+    };
+    let parts = first_parts(alloc, ring, &kernel, 1)?;
+    match engine.reduced(rt, alloc, ring, 1, &parts) {
+        Ok(basis) => Ok(basis),
+        Err(stop) => Err(OpStop::from(stop)),
+    }
+}

@@ -1,0 +1,268 @@
+// Vectors in one more variable t in front: multiples by t and by 1 - t, with the trails of those that are too great.
+ghost use Rattle.std.specs.Prelude.{◌≡◌, ◌<◌, ◌-◌, ◌∷◌, [], IfErr, IfOk, map, suc};
+ghost use Rattle.monomials.specs.Exponents.{exponents_of};
+ghost use Rattle.formal_sums.specs.FormalSums.{Each, FormalSum, HasRank, scale};
+ghost use Rattle.operation_laws.specs.Operations.{first_variable, times_first, times_rest, with_first};
+ghost use Rattle.module_vectors.specs.FrontVariables.{front_ring};
+ghost use Rattle.module_vectors.specs.Rings.{ring_comparison, variables};
+ghost use Rattle.module_vectors.specs.Stops.{CombinationStops, ScaledStops};
+ghost use Rattle.module_vectors.specs.Vectors.{AreTermsOver, AreVectorsOver, HasPositions, IsMonomialOver, IsVectorOver, sum_of, sums_of};
+ghost use Rattle.ideal_ops.specs.FrontSteps.{IsFrontMonomial, IsRestOf};
+ghost use Rattle.ideal_ops.specs.FrontVariable.{IsFrontTrail, IsFrontTrailOf, IsFrontVector, front_polynomial, rest_polynomial};
+ghost use Rattle.ideal_ops.specs.Products.{IsProductTrail, WorkStops};
+ghost use Rattle.ideal_ops.specs.Runs.{AreVectorsFor};
+
+use crate::multiplying::stop_of;
+use module_vectors::{Key, NoMemory, Ring, Vect, VectList, VectStop, WorkStop};
+use monomial_orders::Mono;
+use std::alloc::Global;
+
+/// The new variable t of the ring `front`.
+pub(crate) fn variable(alloc: Global, _ring: &Ring, front: &Ring) -> Result<Mono, NoMemory>
+    requires { front.now ≡ front_ring _ring.now }
+    ensures { IfOk result (IsFrontMonomial _ring.now) }
+{
+    Ok(Mono::variable(alloc, &front.weights, 0)?)
+}
+
+/// The vector in one more variable, which it has not.
+pub(crate) fn in_front(
+    alloc: Global,
+    _ring: &Ring,
+    front: &Ring,
+    v: &Vect,
+) -> Result<Vect, NoMemory>
+    requires front { front.now ≡ front_ring _ring.now }
+    requires vector { AreTermsOver _ring.now v.now }
+    ensures { IfOk result (IsFrontVector _ring.now (with_first (sum_of (variables _ring.now) v.now))) }
+{
+    Ok(Vect::with_front(alloc, front, v)?)
+}
+
+/// The vectors of the list in one more variable, which they have not.
+pub(crate) fn all_in_front(
+    alloc: Global,
+    ring: &Ring,
+    front: &Ring,
+    list: &VectList,
+) -> Result<VectList, NoMemory>
+    requires front { front.now ≡ front_ring ring.now }
+    requires vectors { Each (AreTermsOver ring.now) list.now }
+    ensures { let n = variables ring.now in
+        IfOk result (AreVectorsFor (front_ring ring.now) (map with_first (sums_of n list.now))) }
+{
+    let mut moved = Vec::with_capacity(alloc, list.len())?;
+    for v in list.as_slice() {
+        moved.push(in_front(alloc, ring, front, v)?)?;
+    }
+    Ok(VectList::from_vec(moved))
+}
+
+/// The stop of a monomial of b times u, with its trail.
+pub(crate) fn product_stop(
+    alloc: Global,
+    front: &Ring,
+    b: &Vect,
+    u: Vect,
+    stop: VectStop,
+) -> WorkStop
+    requires b { IsVectorOver front.now (ring_comparison front.now) b.now }
+    requires b_positions { HasPositions 1 b.now }
+    requires u { IsVectorOver front.now (ring_comparison front.now) u }
+    requires stop { CombinationStops b.now (u ∷ []) stop }
+    ensures { WorkStops (IsProductTrail front.now b.now u) result }
+{
+    let mut one = VectList::new(alloc);
+    match one.push(u) {
+        Ok(()) => stop_of(alloc, front, b, one, stop),
+        Err(_none) => WorkStop::Memory,
+    }
+}
+
+/// The polynomial t.
+pub(crate) fn variable_vector(alloc: Global, front: &Ring, t: &Mono) -> Result<Vect, NoMemory>
+    requires { IsMonomialOver front.now t.now }
+    ensures vector { IfOk result (IsVectorOver front.now (ring_comparison front.now)) }
+    ensures terms { IfOk result (λ b. b ≡ (record { position = 0; monomial = t.now }, 1) ∷ []) }
+{
+    front.modulus.domain();
+    let key = Key {
+        position: 0,
+        monomial: t.try_copy(alloc)?,
+    };
+    Ok(Vect::from_ordered(front, vec![in alloc; (key, 1)]?))
+}
+
+/// The residue of -1.
+pub(crate) fn minus_one(ring: &Ring) -> u32
+    ensures value { result ≡ ring.now.modulus.value - 1 }
+    ensures some { 0 < result }
+    ensures reduced { result < ring.now.modulus.value }
+{
+    ring.modulus.domain();
+    ring.modulus.value() - 1
+}
+
+// The polynomial 1 - t.
+fn rest_vector(alloc: Global, _ring: &Ring, front: &Ring, t: &Mono) -> Result<Vect, NoMemory>
+    requires front { front.now ≡ front_ring _ring.now }
+    requires variable { IsFrontMonomial _ring.now t.now }
+    ensures vector { IfOk result (IsVectorOver front.now (ring_comparison front.now)) }
+    ensures terms { IfOk result (IsRestOf _ring.now t.now) }
+{
+    front.modulus.domain();
+    let first = Key {
+        position: 0,
+        monomial: t.try_copy(alloc)?,
+    };
+    let second = Key {
+        position: 0,
+        monomial: Mono::unit(alloc, front.vars.len())?,
+    };
+    let terms = vec![in alloc; (first, minus_one(front)), (second, 1)]?;
+    Ok(Vect::from_ordered(front, terms))
+}
+
+// The stop of t u, with its trail.
+fn variable_stop(
+    alloc: Global,
+    _ring: &Ring,
+    front: &Ring,
+    t: &Mono,
+    u: Vect,
+    stop: VectStop,
+) -> WorkStop
+    requires front { front.now ≡ front_ring _ring.now }
+    requires variable { IsFrontMonomial _ring.now t.now }
+    requires u { IsVectorOver front.now (ring_comparison front.now) u }
+    requires stop { ScaledStops 1 t.now u stop }
+    ensures { (g : FormalSum (suc (variables _ring.now))) → IsFrontVector _ring.now g u
+        → WorkStops (IsFrontTrail _ring.now (front_polynomial (variables _ring.now)) g) result }
+{
+    match variable_vector(alloc, front, t) {
+        Ok(b) => product_stop(alloc, front, &b, u, stop),
+        Err(_none) => WorkStop::Memory,
+    }
+}
+
+// The stop of (1 - t) u, with its trail.
+fn rest_stop(
+    alloc: Global,
+    ring: &Ring,
+    front: &Ring,
+    t: &Mono,
+    u: Vect,
+    stop: VectStop,
+) -> WorkStop
+    requires front { front.now ≡ front_ring ring.now }
+    requires variable { IsFrontMonomial ring.now t.now }
+    requires u { IsVectorOver front.now (ring_comparison front.now) u }
+    requires stop { ScaledStops (ring.now.modulus.value - 1) t.now u stop }
+    ensures { (g : FormalSum (suc (variables ring.now))) → IsFrontVector ring.now g u
+        → WorkStops (IsFrontTrail ring.now (rest_polynomial (variables ring.now) ring.now.modulus.value) g) result }
+{
+    match rest_vector(alloc, ring, front, t) {
+        Ok(b) => product_stop(alloc, front, &b, u, stop),
+        Err(_none) => WorkStop::Memory,
+    }
+}
+
+// t v, for a vector v of the ring.
+fn variable_multiple(
+    alloc: Global,
+    ring: &Ring,
+    front: &Ring,
+    t: &Mono,
+    v: &Vect,
+) -> Result<Vect, WorkStop>
+    requires front { front.now ≡ front_ring ring.now }
+    requires variable { IsFrontMonomial ring.now t.now }
+    requires vector { AreTermsOver ring.now v.now }
+    ensures vector { let n = variables ring.now in IfOk result (IsFrontVector ring.now (times_first (sum_of n v.now))) }
+    ensures stop { let n = variables ring.now in
+        IfErr result (WorkStops (IsFrontTrail ring.now (front_polynomial n) (with_first (sum_of n v.now)))) }
+{
+    ring.modulus.domain();
+    let u = in_front(alloc, ring, front, v)?;
+    match Vect::scaled(alloc, front, 1, t, &u) {
+        Ok(w) => Ok(w),
+        Err(stop) => Err(variable_stop(alloc, ring, front, t, u, stop)),
+    }
+}
+
+// (1 - t) v, for a vector v of the ring.
+fn rest_multiple(
+    alloc: Global,
+    ring: &Ring,
+    front: &Ring,
+    t: &Mono,
+    v: &Vect,
+) -> Result<Vect, WorkStop>
+    requires front { front.now ≡ front_ring ring.now }
+    requires variable { IsFrontMonomial ring.now t.now }
+    requires vector { AreTermsOver ring.now v.now }
+    ensures vector { let n = variables ring.now in
+        IfOk result (IsFrontVector ring.now (times_rest ring.now.modulus.value (sum_of n v.now))) }
+    ensures stop { let n = variables ring.now in
+        IfErr result (WorkStops (IsFrontTrail ring.now (rest_polynomial n ring.now.modulus.value) (with_first (sum_of n v.now)))) }
+{
+    let u = in_front(alloc, ring, front, v)?;
+    match Vect::multiple_and_itself(alloc, front, minus_one(ring), t, &u) {
+        Ok(w) => Ok(w),
+        Err(stop) => Err(rest_stop(alloc, ring, front, t, u, stop)),
+    }
+}
+
+/// t v for each vector v of the list.
+pub(crate) fn variable_multiples(
+    alloc: Global,
+    ring: &Ring,
+    front: &Ring,
+    t: &Mono,
+    list: &VectList,
+) -> Result<VectList, WorkStop>
+    requires front { front.now ≡ front_ring ring.now }
+    requires variable { IsFrontMonomial ring.now t.now }
+    requires vectors { Each (AreTermsOver ring.now) list.now }
+    ensures list { let n = variables ring.now in
+        IfOk result (AreVectorsFor (front_ring ring.now) (map times_first (sums_of n list.now))) }
+    ensures stop { IfErr result (WorkStops (IsFrontTrailOf ring.now (front_polynomial (variables ring.now)) list.now)) }
+{
+    let mut multiples = Vec::with_capacity(alloc, list.len())?;
+    for i in 0..list.len() {
+        let v = &list.as_slice()[i];
+        let w = match variable_multiple(alloc, ring, front, t, v) {
+            Ok(w) => w,
+            Err(stop) => return Err(stop),
+        };
+        multiples.push(w)?;
+    }
+    Ok(VectList::from_vec(multiples))
+}
+
+/// (1 - t) v for each vector v of the list.
+pub(crate) fn rest_multiples(
+    alloc: Global,
+    ring: &Ring,
+    front: &Ring,
+    t: &Mono,
+    list: &VectList,
+) -> Result<VectList, WorkStop>
+    requires front { front.now ≡ front_ring ring.now }
+    requires variable { IsFrontMonomial ring.now t.now }
+    requires vectors { Each (AreTermsOver ring.now) list.now }
+    ensures list { let n = variables ring.now in
+        IfOk result (AreVectorsFor (front_ring ring.now) (map (times_rest ring.now.modulus.value) (sums_of n list.now))) }
+    ensures stop { IfErr result (WorkStops (IsFrontTrailOf ring.now (rest_polynomial (variables ring.now) ring.now.modulus.value) list.now)) }
+{
+    let mut multiples = Vec::with_capacity(alloc, list.len())?;
+    for i in 0..list.len() {
+        let v = &list.as_slice()[i];
+        let w = match rest_multiple(alloc, ring, front, t, v) {
+            Ok(w) => w,
+            Err(stop) => return Err(stop),
+        };
+        multiples.push(w)?;
+    }
+    Ok(VectList::from_vec(multiples))
+}
