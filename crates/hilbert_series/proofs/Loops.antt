@@ -8,9 +8,13 @@ use Rattle.monomial_counts.proofs.Divisors.{divisor_test}
 use Rattle.monomial_counts.specs.Counts.{has_divisor, is_divisor}
 use Rattle.monomial_orders.specs.Kept.{IsWeighed, Monomial}
 use Rattle.monomial_orders.specs.Monomials.{IsMonomial, IsQuotient}
-use Rattle.hilbert_series.proofs.Lists.{Each_append, has_divisor-last, monomials-append, quotient_apart, quotient_lcm}
+use Rattle.std.proofs.lemmas.List.Sorted.{IsPermutation-sym, length_permutation}
+use Rattle.std.specs.List.Sorted.{IsPermutation}
+use Rattle.formal_sums.specs.FormalSums.{Each}
+use Rattle.module_vectors.proofs.Gathers.{Each_permutation}
+use Rattle.hilbert_series.proofs.Lists.{Each_append, Each_back, Each_front, has_divisor-last, monomials-append, quotient_apart, quotient_lcm}
 use Rattle.hilbert_series.proofs.Same.{has_divisor_redundant}
-use Rattle.hilbert_series.specs.Generators.{AreGenerators, HaveSameMultiples, IsShorter, monomials}
+use Rattle.hilbert_series.specs.Generators.{AreApart, AreGenerators, HaveSameMultiples, IsApart, IsShorter, monomials}
 
 -- the exponents of a generator
 abbrev monomial : (n : ℕ) → Monomial → Exponents n
@@ -25,6 +29,21 @@ pub each_item :
 each_item n ws [] i x h lt e = absurd (omega (arith, lt))
 each_item n ws (y ∷ xs) zero x h lt e = subst (IsWeighed n ws) (sym e) h.0
 each_item n ws (y ∷ xs) (suc i) x h lt e = each_item n ws xs i x h.1 (omega (arith, lt)) e
+
+pub item_apart :
+    (n : ℕ) (ms : List (Exponents n)) (xs : List Monomial) (i : ℕ) (x : Monomial) → AreApart n ms xs → i < length xs → x ≡ get_or xs i x
+    → IsApart ms (exponents_of n x.exponents)
+item_apart n ms [] i x h lt e = absurd (omega (arith, lt))
+item_apart n ms (y ∷ xs) zero x h lt e = subst (λ z. IsApart ms (exponents_of n z.exponents)) (sym e) h.0
+item_apart n ms (y ∷ xs) (suc i) x h lt e = item_apart n ms xs i x h.1 (omega (arith, lt)) e
+
+-- a copy of an item more
+pub apart_more :
+    (n : ℕ) (ms : List (Exponents n)) (xs kept more : List Monomial) (i : ℕ) (x m : Monomial) → i < length xs → x ≡ get_or xs i x → m ≡ x
+    → more ≡ kept ++ (m ∷ []) → AreApart n ms xs → AreApart n ms kept → AreApart n ms more
+apart_more n ms xs kept more i x m lt e c grown f h =
+    subst (AreApart n ms) (sym grown) (Each_append (λ y. IsApart ms (exponents_of n y.exponents)) kept (m ∷ []) h
+    (subst (λ y. IsApart ms (exponents_of n y.exponents)) (sym c) (item_apart n ms xs i x f lt e), tt))
 
 -- the code's test of divisibility
 pub divides_true :
@@ -124,6 +143,15 @@ with_drops n p xs kept i x lt e d h v =
 pub record IsWith (n : ℕ) (ws : List ℕ) (p : Monomial) (xs kept : List Monomial) (i : ℕ) : Type 0 where
   pub generators : AreGenerators n ws kept
   pub same : HaveSameMultiples (monomials n kept) (exponents_of n p.exponents ∷ monomials n (take i xs))
+  pub apart : (ms : List (Exponents n)) → IsApart ms (exponents_of n p.exponents) → AreApart n ms xs → AreApart n ms kept
+
+pub with_begins :
+    (n : ℕ) (ws : List ℕ) (p m : Monomial) (xs kept : List Monomial) → kept ≡ m ∷ [] → m ≡ p → IsWeighed n ws p → IsWith n ws p xs kept 0
+with_begins n ws p m xs kept e f w = subst (λ k. IsWith n ws p xs k 0) (sym (e ∙ ap (λ x. x ∷ []) f)) (record {
+  generators = (w, tt);
+  same = λ v. refl;
+  apart = λ ms a g. (a, tt);
+})
 
 pub with_next :
     (n : ℕ) (ws : List ℕ) (p : Monomial) (xs kept more : List Monomial) (i : ℕ) (x m : Monomial) → i < length xs → x ≡ get_or xs i x
@@ -133,6 +161,7 @@ with_next n ws p xs kept more i x m lt e g c grown h = record {
       (Each_append (IsWeighed n ws) kept (m ∷ []) h.generators (subst (IsWeighed n ws) (sym c) (each_item n ws xs i x g lt e), tt));
   same = λ v.
       ap (λ z. has_divisor (monomials n z) v) (grown ∙ ap (λ y. kept ++ (y ∷ [])) c) ∙ with_keeps n p xs kept i x lt e h.same v;
+  apart = λ ms a f. apart_more n ms xs kept more i x m lt e c grown f (h.apart ms a f);
 }
 
 pub with_same :
@@ -141,6 +170,7 @@ pub with_same :
 with_same n ws p xs kept more i x lt e d same h = record {
   generators = subst (AreGenerators n ws) (sym same) h.generators;
   same = λ v. ap (λ z. has_divisor (monomials n z) v) same ∙ with_drops n p xs kept i x lt e d h.same v;
+  apart = λ ms a f. subst (AreApart n ms) (sym same) (h.apart ms a f);
 }
 
 -- ---- the quotients, one more
@@ -174,6 +204,19 @@ pub record Sifting (n : ℕ) (ws : List ℕ) (gs rest kept : List Monomial) : Ty
   pub rest_generators : AreGenerators n ws rest
   pub fewer : length kept + length rest ≤ length gs
   pub same : (v : Exponents n) → has_divisor (monomials n kept) v || has_divisor (monomials n rest) v ≡ has_divisor (monomials n gs) v
+  pub kept_apart : (ms : List (Exponents n)) → AreApart n ms gs → AreApart n ms kept
+  pub rest_apart : (ms : List (Exponents n)) → AreApart n ms gs → AreApart n ms rest
+
+-- at the beginning nothing is kept
+pub sifting_begins : (n : ℕ) (ws : List ℕ) (gs kept : List Monomial) → kept ≡ [] → AreGenerators n ws gs → Sifting n ws gs gs kept
+sifting_begins n ws gs kept e g = subst (Sifting n ws gs gs) (sym e) (record {
+  kept_generators = tt;
+  rest_generators = g;
+  fewer = omega arith;
+  same = λ v. refl;
+  kept_apart = λ ms h. tt;
+  rest_apart = λ ms h. h;
+})
 
 length_last : (xs : List Monomial) (m : Monomial) → length (xs ++ (m ∷ [])) ≡ suc (length xs)
 length_last [] m = refl
@@ -197,6 +240,9 @@ sifting_keeps n ws gs rest kept m s = record {
       ap (λ b. b || has_divisor (monomials n rest) v) (has_divisor-last n kept m v)
       ∙ swap_or (has_divisor (monomials n kept) v) (is_divisor (monomial n m) v) (has_divisor (monomials n rest) v)
       ∙ ap (λ b. has_divisor (monomials n kept) v || b) (sym (has_divisor-last n rest m v)) ∙ s.same v;
+  kept_apart = λ ms h. Each_append (λ y. IsApart ms (exponents_of n y.exponents)) kept (m ∷ []) (s.kept_apart ms h)
+      (Each_back (λ y. IsApart ms (exponents_of n y.exponents)) rest (m ∷ []) (s.rest_apart ms h));
+  rest_apart = λ ms h. Each_front (λ y. IsApart ms (exponents_of n y.exponents)) rest (m ∷ []) (s.rest_apart ms h);
 }
 
 pub sifting_drops :
@@ -210,6 +256,8 @@ sifting_drops n ws gs rest kept m s d = record {
       ap (λ b. b || has_divisor (monomials n rest) v) (sym (has_divisor_redundant (monomials n kept) (monomial n m) v d))
       ∙ swap_or (has_divisor (monomials n kept) v) (is_divisor (monomial n m) v) (has_divisor (monomials n rest) v)
       ∙ ap (λ b. has_divisor (monomials n kept) v || b) (sym (has_divisor-last n rest m v)) ∙ s.same v;
+  kept_apart = s.kept_apart;
+  rest_apart = λ ms h. Each_front (λ y. IsApart ms (exponents_of n y.exponents)) rest (m ∷ []) (s.rest_apart ms h);
 }
 
 or_nothing : (b : Bool) → b || false ≡ b
@@ -223,6 +271,7 @@ sifting_ends n ws gs rest kept e s = record {
   same = λ v.
       sym (or_nothing (has_divisor (monomials n kept) v))
       ∙ ap (λ r. has_divisor (monomials n kept) v || has_divisor (monomials n r) v) (sym e) ∙ s.same v;
+  apart = s.kept_apart;
 }
 
 pub shorter_again : (n : ℕ) (ws : List ℕ) (gs middle few : List Monomial) → IsShorter n ws gs middle → IsShorter n ws middle few → IsShorter n ws gs few
@@ -230,6 +279,37 @@ shorter_again n ws gs middle few a b = record {
   generators = b.generators;
   fewer = let c = a.fewer in let d = b.fewer in omega (arith, c, d);
   same = λ v. b.same v ∙ a.same v;
+  apart = λ ms h. b.apart ms (a.apart ms h);
+}
+
+-- ---- in another order
+divides_none : (n : ℕ) (xs : List Monomial) (v : Exponents n) → has_divisor (monomials n xs) v ≡ false → Each (λ m. is_divisor (exponents_of n m.exponents) v ≡ false) xs
+divides_none n [] v e = tt
+divides_none n (x ∷ xs) v e = let p = neither (is_divisor (monomial n x) v) (has_divisor (monomials n xs) v) e in (p.0, divides_none n xs v p.1)
+  where
+    neither : (a b : Bool) → a || b ≡ false → (a ≡ false) × (b ≡ false)
+    neither true b e = let bad : ⊥ = cc in absurd bad
+    neither false b e = (refl, e)
+
+none_divides : (n : ℕ) (xs : List Monomial) (v : Exponents n) → Each (λ m. is_divisor (exponents_of n m.exponents) v ≡ false) xs → has_divisor (monomials n xs) v ≡ false
+none_divides n [] v h = refl
+none_divides n (x ∷ xs) v h = or_false (is_divisor (monomial n x) v) (has_divisor (monomials n xs) v) h.0 (none_divides n xs v h.1)
+
+same_bool : (a b : Bool) → (a ≡ false → b ≡ false) → (b ≡ false → a ≡ false) → a ≡ b
+same_bool true true f g = refl
+same_bool true false f g = g refl
+same_bool false true f g = sym (f refl)
+same_bool false false f g = refl
+
+pub shorter_permuted :
+    (n : ℕ) (ws : List ℕ) (gs sorted : List Monomial) → IsPermutation gs sorted → AreGenerators n ws gs → IsShorter n ws gs sorted
+shorter_permuted n ws gs sorted p g = record {
+  generators = Each_permutation (IsWeighed n ws) gs sorted p g;
+  fewer = let q = length_permutation gs sorted p in omega (arith, q);
+  same = λ v. same_bool (has_divisor (monomials n sorted) v) (has_divisor (monomials n gs) v)
+      (λ e. none_divides n gs v (Each_permutation (λ m. is_divisor (exponents_of n m.exponents) v ≡ false) sorted gs (IsPermutation-sym gs sorted p) (divides_none n sorted v e)))
+      (λ e. none_divides n sorted v (Each_permutation (λ m. is_divisor (exponents_of n m.exponents) v ≡ false) gs sorted p (divides_none n gs v e)));
+  apart = λ ms h. Each_permutation (λ y. IsApart ms (exponents_of n y.exponents)) gs sorted p h;
 }
 
 pub ok_more : {A F : Type 0} (P Q : A → Type 0) (r : Result A F) → ((v : A) → P v → Q v) → IfOk r P → IfOk r Q

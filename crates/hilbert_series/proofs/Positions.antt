@@ -1,16 +1,16 @@
 -- The leads at a position, and the sum of the positions' numerators
 use Rattle.std.proofs.Common.{Bool, List, [], ap, ap₂, arith, cond, eq-eqb, false, get_or, inl, inr, length, refl, subst}
-use Rattle.std.proofs.Common.{suc, sym, take, true, zero, ℕ, ◌*◌, ◌+◌, ◌-◌, ◌<◌, ◌∙◌, ◌∷◌, ◌≡◌, ◌≤◌, ◌⊎◌, ◌++◌}
+use Rattle.std.proofs.Common.{suc, sym, take, true, zero, ℕ, ◌*◌, ◌+◌, ◌<◌, ◌∙◌, ◌∷◌, ◌≡◌, ◌≤◌, ◌++◌}
 use Rattle.std.proofs.lemmas.Bool.{cases_lt}
 use Rattle.std.proofs.lemmas.Bool.Decides.{eqb_tells}
 use Rattle.std.proofs.lemmas.Int.{ints}
-use Rattle.std.proofs.lemmas.List.{get_or-take, get_or_past, take_more}
-use Rattle.std.specs.Prelude.{nat_abs, nat_eq, pos, ℤ, ◌+ℤ◌, ◌^◌}
+use Rattle.std.proofs.lemmas.List.{take_more}
+use Rattle.std.specs.Prelude.{nat_abs, nat_eq, pos, ℤ, ◌+ℤ◌}
 use Rattle.monomials.specs.Exponents.{exponents_of}
 use Rattle.monomial_counts.specs.Counts.{standard_count}
 use Rattle.formal_sums.specs.FormalSums.{Key}
 use Rattle.hilbert_laws.proofs.Orders.{series_same}
-use Rattle.hilbert_laws.proofs.Recurrence.{IsNumerator_position, series_nothing}
+use Rattle.hilbert_laws.proofs.Recurrence.{IsNumerator_position}
 use Rattle.hilbert_laws.specs.Numerators.{IsNumerator, leads_at, module_count, plus, size}
 use Rattle.hilbert_laws.specs.Shifting.{shifted}
 use Rattle.monomial_orders.specs.Kept.{IsWeighed, Monomial}
@@ -18,7 +18,7 @@ use Rattle.module_vectors.specs.Vectors.{key_of}
 use Rattle.module_vectors.specs.declared.key.Key.{Key as CodeKey}
 use Rattle.hilbert_series.proofs.Lists.{Each_append, length_monomials, monomials-append}
 use Rattle.hilbert_series.specs.Generators.{AreGenerators, HaveSameCoefficients, IsNumeratorOf, monomials}
-use Rattle.hilbert_series.specs.Leads.{AreLeads, EndsInNonzero, IsFirstOver, keys_of}
+use Rattle.hilbert_series.specs.Leads.{AreLeads, IsFirstOver, keys_of}
 
 -- ---- one lead more
 keys_of-append : (n : ℕ) (xs ys : List CodeKey) → keys_of n (xs ++ ys) ≡ keys_of n xs ++ keys_of n ys

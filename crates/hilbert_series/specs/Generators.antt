@@ -1,6 +1,6 @@
 -- Lists of generators and of coefficients, as the code has them
-use Rattle.std.specs.Prelude.{List, get_or, length, map, pos, ℕ, ℤ, ◌≡◌, ◌≤◌}
-use Rattle.monomials.specs.Exponents.{Exponents, exponents_of}
+use Rattle.std.specs.Prelude.{List, get_or, length, map, pos, ℕ, ℤ, ◌++◌, ◌+◌, ◌≡◌, ◌≤◌, ◌||◌}
+use Rattle.monomials.specs.Exponents.{Exponents, exponents_of, quotient}
 use Rattle.monomial_counts.specs.Counts.{has_divisor, standard_count}
 use Rattle.formal_sums.specs.FormalSums.{Each}
 use Rattle.hilbert_laws.specs.Numerators.{IsNumerator, plus}
@@ -27,16 +27,52 @@ HaveSameCoefficients K L = (d : ℕ) → get_or K d (pos 0) ≡ get_or L d (pos 
 abbrev pub IsNumeratorOf : ℕ → List ℕ → List Monomial → List ℤ → Type 0
 IsNumeratorOf n ws gs K = IsNumerator ws n K (standard_count ws (monomials n gs))
 
--- `small` has the same multiples, and not more generators
+-- K is the numerator of ms and the generators
+abbrev pub IsNumeratorWith : (n : ℕ) → List ℕ → List (Exponents n) → List Monomial → List ℤ → Type 0
+IsNumeratorWith n ws ms gs K = IsNumerator ws n K (standard_count ws (ms ++ monomials n gs))
+
+-- m has no variable in common with the monomials: dividing by it leaves each as it is
+abbrev pub IsApart : {n : ℕ} → List (Exponents n) → Exponents n → Type 0
+IsApart ms m = map (λ s. quotient s m) ms ≡ ms
+
+-- no generator has a variable in common with the monomials
+abbrev pub AreApart : (n : ℕ) → List (Exponents n) → List Monomial → Type 0
+AreApart n ms gs = Each (λ g. IsApart ms (exponents_of n g.exponents)) gs
+
+-- `small` has the same multiples, and not more generators; what has no variable in common with these has none with those
 pub record IsShorter (n : ℕ) (ws : List ℕ) (gs small : List Monomial) : Type 0 where
   pub generators : AreGenerators n ws small
   pub fewer : length small ≤ length gs
   pub same : HaveSameMultiples (monomials n small) (monomials n gs)
+  pub apart : (ms : List (Exponents n)) → AreApart n ms gs → AreApart n ms small
 
--- the numerator of the generators is that of `left` and t^d times that of `right`, which have not more generators
-pub record IsSplit (n : ℕ) (ws : List ℕ) (gs left right : List Monomial) (d : ℕ) : Type 0 where
+-- with ms, the numerator of the generators is that of `left` and t^d times that of `right`, which have not more generators
+pub record IsSplit (n : ℕ) (ws : List ℕ) (ms : List (Exponents n)) (gs left right : List Monomial) (d : ℕ) : Type 0 where
   pub left_generators : AreGenerators n ws left
   pub right_generators : AreGenerators n ws right
   pub left_fewer : length left ≤ length gs
   pub right_fewer : length right ≤ length gs
-  pub sum : (K L : List ℤ) → IsNumeratorOf n ws left K → IsNumeratorOf n ws right L → IsNumeratorOf n ws gs (plus K (shifted d L))
+  pub left_apart : AreApart n ms left
+  pub right_apart : AreApart n ms right
+  pub sum : (K L : List ℤ) → IsNumeratorWith n ws ms left K → IsNumeratorWith n ws ms right L → IsNumeratorWith n ws ms gs (plus K (shifted d L))
+
+-- the generators are those of `first` and of `other`, which have no variable in common; `both` are ms and those of `first`
+pub record IsParted (n : ℕ) (ws : List ℕ) (ms : List (Exponents n)) (gs first both other : List Monomial) : Type 0 where
+  pub first_generators : AreGenerators n ws first
+  pub both_generators : AreGenerators n ws both
+  pub other_generators : AreGenerators n ws other
+  pub long : length first + length other ≡ length gs
+  pub both_long : length both ≡ length ms + length first
+  pub both_items : monomials n both ≡ ms ++ monomials n first
+  pub first_apart : AreApart n ms first
+  pub other_apart : AreApart n (monomials n both) other
+  pub same : HaveSameMultiples (monomials n both ++ monomials n other) (ms ++ monomials n gs)
+
+-- the generators are those of `first` and of `other`
+pub record IsSieved (n : ℕ) (ws : List ℕ) (gs first other : List Monomial) : Type 0 where
+  pub first_generators : AreGenerators n ws first
+  pub other_generators : AreGenerators n ws other
+  pub long : length first + length other ≡ length gs
+  pub first_apart : (ms : List (Exponents n)) → AreApart n ms gs → AreApart n ms first
+  pub other_apart : (ms : List (Exponents n)) → AreApart n ms gs → AreApart n ms other
+  pub same : (v : Exponents n) → has_divisor (monomials n first) v || has_divisor (monomials n other) v ≡ has_divisor (monomials n gs) v

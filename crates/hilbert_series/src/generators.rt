@@ -1,9 +1,9 @@
 // Lists of generators.
-ghost use Rattle.std.specs.Prelude.{◌≡◌, ◌≤◌, IfOk, IfSome, IsTrue, length, map, suc, ◌∷◌};
-ghost use Rattle.monomials.specs.Exponents.{exponents_of, quotient};
+ghost use Rattle.std.specs.Prelude.{◌≡◌, ◌≤◌, IfOk, IfSome, IsTrue, List, length, map, suc, ◌∷◌};
+ghost use Rattle.monomials.specs.Exponents.{Exponents, exponents_of, quotient};
 ghost use Rattle.monomial_counts.specs.Counts.{has_divisor};
 ghost use Rattle.monomial_orders.specs.Kept.{IsWeighed};
-ghost use Rattle.hilbert_series.specs.Generators.{AreGenerators, HaveSameMultiples, IsShorter, monomials};
+ghost use Rattle.hilbert_series.specs.Generators.{AreApart, AreGenerators, HaveSameMultiples, IsApart, IsShorter, monomials};
 
 use monomial_orders::{Mono, MonoStop, NoMemory, Weights};
 use std::alloc::Global;
@@ -40,17 +40,18 @@ fn without_earlier_multiples(
     Ok(kept)
 }
 
-/// The generators that no other divides, of which the first stands for all that are equal.
+/// The generators that no other divides, of which one stands for all that are equal, by degree.
 pub(crate) fn without_multiples(
     alloc: Global,
     weights: &Weights,
-    list: Vec<Mono>,
+    mut list: Vec<Mono>,
 ) -> Result<Vec<Mono>, NoMemory>
     requires generators { AreGenerators (length weights.now) weights.now list.items }
     ensures shorter { IfOk result (λ v. IsShorter (length weights.now) weights.now list.items v.items) }
 {
-    let turned = without_earlier_multiples(alloc, weights, list)?;
-    without_earlier_multiples(alloc, weights, turned)
+    // A divisor has the lower degree, so it is kept before its multiples are looked at.
+    list.sort_by_key(|m| u128::MAX - m.degree())?;
+    without_earlier_multiples(alloc, weights, list)
 }
 
 /// The generators that p does not divide, and p.
@@ -65,6 +66,8 @@ pub(crate) fn with_generator(
     ensures generators { IfOk result (λ v. AreGenerators (length weights.now) weights.now v.items) }
     ensures same { let n = length weights.now in
         IfOk result (λ v. HaveSameMultiples (monomials n v.items) (exponents_of n p.now.exponents ∷ monomials n list.now)) }
+    ensures apart { let n = length weights.now in IfOk result (λ v. (ms : List (Exponents n)) → IsApart ms (exponents_of n p.now.exponents)
+        → AreApart n ms list.now → AreApart n ms v.items) }
 {
     let mut all = Vec::with_capacity(alloc, list.len())?;
     all.push(p.try_copy(alloc)?)?;

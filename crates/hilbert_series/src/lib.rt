@@ -8,6 +8,7 @@ mod coefficients;
 mod dimension;
 mod generators;
 mod leads;
+mod parts;
 mod recurrence;
 mod stop;
 
