@@ -1,17 +1,21 @@
 -- The number that an option's text states.
-use Rattle.std.proofs.Common.{◌≡◌, ◌∙◌, ℕ, ◌^◌, ◌<◌, ◌≤◌, Bool, true, false, List, Option, Some, None, refl, sym, ap, subst, codes}
-use Rattle.std.specs.Prelude.{option_map, option_and_then, unwrap_or}
+use Rattle.std.proofs.Common.{◌≡◌, ◌∙◌, ℕ, ◌^◌, ◌<◌, ◌≤◌, Bool, true, false, List, Option, Some, None, refl, sym, ap, ap₂, subst, codes}
+use Rattle.std.specs.Prelude.{Box, option_map, option_and_then, unwrap_or}
+use Rattle.std.specs.Box.{box_value}
 use Rattle.std.specs.Str.Parse.{IsNumeral, digits_value, without_leading_plus}
 use Rattle.clap.specs.Walk.{Row, Text, one_of, rows_of}
 use Rattle.clap.specs.Matches.{one_text}
+use Rattle.clap.specs.Simple.{subcommand_of, subcommand_rows}
 use Rattle.clap.specs.ValueTests.{is_unsigned_in}
+use Rattle.clap.specs.declared.parser.matches.ArgMatches.TheViews.{out-SubCommand}
+use Rattle.clap.specs.declared.parser.matches.SubCommand.{SubCommand}
 use Rattle.clap.specs.declared.parser.matches.Found.{Found}
 use Rattle.clap.specs.declared.builder.value_parser.ValueParser.TheVariants as parser
 use Rattle.clap.proofs.WalkLemmas.{one_text-rows}
 use Rattle.clap.proofs.ValueTestLemmas.{accepts-Accepts, Accepts-accepts}
 use Rattle.command_words.specs.declared.words.Request.{Request}
-use Rattle.command_words.specs.declared.words.Command.TheVariants.{Run}
-use Rattle.command_words.specs.Command.{number_or, option_text, request_of}
+use Rattle.command_words.specs.declared.words.Command.{Command}
+use Rattle.command_words.specs.Command.{command_met, command_named, number_or, option_text, request_of, words_app}
 
 -- a text that is read as a number within the bounds states it
 pub number_within : (least most default n : ℕ) (text : Text) → IsNumeral 10 (without_leading_plus text) → digits_value 10 (without_leading_plus text) < 2 ^ 64
@@ -68,8 +72,24 @@ pub read_nothing : (least most default : ℕ) (t : Option Text)
 read_nothing least most default None none = refl
 read_nothing least most default (Some x) none = number_outside least most default x (λ numeral fits low high. none x refl (numeral, fits))
 
--- the three numbers make the request
-pub request_is : (workers helpers pairs : ℕ) (words : List Text) → workers ≡ number_or 1 16 2 (option_text (codes "workers") words)
+-- the name of the subcommand that was met
+pub met_name : {Z : Type 0} (name : Text) (b : Option (Box SubCommand Z)) → Some name ≡ option_map (λ x. (out-SubCommand (box_value x)).name.now) b
+    → Some name ≡ option_map (λ p. p.0) (subcommand_rows b)
+met_name name None e = e
+met_name name (Some x) e = e
+
+-- what is read of the name and of the seed is the command that was met
+pub chosen_command : (name : Text) (f : Found) (s r : Option (Text × List Row)) (command : Command) → Some name ≡ option_map (λ p. p.0) s
+    → Some (rows_of f) ≡ option_map (λ p. p.1) s → s ≡ r → command ≡ command_named name (one_text f (codes "seed")) → command ≡ command_met r
+chosen_command name f None r command named rows same is = cc
+chosen_command name f (Some p) r command named rows same is =
+    let here : name ≡ p.0 = ap (λ (o : Option Text). unwrap_or o name) named in
+    let seed = one_text-rows f (codes "seed") ∙ ap (one_of (codes "seed")) (some_rows (rows_of f) p.1 rows) in
+    is ∙ ap₂ command_named here seed ∙ ap command_met same
+
+-- the command and the three numbers make the request
+pub request_is : (command : Command) (workers helpers pairs : ℕ) (words : List Text) → command ≡ command_met (subcommand_of words_app words)
+    → workers ≡ number_or 1 16 2 (option_text (codes "workers") words)
     → helpers ≡ number_or 1 16 2 (option_text (codes "helpers") words) → pairs ≡ number_or 0 1000000000 1000000 (option_text (codes "pairs") words)
-    → ◌≡◌ {A = Request} (record { command = Run; workers = workers; helpers = helpers; pairs = pairs }) (request_of words)
-request_is workers helpers pairs words one two three = rw (one, two, three) refl
+    → ◌≡◌ {A = Request} (record { command = command; workers = workers; helpers = helpers; pairs = pairs }) (request_of words)
+request_is command workers helpers pairs words zero one two three = rw (zero, one, two, three) refl
