@@ -8,9 +8,9 @@ use Rattle.zp_field.specs.Moduli.{is_modulus}
 use Rattle.module_vectors.specs.declared.ring.Ring.{Ring}
 use Rattle.script_parse.specs.Answers.{Answers}
 use Rattle.script_parse.specs.Forms.{IsFormOf, IsLineOf, head_of}
-use Rattle.script_parse.specs.Tests.{AnswersForm, HoldsOf, IsFormed, IsPolynomial, IsStated, known_names, low_degree, rank_fits, repeats, right_kinds}
+use Rattle.script_parse.specs.Tests.{AnswersForm, HoldsOf, IsFormed, IsPolynomial, IsStated, elimination_fits, known_names, low_degree, rank_fits, repeats, right_kinds}
 use Rattle.script_parse.specs.RingForms.{ring_line_of}
-use Rattle.script_parse.specs.Refusals.{HasFaultyRing, HasGreatDegree, HasGreatNumeral, HasOtherElim, HasOtherKind, HasOtherModulus, HasOtherRank, HasOtherWeights, HasUnknownName, Holds, LacksRing, place}
+use Rattle.script_parse.specs.Refusals.{HasFaultyRing, HasGreatDegree, HasGreatNumeral, HasOtherElim, HasOtherFactor, HasOtherKind, HasOtherModulus, HasOtherRank, HasOtherWeights, HasUnknownName, Holds, LacksRing, place}
 use Rattle.script_parse.specs.Statements.{Makes}
 use Rattle.script_parse.specs.Written.{IsLine, RingLine, Written, given_by, nothing, polys_of, ring_line, value_places}
 use Rattle.script_parse.specs.declared.form.Form.{Form}
@@ -24,7 +24,7 @@ use Rattle.script_parse.specs.declared.kind.ParseStop.TheVariants.{Memory, Refus
 use Rattle.script_parse.specs.declared.named.NameInfo.{NameInfo}
 use Rattle.script_parse.specs.declared.stated.Statement.{Statement}
 use Rattle.script_parse.specs.declared.stated.Statement.TheVariants as statements
-use Rattle.script_parse.proofs.Testing.{each_known, each_right, great_degree, low_degrees, other_kind, other_rank, right_rank, unknown_name}
+use Rattle.script_parse.proofs.Testing.{each_known, each_right, great_degree, has_ring, lacks_ring, low_degrees, other_kind, other_rank, right_rank, unknown_name}
 use Rattle.script_parse.proofs.Lines.{one_line}
 use Rattle.script_parse.proofs.Texts.{are_polynomials, repeats_not}
 
@@ -37,6 +37,8 @@ none_before_syntax ring infos line kinds.Name lt h = omega (arith, lt)
 none_before_syntax ring infos line kinds.OfKind lt h = omega (arith, lt)
 none_before_syntax ring infos line kinds.Rank lt h = omega (arith, lt)
 none_before_syntax ring infos line kinds.Degree lt h = omega (arith, lt)
+none_before_syntax ring infos line kinds.Leads lt h = omega (arith, lt)
+none_before_syntax ring infos line kinds.Large lt h = omega (arith, lt)
 
 none_before_numeral : (ring : Option Ring) (infos : List NameInfo) (line : List ℕ) → ((w : Written) × IsLine line w) → (earlier : Kind) → place earlier < 2 → Holds ring infos line earlier → ⊥
 none_before_numeral ring infos line is kinds.Syntax lt h = h is.0 is.1
@@ -47,6 +49,8 @@ none_before_numeral ring infos line is kinds.Name lt h = omega (arith, lt)
 none_before_numeral ring infos line is kinds.OfKind lt h = omega (arith, lt)
 none_before_numeral ring infos line is kinds.Rank lt h = omega (arith, lt)
 none_before_numeral ring infos line is kinds.Degree lt h = omega (arith, lt)
+none_before_numeral ring infos line is kinds.Leads lt h = omega (arith, lt)
+none_before_numeral ring infos line is kinds.Large lt h = omega (arith, lt)
 
 -- what is refused before the form is looked at
 pub early : (ring : Option Ring) (infos : List NameInfo) (line : List ℕ) (stop : ParseStop) → IsFormed line (Err stop) → Answers ring infos line (Err stop)
@@ -59,6 +63,8 @@ early ring infos line (Refused kinds.Name) h = absurd h
 early ring infos line (Refused kinds.OfKind) h = absurd h
 early ring infos line (Refused kinds.Rank) h = absurd h
 early ring infos line (Refused kinds.Degree) h = absurd h
+early ring infos line (Refused kinds.Leads) h = absurd h
+early ring infos line (Refused kinds.Large) h = absurd h
 
 module _ (ring : Option Ring) (infos : List NameInfo) (line : List ℕ) (w : Written) (is : IsLine line w) (none : HasGreatNumeral line → ⊥) where
   of_form : (kind : Kind) → Holds ring infos line kind → HoldsOf ring infos line w kind
@@ -70,6 +76,8 @@ module _ (ring : Option Ring) (infos : List NameInfo) (line : List ℕ) (w : Wri
   of_form kinds.OfKind h = subst (λ v. HasOtherKind ring infos line v) (one_line line h.0 w h.1 is) h.2
   of_form kinds.Rank h = subst (λ v. HasOtherRank infos line v) (one_line line h.0 w h.1 is) h.2
   of_form kinds.Degree h = subst (λ v. HasGreatDegree ring line v) (one_line line h.0 w h.1 is) h.2
+  of_form kinds.Leads h = h
+  of_form kinds.Large h = h
 
   of_line : (kind : Kind) → HoldsOf ring infos line w kind → Holds ring infos line kind
   of_line kinds.Syntax h = absurd h
@@ -80,6 +88,8 @@ module _ (ring : Option Ring) (infos : List NameInfo) (line : List ℕ) (w : Wri
   of_line kinds.OfKind h = (w, is, h)
   of_line kinds.Rank h = (w, is, h)
   of_line kinds.Degree h = (w, is, h)
+  of_line kinds.Leads h = h
+  of_line kinds.Large h = h
 
   -- what is answered to the form is answered to the line
   pub late : (result : Result Statement ParseStop) → AnswersForm ring infos line w result → Answers ring infos line result
@@ -95,7 +105,7 @@ none_great : (ring : Option Ring) (line : List ℕ) (w : Written) → polys_of w
 none_great None line w polys h = h
 none_great (Some ring) line w polys h = none_of (polys_of w) h.0 polys h.1
 
-module _ (ring : Option Ring) (infos : List NameInfo) (line : List ℕ) (w : Written) (polys : polys_of w ≡ []) (values : value_places w ≡ []) (given : given_by w ≡ []) where
+module _ (ring : Option Ring) (infos : List NameInfo) (line : List ℕ) (w : Written) (polys : polys_of w ≡ []) (values : value_places w ≡ []) (given : given_by w ≡ []) (factor : HasOtherFactor infos line w → ⊥) where
   no_unknown : HasUnknownName ring infos line w → ⊥
   no_unknown (inl (t, inl s, no_var, no_val)) = none_of (polys_of w) s.0 polys s.1
   no_unknown (inl (t, inr c, no_var, no_val)) = none_of (value_places w) t values c
@@ -103,7 +113,8 @@ module _ (ring : Option Ring) (infos : List NameInfo) (line : List ℕ) (w : Wri
 
   no_other_kind : HasOtherKind ring infos line w → ⊥
   no_other_kind (inl (t, s, v)) = none_of (polys_of w) s.0 polys s.1
-  no_other_kind (inr (t, c, v)) = none_of (value_places w) t values c
+  no_other_kind (inr (inl (t, c, v))) = none_of (value_places w) t values c
+  no_other_kind (inr (inr h)) = factor h
 
   no_great_degree : HasGreatDegree ring line w → ⊥
   no_great_degree h = none_great ring line w polys h
@@ -113,10 +124,12 @@ blank_free ring infos line kinds.Syntax h = h
 blank_free ring infos line kinds.Numeral h = h
 blank_free ring infos line kinds.Ring h = h
 blank_free ring infos line kinds.Modulus h = h
-blank_free ring infos line kinds.Name h = no_unknown ring infos line nothing refl refl refl h
-blank_free ring infos line kinds.OfKind h = no_other_kind ring infos line nothing refl refl refl h
+blank_free ring infos line kinds.Name h = no_unknown ring infos line nothing refl refl refl (λ k. k) h
+blank_free ring infos line kinds.OfKind h = no_other_kind ring infos line nothing refl refl refl (λ k. k) h
 blank_free ring infos line kinds.Rank h = h
-blank_free ring infos line kinds.Degree h = no_great_degree ring infos line nothing refl refl refl h
+blank_free ring infos line kinds.Degree h = no_great_degree ring infos line nothing refl refl refl (λ k. k) h
+blank_free ring infos line kinds.Leads h = h
+blank_free ring infos line kinds.Large h = h
 
 blank_at : (ring : Option Ring) (infos : List NameInfo) (line : List ℕ) (w : Written) → IsLine line w → IsFormOf forms.Nothing w → (HasGreatNumeral line → ⊥) → Answers ring infos line (Ok statements.Nothing)
 blank_at ring infos line nothing is h none = late ring infos line nothing is none (Ok statements.Nothing) (tt, blank_free ring infos line)
@@ -171,6 +184,8 @@ module _ (ring : Option Ring) (infos : List NameInfo) (line : List ℕ) (r : Rin
   before_ring kinds.OfKind lt h = omega (arith, lt)
   before_ring kinds.Rank lt h = omega (arith, lt)
   before_ring kinds.Degree lt h = omega (arith, lt)
+  before_ring kinds.Leads lt h = omega (arith, lt)
+  before_ring kinds.Large lt h = omega (arith, lt)
 
   -- a faulty line makes no ring
   pub no_ring : HasFaultyRing line r → AnswersForm ring infos line (ring_line r) (Err (Refused kinds.Ring))
@@ -185,6 +200,8 @@ module _ (ring : Option Ring) (infos : List NameInfo) (line : List ℕ) (r : Rin
   before_modulus fine kinds.OfKind lt h = omega (arith, lt)
   before_modulus fine kinds.Rank lt h = omega (arith, lt)
   before_modulus fine kinds.Degree lt h = omega (arith, lt)
+  before_modulus fine kinds.Leads lt h = omega (arith, lt)
+  before_modulus fine kinds.Large lt h = omega (arith, lt)
 
   pub no_modulus : (HasFaultyRing line r → ⊥) → is_modulus (value_of line r.modulus) ≡ false → AnswersForm ring infos line (ring_line r) (Err (Refused kinds.Modulus))
   no_modulus fine other = (other, before_modulus fine)
@@ -194,10 +211,12 @@ module _ (ring : Option Ring) (infos : List NameInfo) (line : List ℕ) (r : Rin
   ring_free fine known kinds.Numeral h = h
   ring_free fine known kinds.Ring h = fine h
   ring_free fine known kinds.Modulus h = absurd cc
-  ring_free fine known kinds.Name h = no_unknown ring infos line (ring_line r) refl refl refl h
-  ring_free fine known kinds.OfKind h = no_other_kind ring infos line (ring_line r) refl refl refl h
+  ring_free fine known kinds.Name h = no_unknown ring infos line (ring_line r) refl refl refl (λ k. k) h
+  ring_free fine known kinds.OfKind h = no_other_kind ring infos line (ring_line r) refl refl refl (λ k. k) h
   ring_free fine known kinds.Rank h = h
-  ring_free fine known kinds.Degree h = no_great_degree ring infos line (ring_line r) refl refl refl h
+  ring_free fine known kinds.Degree h = no_great_degree ring infos line (ring_line r) refl refl refl (λ k. k) h
+  ring_free fine known kinds.Leads h = h
+  ring_free fine known kinds.Large h = h
 
   pub ring_made :
       (made : Ring) → (HasFaultyRing line r → ⊥) → is_modulus made.modulus.value ≡ true → Makes line r made
@@ -206,11 +225,6 @@ module _ (ring : Option Ring) (infos : List NameInfo) (line : List ℕ) (r : Rin
 
 -- ---- the lines that need a ring
 
-needs_ring : (ring : Option Ring) (line : List ℕ) (w : Written) (head : Head) → head_of w ≡ Some head → LacksRing ring line w → ring ≡ None
-needs_ring ring line nothing head e h = absurd h
-needs_ring ring line (ring_line r) head e h = absurd cc
-needs_ring ring line _ head e h = h
-
 no_other_modulus : (line : List ℕ) (w : Written) (head : Head) → head_of w ≡ Some head → HasOtherModulus line w → ⊥
 no_other_modulus line (ring_line r) head e h = absurd cc
 no_other_modulus line _ head e h = h
@@ -218,6 +232,7 @@ no_other_modulus line _ head e h = h
 module _ (o : Option Ring) (ring : Ring) (infos : List NameInfo) (line : List ℕ) (w : Written) (head : Head) (pieces : List (Vec Step Global)) (stated : o ≡ Some ring) (is : IsLineOf head pieces w) where
   -- no kind before the place n holds, by the tests that were passed
   record Passed (n : ℕ) : Type 0 where
+    eliminates : 3 < n → elimination_fits (length ring.vars) line head ≡ true
     name : 5 < n → known_names ring.vars infos line head pieces ≡ true
     kind : 6 < n → right_kinds ring.vars infos line head pieces ≡ true
     rank : 7 < n → rank_fits infos line head (length pieces) ≡ true
@@ -226,30 +241,36 @@ module _ (o : Option Ring) (ring : Ring) (infos : List NameInfo) (line : List �
   none_before : (n : ℕ) → Passed n → (earlier : Kind) → place earlier < n → HoldsOf (Some ring) infos line w earlier → ⊥
   none_before n p kinds.Syntax lt h = h
   none_before n p kinds.Numeral lt h = h
-  none_before n p kinds.Ring lt h = let none : Some ring ≡ None = needs_ring (Some ring) line w head is.head_is h in cc
+  none_before n p kinds.Ring lt h = has_ring ring infos line w head pieces is (p.eliminates lt) h
   none_before n p kinds.Modulus lt h = no_other_modulus line w head is.head_is h
   none_before n p kinds.Name lt h = each_known ring infos line w head pieces is (p.name lt) h
   none_before n p kinds.OfKind lt h = each_right ring infos line w head pieces is (p.kind lt) h
   none_before n p kinds.Rank lt h = right_rank ring infos line w head pieces is (p.rank lt) h
   none_before n p kinds.Degree lt h = low_degrees ring infos line w head pieces is (p.degree lt) h
+  none_before n p kinds.Leads lt h = h
+  none_before n p kinds.Large lt h = h
 
   refused : (kind : Kind) → Passed (place kind) → HoldsOf (Some ring) infos line w kind → AnswersForm o infos line w (Err (Refused kind))
   refused kind p h = subst (λ r. AnswersForm r infos line w (Err (Refused kind))) (sym stated) (h, none_before (place kind) p)
 
-  pub name_refused : known_names ring.vars infos line head pieces ≡ false → AnswersForm o infos line w (Err (Refused kinds.Name))
-  name_refused e = refused kinds.Name (record { name = λ lt. absurd (omega (arith, lt)); kind = λ lt. absurd (omega (arith, lt)); rank = λ lt. absurd (omega (arith, lt)); degree = λ lt. absurd (omega (arith, lt)) }) (unknown_name ring infos line w head pieces is e)
+  pub ring_refused : elimination_fits (length ring.vars) line head ≡ false → AnswersForm o infos line w (Err (Refused kinds.Ring))
+  ring_refused e = refused kinds.Ring (record { eliminates = λ lt. absurd (omega (arith, lt)); name = λ lt. absurd (omega (arith, lt)); kind = λ lt. absurd (omega (arith, lt)); rank = λ lt. absurd (omega (arith, lt)); degree = λ lt. absurd (omega (arith, lt)) }) (lacks_ring ring infos line w head pieces is e)
 
-  pub kind_refused : known_names ring.vars infos line head pieces ≡ true → right_kinds ring.vars infos line head pieces ≡ false → AnswersForm o infos line w (Err (Refused kinds.OfKind))
-  kind_refused n e = refused kinds.OfKind (record { name = λ lt. n; kind = λ lt. absurd (omega (arith, lt)); rank = λ lt. absurd (omega (arith, lt)); degree = λ lt. absurd (omega (arith, lt)) }) (other_kind ring infos line w head pieces is e)
+  pub name_refused : elimination_fits (length ring.vars) line head ≡ true → known_names ring.vars infos line head pieces ≡ false → AnswersForm o infos line w (Err (Refused kinds.Name))
+  name_refused m e = refused kinds.Name (record { eliminates = λ lt. m; name = λ lt. absurd (omega (arith, lt)); kind = λ lt. absurd (omega (arith, lt)); rank = λ lt. absurd (omega (arith, lt)); degree = λ lt. absurd (omega (arith, lt)) }) (unknown_name ring infos line w head pieces is e)
 
-  pub rank_refused : known_names ring.vars infos line head pieces ≡ true → right_kinds ring.vars infos line head pieces ≡ true → rank_fits infos line head (length pieces) ≡ false → AnswersForm o infos line w (Err (Refused kinds.Rank))
-  rank_refused n k e = refused kinds.Rank (record { name = λ lt. n; kind = λ lt. k; rank = λ lt. absurd (omega (arith, lt)); degree = λ lt. absurd (omega (arith, lt)) }) (other_rank ring infos line w head pieces is e)
+  pub kind_refused : elimination_fits (length ring.vars) line head ≡ true → known_names ring.vars infos line head pieces ≡ true → right_kinds ring.vars infos line head pieces ≡ false → AnswersForm o infos line w (Err (Refused kinds.OfKind))
+  kind_refused m n e = refused kinds.OfKind (record { eliminates = λ lt. m; name = λ lt. n; kind = λ lt. absurd (omega (arith, lt)); rank = λ lt. absurd (omega (arith, lt)); degree = λ lt. absurd (omega (arith, lt)) }) (other_kind ring infos line w head pieces is e)
 
-  pub degree_refused : known_names ring.vars infos line head pieces ≡ true → right_kinds ring.vars infos line head pieces ≡ true → rank_fits infos line head (length pieces) ≡ true → list_all (λ v. low_degree ring line v.items) pieces ≡ false
-      → AnswersForm o infos line w (Err (Refused kinds.Degree))
-  degree_refused n k r e = refused kinds.Degree (record { name = λ lt. n; kind = λ lt. k; rank = λ lt. r; degree = λ lt. absurd (omega (arith, lt)) }) (great_degree ring infos line w head pieces is e)
+  pub rank_refused : elimination_fits (length ring.vars) line head ≡ true → known_names ring.vars infos line head pieces ≡ true → right_kinds ring.vars infos line head pieces ≡ true → rank_fits infos line head (length pieces) ≡ false → AnswersForm o infos line w (Err (Refused kinds.Rank))
+  rank_refused m n k e = refused kinds.Rank (record { eliminates = λ lt. m; name = λ lt. n; kind = λ lt. k; rank = λ lt. absurd (omega (arith, lt)); degree = λ lt. absurd (omega (arith, lt)) }) (other_rank ring infos line w head pieces is e)
 
-  place_small : (kind : Kind) → place kind < 9
+  pub degree_refused :
+      elimination_fits (length ring.vars) line head ≡ true → known_names ring.vars infos line head pieces ≡ true → right_kinds ring.vars infos line head pieces ≡ true → rank_fits infos line head (length pieces) ≡ true
+      → list_all (λ v. low_degree ring line v.items) pieces ≡ false → AnswersForm o infos line w (Err (Refused kinds.Degree))
+  degree_refused m n k r e = refused kinds.Degree (record { eliminates = λ lt. m; name = λ lt. n; kind = λ lt. k; rank = λ lt. r; degree = λ lt. absurd (omega (arith, lt)) }) (great_degree ring infos line w head pieces is e)
+
+  place_small : (kind : Kind) → place kind < 12
   place_small kinds.Syntax = omega arith
   place_small kinds.Numeral = omega arith
   place_small kinds.Ring = omega arith
@@ -258,12 +279,15 @@ module _ (o : Option Ring) (ring : Ring) (infos : List NameInfo) (line : List �
   place_small kinds.OfKind = omega arith
   place_small kinds.Rank = omega arith
   place_small kinds.Degree = omega arith
+  place_small kinds.Leads = omega arith
+  place_small kinds.Large = omega arith
 
-  pub line_stated : known_names ring.vars infos line head pieces ≡ true → right_kinds ring.vars infos line head pieces ≡ true → rank_fits infos line head (length pieces) ≡ true → list_all (λ v. low_degree ring line v.items) pieces ≡ true
+  pub line_stated :
+      elimination_fits (length ring.vars) line head ≡ true → known_names ring.vars infos line head pieces ≡ true → right_kinds ring.vars infos line head pieces ≡ true → rank_fits infos line head (length pieces) ≡ true → list_all (λ v. low_degree ring line v.items) pieces ≡ true
       → (result : Result Statement ParseStop) → IsStated ring line head pieces result → AnswersForm o infos line w result
-  line_stated n k r d result h = subst (λ x. AnswersForm x infos line w result) (sym stated) (by_result result h)
+  line_stated m n k r d result h = subst (λ x. AnswersForm x infos line w result) (sym stated) (by_result result h)
     where
       by_result : (result : Result Statement ParseStop) → IsStated ring line head pieces result → AnswersForm (Some ring) infos line w result
-      by_result (Ok statement) h = (h w is, λ kind. none_before 9 (record { name = λ lt. n; kind = λ lt. k; rank = λ lt. r; degree = λ lt. d }) kind (place_small kind))
+      by_result (Ok statement) h = (h w is, λ kind. none_before 12 (record { eliminates = λ lt. m; name = λ lt. n; kind = λ lt. k; rank = λ lt. r; degree = λ lt. d }) kind (place_small kind))
       by_result (Err Memory) h = tt
       by_result (Err (Refused kind)) h = absurd h

@@ -1,10 +1,13 @@
 pub mod Answering
+pub mod LetLines
 pub mod Lines
 pub mod OneAnswer
 pub mod Pieces
+pub mod Ranks
 pub mod RingLines
 pub mod RingNumbers
 pub mod Stating
 pub mod Testing
 pub mod Texts
+pub mod VectorLists
 pub mod Working

@@ -4,9 +4,8 @@ use Rattle.std.specs.Prelude.{codes}
 use Rattle.std.specs.Cmp.Lexicographic.{pointwise}
 use Rattle.std.proofs.lemmas.Option.{none-some}
 use Rattle.script_tokens.specs.declared.token.Token.{Token}
-use Rattle.script_tokens.specs.declared.token.TokenKind.{TokenKind}
 use Rattle.script_tokens.specs.declared.token.TokenKind.TheVariants as kinds
-use Rattle.poly_grammar.specs.Lexemes.{Lexeme, equals, lexeme, lexeme_as, name}
+use Rattle.poly_grammar.specs.Lexemes.{Lexeme, equals, lexeme, name, number}
 use Rattle.poly_grammar.specs.Numerals.{text_of}
 use Rattle.poly_grammar.specs.declared.stop.ReadStop.{ReadStop}
 use Rattle.poly_grammar.specs.declared.stop.ReadStop.TheVariants.{Memory, Syntax}
@@ -15,28 +14,25 @@ use Rattle.poly_grammar.specs.Trees.{Poly}
 use Rattle.poly_grammar.specs.declared.step.Step.{Step}
 use Rattle.poly_grammar.proofs.Unique.{one_tree}
 use Rattle.poly_grammar.specs.Machine.{Gives}
-use Rattle.script_parse.specs.Forms.{AreReadAs, IsRead, IsReadBehind, head_of}
+use Rattle.script_parse.specs.Forms.{AreReadAs, AreVectorsRead, IsOperationRead, IsRead, IsReadBehind, head_of}
 use Rattle.script_parse.specs.RingForms.{ring_line_of, ring_of}
-use Rattle.script_parse.specs.Written.{AreEntries, ArePolys, IsOnePoly, Written, ask_line, divide_line, equal_line, ideal_line, nothing, ring_line, show_line, Word, division_word, equal_word, ideal_word, question_word, ring_word, show_word, polys_of, word_text, word_of, IsBehind, IsLine, IsRingLine, IsWritten, IsWrittenAs}
+use Rattle.script_parse.specs.Written.{AreEntries, ArePolys, AreVectors, IsOnePoly, IsOperation, Written, ask_line, divide_line, equal_line, ideal_line, let_line, module_line, nothing, ring_line, show_line, Word, division_word, equal_word, ideal_word, let_word, module_word, question_word, ring_word, show_word, polys_of, word_text, word_of, IsBehind, IsLine, IsRingLine, IsWritten, IsWrittenAs}
 use Rattle.script_parse.specs.declared.form.Division.{Division}
-use Rattle.script_parse.specs.declared.form.Division.TheVariants.{Member, NormalForm}
+use Rattle.script_parse.specs.declared.form.Division.TheVariants.{Lift, Member, NormalForm}
 use Rattle.script_parse.specs.declared.form.Head.{Head}
 use Rattle.script_parse.specs.declared.form.Head.TheVariants as heads
 use Rattle.script_parse.specs.declared.form.Question.{Question}
-use Rattle.script_parse.specs.declared.form.Question.TheVariants.{Gb, Gens, Size}
+use Rattle.script_parse.specs.declared.form.Question.TheVariants.{Gb, Gens, Hilbert, Size}
 use Rattle.script_parse.specs.declared.form.Form.{Form}
 use Rattle.script_parse.specs.declared.form.Form.TheVariants as forms
+use Rattle.script_parse.specs.declared.operands.Operands.{Operands}
 use Rattle.script_parse.specs.declared.ring_words.RingForm.{RingForm}
-use Rattle.script_parse.proofs.Pieces.{one_list, one_vector}
+use Rattle.script_parse.specs.declared.vectors.Shape.{Shape}
+use Rattle.script_parse.proofs.LetLines.{same_operation}
+use Rattle.script_parse.proofs.Pieces.{name_is, named, one_list, one_vector}
+use Rattle.script_parse.proofs.VectorLists.{one_list_of_vectors}
 use Rattle.script_parse.proofs.RingLines.{one_ring, ring_again, ring_back}
 use Rattle.script_tokens.proofs.Cuts.{one_cut}
-
-named : (k : TokenKind) (t : Token) → k ≡ kinds.Name → lexeme_as k t ≡ name t
-named k t e = rw e refl
-
-pub name_is : (k : TokenKind) (t m : Token) → lexeme_as k t ≡ name m → (k ≡ kinds.Name) × (t ≡ m)
-name_is kinds.Name t m e = (refl, cc)
-name_is _ t m e = absurd cc
 
 -- the word that a text is
 abbrev said : List ℕ → List ℕ → Word → Option Word → Option Word
@@ -46,17 +42,22 @@ abbrev word_named : List ℕ → Option Word
 word_named text =
     said text (codes "ring") ring_word (said text (codes "show") show_word (said text (codes "ideal") ideal_word (said text (codes "gens") (question_word Gens)
     (said text (codes "gb") (question_word Gb) (said text (codes "size") (question_word Size) (said text (codes "nf") (division_word NormalForm)
-    (said text (codes "member") (division_word Member) (said text (codes "equal") equal_word None))))))))
+    (said text (codes "member") (division_word Member) (said text (codes "equal") equal_word (said text (codes "module") module_word
+    (said text (codes "let") let_word (said text (codes "hilb") (question_word Hilbert) (said text (codes "lift") (division_word Lift) None))))))))))))
 
 word_again : (w : Word) → word_named (word_text w) ≡ Some w
 word_again ring_word = refl
 word_again show_word = refl
 word_again ideal_word = refl
+word_again module_word = refl
+word_again let_word = refl
 word_again (question_word Gens) = refl
 word_again (question_word Gb) = refl
 word_again (question_word Size) = refl
+word_again (question_word Hilbert) = refl
 word_again (division_word NormalForm) = refl
 word_again (division_word Member) = refl
+word_again (division_word Lift) = refl
 word_again equal_word = refl
 
 -- no text is that of two words
@@ -141,6 +142,55 @@ module _ (line : List ℕ) (xs rest : List Lexeme) (t : Token) (is : xs ≡ name
   pub ideal_made : (after : List Lexeme) → rest ≡ equals ∷ after → (ps : List Poly) → ArePolys after ps → (w : Written) × (word_of w ≡ Some ideal_word) × IsBehind line xs w × (head_of w ≡ Some (heads.Ideal t)) × (polys_of w ≡ ps)
   ideal_made after e ps k = (ideal_line t ps, refl, (after, is ∙ ap (λ l. name t ∷ l) e, k), refl, refl)
 
+  -- a parser of VECs gives a `module` line, or there is none
+  pub module_read :
+      (r : Token) (after more : List Lexeme) (found : Vec (Vec Step Global) Global × Shape) → rest ≡ number r ∷ after → after ≡ equals ∷ more → AreVectorsRead more (Ok found)
+      → IsReadBehind module_word line xs (Ok (forms.Line (heads.Module t r found.1) found.0))
+  module_read r after more found e f h = (
+    module_line t r h.0,
+    refl,
+    (more, is ∙ ap (λ l. name t ∷ l) (e ∙ ap (λ l. number r ∷ l) f), h.1),
+    record { head_is = ap (λ s. Some (heads.Module t r s)) (sym h.3); steps_are = h.2 },
+  )
+
+  pub module_none : (r : Token) (after more : List Lexeme) (stop : ReadStop) → rest ≡ number r ∷ after → after ≡ equals ∷ more → AreVectorsRead more (Err stop) → IsReadBehind module_word line xs (Err stop)
+  module_none r after more Memory e f h = tt
+  module_none r after more Syntax e f h = go
+    where
+      all : xs ≡ name t ∷ number r ∷ equals ∷ more
+      all = is ∙ ap (λ l. name t ∷ l) (e ∙ ap (λ l. number r ∷ l) f)
+
+      go : (w : Written) → word_of w ≡ Some module_word → IsBehind line xs w → ⊥
+      go nothing g k = k
+      go (module_line t' r' vectors) g k =
+          let both : name t ∷ number r ∷ equals ∷ more ≡ name t' ∷ number r' ∷ equals ∷ k.0 = sym all ∙ k.1 in
+          let same : more ≡ k.0 = cc in
+          h vectors (subst (λ l. AreVectors l vectors) (sym same) k.2)
+      go _ g k = absurd cc
+
+  -- a parser of an operation gives a `let` line, or there is none
+  pub let_read :
+      (more : List Lexeme) (found : Operands × Vec (Vec Step Global) Global) → rest ≡ equals ∷ more → IsOperationRead line more (Ok found)
+      → IsReadBehind let_word line xs (Ok (forms.Line (heads.Let t found.0) found.1))
+  let_read more found e h = (
+    let_line t h.0,
+    refl,
+    (more, is ∙ ap (λ l. name t ∷ l) e, h.1),
+    record { head_is = ap (λ o. Some (heads.Let t o)) h.2; steps_are = h.3 },
+  )
+
+  pub let_none : (more : List Lexeme) (stop : ReadStop) → rest ≡ equals ∷ more → IsOperationRead line more (Err stop) → IsReadBehind let_word line xs (Err stop)
+  let_none more Memory e h = tt
+  let_none more Syntax e h = go
+    where
+      go : (w : Written) → word_of w ≡ Some let_word → IsBehind line xs w → ⊥
+      go nothing g k = k
+      go (let_line t' operation) g k =
+          let both : name t ∷ equals ∷ more ≡ name t' ∷ equals ∷ k.0 = sym (is ∙ ap (λ l. name t ∷ l) e) ∙ k.1 in
+          let same : more ≡ k.0 = cc in
+          h operation (subst (λ l. IsOperation line l operation) (sym same) k.2)
+      go _ g k = absurd cc
+
   pub ask_read : (question : Question) (found : Vec (Vec Step Global) Global) → rest ≡ [] → found.items ≡ [] → IsReadBehind (question_word question) line xs (Ok (forms.Line (heads.Ask question t) found))
   ask_read question found e none = (ask_line question t, refl, is ∙ ap (λ l. name t ∷ l) e, record { head_is = refl; steps_are = ap (λ l. map (λ v. v.items) l) none })
 
@@ -165,6 +215,18 @@ same_behind line xs (ideal_line g ps) (ideal_line g' ps') word e f h k =
     let given : g ≡ g' = cc in
     let rest : h.0 ≡ k.0 = cc in
     ap₂ ideal_line given (one_list k.0 ps ps' (subst (λ l. ArePolys l ps) rest h.2) k.2)
+same_behind line xs (module_line g r vs) (module_line g' r' vs') word e f h k =
+    let all : name g ∷ number r ∷ equals ∷ h.0 ≡ name g' ∷ number r' ∷ equals ∷ k.0 = sym h.1 ∙ k.1 in
+    let given : g ≡ g' = cc in
+    let ranks : r ≡ r' = cc in
+    let rest : h.0 ≡ k.0 = cc in
+    let vectors : vs ≡ vs' = one_list_of_vectors k.0 vs vs' (subst (λ l. AreVectors l vs) rest h.2) k.2 in
+    rw (given, ranks, vectors) refl
+same_behind line xs (let_line g o) (let_line g' o') word e f h k =
+    let all : name g ∷ equals ∷ h.0 ≡ name g' ∷ equals ∷ k.0 = sym h.1 ∙ k.1 in
+    let given : g ≡ g' = cc in
+    let rest : h.0 ≡ k.0 = cc in
+    ap₂ let_line given (same_operation line k.0 o o' (subst (λ l. IsOperation line l o) rest h.2) k.2)
 same_behind line xs (ask_line q t) (ask_line q' t') word e f h k =
     let all : name t ∷ [] ≡ name t' ∷ [] = sym h ∙ k in
     let words : Some (question_word q) ≡ Some (question_word q') = e ∙ sym f in

@@ -287,6 +287,23 @@ equals_first ts rest sign e kind =
     let head : lexeme sign ≡ equals = rw kind refl in
     ap (λ l. map lexeme l) e ∙ ap (λ x. x ∷ map lexeme rest) head
 
+pub none_more : {X : Type 0} (xs : List X) (r : Bool) → r ≡ (length xs == 0) → r ≡ true → xs ≡ []
+none_more [] r e f = refl
+none_more (x ∷ xs) r e f = let n : length (x ∷ xs) ≡ 0 = grind (arith, nat_tests) in absurd (omega (arith, n))
+
 pub none_left : (ts : List Token) (r : Bool) → r ≡ (length ts == 0) → r ≡ true → map lexeme ts ≡ []
-none_left [] r e f = refl
-none_left (t ∷ ts) r e f = let n : length (t ∷ ts) ≡ 0 = grind (arith, nat_tests) in absurd (omega (arith, n))
+none_left ts r e f = ap (map lexeme) (none_more ts r e f)
+
+pub named : (k : TokenKind) (t : Token) → k ≡ kinds.Name → lexeme_as k t ≡ name t
+named k t e = rw e refl
+
+pub name_is : (k : TokenKind) (t m : Token) → lexeme_as k t ≡ name m → (k ≡ kinds.Name) × (t ≡ m)
+name_is kinds.Name t m e = (refl, cc)
+name_is _ t m e = absurd cc
+
+-- what holds of names, numbers and the signs of POLYs holds of each lexeme that is read as a POLY
+pub reads_pass :
+    (P : Lexeme → Type 0) → ((t : Token) → P (name t)) → ((t : Token) → P (number t)) → P plus → P minus → P star → P caret → P opened → P closed
+    → (xs : List Lexeme) (p : Poly) → Reads xs p → AllByRecursion P xs
+reads_pass P of_name of_number of_plus of_minus of_star of_caret of_opened of_closed xs p r =
+    subst (λ l. AllByRecursion P l) (sym r.spelled) (all_poly P of_name of_number of_plus of_minus of_star of_caret of_opened of_closed p)

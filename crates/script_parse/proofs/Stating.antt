@@ -1,11 +1,11 @@
 -- What is worked out is what the line says
-use Rattle.std.proofs.Common.{◌≡◌, ◌<◌, ℕ, arith, cond, Bool, true, false, List, [], ◌∷◌, length, map, Option, Some, None, Vec, Global, refl, sym, ap, ap₂, subst, ◌∙◌}
-use Rattle.std.proofs.lemmas.List.{length-map}
+use Rattle.std.proofs.Common.{◌≡◌, ◌<◌, ◌+◌, ℕ, zero, suc, arith, cond, nat_eq, Bool, true, false, List, [], ◌∷◌, ◌++◌, length, map, take, drop, Option, Some, None, Vec, Global, refl, sym, ap, ap₂, subst, ◌∙◌, length-append}
+use Rattle.std.proofs.lemmas.List.{append-nil, drop-map, length-map, map-append, take-map}
 use Rattle.std.specs.List.{AllByRecursion, list_all}
-use Rattle.std.specs.Prelude.{is_some, string_bytes}
+use Rattle.std.specs.Prelude.{flat_map, is_some, string_bytes}
 use Rattle.script_tokens.specs.declared.token.Token.{Token}
 use Rattle.poly_grammar.specs.Algebras.{Algebra, worth, worth_of_steps}
-use Rattle.poly_grammar.specs.Numerals.{text_of}
+use Rattle.poly_grammar.specs.Numerals.{text_of, value_of}
 use Rattle.poly_grammar.specs.Steps.{steps}
 use Rattle.poly_grammar.specs.Trees.{Poly}
 use Rattle.poly_grammar.specs.declared.step.Step.{Step}
@@ -16,16 +16,22 @@ use Rattle.module_vectors.specs.Vectors.{HasPositions, IsVectorOver}
 use Rattle.module_vectors.specs.declared.key.Key.{Key}
 use Rattle.module_vectors.specs.declared.ring.Ring.{Ring}
 use Rattle.poly_value.specs.Values.{degrees_of, place_of, polynomials_of}
-use Rattle.script_parse.specs.Forms.{IsLineOf}
-use Rattle.script_parse.specs.Tests.{AreWorths, HaveNumerals, IsWorkable, IsWorth, StandsForEntries, is_known, is_no_value, known_names, knows, low_degree, names_pass, right_kinds}
+use Rattle.script_parse.specs.Forms.{IsLineOf, operands_of, shape_behind}
+use Rattle.script_parse.specs.Tests.{AreVectorWorths, AreWorths, HaveNumerals, IsWorkable, IsWorth, StandsForEntries, is_known, is_no_value, known_names, knows, low_degree, module_fits, names_pass, right_kinds}
 use Rattle.script_parse.specs.Refusals.{rank_named}
-use Rattle.script_parse.specs.Statements.{ArePolynomialsOf, IsPolynomialOf, IsVectorOf, Says}
-use Rattle.script_parse.specs.Written.{Written, divide_line, ideal_line, show_line}
-use Rattle.script_parse.specs.declared.form.Division.TheVariants.{Member, NormalForm}
+use Rattle.script_parse.specs.Statements.{ArePolynomialsOf, AreVectorsOf, IsOperationOf, IsPolynomialOf, IsVectorOf, Says}
+use Rattle.script_parse.specs.Written.{Written, WrittenOperation, divide_line, ideal_line, module_line, of_polynomial, operation_polys, show_line}
+use Rattle.script_parse.specs.declared.form.Division.TheVariants.{Lift, Member, NormalForm}
 use Rattle.script_parse.specs.declared.form.Head.{Head}
 use Rattle.script_parse.specs.declared.form.Head.TheVariants as heads
 use Rattle.script_parse.specs.declared.named.NameInfo.{NameInfo}
+use Rattle.script_parse.specs.declared.operands.ByPolynomial.TheVariants.{Quotient, Saturate}
+use Rattle.script_parse.specs.declared.operands.Operands.TheVariants as shapes
+use Rattle.script_parse.specs.declared.operation.Operation.TheVariants as operations
 use Rattle.script_parse.specs.declared.stated.Statement.TheVariants as statements
+use Rattle.script_parse.specs.declared.vectors.Shape.{Shape}
+use Rattle.script_parse.specs.declared.vectors.Shape.TheVariants.{Empty}
+use Rattle.script_parse.proofs.Ranks.{module_passes, same_width}
 use Rattle.script_parse.proofs.Testing.{both_true}
 use Rattle.script_parse.proofs.Working.{has_worth, weight_of}
 
@@ -145,6 +151,7 @@ normal_says ring line pieces value name u e vector positions stands (divide_line
     let same : value ≡ t = cc in
     (e ∙ ap (text_of line) same, vector_is ring line pieces ps u is.steps_are vector positions stands)
 normal_says ring line pieces value name u e vector positions stands (divide_line Member t ps) is = let h = is.head_is in absurd cc
+normal_says ring line pieces value name u e vector positions stands (divide_line Lift t ps) is = let h = is.head_is in absurd cc
 normal_says ring line pieces value name u e vector positions stands _ is = let h = is.head_is in absurd cc
 
 pub member_says : (ring : Ring) (line : List ℕ) (pieces : List (Vec Step Global)) (value : Token) (name : _) (u : List (Key × ℕ)) → string_bytes name ≡ text_of line value
@@ -155,4 +162,114 @@ member_says ring line pieces value name u e vector positions stands (divide_line
     let same : value ≡ t = cc in
     (e ∙ ap (text_of line) same, vector_is ring line pieces ps u is.steps_are vector positions stands)
 member_says ring line pieces value name u e vector positions stands (divide_line NormalForm t ps) is = let h = is.head_is in absurd cc
+member_says ring line pieces value name u e vector positions stands (divide_line Lift t ps) is = let h = is.head_is in absurd cc
 member_says ring line pieces value name u e vector positions stands _ is = let h = is.head_is in absurd cc
+
+pub lift_says : (ring : Ring) (line : List ℕ) (pieces : List (Vec Step Global)) (value : Token) (name : _) (u : List (Key × ℕ)) → string_bytes name ≡ text_of line value
+    → IsVectorOver ring (ring_comparison ring) u → HasPositions (length pieces) u → StandsForEntries ring line pieces u
+    → (w : Written) → IsLineOf (heads.Divide Lift value) pieces w → Says (Some ring) line w (statements.Lift name u)
+lift_says ring line pieces value name u e vector positions stands (divide_line Lift t ps) is =
+    let h = is.head_is in
+    let same : value ≡ t = cc in
+    (e ∙ ap (text_of line) same, vector_is ring line pieces ps u is.steps_are vector positions stands)
+lift_says ring line pieces value name u e vector positions stands (divide_line NormalForm t ps) is = let h = is.head_is in absurd cc
+lift_says ring line pieces value name u e vector positions stands (divide_line Member t ps) is = let h = is.head_is in absurd cc
+lift_says ring line pieces value name u e vector positions stands _ is = let h = is.head_is in absurd cc
+
+-- ---- modules
+
+take_front : {X : Type 0} (n : ℕ) (xs ys : List X) → length xs ≡ n → take n (xs ++ ys) ≡ xs
+take_front zero [] ys e = refl
+take_front zero (x ∷ xs) ys e = absurd (omega (arith, e))
+take_front (suc n) [] ys e = absurd (omega (arith, e))
+take_front (suc n) (x ∷ xs) ys e = ap (λ l. x ∷ l) (take_front n xs ys (omega (arith, e)))
+
+drop_front : {X : Type 0} (n : ℕ) (xs ys : List X) → length xs ≡ n → drop n (xs ++ ys) ≡ ys
+drop_front zero [] ys e = refl
+drop_front zero (x ∷ xs) ys e = absurd (omega (arith, e))
+drop_front (suc n) [] ys e = absurd (omega (arith, e))
+drop_front (suc n) (x ∷ xs) ys e = drop_front n xs ys (omega (arith, e))
+
+module _ (ring : Ring) (line : List ℕ) (rank : ℕ) (some : 0 < rank) where
+  vectors_are :
+      (pieces : List (Vec Step Global)) (vectors : List (List Poly)) (us : List (List (Key × ℕ))) → map (λ v. v.items) pieces ≡ map steps (flat_map (λ es. es) vectors)
+      → list_all (λ es. nat_eq (length es) rank) vectors ≡ true → AreVectorWorths ring line rank pieces us → AreVectorsOf ring line rank vectors us
+  vectors_are pieces [] [] e wide w = tt
+  vectors_are pieces [] (u ∷ us) e wide w =
+      let none : length pieces ≡ 0 = sym (length-map pieces (λ v. v.items)) ∙ ap length e in
+      let lt : 0 < length pieces = w.0 in absurd (omega (arith, lt, none))
+  vectors_are pieces (es ∷ more) [] e wide w =
+      let b = both_true (nat_eq (length es) rank) (list_all (λ es. nat_eq (length es) rank) more) wide in
+      let width : length es ≡ rank = same_width (length es) rank b.0 in
+      let none : length (map (λ v. v.items) pieces) ≡ 0 = ap (λ l. length (map (λ v. v.items) l)) w in
+      let all : length (map steps (es ++ flat_map (λ es. es) more)) ≡ length es + length (flat_map (λ es. es) more) =
+      length-map (es ++ flat_map (λ es. es) more) steps ∙ length-append es (flat_map (λ es. es) more) in
+      let zero_is : length es + length (flat_map (λ es. es) more) ≡ 0 = sym all ∙ sym (ap length e) ∙ none in
+      absurd (omega (arith, some, width, zero_is))
+  vectors_are pieces (es ∷ more) (u ∷ us) e wide w =
+      let b = both_true (nat_eq (length es) rank) (list_all (λ es. nat_eq (length es) rank) more) wide in
+      let width : length es ≡ rank = same_width (length es) rank b.0 in
+      let long : length (map steps es) ≡ rank = length-map es steps ∙ width in
+      let parts : map steps (es ++ flat_map (λ es. es) more) ≡ map steps es ++ map steps (flat_map (λ es. es) more) = map-append steps es (flat_map (λ es. es) more) in
+      let front : map (λ v. v.items) (take rank pieces) ≡ map steps es =
+      sym (take-map (λ v. v.items) rank pieces) ∙ ap (take rank) (e ∙ parts) ∙ take_front rank (map steps es) (map steps (flat_map (λ es. es) more)) long in
+      let back : map (λ v. v.items) (drop rank pieces) ≡ map steps (flat_map (λ es. es) more) =
+      sym (drop-map (λ v. v.items) rank pieces) ∙ ap (drop rank) (e ∙ parts) ∙ drop_front rank (map steps es) (map steps (flat_map (λ es. es) more)) long in
+      let one = vector_is ring line (take rank pieces) es u front w.1.vector w.1.positions w.1.entries in
+      ((one.0, subst (λ k. HasPositions k u) width one.1, one.2), vectors_are (drop rank pieces) more us back b.1 w.2)
+
+pub module_says :
+    (ring : Ring) (line : List ℕ) (pieces : List (Vec Step Global)) (given rank : Token) (shape : Shape) (name : _) (r : ℕ) (us : List (List (Key × ℕ))) → string_bytes name ≡ text_of line given → r ≡ value_of line rank
+    → module_fits (value_of line rank) shape (length pieces) ≡ true → AreVectorWorths ring line r pieces us
+    → (w : Written) → IsLineOf (heads.Module given rank shape) pieces w → Says (Some ring) line w (statements.Module name r us)
+module_says ring line pieces given rank shape name r us e n fits worths (module_line t s vectors) is =
+    let h = is.head_is in
+    let same : given ≡ t = cc in
+    let ranks : rank ≡ s = cc in
+    let shapes_are : shape ≡ shape_behind Empty vectors = cc in
+    let passes = module_passes (value_of line s) vectors (length pieces) (subst (λ x. module_fits (value_of line s) x (length pieces) ≡ true) shapes_are (subst (λ x. module_fits (value_of line x) shape (length pieces) ≡ true) ranks fits)) in
+    let number : r ≡ value_of line s = n ∙ ap (value_of line) ranks in
+    (e ∙ ap (text_of line) same, number, vectors_are ring line (value_of line s) passes.0 pieces vectors us is.steps_are passes.1 (subst (λ k. AreVectorWorths ring line k pieces us) number worths))
+module_says ring line pieces given rank shape name r us e n fits worths _ is = let h = is.head_is in absurd cc
+
+-- the vectors that are worked out, one behind the other
+pub record AreChunks (ring : Ring) (line : List ℕ) (rank : ℕ) (all rest : List (Vec Step Global)) (list : List (List (Key × ℕ))) : Type 0 where
+  pub joins : (us : List (List (Key × ℕ))) → AreVectorWorths ring line rank rest us → AreVectorWorths ring line rank all (list ++ us)
+  pub workable : AllByRecursion (IsWorkable ring line) rest
+
+pub chunks_end : (ring : Ring) (line : List ℕ) (rank : ℕ) (all rest : List (Vec Step Global)) (list : List (List (Key × ℕ))) → rest ≡ [] → AreChunks ring line rank all rest list → AreVectorWorths ring line rank all list
+chunks_end ring line rank all rest list none h = subst (λ l. AreVectorWorths ring line rank all l) (append-nil list) (h.joins [] none)
+
+-- ---- operations
+
+-- the polynomial that is worked out, and its value's name
+pub record Divides (ring : Ring) (line : List ℕ) (pieces : List (Vec Step Global)) (value : Token) (name : List ℕ) (u : List (Key × ℕ)) : Type 0 where
+  pub first : Vec Step Global
+  pub more : List (Vec Step Global)
+  pub pieces_are : pieces ≡ first ∷ more
+  pub workable : AllByRecursion (IsWorkable ring line) pieces
+  pub worth : IsWorth ring line first.items u
+  pub name_is : name ≡ text_of line value
+
+divisor_of : (ring : Ring) (line : List ℕ) (pieces : List (Vec Step Global)) (value : Token) (name : List ℕ) (u : List (Key × ℕ)) (p : Poly) → Divides ring line pieces value name u → map (λ v. v.items) pieces ≡ steps p ∷ [] → IsPolynomialOf ring line p u
+divisor_of ring line pieces value name u p d s =
+    let all : map (λ v. v.items) (d.first ∷ d.more) ≡ steps p ∷ [] = ap (λ l. map (λ v. v.items) l) (sym d.pieces_are) ∙ s in
+    let head : d.first.items ≡ steps p = cc in
+    let one = subst (λ l. AllByRecursion (IsWorkable ring line) l) d.pieces_are d.workable in
+    polynomial_of ring line p d.first u head one.0 d.worth
+
+pub quotient_says :
+    (ring : Ring) (line : List ℕ) (pieces : List (Vec Step Global)) (value : Token) (name : _) (u : List (Key × ℕ)) → Divides ring line pieces value (string_bytes name) u
+    → (w : WrittenOperation) → operands_of w ≡ shapes.Polynomial Quotient value → map (λ v. v.items) pieces ≡ map steps (operation_polys w) → IsOperationOf ring line w (operations.Quotient name u)
+quotient_says ring line pieces value name u d (of_polynomial Quotient t p) e s =
+    let same : value ≡ t = cc in (d.name_is ∙ ap (text_of line) same, divisor_of ring line pieces value (string_bytes name) u p d s)
+quotient_says ring line pieces value name u d (of_polynomial Saturate t p) e s = absurd cc
+quotient_says ring line pieces value name u d _ e s = absurd cc
+
+pub saturation_says :
+    (ring : Ring) (line : List ℕ) (pieces : List (Vec Step Global)) (value : Token) (name : _) (u : List (Key × ℕ)) → Divides ring line pieces value (string_bytes name) u
+    → (w : WrittenOperation) → operands_of w ≡ shapes.Polynomial Saturate value → map (λ v. v.items) pieces ≡ map steps (operation_polys w) → IsOperationOf ring line w (operations.Saturate name u)
+saturation_says ring line pieces value name u d (of_polynomial Saturate t p) e s =
+    let same : value ≡ t = cc in (d.name_is ∙ ap (text_of line) same, divisor_of ring line pieces value (string_bytes name) u p d s)
+saturation_says ring line pieces value name u d (of_polynomial Quotient t p) e s = absurd cc
+saturation_says ring line pieces value name u d _ e s = absurd cc

@@ -17,13 +17,16 @@ use Rattle.poly_grammar.specs.declared.step.Step.TheVariants.{Name}
 use Rattle.poly_grammar.proofs.Names.{steps_have_names}
 use Rattle.poly_value.specs.Values.{place_of}
 use Rattle.module_vectors.specs.declared.ring.Ring.{Ring}
-use Rattle.script_parse.specs.Forms.{IsLineOf, head_of}
-use Rattle.script_parse.specs.Tests.{given_name, is_known, is_no_value, is_no_variable, known_names, low_degree, names_pass, places, rank_fits, right_kinds, same_rank}
-use Rattle.script_parse.specs.Refusals.{HasGreatDegree, HasOtherKind, HasOtherRank, HasUnknownName, IsNamed, StandsInPoly, rank_named}
-use Rattle.script_parse.specs.Written.{Written, ask_line, divide_line, equal_line, given_by, ideal_line, nothing, polys_of, ring_line, show_line, value_places}
+use Rattle.script_parse.specs.Forms.{IsLineOf, head_of, operands_of, shape_behind}
+use Rattle.script_parse.specs.Tests.{elimination_fits, factor_fits, given_name, is_known, is_no_value, is_no_variable, known_names, low_degree, names_pass, operand_places, operands_eliminate, operands_fit, operands_multiply, places, rank_fits, right_kinds, same_rank}
+use Rattle.script_parse.specs.Refusals.{HasGreatDegree, HasOtherFactor, HasOtherKind, HasOtherOperands, HasOtherRank, HasUnknownName, IsNamed, LacksRing, StandsInPoly, length_named, rank_named}
+use Rattle.script_parse.specs.Written.{Written, WrittenOperation, ask_line, divide_line, elimination, equal_line, given_by, ideal_line, let_line, module_line, nothing, of_polynomial, of_two, operation_places, polys_of, ring_line, show_line, syzygies, value_places}
 use Rattle.script_parse.specs.declared.form.Head.{Head}
 use Rattle.script_parse.specs.declared.form.Head.TheVariants as heads
 use Rattle.script_parse.specs.declared.named.NameInfo.{NameInfo}
+use Rattle.script_parse.specs.declared.operands.Binary.TheVariants.{Colon, Intersect, Product, Sum}
+use Rattle.script_parse.specs.declared.vectors.Shape.TheVariants.{Empty}
+use Rattle.script_parse.proofs.Ranks.{length_low, length_other, low_not, not_within, rank_above, vectors_fit, vectors_other, within_not}
 use Rattle.script_parse.proofs.Working.{degree_of_steps, weight_of}
 
 -- a text has a place among names exactly where it is one of them
@@ -121,11 +124,19 @@ poly_names test line p = pass_names test line (steps p) ∙ ap (λ l. list_all (
 
 -- ---- the names of a head are those of its line
 
+operand_places_are : (operation : WrittenOperation) → operand_places (operands_of operation) ≡ operation_places operation
+operand_places_are (of_two word left right) = refl
+operand_places_are (of_polynomial word value p) = refl
+operand_places_are (elimination value count) = refl
+operand_places_are (syzygies value) = refl
+
 places_are : (w : Written) (head : Head) → head_of w ≡ Some head → places head ≡ value_places w
 places_are nothing head e = absurd cc
 places_are (ring_line r) head e = absurd cc
 places_are (show_line p) head e = let is : heads.Show ≡ head = cc in ap places (sym is)
 places_are (ideal_line given ps) head e = let is : heads.Ideal given ≡ head = cc in ap places (sym is)
+places_are (module_line given rank vectors) head e = let is : heads.Module given rank (shape_behind Empty vectors) ≡ head = cc in ap places (sym is)
+places_are (let_line given operation) head e = let is : heads.Let given (operands_of operation) ≡ head = cc in ap places (sym is) ∙ operand_places_are operation
 places_are (ask_line question value) head e = let is : heads.Ask question value ≡ head = cc in ap places (sym is)
 places_are (divide_line division value ps) head e = let is : heads.Divide division value ≡ head = cc in ap places (sym is)
 places_are (equal_line left right) head e = let is : heads.Equal left right ≡ head = cc in ap places (sym is)
@@ -135,6 +146,8 @@ given_are nothing head e = absurd cc
 given_are (ring_line r) head e = absurd cc
 given_are (show_line p) head e = let is : heads.Show ≡ head = cc in ap given_name (sym is)
 given_are (ideal_line given ps) head e = let is : heads.Ideal given ≡ head = cc in ap given_name (sym is)
+given_are (module_line given rank vectors) head e = let is : heads.Module given rank (shape_behind Empty vectors) ≡ head = cc in ap given_name (sym is)
+given_are (let_line given operation) head e = let is : heads.Let given (operands_of operation) ≡ head = cc in ap given_name (sym is)
 given_are (ask_line question value) head e = let is : heads.Ask question value ≡ head = cc in ap given_name (sym is)
 given_are (divide_line division value ps) head e = let is : heads.Divide division value ≡ head = cc in ap given_name (sym is)
 given_are (equal_line left right) head e = let is : heads.Equal left right ≡ head = cc in ap given_name (sym is)
@@ -166,6 +179,57 @@ many n m e f = let lt : 1000 < n = grind (arith, nat_tests) in omega arith
 few : (n m : ℕ) → n ≡ m → nat_le n 1000 ≡ true → 1000 < m → ⊥
 few n m e f lt = let le : n ≤ 1000 = grind (arith, nat_tests) in omega arith
 
+-- the tests of an operation
+
+other_factor_of : (names : List NameInfo) (line : List ℕ) (given : Token) (operation : WrittenOperation) → operands_multiply names line (operands_of operation) ≡ false → HasOtherFactor names line (let_line given operation)
+other_factor_of names line given (of_two Product left right) e = rank_above (rank_named names (text_of line left)) e
+other_factor_of names line given (of_two Sum left right) e = absurd cc
+other_factor_of names line given (of_two Intersect left right) e = absurd cc
+other_factor_of names line given (of_two Colon left right) e = absurd cc
+other_factor_of names line given (of_polynomial word value p) e = absurd cc
+other_factor_of names line given (elimination value count) e = absurd cc
+other_factor_of names line given (syzygies value) e = absurd cc
+
+no_other_factor : (names : List NameInfo) (line : List ℕ) (given : Token) (operation : WrittenOperation) → operands_multiply names line (operands_of operation) ≡ true → HasOtherFactor names line (let_line given operation) → ⊥
+no_other_factor names line given (of_two Product left right) e h = low_not (rank_named names (text_of line left)) h.0 e h.1 h.2
+no_other_factor names line given (of_two Sum left right) e h = h
+no_other_factor names line given (of_two Intersect left right) e h = h
+no_other_factor names line given (of_two Colon left right) e h = h
+no_other_factor names line given (of_polynomial word value p) e h = h
+no_other_factor names line given (elimination value count) e h = h
+no_other_factor names line given (syzygies value) e h = h
+
+other_operands_of : (names : List NameInfo) (line : List ℕ) (operation : WrittenOperation) → operands_fit names line (operands_of operation) ≡ false → HasOtherOperands names line operation
+other_operands_of names line (of_two Product left right) e = absurd cc
+other_operands_of names line (of_two Sum left right) e = ranks_differ (rank_named names (text_of line left)) (rank_named names (text_of line right)) e
+other_operands_of names line (of_two Intersect left right) e = ranks_differ (rank_named names (text_of line left)) (rank_named names (text_of line right)) e
+other_operands_of names line (of_two Colon left right) e = ranks_differ (rank_named names (text_of line left)) (rank_named names (text_of line right)) e
+other_operands_of names line (of_polynomial word value p) e = absurd cc
+other_operands_of names line (elimination value count) e = absurd cc
+other_operands_of names line (syzygies value) e = length_other (length_named names (text_of line value)) e
+
+no_other_operands : (names : List NameInfo) (line : List ℕ) (operation : WrittenOperation) → operands_fit names line (operands_of operation) ≡ true → HasOtherOperands names line operation → ⊥
+no_other_operands names line (of_two Product left right) e h = h
+no_other_operands names line (of_two Sum left right) e h = h.4 (ranks_same (rank_named names (text_of line left)) (rank_named names (text_of line right)) h.0 h.1 e h.2 h.3)
+no_other_operands names line (of_two Intersect left right) e h = h.4 (ranks_same (rank_named names (text_of line left)) (rank_named names (text_of line right)) h.0 h.1 e h.2 h.3)
+no_other_operands names line (of_two Colon left right) e h = h.4 (ranks_same (rank_named names (text_of line left)) (rank_named names (text_of line right)) h.0 h.1 e h.2 h.3)
+no_other_operands names line (of_polynomial word value p) e h = h
+no_other_operands names line (elimination value count) e h = h
+no_other_operands names line (syzygies value) e h = length_low (length_named names (text_of line value)) h.0 e h.1 h.2
+
+outside_of : (ring : Ring) (line : List ℕ) (given : Token) (operation : WrittenOperation) → operands_eliminate (length ring.vars) line (operands_of operation) ≡ false → LacksRing (Some ring) line (let_line given operation)
+outside_of ring line given (elimination value count) e = inr (not_within (length ring.vars) (value_of line count) e)
+outside_of ring line given (of_two word left right) e = absurd cc
+outside_of ring line given (of_polynomial word value p) e = absurd cc
+outside_of ring line given (syzygies value) e = absurd cc
+
+not_outside : (ring : Ring) (line : List ℕ) (given : Token) (operation : WrittenOperation) → operands_eliminate (length ring.vars) line (operands_of operation) ≡ true → LacksRing (Some ring) line (let_line given operation) → ⊥
+not_outside ring line given (elimination value count) e (inl h) = absurd cc
+not_outside ring line given (elimination value count) e (inr h) = within_not (length ring.vars) (value_of line count) e h
+not_outside ring line given (of_two word left right) e h = absurd cc
+not_outside ring line given (of_polynomial word value p) e h = absurd cc
+not_outside ring line given (syzygies value) e h = absurd cc
+
 other_rank_of : (names : List NameInfo) (line : List ℕ) (w : Written) (head : Head) (count : ℕ) → head_of w ≡ Some head → count ≡ length (polys_of w) → rank_fits names line head count ≡ false → HasOtherRank names line w
 other_rank_of names line nothing head count e n f = absurd cc
 other_rank_of names line (ring_line r) head count e n f = absurd cc
@@ -173,6 +237,12 @@ other_rank_of names line (show_line p) head count e n f =
     let is : head ≡ heads.Show = cc in let no : true ≡ false = subst (λ h. rank_fits names line h count ≡ false) is f in absurd cc
 other_rank_of names line (ideal_line given ps) head count e n f =
     let is : head ≡ heads.Ideal given = cc in many count (length ps) n (subst (λ h. rank_fits names line h count ≡ false) is f)
+other_rank_of names line (module_line given rank vectors) head count e n f =
+    let is : head ≡ heads.Module given rank (shape_behind Empty vectors) = cc in
+    vectors_other (value_of line rank) vectors count n (subst (λ h. rank_fits names line h count ≡ false) is f)
+other_rank_of names line (let_line given operation) head count e n f =
+    let is : head ≡ heads.Let given (operands_of operation) = cc in
+    other_operands_of names line operation (subst (λ h. rank_fits names line h count ≡ false) is f)
 other_rank_of names line (ask_line question value) head count e n f =
     let is : head ≡ heads.Ask question value = cc in let no : true ≡ false = subst (λ h. rank_fits names line h count ≡ false) is f in absurd cc
 other_rank_of names line (divide_line division value ps) head count e n f =
@@ -186,6 +256,12 @@ other_rank_of names line (equal_line left right) head count e n f =
 right_rank_of : (names : List NameInfo) (line : List ℕ) (w : Written) (head : Head) (count : ℕ) → head_of w ≡ Some head → count ≡ length (polys_of w) → rank_fits names line head count ≡ true → HasOtherRank names line w → ⊥
 right_rank_of names line (ideal_line given ps) head count e n f h =
     let is : head ≡ heads.Ideal given = cc in few count (length ps) n (subst (λ d. rank_fits names line d count ≡ true) is f) h
+right_rank_of names line (module_line given rank vectors) head count e n f h =
+    let is : head ≡ heads.Module given rank (shape_behind Empty vectors) = cc in
+    vectors_fit (value_of line rank) vectors count n (subst (λ d. rank_fits names line d count ≡ true) is f) h
+right_rank_of names line (let_line given operation) head count e n f h =
+    let is : head ≡ heads.Let given (operands_of operation) = cc in
+    no_other_operands names line operation (subst (λ d. rank_fits names line d count ≡ true) is f) h
 right_rank_of names line (divide_line division value ps) head count e n f h =
     let is : head ≡ heads.Divide division value = cc in
     let same = ranks_same (rank_named names (text_of line value)) (Some count) h.0 count (subst (λ d. rank_fits names line d count ≡ true) is f) h.1 refl in
@@ -194,6 +270,56 @@ right_rank_of names line (equal_line left right) head count e n f h =
     let is : head ≡ heads.Equal left right = cc in
     h.4 (ranks_same (rank_named names (text_of line left)) (rank_named names (text_of line right)) h.0 h.1 (subst (λ d. rank_fits names line d count ≡ true) is f) h.2 h.3)
 right_rank_of names line _ head count e n f h = h
+
+-- the same of a line
+
+other_factor : (names : List NameInfo) (line : List ℕ) (w : Written) (head : Head) → head_of w ≡ Some head → factor_fits names line head ≡ false → HasOtherFactor names line w
+other_factor names line (let_line given operation) head e f =
+    let is : head ≡ heads.Let given (operands_of operation) = cc in other_factor_of names line given operation (subst (λ h. factor_fits names line h ≡ false) is f)
+other_factor names line nothing head e f = absurd cc
+other_factor names line (ring_line r) head e f = absurd cc
+other_factor names line (show_line p) head e f =
+    let is : head ≡ heads.Show = cc in let no : true ≡ false = subst (λ h. factor_fits names line h ≡ false) is f in absurd cc
+other_factor names line (ideal_line given ps) head e f =
+    let is : head ≡ heads.Ideal given = cc in let no : true ≡ false = subst (λ h. factor_fits names line h ≡ false) is f in absurd cc
+other_factor names line (module_line given rank vectors) head e f =
+    let is : head ≡ heads.Module given rank (shape_behind Empty vectors) = cc in let no : true ≡ false = subst (λ h. factor_fits names line h ≡ false) is f in absurd cc
+other_factor names line (ask_line question value) head e f =
+    let is : head ≡ heads.Ask question value = cc in let no : true ≡ false = subst (λ h. factor_fits names line h ≡ false) is f in absurd cc
+other_factor names line (divide_line division value ps) head e f =
+    let is : head ≡ heads.Divide division value = cc in let no : true ≡ false = subst (λ h. factor_fits names line h ≡ false) is f in absurd cc
+other_factor names line (equal_line left right) head e f =
+    let is : head ≡ heads.Equal left right = cc in let no : true ≡ false = subst (λ h. factor_fits names line h ≡ false) is f in absurd cc
+
+right_factor : (names : List NameInfo) (line : List ℕ) (w : Written) (head : Head) → head_of w ≡ Some head → factor_fits names line head ≡ true → HasOtherFactor names line w → ⊥
+right_factor names line (let_line given operation) head e f h =
+    let is : head ≡ heads.Let given (operands_of operation) = cc in no_other_factor names line given operation (subst (λ d. factor_fits names line d ≡ true) is f) h
+right_factor names line _ head e f h = h
+
+outside : (ring : Ring) (line : List ℕ) (w : Written) (head : Head) → head_of w ≡ Some head → elimination_fits (length ring.vars) line head ≡ false → LacksRing (Some ring) line w
+outside ring line (let_line given operation) head e f =
+    let is : head ≡ heads.Let given (operands_of operation) = cc in outside_of ring line given operation (subst (λ h. elimination_fits (length ring.vars) line h ≡ false) is f)
+outside ring line nothing head e f = absurd cc
+outside ring line (ring_line r) head e f = absurd cc
+outside ring line (show_line p) head e f =
+    let is : head ≡ heads.Show = cc in let no : true ≡ false = subst (λ h. elimination_fits (length ring.vars) line h ≡ false) is f in absurd cc
+outside ring line (ideal_line given ps) head e f =
+    let is : head ≡ heads.Ideal given = cc in let no : true ≡ false = subst (λ h. elimination_fits (length ring.vars) line h ≡ false) is f in absurd cc
+outside ring line (module_line given rank vectors) head e f =
+    let is : head ≡ heads.Module given rank (shape_behind Empty vectors) = cc in let no : true ≡ false = subst (λ h. elimination_fits (length ring.vars) line h ≡ false) is f in absurd cc
+outside ring line (ask_line question value) head e f =
+    let is : head ≡ heads.Ask question value = cc in let no : true ≡ false = subst (λ h. elimination_fits (length ring.vars) line h ≡ false) is f in absurd cc
+outside ring line (divide_line division value ps) head e f =
+    let is : head ≡ heads.Divide division value = cc in let no : true ≡ false = subst (λ h. elimination_fits (length ring.vars) line h ≡ false) is f in absurd cc
+outside ring line (equal_line left right) head e f =
+    let is : head ≡ heads.Equal left right = cc in let no : true ≡ false = subst (λ h. elimination_fits (length ring.vars) line h ≡ false) is f in absurd cc
+
+inside : (ring : Ring) (line : List ℕ) (w : Written) (head : Head) → head_of w ≡ Some head → elimination_fits (length ring.vars) line head ≡ true → LacksRing (Some ring) line w → ⊥
+inside ring line (let_line given operation) head e f h =
+    let is : head ≡ heads.Let given (operands_of operation) = cc in not_outside ring line given operation (subst (λ d. elimination_fits (length ring.vars) line d ≡ true) is f) h
+inside ring line nothing head e f h = h
+inside ring line (ring_line r) head e f h = absurd cc
+inside ring line _ head e f h = absurd cc
 
 low_poly : (ring : Ring) (line : List ℕ) (p : Poly) → low_degree ring line (steps p) ≡ is_some (formal_degree (weight_of ring line) (value_of line) p)
 low_poly ring line p = ap is_some (degree_of_steps ring line (steps p) p (formal_degree (weight_of ring line) (value_of line) p) refl refl)
@@ -291,24 +417,38 @@ module _ (ring : Ring) (names : List NameInfo) (line : List ℕ) (w : Written) (
       go (inl (t, inr c, no_var, no_val)) = not_unknown (text_of line t) (all_pass (λ t. known (text_of line t)) (places head) t front.0 (of_place t c)) no_var no_val
       go (inr (t, c, v)) = not_variable (text_of line t) (all_pass (λ t. no_variable (text_of line t)) (given_name head) t front.1 (subst (λ l. Contains l t) (sym (given_are w head is.head_is)) c)) v
 
+  pub lacks_ring : elimination_fits (length vars) line head ≡ false → LacksRing (Some ring) line w
+  lacks_ring e = outside ring line w head is.head_is e
+
+  pub has_ring : elimination_fits (length vars) line head ≡ true → LacksRing (Some ring) line w → ⊥
+  has_ring e = inside ring line w head is.head_is e
+
   pub other_kind : right_kinds vars names line head pieces ≡ false → HasOtherKind (Some ring) names line w
-  other_kind e = by_parts (one_false (list_all (λ t. no_variable (text_of line t)) (places head)) (list_all (λ v. names_pass no_value line v.items) pieces) e)
+  other_kind e = by_parts (one_false (list_all (λ t. no_variable (text_of line t)) (places head) && factor_fits names line head) (list_all (λ v. names_pass no_value line v.items) pieces) e)
     where
-      by_parts : (list_all (λ t. no_variable (text_of line t)) (places head) ≡ false) ⊎ (list_all (λ v. names_pass no_value line v.items) pieces ≡ false) → HasOtherKind (Some ring) names line w
-      by_parts (inl h) =
+      by_head : (list_all (λ t. no_variable (text_of line t)) (places head) ≡ false) ⊎ (factor_fits names line head ≡ false) → HasOtherKind (Some ring) names line w
+      by_head (inl h) =
           let f = some_fails (λ t. no_variable (text_of line t)) (places head) h in
-          inr (f.0, in_place f.0 f.1, variable (text_of line f.0) f.2)
+          inr (inl (f.0, in_place f.0 f.1, variable (text_of line f.0) f.2))
+      by_head (inr h) = inr (inr (other_factor names line w head is.head_is h))
+
+      by_parts : ((list_all (λ t. no_variable (text_of line t)) (places head) && factor_fits names line head) ≡ false) ⊎ (list_all (λ v. names_pass no_value line v.items) pieces ≡ false) → HasOtherKind (Some ring) names line w
+      by_parts (inl h) = by_head (one_false (list_all (λ t. no_variable (text_of line t)) (places head)) (factor_fits names line head) h)
       by_parts (inr h) = let f = some_name no_value h in inl (f.0, f.1, value (text_of line f.0) f.2)
 
   pub each_right : right_kinds vars names line head pieces ≡ true → HasOtherKind (Some ring) names line w → ⊥
   each_right e = go
     where
-      parts : (list_all (λ t. no_variable (text_of line t)) (places head) ≡ true) × (list_all (λ v. names_pass no_value line v.items) pieces ≡ true)
-      parts = both_true (list_all (λ t. no_variable (text_of line t)) (places head)) (list_all (λ v. names_pass no_value line v.items) pieces) e
+      parts : ((list_all (λ t. no_variable (text_of line t)) (places head) && factor_fits names line head) ≡ true) × (list_all (λ v. names_pass no_value line v.items) pieces ≡ true)
+      parts = both_true (list_all (λ t. no_variable (text_of line t)) (places head) && factor_fits names line head) (list_all (λ v. names_pass no_value line v.items) pieces) e
+
+      front : (list_all (λ t. no_variable (text_of line t)) (places head) ≡ true) × (factor_fits names line head ≡ true)
+      front = both_true (list_all (λ t. no_variable (text_of line t)) (places head)) (factor_fits names line head) parts.0
 
       go : HasOtherKind (Some ring) names line w → ⊥
       go (inl (t, s, v)) = not_value (text_of line t) (each_name no_value parts.1 t s) v
-      go (inr (t, c, v)) = not_variable (text_of line t) (all_pass (λ t. no_variable (text_of line t)) (places head) t parts.0 (of_place t c)) v
+      go (inr (inl (t, c, v))) = not_variable (text_of line t) (all_pass (λ t. no_variable (text_of line t)) (places head) t front.0 (of_place t c)) v
+      go (inr (inr h)) = right_factor names line w head is.head_is front.1 h
 
   count : length pieces ≡ length (polys_of w)
   count = sym (length-map pieces (λ v. v.items)) ∙ ap length is.steps_are ∙ length-map (polys_of w) steps

@@ -2,7 +2,7 @@
 use Rattle.std.proofs.Common.{◌≡◌, ℕ, zero, suc, ◌<◌, ◌≤◌, ◌^◌, ◌⊎◌, inl, inr, cond, nat_eq, Bool, true, false, List, [], ◌∷◌, ◌++◌, map, length, Some, Result, Ok, Err, IfOk, Vec, Global, refl, sym, ap, ap₂, subst, ◌∙◌, arith}
 use Rattle.std.proofs.lemmas.Bool.{cases_lt}
 use Rattle.std.specs.List.{AllByRecursion, slice_index_or}
-use Rattle.std.specs.Prelude.{Contains}
+use Rattle.std.specs.Prelude.{Contains, flat_map}
 use Rattle.std.specs.Str.{IsAscii}
 use Rattle.std.specs.Str.Lossy.{utf8_lossy}
 use Rattle.std.specs.Char.{is_ascii_alphabetic}
@@ -21,15 +21,17 @@ use Rattle.poly_grammar.specs.Steps.{numbers_of_steps, steps}
 use Rattle.poly_grammar.specs.Trees.{Poly, Reads, spelling}
 use Rattle.poly_grammar.specs.declared.step.Step.{Step}
 use Rattle.poly_grammar.proofs.NumbersOfSteps.{steps_have_numbers}
-use Rattle.script_parse.specs.Forms.{IsFormOf, head_of}
-use Rattle.script_parse.specs.Tests.{IsPolynomial, IsWellFormed, head_names, repeats, stands_among}
+use Rattle.script_parse.specs.Forms.{IsFormOf, head_of, operands_of, shape_behind}
+use Rattle.script_parse.specs.Tests.{IsPolynomial, IsWellFormed, head_names, operand_places, repeats, stands_among}
 use Rattle.script_parse.specs.Refusals.{HasGreatNumeral, HasRepeat}
-use Rattle.script_parse.specs.Written.{AreEntries, AreNames, ArePolys, IsWritten, Written, ask_line, comma_list, divide_line, equal_line, ideal_line, nothing, polys_of, ring_line, show_line}
+use Rattle.script_parse.specs.Written.{AreEntries, AreNames, ArePolys, AreVectors, IsOperation, IsWritten, Written, WrittenOperation, ask_line, comma_list, divide_line, elimination, equal_line, ideal_line, let_line, module_line, nothing, of_polynomial, of_two, operation_polys, polys_of, ring_line, show_line, syzygies}
 use Rattle.script_parse.specs.declared.form.Form.{Form}
 use Rattle.script_parse.specs.declared.form.Form.TheVariants as forms
 use Rattle.script_parse.specs.declared.form.Head.{Head}
 use Rattle.script_parse.specs.declared.form.Head.TheVariants as heads
 use Rattle.script_parse.specs.declared.ring_words.RingForm.{RingForm}
+use Rattle.script_parse.specs.declared.vectors.Shape.TheVariants.{Empty}
+use Rattle.script_parse.proofs.Pieces.{all_append}
 
 letter_ascii : (b : ℕ) → is_ascii_alphabetic b ≡ true → b < 128
 letter_ascii b e = grind arith
@@ -82,6 +84,17 @@ all_back : (P : Token → Type 0) (xs ys : List Token) → AllByRecursion P (xs 
 all_back P [] ys h = h
 all_back P (x ∷ xs) ys h = all_back P xs ys h.1
 
+-- the names of an operation's values are among its names
+places_among : (P : Token → Type 0) (line : List ℕ) (xs : List Lexeme) (operation : WrittenOperation) → IsOperation line xs operation → AllByRecursion P (names_in xs) → AllByRecursion P (operand_places (operands_of operation))
+places_among P line xs (of_two word left right) h all =
+    let names = subst (λ l. AllByRecursion P (names_in l)) (h.1.2 ∙ ap (λ l. name h.1.0 ∷ l) h.2) all in (names.1.0, (names.1.1.0, tt))
+places_among P line xs (of_polynomial word value p) h all =
+    let names = subst (λ l. AllByRecursion P (names_in l)) (h.1.2 ∙ ap (λ l. name h.1.0 ∷ l) h.2.1) all in (names.1.0, tt)
+places_among P line xs (elimination value count) h all =
+    let names = subst (λ l. AllByRecursion P (names_in l)) (h.1.2 ∙ ap (λ l. name h.1.0 ∷ l) h.2) all in (names.1.0, tt)
+places_among P line xs (syzygies value) h all =
+    let names = subst (λ l. AllByRecursion P (names_in l)) (h.1.2 ∙ ap (λ l. name h.1.0 ∷ l) h.2) all in (names.1.0, tt)
+
 -- the names of a line's head are among its names
 head_among : (P : Token → Type 0) (line : List ℕ) (xs : List Lexeme) (w : Written) (head : Head) → head_of w ≡ Some head → IsWritten line xs w → AllByRecursion P (names_in xs) → AllByRecursion P (head_names head)
 head_among P line xs nothing head e h all = absurd cc
@@ -92,6 +105,14 @@ head_among P line xs (ideal_line given ps) head e h all =
     let is : heads.Ideal given ≡ head = cc in
     let names = subst (λ l. AllByRecursion P (names_in l)) (h.1.2 ∙ ap (λ l. name h.1.0 ∷ l) h.2.1) all in
     subst (λ d. AllByRecursion P (head_names d)) is (names.1.0, tt)
+head_among P line xs (module_line given rank vectors) head e h all =
+    let is : heads.Module given rank (shape_behind Empty vectors) ≡ head = cc in
+    let names = subst (λ l. AllByRecursion P (names_in l)) (h.1.2 ∙ ap (λ l. name h.1.0 ∷ l) h.2.1) all in
+    subst (λ d. AllByRecursion P (head_names d)) is (names.1.0, tt)
+head_among P line xs (let_line given operation) head e h all =
+    let is : heads.Let given (operands_of operation) ≡ head = cc in
+    let names = subst (λ l. AllByRecursion P (names_in l)) (h.1.2 ∙ ap (λ l. name h.1.0 ∷ l) h.2.1) all in
+    subst (λ d. AllByRecursion P (head_names d)) is (names.1.0, places_among P line h.2.0 operation h.2.2 names.1.1)
 head_among P line xs (ask_line question value) head e h all =
     let is : heads.Ask question value ≡ head = cc in
     let names = subst (λ l. AllByRecursion P (names_in l)) (h.1.2 ∙ ap (λ l. name h.1.0 ∷ l) h.2) all in
@@ -131,9 +152,23 @@ module _ (P : Token → Type 0) where
       let both = subst (λ l. AllByRecursion P l) (ap numbers_in h.1 ∙ numbers_in_both h.0 (close_bracket ∷ [])) all in
       in_polys h.0 ps h.2 (all_front P (numbers_in h.0) [] both)
 
+  in_vectors : (xs : List Lexeme) (vectors : List (List Poly)) → AreVectors xs vectors → AllByRecursion P (numbers_in xs) → InPolys (flat_map (λ es. es) vectors)
+  in_vectors xs [] h all = absurd h
+  in_vectors xs (es ∷ []) h all = all_append (λ p. AllByRecursion P (numbers_in (spelling p))) es [] (in_entries xs es h all) tt
+  in_vectors xs (es ∷ fs ∷ more) h all =
+      let both = subst (λ l. AllByRecursion P l) (ap numbers_in h.2 ∙ numbers_in_both h.0 (comma ∷ h.1)) all in
+      all_append (λ p. AllByRecursion P (numbers_in (spelling p))) es (flat_map (λ es. es) (fs ∷ more)) (in_entries h.0 es h.3 (all_front P (numbers_in h.0) (numbers_in h.1) both))
+      (in_vectors h.1 (fs ∷ more) h.4 (all_back P (numbers_in h.0) (numbers_in h.1) both))
+
+  in_operation : (line : List ℕ) (xs : List Lexeme) (operation : WrittenOperation) → IsOperation line xs operation → AllByRecursion P (numbers_in xs) → InPolys (operation_polys operation)
+  in_operation line xs (of_polynomial word value p) h all = in_poly h.2.0 p h.2.2 (subst (λ l. AllByRecursion P (numbers_in l)) (h.1.2 ∙ ap (λ l. name h.1.0 ∷ l) h.2.1) all)
+  in_operation line xs _ h all = tt
+
   in_line : (line : List ℕ) (xs : List Lexeme) (w : Written) → IsWritten line xs w → AllByRecursion P (numbers_in xs) → InPolys (polys_of w)
   in_line line xs (show_line p) h all = in_poly h.0 p h.2 (subst (λ l. AllByRecursion P (numbers_in l)) h.1.2 all)
   in_line line xs (ideal_line given ps) h all = in_polys h.2.0 ps h.2.2 (subst (λ l. AllByRecursion P (numbers_in l)) (h.1.2 ∙ ap (λ l. name h.1.0 ∷ l) h.2.1) all)
+  in_line line xs (module_line given rank vectors) h all = in_vectors h.2.0 vectors h.2.2 (subst (λ l. AllByRecursion P (numbers_in l)) (h.1.2 ∙ ap (λ l. name h.1.0 ∷ l) h.2.1) all).1
+  in_line line xs (let_line given operation) h all = in_operation line h.2.0 operation h.2.2 (subst (λ l. AllByRecursion P (numbers_in l)) (h.1.2 ∙ ap (λ l. name h.1.0 ∷ l) h.2.1) all)
   in_line line xs (divide_line division value ps) h all = in_entries h.2.0 ps h.2.2 (subst (λ l. AllByRecursion P (numbers_in l)) (h.1.2 ∙ ap (λ l. name h.1.0 ∷ l) h.2.1) all)
   in_line line xs _ h all = tt
 

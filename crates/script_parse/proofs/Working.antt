@@ -118,7 +118,7 @@ item_of P [] i x h lt e = absurd (omega (arith, lt))
 item_of P (y ∷ xs) zero x h lt e = subst P (sym e) h.0
 item_of P (y ∷ xs) (suc i) x h lt e = item_of P xs i x h.1 (omega (arith, lt)) e
 
-dropped : {X : Type 0} (xs : List X) (i : ℕ) (x : X) → i < length xs → x ≡ get_or xs i x → drop i xs ≡ x ∷ drop (i + 1) xs
+pub dropped : {X : Type 0} (xs : List X) (i : ℕ) (x : X) → i < length xs → x ≡ get_or xs i x → drop i xs ≡ x ∷ drop (i + 1) xs
 dropped xs i x lt e = drop-cons xs i x lt ∙ ap₂ (λ y k. y ∷ drop k xs) (sym e) (sym (add-one i))
 
 pub all_ends : {X : Type 0} (f : X → Bool) (xs : List X) (i : ℕ) (x : X) → i < length xs → x ≡ get_or xs i x → list_all f (drop i xs) ≡ list_all f xs → f x ≡ false → false ≡ list_all f xs

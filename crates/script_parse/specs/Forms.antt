@@ -1,25 +1,49 @@
 -- What the code holds of a line as it is written, and what its parsers give
-use Rattle.std.specs.Prelude.{Err, List, None, Ok, Option, Result, Some, Vec, [], drop, map, take, ⊤, ℕ, ◌+◌, ◌++◌, ◌∷◌, ◌≡◌}
+use Rattle.std.specs.Prelude.{Bool, Err, List, None, Ok, Option, Result, Some, Vec, [], drop, false, flat_map, if◌then◌else◌, length, map, nat_eq, option_and_then, take, true, ⊤, ℕ, ◌+◌, ◌++◌, ◌∷◌, ◌≡◌}
 use Rattle.std.specs.Global.{Global}
 use Rattle.std.specs.List.{AllByRecursion}
 use Rattle.script_tokens.specs.declared.token.Token.{Token}
-use Rattle.poly_grammar.specs.Lexemes.{Lexeme, comma, lexeme}
+use Rattle.poly_grammar.specs.Lexemes.{Lexeme, close_bracket, comma, lexeme, open_bracket}
 use Rattle.poly_grammar.specs.Steps.{steps}
 use Rattle.poly_grammar.specs.Trees.{Poly, Reads}
 use Rattle.poly_grammar.specs.declared.step.Step.{Step}
 use Rattle.poly_grammar.specs.declared.stop.ReadStop.{ReadStop}
 use Rattle.poly_grammar.specs.declared.stop.ReadStop.TheVariants.{Memory, Syntax}
 use Rattle.script_parse.specs.RingForms.{ring_line_of}
-use Rattle.script_parse.specs.Written.{IsBehind, IsWritten, Word, Written, ask_line, divide_line, equal_line, ideal_line, nothing, polys_of, ring_line, show_line, word_of}
+use Rattle.script_parse.specs.Written.{AreEntries, AreOperands, AreVectors, IsBehind, IsOperation, IsWritten, OperationWord, Word, Written, WrittenOperation, ask_line, divide_line, elimination, equal_line, ideal_line, let_line, module_line, nothing, of_polynomial, of_two, operation_polys, operation_word, polys_of, ring_line, show_line, syzygies, word_of}
 use Rattle.script_parse.specs.declared.form.Form.{Form}
 use Rattle.script_parse.specs.declared.form.Form.TheVariants as forms
 use Rattle.script_parse.specs.declared.form.Head.{Head}
 use Rattle.script_parse.specs.declared.form.Head.TheVariants as heads
+use Rattle.script_parse.specs.declared.operands.Operands.{Operands}
+use Rattle.script_parse.specs.declared.operands.Operands.TheVariants as shapes
+use Rattle.script_parse.specs.declared.vectors.Shape.{Shape}
+use Rattle.script_parse.specs.declared.vectors.Shape.TheVariants.{Each, Empty, Mixed}
+
+-- an operation without its POLY
+abbrev pub operands_of : WrittenOperation → Operands
+operands_of (of_two word left right) = shapes.Two word left right
+operands_of (of_polynomial word value p) = shapes.Polynomial word value
+operands_of (elimination value count) = shapes.Eliminate value count
+operands_of (syzygies value) = shapes.Syzygies value
+
+-- the shape of a list with one vector more, which has so many entries
+abbrev pub further : Shape → ℕ → Shape
+further Empty n = Each n
+further (Each m) n = if nat_eq m n then Each m else Mixed
+further Mixed n = Mixed
+
+-- the shape of VECs behind a list that has this one
+abbrev pub shape_behind : Shape → List (List Poly) → Shape
+shape_behind shape [] = shape
+shape_behind shape (es ∷ more) = shape_behind (further shape (length es)) more
 
 -- the word and the names of a line that needs a ring
 abbrev pub head_of : Written → Option Head
 head_of (show_line p) = Some heads.Show
 head_of (ideal_line given ps) = Some (heads.Ideal given)
+head_of (module_line given rank vectors) = Some (heads.Module given rank (shape_behind Empty vectors))
+head_of (let_line given operation) = Some (heads.Let given (operands_of operation))
 head_of (ask_line question value) = Some (heads.Ask question value)
 head_of (divide_line division value entries) = Some (heads.Divide division value)
 head_of (equal_line left right) = Some (heads.Equal left right)
@@ -74,3 +98,47 @@ HasNoComma xs = AllByRecursion IsNoComma xs
 pub record IsAtComma (tokens : List Token) (at : ℕ) : Type 0 where
   pub before : HasNoComma (map lexeme (take at tokens))
   pub cut : map lexeme (drop at tokens) ≡ comma ∷ map lexeme (drop (at + 1) tokens)
+
+-- whether square brackets are open behind the lexeme, by whether they are before it; none at a comma outside them
+abbrev pub bracketed : Bool → Lexeme → Option Bool
+bracketed inside open_bracket = Some true
+bracketed inside close_bracket = Some false
+bracketed false comma = None
+bracketed inside _ = Some inside
+
+-- the same behind several
+abbrev pub bracketed_behind : Bool → List Lexeme → Option Bool
+bracketed_behind inside [] = Some inside
+bracketed_behind inside (x ∷ xs) = option_and_then (λ b. bracketed_behind b xs) (bracketed inside x)
+
+-- a comma outside square brackets stands at this place, and none before it
+pub record IsAtOuterComma (tokens : List Token) (at : ℕ) : Type 0 where
+  pub before : bracketed_behind false (map lexeme (take at tokens)) ≡ Some false
+  pub cut : map lexeme (drop at tokens) ≡ comma ∷ map lexeme (drop (at + 1) tokens)
+
+-- the entries of the VEC that the lexemes are are put behind those found before, and they are so many
+abbrev pub IsVectorPushed : List Lexeme → List (Vec Step Global) → List (Vec Step Global) → Result ℕ ReadStop → Type 0
+IsVectorPushed xs old new (Ok count) = (ps : List Poly) × AreEntries xs ps × (map (λ v. v.items) new ≡ map (λ v. v.items) old ++ map steps ps) × (count ≡ length ps)
+IsVectorPushed xs old new (Err Memory) = Unit {0}
+IsVectorPushed xs old new (Err Syntax) = (ps : List Poly) → AreEntries xs ps → ⊥
+
+-- what is read are VECs, by the steps of their entries and their shape, and what is refused are none
+abbrev pub AreVectorsRead : List Lexeme → Result (Vec (Vec Step Global) Global × Shape) ReadStop → Type 0
+AreVectorsRead xs (Ok found) =
+    (vectors : List (List Poly)) × AreVectors xs vectors × (map (λ v. v.items) found.0.items ≡ map steps (flat_map (λ es. es) vectors)) × (found.1 ≡ shape_behind Empty vectors)
+AreVectorsRead xs (Err Memory) = Unit {0}
+AreVectorsRead xs (Err Syntax) = (vectors : List (List Poly)) → AreVectors xs vectors → ⊥
+
+-- what is read behind the word of an operation is one, without its POLY and by the steps of that, and what is refused is none
+abbrev pub AreOperandsRead : OperationWord → List Lexeme → Result (Operands × Vec (Vec Step Global) Global) ReadStop → Type 0
+AreOperandsRead word xs (Ok found) =
+    (operation : WrittenOperation) × (operation_word operation ≡ word) × AreOperands xs operation × (operands_of operation ≡ found.0) × (map (λ v. v.items) found.1.items ≡ map steps (operation_polys operation))
+AreOperandsRead word xs (Err Memory) = Unit {0}
+AreOperandsRead word xs (Err Syntax) = (operation : WrittenOperation) → operation_word operation ≡ word → AreOperands xs operation → ⊥
+
+-- the same with its word
+abbrev pub IsOperationRead : List ℕ → List Lexeme → Result (Operands × Vec (Vec Step Global) Global) ReadStop → Type 0
+IsOperationRead line xs (Ok found) =
+    (operation : WrittenOperation) × IsOperation line xs operation × (operands_of operation ≡ found.0) × (map (λ v. v.items) found.1.items ≡ map steps (operation_polys operation))
+IsOperationRead line xs (Err Memory) = Unit {0}
+IsOperationRead line xs (Err Syntax) = (operation : WrittenOperation) → IsOperation line xs operation → ⊥

@@ -9,12 +9,14 @@ use Rattle.poly_grammar.specs.Lexemes.{names_in}
 use Rattle.poly_grammar.specs.Numerals.{text_of, value_of}
 use Rattle.poly_grammar.specs.Trees.{Poly, spelling}
 use Rattle.zp_field.specs.Moduli.{is_modulus}
+use Rattle.module_vectors.specs.Rings.{variables}
 use Rattle.module_vectors.specs.declared.ring.Ring.{Ring}
 use Rattle.poly_value.specs.Values.{name_weight}
-use Rattle.script_parse.specs.Written.{IsLine, RingLine, Written, divide_line, equal_line, given_by, ideal_line, nothing, polys_of, ring_line, value_places}
+use Rattle.script_parse.specs.Written.{IsLine, RingLine, Written, WrittenOperation, divide_line, elimination, equal_line, given_by, ideal_line, let_line, module_line, nothing, of_two, polys_of, ring_line, syzygies, value_places}
 use Rattle.script_parse.specs.declared.kind.Kind.{Kind}
 use Rattle.script_parse.specs.declared.kind.Kind.TheVariants as kinds
 use Rattle.script_parse.specs.declared.named.NameInfo.{NameInfo}
+use Rattle.script_parse.specs.declared.operands.Binary.TheVariants.{Colon, Intersect, Product, Sum}
 use Rattle.script_parse.specs.declared.ring_words.OrderName.{OrderName}
 use Rattle.script_parse.specs.declared.ring_words.OrderName.TheVariants.{Elim}
 
@@ -53,10 +55,17 @@ HasFaultyRing line r =
     (15 < length r.names) ⊎ HasRepeat (map (text_of line) r.names) ⊎ HasOtherElim line (length r.names) r.order
     ⊎ HasOtherWeights line (length r.names) r.weights
 
--- a ring line is faulty; another line that is not blank has no ring stated before it
+-- the number is not from 1 to the number of the ring's variables
+abbrev pub IsOutsideRing : Option Ring → ℕ → Type 0
+IsOutsideRing None k = ⊥
+IsOutsideRing (Some ring) k = IsOutside (variables ring) k
+
+-- a ring line is faulty; another line that is not blank has no ring stated before it; `eliminate B K` has K outside 1..n, where n
+-- is the number of the ring's variables
 abbrev pub LacksRing : Option Ring → List ℕ → Written → Type 0
 LacksRing ring line nothing = ⊥
 LacksRing ring line (ring_line r) = HasFaultyRing line r
+LacksRing ring line (let_line given (elimination value count)) = (ring ≡ None) ⊎ IsOutsideRing ring (value_of line count)
 LacksRing ring line _ = ring ≡ None
 
 -- the first number of a ring line is not in the table
@@ -68,6 +77,11 @@ HasOtherModulus line _ = ⊥
 abbrev pub rank_named : List NameInfo → List ℕ → Option ℕ
 rank_named [] text = None
 rank_named (value ∷ names) text = if pointwise nat_eq (string_bytes value.name) text then Some value.rank else rank_named names text
+
+-- the length of the stored list of the value with this name; were there more, of the first of them
+abbrev pub length_named : List NameInfo → List ℕ → Option ℕ
+length_named [] text = None
+length_named (value ∷ names) text = if pointwise nat_eq (string_bytes value.name) text then Some value.length else length_named names text
 
 -- the text is a variable of the ring
 abbrev pub IsVariable : Option Ring → List ℕ → Type 0
@@ -88,19 +102,41 @@ HasUnknownName ring names line w =
     ((t : Token) × (StandsInPoly w t ⊎ Contains (value_places w) t) × (IsVariable ring (text_of line t) → ⊥) × (IsNamed names (text_of line t) → ⊥))
     ⊎ ((t : Token) × Contains (given_by w) t × IsVariable ring (text_of line t))
 
--- a NAME in a POLY is a value; or a NAME in a value's place is a variable
+-- `product` has a first operand of a rank above 1
+abbrev pub HasOtherFactor : List NameInfo → List ℕ → Written → Type 0
+HasOtherFactor names line (let_line given (of_two Product left right)) = (rank : ℕ) × (rank_named names (text_of line left) ≡ Some rank) × (1 < rank)
+HasOtherFactor names line _ = ⊥
+
+-- a NAME in a POLY is a value; or a NAME in a value's place is a variable; or a factor is no ideal
 abbrev pub HasOtherKind : Option Ring → List NameInfo → List ℕ → Written → Type 0
 HasOtherKind ring names line w =
     ((t : Token) × StandsInPoly w t × IsNamed names (text_of line t))
     ⊎ ((t : Token) × Contains (value_places w) t × IsVariable ring (text_of line t))
+    ⊎ HasOtherFactor names line w
 
--- an ideal has more than 1,000 vectors; the number of entries of a divided VEC is not the value's rank; the ranks of
--- compared values differ
+-- the values with these names have different ranks
+abbrev pub HaveOtherRanks : List NameInfo → List ℕ → Token → Token → Type 0
+HaveOtherRanks names line left right =
+    (r s : ℕ) × (rank_named names (text_of line left) ≡ Some r) × (rank_named names (text_of line right) ≡ Some s) × (r ≡ s → ⊥)
+
+-- the operands of `sum`, `intersect` or `colon` have different ranks, or that of `syz` has a stored list of a length outside 1..64
+abbrev pub HasOtherOperands : List NameInfo → List ℕ → WrittenOperation → Type 0
+HasOtherOperands names line (of_two Sum left right) = HaveOtherRanks names line left right
+HasOtherOperands names line (of_two Intersect left right) = HaveOtherRanks names line left right
+HasOtherOperands names line (of_two Colon left right) = HaveOtherRanks names line left right
+HasOtherOperands names line (syzygies value) = (n : ℕ) × (length_named names (text_of line value) ≡ Some n) × IsOutside 64 n
+HasOtherOperands names line _ = ⊥
+
+-- an ideal or a module has more than 1,000 vectors; a module's rank is outside 1..64, or a VEC of it has another number of
+-- entries; the number of entries of a divided VEC is not the value's rank; the ranks of compared values differ; the
+-- operands of an operation have other ranks or lengths than it takes
 abbrev pub HasOtherRank : List NameInfo → List ℕ → Written → Type 0
 HasOtherRank names line (ideal_line given ps) = 1000 < length ps
+HasOtherRank names line (module_line given rank vectors) =
+    IsOutside 64 (value_of line rank) ⊎ ((es : List Poly) × Contains vectors es × (length es ≡ value_of line rank → ⊥)) ⊎ (1000 < length vectors)
+HasOtherRank names line (let_line given operation) = HasOtherOperands names line operation
 HasOtherRank names line (divide_line division value entries) = (rank : ℕ) × (rank_named names (text_of line value) ≡ Some rank) × (length entries ≡ rank → ⊥)
-HasOtherRank names line (equal_line left right) =
-    (r s : ℕ) × (rank_named names (text_of line left) ≡ Some r) × (rank_named names (text_of line right) ≡ Some s) × (r ≡ s → ⊥)
+HasOtherRank names line (equal_line left right) = HaveOtherRanks names line left right
 HasOtherRank names line _ = ⊥
 
 -- the formal degree, by the ring's weights, of a POLY or of a part of it is above 1,000
@@ -109,7 +145,8 @@ HasGreatDegree None line w = ⊥
 HasGreatDegree (Some ring) line w =
     (p : Poly) × Contains (polys_of w) p × (formal_degree (λ t. name_weight ring (text_of line t)) (value_of line) p ≡ None)
 
--- the kind holds of the line, where this ring is stated and values have these names
+-- the kind holds of the line, where this ring is stated and values have these names; the last two kinds hold of no line by itself:
+-- the session tells them after the line's run
 abbrev pub Holds : Option Ring → List NameInfo → List ℕ → Kind → Type 0
 Holds ring names line kinds.Syntax = (w : Written) → IsLine line w → ⊥
 Holds ring names line kinds.Numeral = HasGreatNumeral line
@@ -119,8 +156,10 @@ Holds ring names line kinds.Name = (w : Written) × IsLine line w × HasUnknownN
 Holds ring names line kinds.OfKind = (w : Written) × IsLine line w × HasOtherKind ring names line w
 Holds ring names line kinds.Rank = (w : Written) × IsLine line w × HasOtherRank names line w
 Holds ring names line kinds.Degree = (w : Written) × IsLine line w × HasGreatDegree ring line w
+Holds ring names line kinds.Leads = ⊥
+Holds ring names line kinds.Large = ⊥
 
--- the place of a kind in the order in which they are tried
+-- the place of a kind in the order in which they are tried (9 is free)
 abbrev pub place : Kind → ℕ
 place kinds.Syntax = 1
 place kinds.Numeral = 2
@@ -130,6 +169,8 @@ place kinds.Name = 5
 place kinds.OfKind = 6
 place kinds.Rank = 7
 place kinds.Degree = 8
+place kinds.Leads = 10
+place kinds.Large = 11
 
 -- the line is refused for this kind: it holds, and none that is tried before it
 pub record Refuses (ring : Option Ring) (names : List NameInfo) (line : List ℕ) (kind : Kind) : Type 0 where

@@ -16,11 +16,15 @@ use Rattle.module_vectors.specs.Vectors.{HasPositions, IsVectorOver, StandsFor}
 use Rattle.module_vectors.specs.declared.key.Key.{Key}
 use Rattle.module_vectors.specs.declared.ring.Ring.{Ring}
 use Rattle.script_parse.specs.Refusals.{Holds}
-use Rattle.script_parse.specs.Written.{IsLine, RingLine, Written, ask_line, divide_line, equal_line, ideal_line, nothing, ring_line, show_line}
+use Rattle.script_parse.specs.Written.{IsLine, RingLine, Written, WrittenOperation, ask_line, divide_line, elimination, equal_line, ideal_line, let_line, module_line, nothing, of_polynomial, of_two, ring_line, show_line, syzygies}
 use Rattle.script_parse.specs.declared.form.Division.TheVariants as divisions
 use Rattle.script_parse.specs.declared.form.Question.TheVariants as questions
 use Rattle.script_parse.specs.declared.kind.Kind.{Kind}
 use Rattle.script_parse.specs.declared.named.NameInfo.{NameInfo}
+use Rattle.script_parse.specs.declared.operands.Binary.TheVariants as binaries
+use Rattle.script_parse.specs.declared.operands.ByPolynomial.TheVariants as divisors
+use Rattle.script_parse.specs.declared.operation.Operation.{Operation}
+use Rattle.script_parse.specs.declared.operation.Operation.TheVariants as operations
 use Rattle.script_parse.specs.declared.ring_words.OrderName.{OrderName}
 use Rattle.script_parse.specs.declared.ring_words.OrderName.TheVariants.{Elim, Grevlex, Lex}
 use Rattle.script_parse.specs.declared.stated.Statement.{Statement}
@@ -71,9 +75,36 @@ pub record HasEntries (ring : Ring) (line : List ℕ) (ps : List Poly) (terms : 
   pub worths_are : map (worth (polynomials_of ring line)) ps ≡ map Some entries
   pub stands : StandsFor ring terms (entries_from 0 entries)
 
+-- the normal vector of this rank with these entries
+abbrev pub IsVectorOfRank : Ring → List ℕ → ℕ → List Poly → List (Key × ℕ) → Type 0
+IsVectorOfRank ring line rank ps v = IsVectorOver ring (ring_comparison ring) v × HasPositions rank v × HasEntries ring line ps v
+
 -- the normal vector with these entries, of as many positions
 abbrev pub IsVectorOf : Ring → List ℕ → List Poly → List (Key × ℕ) → Type 0
-IsVectorOf ring line ps v = IsVectorOver ring (ring_comparison ring) v × HasPositions (length ps) v × HasEntries ring line ps v
+IsVectorOf ring line ps v = IsVectorOfRank ring line (length ps) ps v
+
+-- one vector of the rank for each list of entries, in order
+abbrev pub AreVectorsOf : Ring → List ℕ → ℕ → List (List Poly) → List (List (Key × ℕ)) → Type 0
+AreVectorsOf ring line rank [] [] = Unit {0}
+AreVectorsOf ring line rank (es ∷ more) (v ∷ vs) = IsVectorOfRank ring line rank es v × AreVectorsOf ring line rank more vs
+AreVectorsOf ring line rank _ _ = ⊥
+
+-- the texts are those of both NAMEs
+abbrev pub AreTextsOf : List ℕ → Token → Token → List ℕ → List ℕ → Type 0
+AreTextsOf line left right first second = (first ≡ text_of line left) × (second ≡ text_of line right)
+
+-- the operation that is written: its names are the texts of its NAMEs, its polynomial is in the ring's own order, and
+-- its number is that of its NUM
+abbrev pub IsOperationOf : Ring → List ℕ → WrittenOperation → Operation → Type 0
+IsOperationOf ring line (of_two binaries.Sum left right) (operations.Sum b c) = AreTextsOf line left right (string_bytes b) (string_bytes c)
+IsOperationOf ring line (of_two binaries.Product left right) (operations.Product b c) = AreTextsOf line left right (string_bytes b) (string_bytes c)
+IsOperationOf ring line (of_two binaries.Intersect left right) (operations.Intersect b c) = AreTextsOf line left right (string_bytes b) (string_bytes c)
+IsOperationOf ring line (of_two binaries.Colon left right) (operations.Colon b c) = AreTextsOf line left right (string_bytes b) (string_bytes c)
+IsOperationOf ring line (of_polynomial divisors.Quotient value p) (operations.Quotient b f) = (string_bytes b ≡ text_of line value) × IsPolynomialOf ring line p f
+IsOperationOf ring line (of_polynomial divisors.Saturate value p) (operations.Saturate b f) = (string_bytes b ≡ text_of line value) × IsPolynomialOf ring line p f
+IsOperationOf ring line (elimination value count) (operations.Eliminate b k) = (string_bytes b ≡ text_of line value) × (k ≡ value_of line count)
+IsOperationOf ring line (syzygies value) (operations.Syzygies b) = string_bytes b ≡ text_of line value
+IsOperationOf ring line _ _ = ⊥
 
 -- what a line states: its vectors are in the ring's own order, and its names are the texts of its NAMEs
 abbrev pub Says : Option Ring → List ℕ → Written → Statement → Type 0
@@ -81,11 +112,16 @@ Says ring line nothing statements.Nothing = Unit {0}
 Says ring line (ring_line r) (statements.Ring made) = Makes line r made
 Says (Some ring) line (show_line p) (statements.Show v) = IsPolynomialOf ring line p v
 Says (Some ring) line (ideal_line given ps) (statements.Ideal name list) = (string_bytes name ≡ text_of line given) × ArePolynomialsOf ring line ps list
+Says (Some ring) line (module_line given rank vectors) (statements.Module name r list) =
+    (string_bytes name ≡ text_of line given) × (r ≡ value_of line rank) × AreVectorsOf ring line (value_of line rank) vectors list
+Says (Some ring) line (let_line given written) (statements.Let name operation) = (string_bytes name ≡ text_of line given) × IsOperationOf ring line written operation
 Says ring line (ask_line questions.Gens value) (statements.Gens name) = string_bytes name ≡ text_of line value
 Says ring line (ask_line questions.Gb value) (statements.Gb name) = string_bytes name ≡ text_of line value
 Says ring line (ask_line questions.Size value) (statements.Size name) = string_bytes name ≡ text_of line value
+Says ring line (ask_line questions.Hilbert value) (statements.Hilbert name) = string_bytes name ≡ text_of line value
 Says (Some ring) line (divide_line divisions.NormalForm value entries) (statements.NormalForm name v) = (string_bytes name ≡ text_of line value) × IsVectorOf ring line entries v
 Says (Some ring) line (divide_line divisions.Member value entries) (statements.Member name v) = (string_bytes name ≡ text_of line value) × IsVectorOf ring line entries v
+Says (Some ring) line (divide_line divisions.Lift value entries) (statements.Lift name v) = (string_bytes name ≡ text_of line value) × IsVectorOf ring line entries v
 Says ring line (equal_line left right) (statements.Equal first second) = (string_bytes first ≡ text_of line left) × (string_bytes second ≡ text_of line right)
 Says ring line _ _ = ⊥
 
@@ -97,17 +133,33 @@ pub record States (ring : Option Ring) (names : List NameInfo) (line : List ℕ)
   pub free : (kind : Kind) → Holds ring names line kind → ⊥
   pub says : Says ring line written statement
 
--- two statements are one: rings with the same modulus, names, orders and weights, or the same names and the same terms
+-- two operations are one: the same names, terms and numbers
+abbrev pub IsSameOperation : Operation → Operation → Type 0
+IsSameOperation (operations.Sum a b) (operations.Sum c d) = (string_bytes a ≡ string_bytes c) × (string_bytes b ≡ string_bytes d)
+IsSameOperation (operations.Product a b) (operations.Product c d) = (string_bytes a ≡ string_bytes c) × (string_bytes b ≡ string_bytes d)
+IsSameOperation (operations.Intersect a b) (operations.Intersect c d) = (string_bytes a ≡ string_bytes c) × (string_bytes b ≡ string_bytes d)
+IsSameOperation (operations.Colon a b) (operations.Colon c d) = (string_bytes a ≡ string_bytes c) × (string_bytes b ≡ string_bytes d)
+IsSameOperation (operations.Quotient a f) (operations.Quotient b g) = (string_bytes a ≡ string_bytes b) × (f ≡ g)
+IsSameOperation (operations.Saturate a f) (operations.Saturate b g) = (string_bytes a ≡ string_bytes b) × (f ≡ g)
+IsSameOperation (operations.Eliminate a j) (operations.Eliminate b k) = (string_bytes a ≡ string_bytes b) × (j ≡ k)
+IsSameOperation (operations.Syzygies a) (operations.Syzygies b) = string_bytes a ≡ string_bytes b
+IsSameOperation _ _ = ⊥
+
+-- two statements are one: rings with the same modulus, names, orders and weights, or the same names, terms and numbers
 abbrev pub IsSameStatement : Statement → Statement → Type 0
 IsSameStatement statements.Nothing statements.Nothing = Unit {0}
 IsSameStatement (statements.Ring a) (statements.Ring b) =
     (a.modulus.value ≡ b.modulus.value) × (a.vars ≡ b.vars) × (a.order ≡ b.order) × (a.module_order ≡ b.module_order) × (a.weights ≡ b.weights)
 IsSameStatement (statements.Show v) (statements.Show w) = v ≡ w
 IsSameStatement (statements.Ideal a v) (statements.Ideal b w) = (string_bytes a ≡ string_bytes b) × (v ≡ w)
+IsSameStatement (statements.Module a r v) (statements.Module b s w) = (string_bytes a ≡ string_bytes b) × (r ≡ s) × (v ≡ w)
+IsSameStatement (statements.Let a x) (statements.Let b y) = (string_bytes a ≡ string_bytes b) × IsSameOperation x y
 IsSameStatement (statements.Gens a) (statements.Gens b) = string_bytes a ≡ string_bytes b
 IsSameStatement (statements.Gb a) (statements.Gb b) = string_bytes a ≡ string_bytes b
 IsSameStatement (statements.Size a) (statements.Size b) = string_bytes a ≡ string_bytes b
+IsSameStatement (statements.Hilbert a) (statements.Hilbert b) = string_bytes a ≡ string_bytes b
 IsSameStatement (statements.NormalForm a v) (statements.NormalForm b w) = (string_bytes a ≡ string_bytes b) × (v ≡ w)
 IsSameStatement (statements.Member a v) (statements.Member b w) = (string_bytes a ≡ string_bytes b) × (v ≡ w)
+IsSameStatement (statements.Lift a v) (statements.Lift b w) = (string_bytes a ≡ string_bytes b) × (v ≡ w)
 IsSameStatement (statements.Equal a b) (statements.Equal c d) = (string_bytes a ≡ string_bytes c) × (string_bytes b ≡ string_bytes d)
 IsSameStatement _ _ = ⊥

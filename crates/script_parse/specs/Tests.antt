@@ -1,5 +1,5 @@
 -- What the tests of a line find, and what is worked out of it
-use Rattle.std.specs.Prelude.{Bool, Contains, Err, List, None, Ok, Option, Result, Some, Vec, [], false, if◌then◌else◌, is_some, length, map, nat_eq, nat_le, not, true, ℕ, ◌&&◌, ◌<◌, ◌^◌, ◌||◌, ◌∷◌, ◌≡◌}
+use Rattle.std.specs.Prelude.{Bool, Contains, Err, List, None, Ok, Option, Result, Some, Vec, [], false, if◌then◌else◌, is_some, drop, length, map, nat_eq, nat_le, not, take, true, ℕ, ◌&&◌, ◌*◌, ◌<◌, ◌^◌, ◌||◌, ◌∷◌, ◌≡◌}
 use Rattle.std.specs.Global.{Global}
 use Rattle.std.specs.Cmp.Lexicographic.{pointwise}
 use Rattle.std.specs.List.{AllByRecursion, list_all}
@@ -17,10 +17,10 @@ use Rattle.module_vectors.specs.Rings.{ring_comparison, variables}
 use Rattle.module_vectors.specs.Vectors.{AreTermsOver, HasPositions, IsVectorOver, StandsFor}
 use Rattle.module_vectors.specs.declared.key.Key.{Key}
 use Rattle.module_vectors.specs.declared.ring.Ring.{Ring}
-use Rattle.script_parse.specs.Forms.{IsFormOf, IsLineOf}
-use Rattle.script_parse.specs.Refusals.{HasGreatDegree, HasGreatNumeral, HasOtherKind, HasOtherModulus, HasOtherRank, HasUnknownName, IsOutside, LacksRing, place, rank_named}
-use Rattle.script_parse.specs.Statements.{Says, entries_from}
-use Rattle.script_parse.specs.Written.{IsLine, Written}
+use Rattle.script_parse.specs.Forms.{IsFormOf, IsLineOf, operands_of}
+use Rattle.script_parse.specs.Refusals.{HasGreatDegree, HasGreatNumeral, HasOtherKind, HasOtherModulus, HasOtherRank, HasUnknownName, IsOutside, LacksRing, length_named, place, rank_named}
+use Rattle.script_parse.specs.Statements.{IsOperationOf, Says, entries_from}
+use Rattle.script_parse.specs.Written.{IsLine, Written, WrittenOperation, operation_polys}
 use Rattle.script_parse.specs.declared.form.Form.{Form}
 use Rattle.script_parse.specs.declared.form.Form.TheVariants as forms
 use Rattle.script_parse.specs.declared.form.Head.{Head}
@@ -30,7 +30,13 @@ use Rattle.script_parse.specs.declared.kind.Kind.TheVariants as kinds
 use Rattle.script_parse.specs.declared.kind.ParseStop.{ParseStop}
 use Rattle.script_parse.specs.declared.kind.ParseStop.TheVariants as stops
 use Rattle.script_parse.specs.declared.named.NameInfo.{NameInfo}
+use Rattle.script_parse.specs.declared.operands.Binary.TheVariants.{Product}
+use Rattle.script_parse.specs.declared.operands.Operands.{Operands}
+use Rattle.script_parse.specs.declared.operands.Operands.TheVariants.{Eliminate, Polynomial, Syzygies, Two}
+use Rattle.script_parse.specs.declared.operation.Operation.{Operation}
 use Rattle.script_parse.specs.declared.stated.Statement.{Statement}
+use Rattle.script_parse.specs.declared.vectors.Shape.{Shape}
+use Rattle.script_parse.specs.declared.vectors.Shape.TheVariants as widths
 
 -- of a line written as w, the kind holds behind the tests of its tokens
 abbrev pub HoldsOf : Option Ring → List NameInfo → List ℕ → Written → Kind → Type 0
@@ -42,6 +48,8 @@ HoldsOf ring names line w kinds.Name = HasUnknownName ring names line w
 HoldsOf ring names line w kinds.OfKind = HasOtherKind ring names line w
 HoldsOf ring names line w kinds.Rank = HasOtherRank names line w
 HoldsOf ring names line w kinds.Degree = HasGreatDegree ring line w
+HoldsOf ring names line w kinds.Leads = ⊥
+HoldsOf ring names line w kinds.Large = ⊥
 
 -- what is answered to a line written as w whose numbers are below 2^128
 abbrev pub AnswersForm : Option Ring → List NameInfo → List ℕ → Written → Result Statement ParseStop → Type 0
@@ -49,8 +57,16 @@ AnswersForm ring names line w (Ok statement) = Says ring line w statement × ((k
 AnswersForm ring names line w (Err stops.Memory) = Unit {0}
 AnswersForm ring names line w (Err (stops.Refused kind)) = HoldsOf ring names line w kind × ((earlier : Kind) → place earlier < place kind → HoldsOf ring names line w earlier → ⊥)
 
+-- the names of an operation in a value's place
+abbrev pub operand_places : Operands → List Token
+operand_places (Two word left right) = left ∷ right ∷ []
+operand_places (Polynomial word value) = value ∷ []
+operand_places (Eliminate value count) = value ∷ []
+operand_places (Syzygies value) = value ∷ []
+
 -- the names of a head in a value's place
 abbrev pub places : Head → List Token
+places (heads.Let given operands) = operand_places operands
 places (heads.Ask question value) = value ∷ []
 places (heads.Divide division value) = value ∷ []
 places (heads.Equal left right) = left ∷ right ∷ []
@@ -59,11 +75,15 @@ places _ = []
 -- the name of a head to be given
 abbrev pub given_name : Head → List Token
 given_name (heads.Ideal given) = given ∷ []
+given_name (heads.Module given rank shape) = given ∷ []
+given_name (heads.Let given operands) = given ∷ []
 given_name _ = []
 
 -- all names of a head
 abbrev pub head_names : Head → List Token
 head_names (heads.Ideal given) = given ∷ []
+head_names (heads.Module given rank shape) = given ∷ []
+head_names (heads.Let given operands) = given ∷ operand_places operands
 head_names head = places head
 
 -- the steps are those of some POLY
@@ -129,19 +149,71 @@ known_names vars names line head pieces =
     (list_all (λ t. is_known vars names (text_of line t)) (places head) && list_all (λ t. is_no_variable vars (text_of line t)) (given_name head))
     && list_all (λ v. names_pass (is_known vars names) line v.items) pieces
 
--- whether no name in a POLY is a value and none in a value's place a variable
+-- whether a rank, if there is one, is at most 1
+abbrev pub low_rank : Option ℕ → Bool
+low_rank (Some r) = nat_le r 1
+low_rank None = true
+
+-- whether the first operand of `product` has no rank above 1
+abbrev pub operands_multiply : List NameInfo → List ℕ → Operands → Bool
+operands_multiply names line (Two Product left right) = low_rank (rank_named names (text_of line left))
+operands_multiply names line _ = true
+
+abbrev pub factor_fits : List NameInfo → List ℕ → Head → Bool
+factor_fits names line (heads.Let given operands) = operands_multiply names line operands
+factor_fits names line _ = true
+
+-- whether no name in a POLY is a value, none in a value's place a variable, and a factor an ideal
 abbrev pub right_kinds : List (List ℕ) → List NameInfo → List ℕ → Head → List (Vec Step Global) → Bool
 right_kinds vars names line head pieces =
-    list_all (λ t. is_no_variable vars (text_of line t)) (places head) && list_all (λ v. names_pass (is_no_value names) line v.items) pieces
+    (list_all (λ t. is_no_variable vars (text_of line t)) (places head) && factor_fits names line head)
+    && list_all (λ v. names_pass (is_no_value names) line v.items) pieces
+
+-- whether the number is from 1 to the last one
+abbrev pub within : ℕ → ℕ → Bool
+within last k = nat_le 1 k && nat_le k last
+
+-- whether `eliminate` has a number from 1 to n
+abbrev pub operands_eliminate : ℕ → List ℕ → Operands → Bool
+operands_eliminate n line (Eliminate value count) = within n (value_of line count)
+operands_eliminate n line _ = true
+
+abbrev pub elimination_fits : ℕ → List ℕ → Head → Bool
+elimination_fits n line (heads.Let given operands) = operands_eliminate n line operands
+elimination_fits n line _ = true
 
 -- whether ranks are the same, where there are two
 abbrev pub same_rank : Option ℕ → Option ℕ → Bool
 same_rank (Some r) (Some s) = nat_eq r s
 same_rank _ _ = true
 
+-- whether a length, if there is one, is from 1 to 64
+abbrev pub length_fits : Option ℕ → Bool
+length_fits (Some n) = within 64 n
+length_fits None = true
+
+-- whether the ranks and lengths of operands fit
+abbrev pub operands_fit : List NameInfo → List ℕ → Operands → Bool
+operands_fit names line (Two Product left right) = true
+operands_fit names line (Two _ left right) = same_rank (rank_named names (text_of line left)) (rank_named names (text_of line right))
+operands_fit names line (Syzygies value) = length_fits (length_named names (text_of line value))
+operands_fit names line _ = true
+
+-- whether all vectors of the shape have so many entries
+abbrev pub has_width : ℕ → Shape → Bool
+has_width rank widths.Empty = true
+has_width rank (widths.Each n) = nat_eq n rank
+has_width rank widths.Mixed = false
+
+-- whether vectors of the shape with so many entries in all are at most 1,000 of the rank, which is from 1 to 64
+abbrev pub module_fits : ℕ → Shape → ℕ → Bool
+module_fits rank shape count = (within 64 rank && has_width rank shape) && nat_le count (1000 * rank)
+
 -- whether the ranks of a head fit, with so many polynomials
 abbrev pub rank_fits : List NameInfo → List ℕ → Head → ℕ → Bool
 rank_fits names line (heads.Ideal given) count = nat_le count 1000
+rank_fits names line (heads.Module given rank shape) count = module_fits (value_of line rank) shape count
+rank_fits names line (heads.Let given operands) count = operands_fit names line operands
 rank_fits names line (heads.Divide division value) count = same_rank (rank_named names (text_of line value)) (Some count)
 rank_fits names line (heads.Equal left right) count = same_rank (rank_named names (text_of line left)) (rank_named names (text_of line right))
 rank_fits names line _ count = true
@@ -183,6 +255,25 @@ pub record HasEntryTerms (ring : Ring) (line : List ℕ) (pieces : List (Vec Ste
   pub over : AreTermsOver ring terms
   pub positions : HasPositions (length pieces) terms
   pub stands : StandsForEntries ring line pieces terms
+
+-- the normal vector that has what the steps are worth for its entries
+pub record IsVectorWorth (ring : Ring) (line : List ℕ) (pieces : List (Vec Step Global)) (u : List (Key × ℕ)) : Type 0 where
+  pub vector : IsVectorOver ring (ring_comparison ring) u
+  pub positions : HasPositions (length pieces) u
+  pub entries : StandsForEntries ring line pieces u
+
+-- one such vector for each so many of the pieces
+abbrev pub AreVectorWorths : Ring → List ℕ → ℕ → List (Vec Step Global) → List (List (Key × ℕ)) → Type 0
+AreVectorWorths ring line rank pieces [] = pieces ≡ []
+AreVectorWorths ring line rank pieces (u ∷ us) =
+    (0 < length pieces) × IsVectorWorth ring line (take rank pieces) u × AreVectorWorths ring line rank (drop rank pieces) us
+
+-- what is stated of operands and these polynomials is the operation that is written
+abbrev pub IsOperationStated : Ring → List ℕ → Operands → List (Vec Step Global) → Result Operation ParseStop → Type 0
+IsOperationStated ring line operands pieces (Ok operation) =
+    (w : WrittenOperation) → operands_of w ≡ operands → map (λ v. v.items) pieces ≡ map steps (operation_polys w) → IsOperationOf ring line w operation
+IsOperationStated ring line operands pieces (Err stops.Memory) = Unit {0}
+IsOperationStated ring line operands pieces (Err (stops.Refused kind)) = ⊥
 
 -- what is stated of a line with this head and these polynomials is what it says
 abbrev pub IsStated : Ring → List ℕ → Head → List (Vec Step Global) → Result Statement ParseStop → Type 0

@@ -1,18 +1,25 @@
 -- The lines of a script, as they are written:
 -- line := nothing | ring NUM NAME {, NAME} order [top] [weights NUM {, NUM}] | show POLY | ideal NAME = POLY {, POLY}
---       | gens NAME | gb NAME | size NAME | nf NAME VEC | member NAME VEC | equal NAME NAME
+--       | module NAME NUM = VEC {, VEC} | let NAME = operation
+--       | gens NAME | gb NAME | size NAME | hilb NAME | nf NAME VEC | member NAME VEC | lift NAME VEC | equal NAME NAME
 -- order := lex | grevlex | elim NUM
+-- operation := sum NAME NAME | product NAME NAME | intersect NAME NAME | colon NAME NAME
+--            | quotient NAME POLY | saturate NAME POLY | eliminate NAME NUM | syz NAME
 -- VEC := POLY | [ POLY {, POLY} ]
-use Rattle.std.specs.Prelude.{Bool, List, None, Option, Some, [], codes, false, map, true, ℕ, ◌++◌, ◌∷◌, ◌≡◌, ◌⊎◌}
+use Rattle.std.specs.Prelude.{Bool, List, None, Option, Some, [], codes, false, flat_map, map, true, ℕ, ◌++◌, ◌∷◌, ◌≡◌, ◌⊎◌}
 use Rattle.script_tokens.specs.Cuts.{HasTokens}
 use Rattle.script_tokens.specs.declared.token.Token.{Token}
 use Rattle.poly_grammar.specs.Lexemes.{Lexeme, close_bracket, comma, equals, lexeme, name, number, open_bracket}
 use Rattle.poly_grammar.specs.Numerals.{text_of}
 use Rattle.poly_grammar.specs.Trees.{Poly, Reads}
 use Rattle.script_parse.specs.declared.form.Division.{Division}
-use Rattle.script_parse.specs.declared.form.Division.TheVariants.{Member, NormalForm}
+use Rattle.script_parse.specs.declared.form.Division.TheVariants.{Lift, Member, NormalForm}
 use Rattle.script_parse.specs.declared.form.Question.{Question}
-use Rattle.script_parse.specs.declared.form.Question.TheVariants.{Gb, Gens, Size}
+use Rattle.script_parse.specs.declared.form.Question.TheVariants.{Gb, Gens, Hilbert, Size}
+use Rattle.script_parse.specs.declared.operands.Binary.{Binary}
+use Rattle.script_parse.specs.declared.operands.Binary.TheVariants.{Colon, Intersect, Product, Sum}
+use Rattle.script_parse.specs.declared.operands.ByPolynomial.{ByPolynomial}
+use Rattle.script_parse.specs.declared.operands.ByPolynomial.TheVariants.{Quotient, Saturate}
 use Rattle.script_parse.specs.declared.ring_words.OrderName.{OrderName}
 use Rattle.script_parse.specs.declared.ring_words.OrderName.TheVariants.{Elim, Grevlex, Lex}
 
@@ -24,13 +31,23 @@ pub record RingLine : Type 0 where
   pub top : Bool
   pub weights : List Token
 
--- a line: nothing; a ring; a shown polynomial; an ideal by its NAME and its POLYs; a question on a value; a division of a
--- VEC, by its entries, by a value; two values to be compared
+-- an operation: on two values; on a value by a POLY; `eliminate` on a value by its NUM; `syz` on a value
+pub data WrittenOperation : Type 0 where
+  of_two : Binary → Token → Token → WrittenOperation
+  of_polynomial : ByPolynomial → Token → Poly → WrittenOperation
+  elimination : Token → Token → WrittenOperation
+  syzygies : Token → WrittenOperation
+
+-- a line: nothing; a ring; a shown polynomial; an ideal by its NAME and its POLYs; a module by its NAME, the NUM of its rank
+-- and the entries of each of its VECs; a NAME for what an operation gives; a question on a value; a division of a VEC, by
+-- its entries, by a value; two values to be compared
 pub data Written : Type 0 where
   nothing : Written
   ring_line : RingLine → Written
   show_line : Poly → Written
   ideal_line : Token → List Poly → Written
+  module_line : Token → Token → List (List Poly) → Written
+  let_line : Token → WrittenOperation → Written
   ask_line : Question → Token → Written
   divide_line : Division → Token → List Poly → Written
   equal_line : Token → Token → Written
@@ -40,6 +57,8 @@ pub data Word : Type 0 where
   ring_word : Word
   show_word : Word
   ideal_word : Word
+  module_word : Word
+  let_word : Word
   question_word : Question → Word
   division_word : Division → Word
   equal_word : Word
@@ -49,11 +68,15 @@ abbrev pub word_text : Word → List ℕ
 word_text ring_word = codes "ring"
 word_text show_word = codes "show"
 word_text ideal_word = codes "ideal"
+word_text module_word = codes "module"
+word_text let_word = codes "let"
 word_text (question_word Gens) = codes "gens"
 word_text (question_word Gb) = codes "gb"
 word_text (question_word Size) = codes "size"
+word_text (question_word Hilbert) = codes "hilb"
 word_text (division_word NormalForm) = codes "nf"
 word_text (division_word Member) = codes "member"
+word_text (division_word Lift) = codes "lift"
 word_text equal_word = codes "equal"
 
 -- the word of a line, if it has any
@@ -62,9 +85,36 @@ word_of nothing = None
 word_of (ring_line r) = Some ring_word
 word_of (show_line p) = Some show_word
 word_of (ideal_line given ps) = Some ideal_word
+word_of (module_line given rank vectors) = Some module_word
+word_of (let_line given operation) = Some let_word
 word_of (ask_line question value) = Some (question_word question)
 word_of (divide_line division value entries) = Some (division_word division)
 word_of (equal_line left right) = Some equal_word
+
+-- the words of operations
+pub data OperationWord : Type 0 where
+  two_word : Binary → OperationWord
+  polynomial_word : ByPolynomial → OperationWord
+  elimination_word : OperationWord
+  syzygies_word : OperationWord
+
+-- how the word of an operation is written
+abbrev pub operation_text : OperationWord → List ℕ
+operation_text (two_word Sum) = codes "sum"
+operation_text (two_word Product) = codes "product"
+operation_text (two_word Intersect) = codes "intersect"
+operation_text (two_word Colon) = codes "colon"
+operation_text (polynomial_word Quotient) = codes "quotient"
+operation_text (polynomial_word Saturate) = codes "saturate"
+operation_text elimination_word = codes "eliminate"
+operation_text syzygies_word = codes "syz"
+
+-- the word of an operation
+abbrev pub operation_word : WrittenOperation → OperationWord
+operation_word (of_two word left right) = two_word word
+operation_word (of_polynomial word value p) = polynomial_word word
+operation_word (elimination value count) = elimination_word
+operation_word (syzygies value) = syzygies_word
 
 -- { , X } for tokens of the shape X, which is NAME or NUM
 abbrev pub comma_list : (Token → Lexeme) → List Token → List Lexeme
@@ -126,25 +176,59 @@ AreInBrackets xs ps = (inside : List Lexeme) × (xs ≡ open_bracket ∷ (inside
 abbrev pub AreEntries : List Lexeme → List Poly → Type 0
 AreEntries xs ps = IsOnePoly xs ps ⊎ AreInBrackets xs ps
 
+-- VEC { , VEC }, by the entries of each
+abbrev pub AreVectors : List Lexeme → List (List Poly) → Type 0
+AreVectors xs [] = ⊥
+AreVectors xs (es ∷ []) = AreEntries xs es
+AreVectors xs (es ∷ fs ∷ more) = (front behind : List Lexeme) × (xs ≡ front ++ comma ∷ behind) × AreEntries front es × AreVectors behind (fs ∷ more)
+
+-- what stands behind the word of an operation
+abbrev pub AreOperands : List Lexeme → WrittenOperation → Type 0
+AreOperands xs (of_two word left right) = xs ≡ name left ∷ name right ∷ []
+AreOperands xs (of_polynomial word value p) = (rest : List Lexeme) × (xs ≡ name value ∷ rest) × Reads rest p
+AreOperands xs (elimination value count) = xs ≡ name value ∷ number count ∷ []
+AreOperands xs (syzygies value) = xs ≡ name value ∷ []
+
+-- an operation: its word, and what stands behind it
+abbrev pub IsOperation : List ℕ → List Lexeme → WrittenOperation → Type 0
+IsOperation line xs operation = (rest : List Lexeme) × IsSaid line (operation_text (operation_word operation)) xs rest × AreOperands rest operation
+
 -- what stands behind the word of a line
 abbrev pub IsBehind : List ℕ → List Lexeme → Written → Type 0
 IsBehind line xs nothing = ⊥
 IsBehind line xs (ring_line r) = IsRingLine line xs r
 IsBehind line xs (show_line p) = Reads xs p
 IsBehind line xs (ideal_line given ps) = (rest : List Lexeme) × (xs ≡ name given ∷ equals ∷ rest) × ArePolys rest ps
+IsBehind line xs (module_line given rank vectors) = (rest : List Lexeme) × (xs ≡ name given ∷ number rank ∷ equals ∷ rest) × AreVectors rest vectors
+IsBehind line xs (let_line given operation) = (rest : List Lexeme) × (xs ≡ name given ∷ equals ∷ rest) × IsOperation line rest operation
 IsBehind line xs (ask_line question value) = xs ≡ name value ∷ []
 IsBehind line xs (divide_line division value entries) = (rest : List Lexeme) × (xs ≡ name value ∷ rest) × AreEntries rest entries
 IsBehind line xs (equal_line left right) = xs ≡ name left ∷ name right ∷ []
+
+-- the POLYs of an operation
+abbrev pub operation_polys : WrittenOperation → List Poly
+operation_polys (of_polynomial word value p) = p ∷ []
+operation_polys _ = []
 
 -- the POLYs of a line
 abbrev pub polys_of : Written → List Poly
 polys_of (show_line p) = p ∷ []
 polys_of (ideal_line given ps) = ps
+polys_of (module_line given rank vectors) = flat_map (λ es. es) vectors
+polys_of (let_line given operation) = operation_polys operation
 polys_of (divide_line division value entries) = entries
 polys_of _ = []
 
+-- the NAMEs of an operation in a value's place
+abbrev pub operation_places : WrittenOperation → List Token
+operation_places (of_two word left right) = left ∷ right ∷ []
+operation_places (of_polynomial word value p) = value ∷ []
+operation_places (elimination value count) = value ∷ []
+operation_places (syzygies value) = value ∷ []
+
 -- the NAMEs in a value's place
 abbrev pub value_places : Written → List Token
+value_places (let_line given operation) = operation_places operation
 value_places (ask_line question value) = value ∷ []
 value_places (divide_line division value entries) = value ∷ []
 value_places (equal_line left right) = left ∷ right ∷ []
@@ -153,6 +237,8 @@ value_places _ = []
 -- the NAME to be given, if any
 abbrev pub given_by : Written → List Token
 given_by (ideal_line given ps) = given ∷ []
+given_by (module_line given rank vectors) = given ∷ []
+given_by (let_line given operation) = given ∷ []
 given_by _ = []
 
 -- the lexemes are a line with this word, or with none

@@ -1,19 +1,27 @@
 //! The tests of a line's names, ranks and degrees.
 
-ghost use Rattle.std.specs.Prelude.{◌≡◌, IfOk};
+ghost use Rattle.std.specs.Prelude.{◌≡◌, IfOk, length};
 ghost use Rattle.std.specs.List.{AllByRecursion, list_all};
-ghost use Rattle.poly_grammar.specs.Numerals.{text_of};
-ghost use Rattle.script_parse.specs.Tests.{IsPolynomial, given_name, is_known, is_no_value, is_no_variable, low_degree, names_pass, places, rank_fits};
+ghost use Rattle.poly_grammar.specs.Numerals.{text_of, value_of};
+ghost use Rattle.script_parse.specs.Refusals.{length_named, rank_named};
+ghost use Rattle.script_parse.specs.Tests.{IsPolynomial, elimination_fits, factor_fits, given_name, has_width, is_known, is_no_value, is_no_variable, length_fits, low_degree, low_rank, module_fits, names_pass, operand_places, operands_fit, places, rank_fits, same_rank};
 
 use crate::form::Head;
-use crate::named::{NameInfo, rank_named};
+use crate::named::{NameInfo, length_named, rank_named};
+use crate::numbers::{is_within, number_within};
+use crate::operands::{Binary, Operands};
+use crate::vectors::Shape;
 use module_vectors::{Names, Ring};
 use poly_grammar::{Step, formal_degree, text};
 use poly_value::{RingNames, place};
+use script_tokens::Token;
 use std::alloc::{AllocError, Global};
 
-/// The greatest number of an ideal's vectors.
+/// The greatest number of an ideal's or a module's vectors.
 const GENERATORS: usize = 1000;
+
+/// The greatest rank, and the greatest length of a list whose syzygies are asked for.
+const RANK: u32 = 64;
 
 /// Whether the text is a variable or the name of a value.
 fn is_known(vars: &Names, names: &[NameInfo], text: &[u8]) -> bool
@@ -110,12 +118,41 @@ pub fn polynomials_free(
     true
 }
 
+/// Whether each name of an operation in a value's place is a variable or a value.
+fn operands_known(line: &[u8], vars: &Names, names: &[NameInfo], operands: Operands) -> bool
+    ensures { result ≡ list_all (λ t. is_known vars.now names.now (text_of line.now t)) (operand_places operands) }
+{
+    match operands {
+        Operands::Two(_, left, right) => {
+            is_known(vars, names, text(line, left)) && is_known(vars, names, text(line, right))
+        }
+        Operands::Polynomial(_, value)
+        | Operands::Eliminate(value, _)
+        | Operands::Syzygies(value) => is_known(vars, names, text(line, value)),
+    }
+}
+
+/// Whether no name of an operation in a value's place is a variable.
+fn operands_free(line: &[u8], vars: &Names, operands: Operands) -> bool
+    ensures { result ≡ list_all (λ t. is_no_variable vars.now (text_of line.now t)) (operand_places operands) }
+{
+    match operands {
+        Operands::Two(_, left, right) => {
+            place(vars, text(line, left)).is_none() && place(vars, text(line, right)).is_none()
+        }
+        Operands::Polynomial(_, value)
+        | Operands::Eliminate(value, _)
+        | Operands::Syzygies(value) => place(vars, text(line, value)).is_none(),
+    }
+}
+
 /// Whether each name in a value's place is a variable or a value.
 pub fn places_known(line: &[u8], vars: &Names, names: &[NameInfo], head: Head) -> bool
     ensures { result ≡ list_all (λ t. is_known vars.now names.now (text_of line.now t)) (places head) }
 {
     match head {
-        Head::Show | Head::Ideal(_) => true,
+        Head::Show | Head::Ideal(_) | Head::Module(_, _, _) => true,
+        Head::Let(_, operands) => operands_known(line, vars, names, operands),
         Head::Ask(_, value) => is_known(vars, names, text(line, value)),
         Head::Divide(_, value) => is_known(vars, names, text(line, value)),
         Head::Equal(left, right) => {
@@ -129,7 +166,8 @@ pub fn places_free(line: &[u8], vars: &Names, head: Head) -> bool
     ensures { result ≡ list_all (λ t. is_no_variable vars.now (text_of line.now t)) (places head) }
 {
     match head {
-        Head::Show | Head::Ideal(_) => true,
+        Head::Show | Head::Ideal(_) | Head::Module(_, _, _) => true,
+        Head::Let(_, operands) => operands_free(line, vars, operands),
         Head::Ask(_, value) => place(vars, text(line, value)).is_none(),
         Head::Divide(_, value) => place(vars, text(line, value)).is_none(),
         Head::Equal(left, right) => {
@@ -143,32 +181,113 @@ pub fn given_free(line: &[u8], vars: &Names, head: Head) -> bool
     ensures { result ≡ list_all (λ t. is_no_variable vars.now (text_of line.now t)) (given_name head) }
 {
     match head {
-        Head::Ideal(given) => place(vars, text(line, given)).is_none(),
+        Head::Ideal(given) | Head::Module(given, _, _) | Head::Let(given, _) => {
+            place(vars, text(line, given)).is_none()
+        }
         Head::Show | Head::Ask(_, _) | Head::Divide(_, _) | Head::Equal(_, _) => true,
     }
 }
 
-/// Whether the ranks fit: those of compared values, or that of a value and how many entries the vector has, which are as
-/// many as the polynomials; and whether an ideal has few enough of these.
+/// Whether the number of `eliminate` is from 1 to the number of variables.
+pub fn elimination_fits(line: &[u8], vars: &Names, head: Head) -> bool
+    ensures { result ≡ elimination_fits (length vars.now) line.now head }
+{
+    match head {
+        Head::Let(_, Operands::Eliminate(_, count)) => is_within(
+            line,
+            count,
+            vars.as_slice().len(),
+        ),
+        _ => true,
+    }
+}
+
+/// Whether the first operand of `product` has no rank above 1.
+pub fn factor_fits(line: &[u8], names: &[NameInfo], head: Head) -> bool
+    ensures { result ≡ factor_fits names.now line.now head }
+{
+    match head {
+        Head::Let(_, Operands::Two(Binary::Product, left, _)) => {
+            match rank_named(names, text(line, left)) {
+                Some(rank) => rank <= 1,
+                None => true,
+            }
+        }
+        _ => true,
+    }
+}
+
+/// Whether two values have the same rank, where both are there.
+fn ranks_agree(line: &[u8], names: &[NameInfo], left: Token, right: Token) -> bool
+    ensures { result ≡ same_rank (rank_named names.now (text_of line.now left)) (rank_named names.now (text_of line.now right)) }
+{
+    let Some(first) = rank_named(names, text(line, left)) else {
+        return true;
+    };
+    let Some(second) = rank_named(names, text(line, right)) else {
+        return true;
+    };
+    first == second
+}
+
+/// Whether a value's stored list is neither empty nor longer than 64, where the value is there.
+fn list_fits(line: &[u8], names: &[NameInfo], value: Token) -> bool
+    ensures { result ≡ length_fits (length_named names.now (text_of line.now value)) }
+{
+    match length_named(names, text(line, value)) {
+        Some(length) => length >= 1 && length <= u64::from(RANK),
+        None => true,
+    }
+}
+
+/// Whether the ranks and lengths of operands fit.
+fn operands_fit(line: &[u8], names: &[NameInfo], operands: Operands) -> bool
+    ensures { result ≡ operands_fit names.now line.now operands }
+{
+    match operands {
+        Operands::Two(Binary::Product, _, _) => true,
+        Operands::Two(_, left, right) => ranks_agree(line, names, left, right),
+        Operands::Syzygies(value) => list_fits(line, names, value),
+        Operands::Polynomial(_, _) | Operands::Eliminate(_, _) => true,
+    }
+}
+
+/// Whether all vectors of the shape have so many entries.
+fn has_width(rank: u32, shape: Shape) -> bool
+    ensures { result ≡ has_width rank shape }
+{
+    match shape {
+        Shape::Empty => true,
+        Shape::Each(count) => count as u64 == u64::from(rank),
+        Shape::Mixed => false,
+    }
+}
+
+/// Whether vectors of the shape with so many entries in all are at most 1,000 of the rank, which is from 1 to 64.
+fn module_fits(line: &[u8], rank: Token, shape: Shape, count: usize) -> bool
+    ensures { result ≡ module_fits (value_of line.now rank) shape count }
+{
+    match number_within(line, rank, RANK) {
+        Some(rank) => has_width(rank, shape) && count <= GENERATORS * rank as usize,
+        None => false,
+    }
+}
+
+/// Whether the ranks fit: those of two values, or the rank of a value or a module and how many entries the vectors have, which
+/// are as many as the polynomials; and whether an ideal or a module has few enough vectors.
 pub fn rank_fits(line: &[u8], names: &[NameInfo], head: Head, count: usize) -> bool
     ensures { result ≡ rank_fits names.now line.now head count }
 {
     match head {
         Head::Show | Head::Ask(_, _) => true,
         Head::Ideal(_) => count <= GENERATORS,
+        Head::Module(_, rank, shape) => module_fits(line, rank, shape, count),
+        Head::Let(_, operands) => operands_fit(line, names, operands),
         Head::Divide(_, value) => match rank_named(names, text(line, value)) {
             Some(rank) => rank == count as u64,
             None => true,
         },
-        Head::Equal(left, right) => {
-            let Some(first) = rank_named(names, text(line, left)) else {
-                return true;
-            };
-            let Some(second) = rank_named(names, text(line, right)) else {
-                return true;
-            };
-            first == second
-        }
+        Head::Equal(left, right) => ranks_agree(line, names, left, right),
     }
 }
 

@@ -1,18 +1,19 @@
 //! The form of a line: its word and what stands behind it, before a name or a number is looked at.
 
-ghost use Rattle.std.specs.Prelude.{◌≡◌, ◌∷◌, ℕ, List, map, IfSome, IfNone};
-ghost use Rattle.script_tokens.specs.declared.token.Token.{Token as TokenValue};
+ghost use Rattle.std.specs.Prelude.{◌≡◌, ℕ, List, map, IfSome, IfNone};
 ghost use Rattle.script_tokens.specs.declared.token.TokenKind.TheVariants.{Name};
-ghost use Rattle.poly_grammar.specs.Lexemes.{Lexeme, lexeme, name};
+ghost use Rattle.poly_grammar.specs.Lexemes.{lexeme};
 ghost use Rattle.poly_grammar.specs.Numerals.{text_of};
 ghost use Rattle.script_parse.specs.Forms.{IsRead, IsReadBehind};
 ghost use Rattle.script_parse.specs.declared.form.Division.{Division as DivisionValue};
 ghost use Rattle.script_parse.specs.declared.form.Question.{Question as QuestionValue};
-ghost use Rattle.script_parse.specs.Written.{division_word, equal_word, ideal_word, question_word, ring_word, show_word, word_text};
+ghost use Rattle.script_parse.specs.Written.{division_word, equal_word, ideal_word, let_word, module_word, question_word, ring_word, show_word, word_text};
 
+use crate::operands::{Operands, read_operation};
 use crate::polynomials::{entries, one_polynomial, polynomials};
 use crate::ring_words::{RingForm, read_ring};
-use crate::words::is_word;
+use crate::vectors::{Shape, vectors};
+use crate::words::{behind_equals, is_word, name_first, number_first};
 use poly_grammar::{ReadStop, Step};
 use script_tokens::{Token, TokenKind};
 use std::alloc::Global;
@@ -26,6 +27,8 @@ pub enum Question {
     Gb,
     /// `size`
     Size,
+    /// `hilb`
+    Hilbert,
 }
 
 /// The word of a division of a vector by a value.
@@ -35,6 +38,8 @@ pub enum Division {
     NormalForm,
     /// `member`
     Member,
+    /// `lift`
+    Lift,
 }
 
 /// The word and the names of a line that needs a ring, without its polynomials.
@@ -44,6 +49,10 @@ pub enum Head {
     Show,
     /// `ideal`, by the name that it gives.
     Ideal(Token),
+    /// `module`, by the name that it gives, the number of its rank, and how many entries its vectors have.
+    Module(Token, Token, Shape),
+    /// `let`, by the name that it gives and its operation.
+    Let(Token, Operands),
     /// A question, by the name of its value.
     Ask(Question, Token),
     /// A division, by the name of its value.
@@ -73,20 +82,6 @@ fn ring_form(alloc: Global, line: &[u8], tokens: &[Token]) -> Result<Form, ReadS
     }
 }
 
-/// The name that stands first, and what stands behind it.
-fn name_first(tokens: &[Token]) -> Option<(Token, &[Token])>
-    ensures found { IfSome result (λ f. map lexeme tokens.now ≡ name f.0 ∷ map lexeme f.1.now) }
-    ensures none { IfNone result ((t : TokenValue) (rest : List Lexeme) → map lexeme tokens.now ≡ name t ∷ rest → ⊥) }
-{
-    let Some((first, behind)) = tokens.split_first() else {
-        return None;
-    };
-    let TokenKind::Name = first.kind else {
-        return None;
-    };
-    Some((*first, behind))
-}
-
 /// What stands behind `show`.
 fn show_form(alloc: Global, tokens: &[Token]) -> Result<Form, ReadStop>
     ensures { (line : List ℕ) → IsReadBehind show_word line (map lexeme tokens.now) result }
@@ -112,6 +107,41 @@ fn ideal_form(alloc: Global, tokens: &[Token]) -> Result<Form, ReadStop>
     };
     match polynomials(alloc, rest) {
         Ok(found) => Ok(Form::Line(Head::Ideal(given), found)),
+        Err(stop) => Err(stop),
+    }
+}
+
+/// What stands behind `module`.
+fn module_form(alloc: Global, tokens: &[Token]) -> Result<Form, ReadStop>
+    ensures { (line : List ℕ) → IsReadBehind module_word line (map lexeme tokens.now) result }
+{
+    let Some((given, behind)) = name_first(tokens) else {
+        return Err(ReadStop::Syntax);
+    };
+    let Some((rank, after)) = number_first(behind) else {
+        return Err(ReadStop::Syntax);
+    };
+    let Some(rest) = behind_equals(after) else {
+        return Err(ReadStop::Syntax);
+    };
+    match vectors(alloc, rest) {
+        Ok(found) => Ok(Form::Line(Head::Module(given, rank, found.1), found.0)),
+        Err(stop) => Err(stop),
+    }
+}
+
+/// What stands behind `let`.
+fn let_form(alloc: Global, line: &[u8], tokens: &[Token]) -> Result<Form, ReadStop>
+    ensures { IsReadBehind let_word line.now (map lexeme tokens.now) result }
+{
+    let Some((given, behind)) = name_first(tokens) else {
+        return Err(ReadStop::Syntax);
+    };
+    let Some(rest) = behind_equals(behind) else {
+        return Err(ReadStop::Syntax);
+    };
+    match read_operation(alloc, line, rest) {
+        Ok(found) => Ok(Form::Line(Head::Let(given, found.0), found.1)),
         Err(stop) => Err(stop),
     }
 }
@@ -169,6 +199,8 @@ fn question_of(line: &[u8], token: Token) -> Option<Question>
         Some(Question::Gb)
     } else if is_word(line, token, b"size") {
         Some(Question::Size)
+    } else if is_word(line, token, b"hilb") {
+        Some(Question::Hilbert)
     } else {
         None
     }
@@ -183,6 +215,8 @@ fn division_of(line: &[u8], token: Token) -> Option<Division>
         Some(Division::NormalForm)
     } else if is_word(line, token, b"member") {
         Some(Division::Member)
+    } else if is_word(line, token, b"lift") {
+        Some(Division::Lift)
     } else {
         None
     }
@@ -206,6 +240,12 @@ pub fn read_form(alloc: Global, line: &[u8], tokens: &[Token]) -> Result<Form, R
     }
     if is_word(line, *word, b"equal") {
         return equal_form(alloc, behind);
+    }
+    if is_word(line, *word, b"module") {
+        return module_form(alloc, behind);
+    }
+    if is_word(line, *word, b"let") {
+        return let_form(alloc, line, behind);
     }
     if let Some(question) = question_of(line, *word) {
         return ask_form(alloc, question, behind);

@@ -6,7 +6,8 @@ ghost use Rattle.script_parse.specs.declared.kind.ParseStop.TheVariants.{Memory}
 use module_vectors::NoMemory;
 use std::alloc::{AllocError, AllocFailed};
 
-/// Why a line is refused. The kinds are tried in this order, and the first that holds is answered.
+/// Why a line is refused. The kinds are tried in this order, and the first that holds is answered. The last two are told of a
+/// line's values, after its run: no line is refused for them when it is read.
 #[derive(Clone, Copy, Debug, PartialEq, Eq)]
 pub enum Kind {
     /// A byte before the comment begins no token, or the tokens are not in the grammar, or parentheses nest more than 64
@@ -15,20 +16,27 @@ pub enum Kind {
     /// A number of the line is 2^128 or more.
     Numeral,
     /// A line that needs a ring, and none is stated; or a ring of more than 15 variables, or with a variable twice, an
-    /// `elim K` with K outside 1..n, a number of weights other than n, or a weight outside 1..255, in n variables.
+    /// `elim K` with K outside 1..n, a number of weights other than n, or a weight outside 1..255, in n variables; or
+    /// `eliminate B K` with K outside 1..n.
     Ring,
     /// The modulus of a ring is not in the table.
     Modulus,
     /// A name in a polynomial or in a value's place is neither a variable nor a value, or the name to be given is a
     /// variable.
     Name,
-    /// A name in a polynomial is a value, or a name in a value's place is a variable.
+    /// A name in a polynomial is a value, or a name in a value's place is a variable, or the first operand of `product` has a
+    /// rank above 1.
     OfKind,
-    /// An ideal of more than 1,000 vectors; or the entries of a vector are not as many as the value's rank, or two ranks
-    /// differ.
+    /// An ideal or a module of more than 1,000 vectors; or a module's rank is outside 1..64; or the entries of a vector are not
+    /// as many as the rank of the module, or of the value that divides it; or two ranks differ that `equal`, `sum`,
+    /// `intersect` or `colon` want the same; or the stored list of what `syz` is asked of has a length outside 1..64.
     Rank,
     /// The formal degree, by the ring's weights, of a polynomial or of a part of it is above 1,000.
     Degree,
+    /// `hilb` of a value some position of which has more than 120 leads.
+    Leads,
+    /// `hilb` of a value whose numbers do not fit.
+    Large,
 }
 
 /// Why a line was not read.

@@ -1,7 +1,7 @@
 //! What is known of the values that have a name.
 
 ghost use Rattle.std.specs.Prelude.{◌≡◌};
-ghost use Rattle.script_parse.specs.Refusals.{rank_named};
+ghost use Rattle.script_parse.specs.Refusals.{length_named, rank_named};
 
 /// What is known of a value: its name, its rank, and the length of its stored list.
 #[derive(Debug, Drop)]
@@ -18,6 +18,18 @@ pub fn rank_named(names: &[NameInfo], text: &[u8]) -> Option<u64>
     for value in names {
         if value.name.as_bytes() == text {
             return Some(value.rank);
+        }
+    }
+    None
+}
+
+/// The length of the stored list of the value with this name; none exactly where there is no such value.
+pub fn length_named(names: &[NameInfo], text: &[u8]) -> Option<u64>
+    ensures { result ≡ length_named names.now text.now }
+{
+    for value in names {
+        if value.name.as_bytes() == text {
+            return Some(value.length);
         }
     }
     None

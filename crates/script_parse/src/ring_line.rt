@@ -9,13 +9,14 @@ ghost use Rattle.poly_grammar.specs.Numerals.{text_of, value_of};
 ghost use Rattle.zp_field.specs.Moduli.{is_modulus};
 ghost use Rattle.module_vectors.specs.declared.ring.Ring.{Ring as RingValue};
 ghost use Rattle.script_parse.specs.declared.named.NameInfo.{NameInfo as NameValue};
-ghost use Rattle.script_parse.specs.Refusals.{HasOtherElim, HasOtherWeights, IsOutside};
+ghost use Rattle.script_parse.specs.Refusals.{HasOtherElim, HasOtherWeights};
 ghost use Rattle.script_parse.specs.RingForms.{ring_line_of};
 ghost use Rattle.script_parse.specs.Statements.{module_order_stated, order_stated, weights_stated};
 ghost use Rattle.script_parse.specs.Tests.{AnswersForm, AreWeighedAll, IsGood, repeats, stands_among};
 ghost use Rattle.script_parse.specs.Written.{ring_line};
 
 use crate::kind::{Kind, ParseStop};
+use crate::numbers::number_within;
 use crate::ring_words::{OrderName, RingForm};
 use crate::stated::Statement;
 use module_vectors::{Names, NoMemory, Ring};
@@ -75,20 +76,6 @@ fn names_of(alloc: Global, line: &[u8], tokens: &[Token]) -> Result<Names, Alloc
         names.push(String::from_utf8_lossy(alloc, text(line, *token))?)?;
     }
     Ok(Names::from_vec(names))
-}
-
-/// The number that a token says, where it is from 1 to the last one.
-fn number_within(line: &[u8], token: Token, last: u32) -> Option<u32>
-    ensures { IsGood (value_of line.now token) (IsOutside last (value_of line.now token)) result }
-{
-    let value = number(text(line, token))?;
-    if value == 0 {
-        return None;
-    }
-    if value > u128::from(last) {
-        return None;
-    }
-    Some(value as u32)
 }
 
 /// The order that is stated for n variables; none exactly where it is `elim K` with K outside 1..n.

@@ -1,41 +1,36 @@
 //! What a line that needs a ring states.
 
-ghost use Rattle.std.specs.Prelude.{◌≡◌, ◌<◌, List, Vec as VecValue, IfOk, length};
+ghost use Rattle.std.specs.Prelude.{◌≡◌, ◌<◌, List, Vec as VecValue, length, true};
 ghost use Rattle.std.specs.Global.{Global};
 ghost use Rattle.std.specs.List.{AllByRecursion};
 ghost use Rattle.std.specs.Option.{option_copied};
-ghost use Rattle.std.specs.Prelude.{string_bytes};
 ghost use Rattle.std.specs.Str.{IsAscii};
-ghost use Rattle.poly_grammar.specs.Numerals.{text_of};
+ghost use Rattle.poly_grammar.specs.Numerals.{text_of, value_of};
 ghost use Rattle.poly_grammar.specs.declared.step.Step.{Step as StepValue};
 ghost use Rattle.module_vectors.specs.declared.ring.Ring.{Ring as RingValue};
 ghost use Rattle.script_parse.specs.Forms.{IsLineOf};
-ghost use Rattle.script_parse.specs.Tests.{AnswersForm, HaveNumerals, IsPolynomial, IsStated, IsWorkable, head_names, known_names, right_kinds};
+ghost use Rattle.script_parse.specs.Tests.{AnswersForm, HaveNumerals, IsPolynomial, IsStated, IsWorkable, head_names, known_names, module_fits, rank_fits, right_kinds};
 ghost use Rattle.script_parse.specs.Written.{Written};
 ghost use Rattle.script_parse.specs.declared.form.Head.TheVariants as heads;
 
 use crate::checks::{
-    degrees_fit, given_free, places_free, places_known, polynomials_free, polynomials_known,
-    rank_fits,
+    degrees_fit, elimination_fits, factor_fits, given_free, places_free, places_known,
+    polynomials_free, polynomials_known, rank_fits,
 };
 use crate::form::{Division, Head, Question};
 use crate::kind::{Kind, ParseStop};
 use crate::named::NameInfo;
+use crate::numbers::number_within;
+use crate::operation_line::let_statement;
 use crate::stated::Statement;
-use crate::values::{list_value, vector_value};
+use crate::values::{list_value, vector_value, vectors_value};
+use crate::vectors::Shape;
+use crate::words::name_of;
 use module_vectors::Ring;
-use poly_grammar::{Step, text};
+use poly_grammar::Step;
 use poly_value::polynomial_value;
 use script_tokens::Token;
-use std::alloc::{AllocError, Global};
-
-/// The name that a token is.
-fn name_of(alloc: Global, line: &[u8], token: Token) -> Result<String, AllocError>
-    requires { IsAscii (text_of line.now token) }
-    ensures { IfOk result (λ name. string_bytes name ≡ text_of line.now token) }
-{
-    String::from_utf8_lossy(alloc, text(line, token))
-}
+use std::alloc::Global;
 
 /// Whether each name in a polynomial or in a value's place is known, and the name to be given is no variable.
 fn names_known(
@@ -52,7 +47,7 @@ fn names_known(
         && polynomials_known(line, &ring.vars, names, polynomials)
 }
 
-/// Whether no name in a polynomial is a value and none in a value's place a variable.
+/// Whether no name in a polynomial is a value, none in a value's place a variable, and a factor an ideal.
 fn kinds_right(
     line: &[u8],
     ring: &Ring,
@@ -62,7 +57,9 @@ fn kinds_right(
 ) -> bool
     ensures { result ≡ right_kinds ring.now.vars names.now line.now head polynomials.now }
 {
-    places_free(line, &ring.vars, head) && polynomials_free(line, &ring.vars, names, polynomials)
+    places_free(line, &ring.vars, head)
+        && factor_fits(line, names, head)
+        && polynomials_free(line, &ring.vars, names, polynomials)
 }
 
 /// The statement of `show`.
@@ -104,6 +101,31 @@ fn ideal_statement(
     }
 }
 
+/// The statement of `module`.
+fn module_statement(
+    alloc: Global,
+    ring: &Ring,
+    line: &[u8],
+    given: Token,
+    rank: Token,
+    shape: Shape,
+    polynomials: &[Vec<Step>],
+) -> Result<Statement, ParseStop>
+    requires ascii { IsAscii (text_of line.now given) }
+    requires workable { AllByRecursion (IsWorkable ring.now line.now) polynomials.now }
+    requires fits { module_fits (value_of line.now rank) shape (length polynomials.now) ≡ true }
+    ensures { IsStated ring.now line.now (heads.Module given rank shape) polynomials.now result }
+{
+    let name = name_of(alloc, line, given)?;
+    let Some(entries) = number_within(line, rank, 64) else {
+        unreachable!()
+    };
+    match vectors_value(alloc, ring, line, entries as usize, polynomials) {
+        Ok(list) => Ok(Statement::Module(name, u64::from(entries), list)),
+        Err(_) => Err(ParseStop::Memory),
+    }
+}
+
 /// The statement of a question.
 fn ask_statement(
     alloc: Global,
@@ -119,6 +141,7 @@ fn ask_statement(
         Question::Gens => Ok(Statement::Gens(name)),
         Question::Gb => Ok(Statement::Gb(name)),
         Question::Size => Ok(Statement::Size(name)),
+        Question::Hilbert => Ok(Statement::Hilbert(name)),
     }
 }
 
@@ -140,6 +163,7 @@ fn divide_statement(
         Ok(vector) => match division {
             Division::NormalForm => Ok(Statement::NormalForm(name, vector)),
             Division::Member => Ok(Statement::Member(name, vector)),
+            Division::Lift => Ok(Statement::Lift(name, vector)),
         },
         Err(_) => Err(ParseStop::Memory),
     }
@@ -166,17 +190,25 @@ fn stated(
     alloc: Global,
     ring: &Ring,
     line: &[u8],
+    names: &[NameInfo],
     head: Head,
     polynomials: &[Vec<Step>],
 ) -> Result<Statement, ParseStop>
     requires written { (w : Written) × IsLineOf head polynomials.now w }
     requires ascii { AllByRecursion (λ t. IsAscii (text_of line.now t)) (head_names head) }
     requires workable { AllByRecursion (IsWorkable ring.now line.now) polynomials.now }
+    requires ranks { rank_fits names.now line.now head (length polynomials.now) ≡ true }
     ensures { IsStated ring.now line.now head polynomials.now result }
 {
     match head {
         Head::Show => show_statement(alloc, ring, line, polynomials),
         Head::Ideal(given) => ideal_statement(alloc, ring, line, given, polynomials),
+        Head::Module(given, rank, shape) => {
+            module_statement(alloc, ring, line, given, rank, shape, polynomials)
+        }
+        Head::Let(given, operands) => {
+            let_statement(alloc, ring, line, given, operands, polynomials)
+        }
         Head::Ask(question, value) => ask_statement(alloc, line, question, value),
         Head::Divide(division, value) => {
             divide_statement(alloc, ring, line, division, value, polynomials)
@@ -185,8 +217,8 @@ fn stated(
     }
 }
 
-/// What a line states that needs a ring, by its head and its polynomials: else `Ring` where none is stated, then `Name`,
-/// `OfKind`, `Rank` and `Degree`, the first that holds.
+/// What a line states that needs a ring, by its head and its polynomials: else `Ring` where none is stated or `eliminate` has a
+/// number outside 1..n, then `Name`, `OfKind`, `Rank` and `Degree`, the first that holds.
 pub fn line_statement(
     alloc: Global,
     line: &[u8],
@@ -204,6 +236,9 @@ pub fn line_statement(
     let Some(ring) = ring else {
         return Err(ParseStop::Refused(Kind::Ring));
     };
+    if !elimination_fits(line, &ring.vars, head) {
+        return Err(ParseStop::Refused(Kind::Ring));
+    }
     if !names_known(line, ring, names, head, polynomials) {
         return Err(ParseStop::Refused(Kind::Name));
     }
@@ -216,5 +251,5 @@ pub fn line_statement(
     if !degrees_fit(alloc, line, ring, polynomials)? {
         return Err(ParseStop::Refused(Kind::Degree));
     }
-    stated(alloc, ring, line, head, polynomials)
+    stated(alloc, ring, line, names, head, polynomials)
 }

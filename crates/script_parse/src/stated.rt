@@ -1,5 +1,6 @@
 //! What a line states.
 
+use crate::operation::Operation;
 use module_vectors::{Ring, Vect, VectList};
 
 /// What a line states. Its vectors are in the order of the ring, and its names are those of values.
@@ -13,16 +14,24 @@ pub enum Statement {
     Show(Vect),
     /// A name that is given to the ideal of these polynomials, which are vectors of rank 1.
     Ideal(String, VectList),
+    /// A name that is given to the module of this rank, from 1 to 64, that these vectors of the rank generate.
+    Module(String, u64, VectList),
+    /// A name that is given to what an operation on values gives.
+    Let(String, Operation),
     /// The stored list of a value is to be printed.
     Gens(String),
     /// The reduced basis of a value is to be printed.
     Gb(String),
     /// How many leads a value has of each degree is to be printed.
     Size(String),
+    /// The Hilbert numbers of a value are to be printed.
+    Hilbert(String),
     /// The normal form of a vector modulo a value is to be printed.
     NormalForm(String, Vect),
     /// Whether a vector is in a value is to be printed.
     Member(String, Vect),
+    /// The cofactors of a vector over the stored list of a value are to be printed, or that it has none.
+    Lift(String, Vect),
     /// Whether two values are equal is to be printed.
     Equal(String, String),
 }

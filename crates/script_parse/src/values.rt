@@ -1,10 +1,10 @@
 //! What the polynomials of a line are worth: a list of them, or a vector that has them for its entries.
 
-ghost use Rattle.std.specs.Prelude.{◌≡◌, IfOk, length};
+ghost use Rattle.std.specs.Prelude.{◌≡◌, ◌<◌, IfOk, length};
 ghost use Rattle.std.specs.List.{AllByRecursion};
 ghost use Rattle.module_vectors.specs.Rings.{ring_comparison};
 ghost use Rattle.module_vectors.specs.Vectors.{HasPositions, IsVectorOver};
-ghost use Rattle.script_parse.specs.Tests.{AreWorths, HasEntryTerms, IsWorkable, StandsForEntries, moved_to};
+ghost use Rattle.script_parse.specs.Tests.{AreVectorWorths, AreWorths, HasEntryTerms, IsWorkable, StandsForEntries, moved_to};
 
 use module_vectors::{Key, NoMemory, Ring, Vect, VectList};
 use poly_grammar::Step;
@@ -72,4 +72,27 @@ pub fn vector_value(
 {
     let terms = entry_terms(alloc, ring, line, polynomials)?;
     Vect::from_terms(alloc, ring, terms)
+}
+
+/// The vectors that have each so many of the polynomials for their entries, one behind the other.
+pub fn vectors_value(
+    alloc: Global,
+    ring: &Ring,
+    line: &[u8],
+    rank: usize,
+    polynomials: &[Vec<Step>],
+) -> Result<VectList, NoMemory>
+    requires rank { 0 < rank }
+    requires workable { AllByRecursion (IsWorkable ring.now line.now) polynomials.now }
+    ensures { IfOk result (λ list. AreVectorWorths ring.now line.now rank polynomials.now list) }
+{
+    let mut list = VectList::new(alloc);
+    let mut rest = polynomials;
+    while !rest.is_empty() {
+        let (front, behind) = rest.split_at(rank.min(rest.len()));
+        let value = vector_value(alloc, ring, line, front)?;
+        list.push(value)?;
+        rest = behind;
+    }
+    Ok(list)
 }

@@ -4,14 +4,14 @@ use module_vectors::{Ring, Vect};
 use script_parse::{Kind, NameInfo, ParseStop, Statement, statement};
 use std::alloc::Global;
 
-// Values `A`, `B` and `C` of ranks 1, 2 and 3.
+// Values `A`, `B` and `C` of ranks 1, 2 and 3, with stored lists of 0, 2 and 65 vectors.
 fn names(alloc: Global) -> Result<Vec<NameInfo>, NoValue> {
     let mut names = Vec::new(alloc);
-    for (name, rank) in [("A", 1), ("B", 2), ("C", 3)] {
+    for (name, rank, length) in [("A", 1, 0), ("B", 2, 2), ("C", 3, 65)] {
         names.push(NameInfo {
             name: String::from_str(alloc, name)?,
             rank,
-            length: 0,
+            length,
         })?;
     }
     Ok(names)
@@ -27,6 +27,8 @@ fn kind_text(kind: Kind) -> &'static str {
         Kind::OfKind => "  kind\n",
         Kind::Rank => "  rank\n",
         Kind::Degree => "  degree\n",
+        Kind::Leads => "  leads\n",
+        Kind::Large => "  large\n",
     }
 }
 
@@ -46,6 +48,7 @@ fn write_statement(sheet: &mut Sheet, ring: &Ring, stated: &Statement) {
     match stated {
         Statement::NormalForm(name, v) => write_question(sheet, ring, "  nf ", name.as_str(), v),
         Statement::Member(name, v) => write_question(sheet, ring, "  member ", name.as_str(), v),
+        Statement::Lift(name, v) => write_question(sheet, ring, "  lift ", name.as_str(), v),
         _ => sheet.text("  another statement\n"),
     }
 }

@@ -1,6 +1,6 @@
 use Rattle.std.proofs.Common.{ap, map}
 use Rattle.poly_grammar.specs.Lexemes.{lexeme}
-use Rattle.script_parse.specs.Written.{division_word, equal_word, ideal_word, nothing, question_word, ring_word, show_word}
+use Rattle.script_parse.specs.Written.{division_word, equal_word, ideal_word, let_word, module_word, nothing, question_word, ring_word, show_word}
 use Rattle.script_parse.proofs.Lines.{word_read}
 use Rattle.script_parse.proofs.Pieces.{nil_of}
 use Rattle.script_parse.proofs.form.read_form.Goals as goal
@@ -27,6 +27,16 @@ pub returns-then-is_word-4 : goal.returns-then-is_word-4
 returns-then-is_word-4 c =
     let says = c.is_word-4.ensures.name.0 c.if-is_word-4.true in
     word_read c.args.line.now equal_word c.args.tokens.now c.in-Some.behind.now c.in-Some.word.now c.equal_form.result says.0 says.1 c.in-Some.ensures.cases.0 (c.equal_form.ensures c.args.line.now)
+
+pub returns-then-is_word-5 : goal.returns-then-is_word-5
+returns-then-is_word-5 c =
+    let says = c.is_word-5.ensures.name.0 c.if-is_word-5.true in
+    word_read c.args.line.now module_word c.args.tokens.now c.in-Some.behind.now c.in-Some.word.now c.module_form.result says.0 says.1 c.in-Some.ensures.cases.0 (c.module_form.ensures c.args.line.now)
+
+pub returns-then-is_word-6 : goal.returns-then-is_word-6
+returns-then-is_word-6 c =
+    let says = c.is_word-6.ensures.name.0 c.if-is_word-6.true in
+    word_read c.args.line.now let_word c.args.tokens.now c.in-Some.behind.now c.in-Some.word.now c.let_form.result says.0 says.1 c.in-Some.ensures.cases.0 c.let_form.ensures
 
 pub returns-in-Some-question_of : goal.returns-in-Some-question_of
 returns-in-Some-question_of c =

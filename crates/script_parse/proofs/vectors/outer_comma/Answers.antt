@@ -1,0 +1,6 @@
+use Rattle.std.proofs.Common.{sym, ◌∙◌}
+use Rattle.script_parse.proofs.VectorLists.{brackets_go}
+use Rattle.script_parse.proofs.vectors.outer_comma.Goals as goal
+
+pub loop-at-preserved : goal.loop-at-preserved
+loop-at-preserved c = brackets_go c.args.tokens.now c.loop-at.at _ c.loop-at.inside c.in-Some.next c.loop-at-test.true c.loop-at.invariant (sym c.in-Some.is ∙ c.bracketed.ensures)

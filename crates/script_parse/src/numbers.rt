@@ -1,0 +1,44 @@
+//! The numbers that tokens say.
+
+ghost use Rattle.std.specs.Prelude.{◌≡◌, IfSome};
+ghost use Rattle.poly_grammar.specs.Numerals.{value_of};
+ghost use Rattle.script_parse.specs.Refusals.{IsOutside};
+ghost use Rattle.script_parse.specs.Tests.{IsGood, within};
+
+use poly_grammar::{number, text};
+use script_tokens::Token;
+
+/// The number that a token says, where it is from 1 to the last one.
+pub fn number_within(line: &[u8], token: Token, last: u32) -> Option<u32>
+    ensures { IsGood (value_of line.now token) (IsOutside last (value_of line.now token)) result }
+{
+    let value = number(text(line, token))?;
+    if value == 0 {
+        return None;
+    }
+    if value > u128::from(last) {
+        return None;
+    }
+    Some(value as u32)
+}
+
+/// Whether the number that a token says is from 1 to the last one.
+pub fn is_within(line: &[u8], token: Token, last: usize) -> bool
+    ensures { result ≡ within last (value_of line.now token) }
+{
+    match number(text(line, token)) {
+        Some(value) => value >= 1 && value <= last as u128,
+        None => false,
+    }
+}
+
+/// The number that a token says, where it fits.
+pub fn small_number(line: &[u8], token: Token) -> Option<u32>
+    ensures { IfSome result (λ k. k ≡ value_of line.now token) }
+{
+    let value = number(text(line, token))?;
+    if value > u128::from(u32::MAX) {
+        return None;
+    }
+    Some(value as u32)
+}
