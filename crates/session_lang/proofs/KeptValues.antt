@@ -12,25 +12,25 @@ use Rattle.session_lang.proofs.Values.{sound_at}
 use Rattle.session_lang.specs.Answers.{Decides, IsOneModule}
 use Rattle.session_lang.specs.Texts.{verdict}
 use Rattle.session_lang.specs.Kept.{AreSound, IsSound}
-use Rattle.session_lang.specs.declared.stored.Stored.{Stored}
+use Rattle.session_lang.specs.Held.{Held}
 
 abbrev Terms : Type 0
 Terms = List (List (Key × ℕ))
 
 -- what is kept of a sound value is its reduced basis
-pub basis_kept : (ring : Ring) (rank : ℕ) (s : Stored) (basis : Terms) → IsSound ring rank s → s.basis ≡ Some basis → IsReducedBasisOf ring rank s.list basis
+pub basis_kept : (ring : Ring) (rank : ℕ) (s : Held) (basis : Terms) → IsSound ring rank s → s.basis ≡ Some basis → IsReducedBasisOf ring rank s.list basis
 basis_kept ring rank s basis sound e = subst (λ o. IfSome o (IsReducedBasisOf ring rank s.list)) e sound.basis
 
 -- two values are of one module where a law of their bases says so
 pub compared :
-    {P : Type 0} (ring : Ring) (infos : List NameInfo) (before after : List Stored) (i j : ℕ) (left right : Terms) (d : NameInfo)
+    {P : Type 0} (ring : Ring) (infos : List NameInfo) (before after : List Held) (i j : ℕ) (left right : Terms) (d : NameInfo)
     → AreSound ring infos after → i < length infos → j < length infos
     → (get_or infos i d).rank ≡ (get_or infos j d).rank
-    → ((k : ℕ) (e : Stored) → (get_or after k e).list ≡ (get_or before k e).list)
-    → ((e : Stored) → (get_or after i e).basis ≡ Some left) → ((e : Stored) → (get_or after j e).basis ≡ Some right)
+    → ((k : ℕ) (e : Held) → (get_or after k e).list ≡ (get_or before k e).list)
+    → ((e : Held) → (get_or after i e).basis ≡ Some left) → ((e : Held) → (get_or after j e).basis ≡ Some right)
     → ((rank : ℕ) (first second : Terms) → Each (HasPositions rank) first → Each (HasPositions rank) second
     → IsReducedBasisOf ring rank first left → IsReducedBasisOf ring rank second right → P ↔ IsOneModule ring first second)
-    → (e : Stored) → P ↔ IsOneModule ring (get_or before i e).list (get_or before j e).list
+    → (e : Held) → P ↔ IsOneModule ring (get_or before i e).list (get_or before j e).list
 compared {P} ring infos before after i j left right d sound wi wj rank lists l r law e =
     let rank_i = (get_or infos i d).rank in
     let s : IsSound ring rank_i (get_or after i e) = sound_at ring infos after i e d sound wi in
@@ -41,7 +41,7 @@ compared {P} ring infos before after i j left right d sound wi wj rank lists l r
 
 -- one value is written: the lists are as they were
 pub written_lists :
-    (stored : List Stored) (i k : ℕ) (s e : Stored)
+    (stored : List Held) (i k : ℕ) (s e : Held)
     → s.list ≡ (get_or stored i e).list → (get_or (slice_set stored i s) k e).list ≡ (get_or stored k e).list
 written_lists [] i k s e h = refl
 written_lists (t ∷ stored) zero zero s e h = h
@@ -51,7 +51,7 @@ written_lists (t ∷ stored) (suc i) (suc k) s e h = written_lists stored i k s 
 
 -- and no basis is lost, where it has one
 pub written_bases :
-    (stored : List Stored) (i k : ℕ) (s e : Stored)
+    (stored : List Held) (i k : ℕ) (s e : Held)
     → IsSome s.basis → IsSome (get_or stored k e).basis → IsSome (get_or (slice_set stored i s) k e).basis
 written_bases [] i k s e some h = h
 written_bases (t ∷ stored) zero zero s e some h = some
@@ -59,7 +59,7 @@ written_bases (t ∷ stored) zero (suc k) s e some h = h
 written_bases (t ∷ stored) (suc i) zero s e some h = h
 written_bases (t ∷ stored) (suc i) (suc k) s e some h = written_bases stored i k s e some h
 
-pub written_basis : (stored : List Stored) (i : ℕ) (s e : Stored) → i < length stored → IsSome s.basis → IsSome (get_or (slice_set stored i s) i e).basis
+pub written_basis : (stored : List Held) (i : ℕ) (s e : Held) → i < length stored → IsSome s.basis → IsSome (get_or (slice_set stored i s) i e).basis
 written_basis [] i s e lt some = absurd (omega arith)
 written_basis (t ∷ stored) zero s e lt some = some
 written_basis (t ∷ stored) (suc i) s e lt some = written_basis stored i s e (omega arith) some
@@ -92,7 +92,7 @@ none_of (Some x) e = absurd (true≢false e)
 
 -- a basis that was computed just now is taken away: all is as it was
 pub undone :
-    (stored : List Stored) (i : ℕ) (x z kept y forgot : Stored) (fresh : Bool)
+    (stored : List Held) (i : ℕ) (x z kept y forgot : Held) (fresh : Bool)
     → i < length stored → x ≡ get_or stored i x → z ≡ get_or stored i z → is_some z.basis ≡ not fresh
     → kept.list ≡ x.list → (IsSome x.basis → kept ≡ x) → y ≡ get_or (slice_set stored i kept) i y
     → (fresh ≡ true → forgot ≡ record { list = y.list; basis = None }) → (fresh ≡ false → forgot ≡ y)

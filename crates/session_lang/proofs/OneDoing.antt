@@ -1,5 +1,5 @@
 -- Statements that say the same do the same
-use Rattle.std.proofs.Common.{List, Some, [], ap, ap₂, codes, false, length, refl, subst, subst₂, sym, true, ℕ, ◌++◌, ◌∙◌, ◌∷◌, ◌≡◌}
+use Rattle.std.proofs.Common.{Bool, List, Some, [], ap, ap₂, codes, false, length, refl, subst, subst₂, sym, true, ℕ, ◌++◌, ◌∙◌, ◌∷◌, ◌≡◌}
 use mathlib.Core.Bool.{Bool-set}
 use mathlib.Core.HLevel.{is_prop→PathP}
 use Rattle.std.proofs.Math.Nat.{ℕ_set}
@@ -9,13 +9,16 @@ use Rattle.zp_field.specs.declared.modulus.Modulus.{Modulus}
 use Rattle.module_vectors.specs.declared.key.Key.{Key}
 use Rattle.module_vectors.specs.declared.ring.Ring.{Ring}
 use Rattle.poly_text.specs.Texts.{names_of, poly_text}
-use Rattle.script_parse.specs.Statements.{IsSameStatement}
+use Rattle.script_parse.specs.Statements.{IsSameOperation, IsSameStatement}
+use Rattle.script_parse.specs.declared.operation.Operation.{Operation}
 use Rattle.script_parse.specs.declared.stated.Statement.{Statement}
 use Rattle.script_parse.specs.declared.stated.Statement.TheVariants as statements
 use Rattle.session_lang.proofs.OneAnswer.{answers_once, decides_once, one_ring, one_value}
+use Rattle.session_lang.proofs.OneText.{counts_once, lifts_once}
+use Rattle.session_lang.proofs.OneWork.{gives_once}
 use Rattle.session_lang.specs.Answers.{Asked, Decides, IsOneModule, basis, member, normal_form, sizes_of_basis}
-use Rattle.session_lang.specs.Lines.{Answers, Does}
-use Rattle.session_lang.specs.Names.{HasValue, State, Value, after_run, with_value}
+use Rattle.session_lang.specs.Lines.{Answers, Does, Gives}
+use Rattle.session_lang.specs.Names.{HasValue, State, Value, after_giving, after_run}
 use Rattle.session_lang.specs.Texts.{listing}
 
 abbrev Terms : Type 0
@@ -41,8 +44,8 @@ ring_same r s a b c d e = λ i. record {
 abbrev stated : Ring → State
 stated r = record { ring = Some r; values = [] }
 
-abbrev given : State → List ℕ → List Terms → State
-given before name list = record { ring = before.ring; values = with_value (record { name = name; rank = 1; list = list; kept = false }) before.values }
+abbrev given : State → Bool → List ℕ → ℕ → List Terms → State
+given before kept name rank list = after_giving (record { name = name; rank = rank; list = list; kept = kept }) before
 
 stated_once : (r s : Ring) → IsSameStatement (statements.Ring r) (statements.Ring s) → stated r ≡ stated s
 stated_once r s e = ap stated (ring_same r s (modulus_same r.modulus s.modulus e.0) e.1 e.2 e.3 e.4)
@@ -90,6 +93,20 @@ module _ (before : State) where
   both_kept_once : (k m l n : List ℕ) → k ≡ l → m ≡ n → after_run m (after_run k before) ≡ after_run n (after_run l before)
   both_kept_once k m l n e f = ap₂ (λ first second. after_run second (after_run first before)) e f
 
+  -- and so is what gets a name
+  given_once :
+      (k : Bool) (m n : List ℕ) (r q : ℕ) (v w : List Terms) → m ≡ n → r ≡ q → v ≡ w → given before k m r v ≡ given before k n q w
+  given_once k m n r q v w e f g = λ i. given before k (e i) (f i) (g i)
+
+  -- what an operation gives
+  abbrev Made : List ℕ → Operation → State → Type 0
+  Made name x after = (ring : Ring) × (rank : ℕ) × (list : List Terms) × Gives before x ring rank list × (after ≡ given before true name rank list)
+
+  made_once : (m n : List ℕ) (x y : Operation) (p q : State) → m ≡ n → IsSameOperation x y → Made m x p → Made n y q → p ≡ q
+  made_once m n x y p q e f g h =
+      let z = gives_once before x y g.0 h.0 g.1 h.1 g.2 h.2 f g.3 h.3 in
+      g.4 ∙ given_once true m n g.1 h.1 g.2 h.2 e z.0 z.1 ∙ sym h.4
+
   pub does_once :
       (s t : Statement) (p q : State) (x y : List ℕ) → IsSameStatement s t → Does before s p x → Does before t q y → (p ≡ q) × (x ≡ y)
   does_once statements.Nothing statements.Nothing p q x y e a b = (a.0 ∙ sym b.0, a.1 ∙ sym b.1)
@@ -99,8 +116,21 @@ module _ (before : State) where
   does_once (statements.Show v) (statements.Show w) p q x y e a b =
       (a.0 ∙ sym b.0, shown_once v w a.1.0 b.1.0 x y e a.1.1 b.1.1 a.1.2 b.1.2)
   does_once (statements.Show v) _ p q x y e a b = absurd e
-  does_once (statements.Ideal m v) (statements.Ideal n w) p q x y e a b = (a.0 ∙ ap₂ (given before) e.0 e.1 ∙ sym b.0, a.1 ∙ sym b.1)
+  does_once (statements.Ideal m v) (statements.Ideal n w) p q x y e a b =
+      (a.0 ∙ given_once false (string_bytes m) (string_bytes n) 1 1 v w e.0 refl e.1 ∙ sym b.0, a.1 ∙ sym b.1)
   does_once (statements.Ideal m v) _ p q x y e a b = absurd e
+  does_once (statements.Module m r v) (statements.Module n t w) p q x y e a b =
+      (a.0 ∙ given_once false (string_bytes m) (string_bytes n) r t v w e.0 e.1 e.2 ∙ sym b.0, a.1 ∙ sym b.1)
+  does_once (statements.Module m r v) _ p q x y e a b = absurd e
+  does_once (statements.Let m f) (statements.Let n g) p q x y e a b =
+      (made_once (string_bytes m) (string_bytes n) f g p q e.0 e.1 a.0 b.0, a.1 ∙ sym b.1)
+  does_once (statements.Let m f) _ p q x y e a b = absurd e
+  does_once (statements.Lift m v) (statements.Lift n w) p q x y e a b =
+      (a.0 ∙ sym b.0, lifts_once before (string_bytes m) (string_bytes n) v w x y e.0 e.1 a.1 b.1)
+  does_once (statements.Lift m v) _ p q x y e a b = absurd e
+  does_once (statements.Hilbert m) (statements.Hilbert n) p q x y e a b =
+      (a.0 ∙ kept_once (string_bytes m) (string_bytes n) e ∙ sym b.0, counts_once before (string_bytes m) (string_bytes n) x y e a.1 b.1)
+  does_once (statements.Hilbert m) _ p q x y e a b = absurd e
   does_once (statements.Gens m) (statements.Gens n) p q x y e a b =
       (a.0 ∙ sym b.0, listed_once (string_bytes m) (string_bytes n) a.1.0 b.1.0 a.1.1 b.1.1 x y e a.1.2 b.1.2 a.1.3 b.1.3)
   does_once (statements.Gens m) _ p q x y e a b = absurd e

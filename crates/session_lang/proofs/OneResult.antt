@@ -1,14 +1,17 @@
 -- A line has one outcome
-use Rattle.std.proofs.Common.{List, ℕ, ◌≡◌}
+use Rattle.std.proofs.Common.{List, inl, inr, ℕ, ◌≡◌}
+use Rattle.std.specs.Prelude.{string_bytes}
 use Rattle.module_vectors.specs.declared.key.Key.{Key}
 use Rattle.module_vectors.specs.declared.ring.Ring.{Ring}
 use Rattle.script_parse.proofs.OneAnswer.{apart, one_kind, one_statement}
 use Rattle.script_parse.specs.Statements.{IsSameStatement}
 use Rattle.script_parse.specs.declared.kind.Kind.{Kind}
 use Rattle.script_parse.specs.declared.stated.Statement.{Statement}
+use Rattle.script_parse.specs.declared.stated.Statement.TheVariants as statements
 use Rattle.session_lang.proofs.OneDoing.{does_once}
+use Rattle.session_lang.proofs.OneText.{counts_or_refuses, refuses_once}
 use Rattle.session_lang.proofs.Reading.{refuses_alike, states_alike}
-use Rattle.session_lang.specs.Lines.{Line, Refuses, RunOf, States}
+use Rattle.session_lang.specs.Lines.{Does, Line, Refuses, RefusesReading, RefusesStated, RunOf, States}
 use Rattle.session_lang.specs.Names.{State}
 
 -- a line states one statement
@@ -16,8 +19,8 @@ pub states_once : (before : State) (line : List ℕ) (s t : Statement) → State
 states_once before line s t g h =
     one_statement before.ring g.0 line s t g.2 (states_alike before.values h.0 g.0 h.1 g.1 before.ring line t h.2)
 
--- a line that states something is not refused
-pub stated_not_refused : (before : State) (line : List ℕ) (s : Statement) (kind : Kind) → States before line s → Refuses before line kind → ⊥
+-- a line that states something is not refused as it is read
+pub stated_not_refused : (before : State) (line : List ℕ) (s : Statement) (kind : Kind) → States before line s → RefusesReading before line kind → ⊥
 stated_not_refused before line s kind g h =
     apart before.ring g.0 line s kind g.2 (refuses_alike before.values h.0 g.0 h.1 g.1 before.ring line kind h.2)
 
@@ -25,15 +28,76 @@ stated_not_refused before line s kind g h =
 pub line_once : (before : State) (line : List ℕ) (p q : State) (x y : List ℕ) → Line before line p x → Line before line q y → (p ≡ q) × (x ≡ y)
 line_once before line p q x y g h = does_once before g.0 h.0 p q x y (states_once before line g.0 h.0 g.1 h.1) g.2 h.2
 
+module _ (before : State) where
+  -- a statement that is done is not refused
+  done_not_refused :
+      (s t : Statement) (p : State) (x : List ℕ) (kind : Kind) → IsSameStatement s t → Does before s p x → RefusesStated before t kind → ⊥
+  done_not_refused (statements.Hilbert m) (statements.Hilbert n) p x kind e d r =
+      counts_or_refuses before (string_bytes m) (string_bytes n) e x kind d.1 r
+  done_not_refused statements.Nothing (statements.Hilbert n) p x kind e d r = absurd e
+  done_not_refused (statements.Ring y) (statements.Hilbert n) p x kind e d r = absurd e
+  done_not_refused (statements.Show y) (statements.Hilbert n) p x kind e d r = absurd e
+  done_not_refused (statements.Ideal y z) (statements.Hilbert n) p x kind e d r = absurd e
+  done_not_refused (statements.Module y z w) (statements.Hilbert n) p x kind e d r = absurd e
+  done_not_refused (statements.Let y z) (statements.Hilbert n) p x kind e d r = absurd e
+  done_not_refused (statements.Gens y) (statements.Hilbert n) p x kind e d r = absurd e
+  done_not_refused (statements.Gb y) (statements.Hilbert n) p x kind e d r = absurd e
+  done_not_refused (statements.Size y) (statements.Hilbert n) p x kind e d r = absurd e
+  done_not_refused (statements.NormalForm y z) (statements.Hilbert n) p x kind e d r = absurd e
+  done_not_refused (statements.Member y z) (statements.Hilbert n) p x kind e d r = absurd e
+  done_not_refused (statements.Lift y z) (statements.Hilbert n) p x kind e d r = absurd e
+  done_not_refused (statements.Equal y z) (statements.Hilbert n) p x kind e d r = absurd e
+  done_not_refused s statements.Nothing p x kind e d r = absurd r
+  done_not_refused s (statements.Ring y) p x kind e d r = absurd r
+  done_not_refused s (statements.Show y) p x kind e d r = absurd r
+  done_not_refused s (statements.Ideal y z) p x kind e d r = absurd r
+  done_not_refused s (statements.Module y z w) p x kind e d r = absurd r
+  done_not_refused s (statements.Let y z) p x kind e d r = absurd r
+  done_not_refused s (statements.Gens y) p x kind e d r = absurd r
+  done_not_refused s (statements.Gb y) p x kind e d r = absurd r
+  done_not_refused s (statements.Size y) p x kind e d r = absurd r
+  done_not_refused s (statements.NormalForm y z) p x kind e d r = absurd r
+  done_not_refused s (statements.Member y z) p x kind e d r = absurd r
+  done_not_refused s (statements.Lift y z) p x kind e d r = absurd r
+  done_not_refused s (statements.Equal y z) p x kind e d r = absurd r
+
+  -- a statement is refused for one kind
+  stated_once :
+      (s t : Statement) (j k : Kind) → IsSameStatement s t → RefusesStated before s j → RefusesStated before t k → j ≡ k
+  stated_once (statements.Hilbert m) (statements.Hilbert n) j k e g h = refuses_once before (string_bytes m) (string_bytes n) e j k g h
+  stated_once (statements.Hilbert m) _ j k e g h = absurd e
+  stated_once statements.Nothing t j k e g h = absurd g
+  stated_once (statements.Ring y) t j k e g h = absurd g
+  stated_once (statements.Show y) t j k e g h = absurd g
+  stated_once (statements.Ideal y z) t j k e g h = absurd g
+  stated_once (statements.Module y z w) t j k e g h = absurd g
+  stated_once (statements.Let y z) t j k e g h = absurd g
+  stated_once (statements.Gens y) t j k e g h = absurd g
+  stated_once (statements.Gb y) t j k e g h = absurd g
+  stated_once (statements.Size y) t j k e g h = absurd g
+  stated_once (statements.NormalForm y z) t j k e g h = absurd g
+  stated_once (statements.Member y z) t j k e g h = absurd g
+  stated_once (statements.Lift y z) t j k e g h = absurd g
+  stated_once (statements.Equal y z) t j k e g h = absurd g
+
 -- a line that is done is not refused
 pub line_not_refused : (before : State) (line : List ℕ) (p : State) (x : List ℕ) (kind : Kind) → Line before line p x → Refuses before line kind → ⊥
-line_not_refused before line p x kind g h = stated_not_refused before line g.0 kind g.1 h
+line_not_refused before line p x kind g (inl h) = stated_not_refused before line g.0 kind g.1 h
+line_not_refused before line p x kind g (inr h) = done_not_refused before g.0 h.0 p x kind (states_once before line g.0 h.0 g.1 h.1) g.2 h.2
 
 -- a line is refused for one kind
-pub refused_once : (before : State) (line : List ℕ) (j k : Kind) → Refuses before line j → Refuses before line k → j ≡ k
-refused_once before line j k g h =
+reading_once : (before : State) (line : List ℕ) (j k : Kind) → RefusesReading before line j → RefusesReading before line k → j ≡ k
+reading_once before line j k g h =
     one_kind before.ring g.0 line j k g.2 (refuses_alike before.values h.0 g.0 h.1 g.1 before.ring line k h.2)
 
--- a line that is refused has no run
-pub no_run : (before : State) (line : List ℕ) (kind : Kind) (ring : Ring) (rank : ℕ) (list : List (List (Key × ℕ))) → Refuses before line kind → RunOf before line ring rank list → ⊥
+pub refused_once : (before : State) (line : List ℕ) (j k : Kind) → Refuses before line j → Refuses before line k → j ≡ k
+refused_once before line j k (inl g) (inl h) = reading_once before line j k g h
+refused_once before line j k (inl g) (inr h) = absurd (stated_not_refused before line h.0 j h.1 g)
+refused_once before line j k (inr g) (inl h) = absurd (stated_not_refused before line g.0 k g.1 h)
+refused_once before line j k (inr g) (inr h) = stated_once before g.0 h.0 j k (states_once before line g.0 h.0 g.1 h.1) g.2 h.2
+
+-- a line that is refused as it is read has no run
+pub no_run :
+    (before : State) (line : List ℕ) (kind : Kind) (ring : Ring) (rank : ℕ) (list : List (List (Key × ℕ)))
+    → RefusesReading before line kind → RunOf before line ring rank list → ⊥
 no_run before line kind ring rank list refused run = stated_not_refused before line run.0 kind run.1 refused

@@ -1,19 +1,20 @@
 -- What a reader of lines is told, and what it says
-use Rattle.std.proofs.Common.{◌≡◌, ℕ, ◌⊎◌, inl, inr, cond, nat_eq, Bool, true, false, List, [], ◌∷◌, Option, Some, None, refl, sym, ap, ◌∙◌, arith}
+use Rattle.std.proofs.Common.{◌≡◌, ℕ, ◌<◌, ◌≤◌, ◌⊎◌, inl, inr, cond, nat_eq, suc, zero, Bool, true, false, List, [], ◌∷◌, Option, Some, None, length, refl, subst, sym, ap, ◌∙◌, arith}
+use Rattle.std.proofs.lemmas.Bool.{cases_lt}
 use Rattle.std.proofs.lemmas.Bool.Decides.{eqb_tells}
 use Rattle.std.specs.Prelude.{Contains, string_bytes}
 use Rattle.std.specs.Cmp.Lexicographic.{pointwise}
 use Rattle.formal_sums.specs.FormalSums.{Each}
-use Rattle.poly_grammar.specs.Numerals.{text_of}
+use Rattle.poly_grammar.specs.Numerals.{text_of, value_of}
 use Rattle.poly_grammar.specs.Trees.{Poly}
 use Rattle.script_tokens.specs.declared.token.Token.{Token}
 use Rattle.module_vectors.specs.Rings.{ring_comparison}
 use Rattle.module_vectors.specs.Vectors.{AreVectorsOver, HasPositions, IsVectorOver}
 use Rattle.module_vectors.specs.declared.key.Key.{Key}
 use Rattle.module_vectors.specs.declared.ring.Ring.{Ring}
-use Rattle.script_parse.specs.Refusals.{HasOtherKind, HasOtherRank, HasUnknownName, Holds, IsNamed, Refuses, rank_named}
-use Rattle.script_parse.specs.Statements.{ArePolynomialsOf, Says, States}
-use Rattle.script_parse.specs.Written.{IsLine, Written, ask_line, divide_line, equal_line, ideal_line, nothing, ring_line, show_line, value_places}
+use Rattle.script_parse.specs.Refusals.{HasOtherFactor, HasOtherKind, HasOtherOperands, HasOtherRank, HasUnknownName, HaveOtherRanks, Holds, IsNamed, IsOutside, Refuses, length_named, rank_named}
+use Rattle.script_parse.specs.Statements.{ArePolynomialsOf, AreVectorsOf, IsOperationOf, Says, States}
+use Rattle.script_parse.specs.Written.{IsLine, Written, WrittenOperation, ask_line, divide_line, elimination, equal_line, ideal_line, let_line, module_line, nothing, of_polynomial, of_two, ring_line, show_line, syzygies, value_places}
 use Rattle.script_parse.specs.declared.form.Division.{Division}
 use Rattle.script_parse.specs.declared.form.Division.TheVariants as divisions
 use Rattle.script_parse.specs.declared.form.Question.{Question}
@@ -21,9 +22,14 @@ use Rattle.script_parse.specs.declared.form.Question.TheVariants as questions
 use Rattle.script_parse.specs.declared.kind.Kind.{Kind}
 use Rattle.script_parse.specs.declared.kind.Kind.TheVariants as kinds
 use Rattle.script_parse.specs.declared.named.NameInfo.{NameInfo}
+use Rattle.script_parse.specs.declared.operands.Binary.{Binary}
+use Rattle.script_parse.specs.declared.operands.Binary.TheVariants as binaries
+use Rattle.script_parse.specs.declared.operands.ByPolynomial.TheVariants as divisors
+use Rattle.script_parse.specs.declared.operation.Operation.{Operation}
+use Rattle.script_parse.specs.declared.operation.Operation.TheVariants as operations
 use Rattle.script_parse.specs.declared.stated.Statement.{Statement}
 use Rattle.script_parse.specs.declared.stated.Statement.TheVariants as statements
-use Rattle.session_lang.specs.Kept.{IsFit, IsGiven, IsOfValue}
+use Rattle.session_lang.specs.Kept.{AreGiven, IsFit, IsGiven, IsOfValue, IsOfValueRank, IsValueRank, IsWithPolynomial, IsWorkable}
 use Rattle.session_lang.specs.Names.{AreInfosOf, HasValue, State, Value, value_named}
 
 -- the rank of a value that may be none
@@ -45,8 +51,27 @@ ranks_told (v ∷ values) (i ∷ infos) text h =
     choose true = refl
     choose false = refl
 
--- a line is refused alike by all who are told the same ranks
-module _ (ring : Option Ring) (infos more : List NameInfo) (line : List ℕ) (same : (text : List ℕ) → rank_named infos text ≡ rank_named more text) where
+-- and the length is that of its list
+abbrev length_of : Option Value → Option ℕ
+length_of None = None
+length_of (Some v) = Some (length v.list)
+
+pub lengths_told : (values : List Value) (infos : List NameInfo) (text : List ℕ) → AreInfosOf values infos
+    → length_named infos text ≡ length_of (value_named values text)
+lengths_told [] [] text h = refl
+lengths_told [] (i ∷ infos) text h = absurd h
+lengths_told (v ∷ values) [] text h = absurd h
+lengths_told (v ∷ values) (i ∷ infos) text h =
+    (λ k. cond (pointwise nat_eq (h.0 k) text) (Some (h.2 k)) (lengths_told values infos text h.3 k))
+    ∙ choose (pointwise nat_eq v.name text)
+  where
+    choose : (b : Bool) → cond b (Some (length v.list)) (length_of (value_named values text)) ≡ length_of (cond b (Some v) (value_named values text))
+    choose true = refl
+    choose false = refl
+
+-- a line is refused alike by all who are told the same ranks and lengths
+module _ (ring : Option Ring) (infos more : List NameInfo) (line : List ℕ) (same : (text : List ℕ) → rank_named infos text ≡ rank_named more text)
+    (as_long : (text : List ℕ) → length_named infos text ≡ length_named more text) where
   named : (text : List ℕ) → IsNamed infos text → IsNamed more text
   named text h = (h.0, sym (same text) ∙ h.1)
 
@@ -57,13 +82,45 @@ module _ (ring : Option Ring) (infos more : List NameInfo) (line : List ℕ) (sa
   unknown w (inl (t, stands, other, none)) = inl (t, stands, other, λ h. none (named_back (text_of line t) h))
   unknown w (inr h) = inr h
 
+  other_factor : (w : Written) → HasOtherFactor infos line w → HasOtherFactor more line w
+  other_factor (let_line given (of_two binaries.Product left right)) (rank, e, lt) = (rank, sym (same (text_of line left)) ∙ e, lt)
+  other_factor (let_line given (of_two binaries.Sum left right)) h = absurd h
+  other_factor (let_line given (of_two binaries.Intersect left right)) h = absurd h
+  other_factor (let_line given (of_two binaries.Colon left right)) h = absurd h
+  other_factor (let_line given (of_polynomial word value p)) h = absurd h
+  other_factor (let_line given (elimination value count)) h = absurd h
+  other_factor (let_line given (syzygies value)) h = absurd h
+  other_factor nothing h = absurd h
+  other_factor (ring_line words) h = absurd h
+  other_factor (show_line p) h = absurd h
+  other_factor (ideal_line t ps) h = absurd h
+  other_factor (module_line t k vs) h = absurd h
+  other_factor (ask_line q t) h = absurd h
+  other_factor (divide_line d t ps) h = absurd h
+  other_factor (equal_line s t) h = absurd h
+
   other_kind : (w : Written) → HasOtherKind ring infos line w → HasOtherKind ring more line w
   other_kind w (inl (t, stands, h)) = inl (t, stands, named (text_of line t) h)
-  other_kind w (inr h) = inr h
+  other_kind w (inr (inl h)) = inr (inl h)
+  other_kind w (inr (inr h)) = inr (inr (other_factor w h))
+
+  other_ranks : (s t : Token) → HaveOtherRanks infos line s t → HaveOtherRanks more line s t
+  other_ranks s t (q, r, e, f, ne) = (q, r, sym (same (text_of line s)) ∙ e, sym (same (text_of line t)) ∙ f, ne)
+
+  other_operands : (w : WrittenOperation) → HasOtherOperands infos line w → HasOtherOperands more line w
+  other_operands (of_two binaries.Sum s t) h = other_ranks s t h
+  other_operands (of_two binaries.Intersect s t) h = other_ranks s t h
+  other_operands (of_two binaries.Colon s t) h = other_ranks s t h
+  other_operands (of_two binaries.Product s t) h = absurd h
+  other_operands (of_polynomial word t p) h = absurd h
+  other_operands (elimination t count) h = absurd h
+  other_operands (syzygies t) (n, e, out) = (n, sym (as_long (text_of line t)) ∙ e, out)
 
   other_rank : (w : Written) → HasOtherRank infos line w → HasOtherRank more line w
   other_rank (divide_line d t ps) (r, e, ne) = (r, sym (same (text_of line t)) ∙ e, ne)
-  other_rank (equal_line s t) (q, r, e, f, ne) = (q, r, sym (same (text_of line s)) ∙ e, sym (same (text_of line t)) ∙ f, ne)
+  other_rank (equal_line s t) h = other_ranks s t h
+  other_rank (let_line t w) h = other_operands w h
+  other_rank (module_line t k vs) h = h
   other_rank (ideal_line t ps) h = h
   other_rank nothing h = h
   other_rank (ring_line words) h = h
@@ -79,23 +136,28 @@ module _ (ring : Option Ring) (infos more : List NameInfo) (line : List ℕ) (sa
   holds_alike kinds.OfKind h = (h.0, h.1, other_kind h.0 h.2)
   holds_alike kinds.Rank h = (h.0, h.1, other_rank h.0 h.2)
   holds_alike kinds.Degree h = h
+  holds_alike kinds.Leads h = h
+  holds_alike kinds.Large h = h
 
 module _ (values : List Value) (infos more : List NameInfo) (told : AreInfosOf values infos) (told' : AreInfosOf values more) where
   ranks_alike : (text : List ℕ) → rank_named infos text ≡ rank_named more text
   ranks_alike text = ranks_told values infos text told ∙ sym (ranks_told values more text told')
 
+  lengths_alike : (text : List ℕ) → length_named infos text ≡ length_named more text
+  lengths_alike text = lengths_told values infos text told ∙ sym (lengths_told values more text told')
+
   pub states_alike : (ring : Option Ring) (line : List ℕ) (s : Statement) → States ring infos line s → States ring more line s
   states_alike ring line s h = record {
     written = h.written;
     is_line = h.is_line;
-    free = λ kind x. h.free kind (holds_alike ring more infos line (λ text. sym (ranks_alike text)) kind x);
+    free = λ kind x. h.free kind (holds_alike ring more infos line (λ text. sym (ranks_alike text)) (λ text. sym (lengths_alike text)) kind x);
     says = h.says;
   }
 
   pub refuses_alike : (ring : Option Ring) (line : List ℕ) (k : Kind) → Refuses ring infos line k → Refuses ring more line k
   refuses_alike ring line k h = record {
-    holds = holds_alike ring infos more line ranks_alike k h.holds;
-    first = λ earlier lt x. h.first earlier lt (holds_alike ring more infos line (λ text. sym (ranks_alike text)) earlier x);
+    holds = holds_alike ring infos more line ranks_alike lengths_alike k h.holds;
+    first = λ earlier lt x. h.first earlier lt (holds_alike ring more infos line (λ text. sym (ranks_alike text)) (λ text. sym (lengths_alike text)) earlier x);
   }
 
 -- ---- what is stated is fit to be done
@@ -105,6 +167,37 @@ polynomials_fit ring line [] [] h = (tt, tt)
 polynomials_fit ring line [] (v ∷ vs) h = absurd h
 polynomials_fit ring line (p ∷ ps) [] h = absurd h
 polynomials_fit ring line (p ∷ ps) (v ∷ vs) h = let r = polynomials_fit ring line ps vs h.1 in ((h.0.0, r.0), (h.0.1, r.1))
+
+vectors_fit : (ring : Ring) (line : List ℕ) (rank : ℕ) (es : List (List Poly)) (vs : List (List (Key × ℕ))) → AreVectorsOf ring line rank es vs
+    → AreVectorsOver ring (ring_comparison ring) vs × Each (HasPositions rank) vs
+vectors_fit ring line rank [] [] h = (tt, tt)
+vectors_fit ring line rank [] (v ∷ vs) h = absurd h
+vectors_fit ring line rank (e ∷ es) [] h = absurd h
+vectors_fit ring line rank (e ∷ es) (v ∷ vs) h = let r = vectors_fit ring line rank es vs h.1 in ((h.0.0, r.0), (h.0.1, r.1))
+
+-- a number that is not outside is from 1 to the last one
+within : (k : ℕ) → (IsOutside 64 k → ⊥) → IsValueRank k
+within zero h = absurd (h (inl refl))
+within (suc k) h = (omega arith, go (cases_lt 64 (suc k)))
+  where
+    go : (64 < suc k) ⊎ (suc k ≤ 64) → suc k ≤ 64
+    go (inl lt) = absurd (h (inr lt))
+    go (inr le) = le
+
+at_most_one : (r : ℕ) → (1 < r → ⊥) → r ≤ 1
+at_most_one r h = go (cases_lt 1 r)
+  where
+    go : (1 < r) ⊎ (r ≤ 1) → r ≤ 1
+    go (inl lt) = absurd (h lt)
+    go (inr le) = le
+
+-- numbers that are not different are one
+not_other : (m n : ℕ) → ((m ≡ n → ⊥) → ⊥) → m ≡ n
+not_other m n k = go (eqb_tells m n)
+  where
+    go : {P Q : Type 0} → (P × (m ≡ n)) ⊎ (Q × (m ≡ n → ⊥)) → m ≡ n
+    go (inl h) = h.1
+    go (inr h) = absurd (k h.1)
 
 value_of_rank : (o : Option Value) (r : ℕ) → rank_of o ≡ Some r → (v : Value) × (o ≡ Some v) × (v.rank ≡ r)
 value_of_rank None r e = absurd cc
@@ -128,7 +221,7 @@ module _ (values : List Value) (infos : List NameInfo) (line : List ℕ) (told :
 
       go : (o : Option ℕ) → rank_named infos (text_of line t) ≡ o → (v : Value) × (value_named values (text_of line t) ≡ Some v)
           × (rank_named infos (text_of line t) ≡ Some v.rank)
-      go None e = absurd (free kinds.Name (w, is, inl (t, inr stands, (λ h. free kinds.OfKind (w, is, inr (t, stands, h))), none_there e)))
+      go None e = absurd (free kinds.Name (w, is, inl (t, inr stands, (λ h. free kinds.OfKind (w, is, inr (inl (t, stands, h)))), none_there e)))
       go (Some r) e =
           let x = value_of_rank (value_named values (text_of line t)) r (sym (ranks_told values infos (text_of line t) told) ∙ e) in
           (x.0, x.1, e ∙ ap Some (sym x.2))
@@ -164,21 +257,94 @@ module _ (values : List Value) (infos : List NameInfo) (line : List ℕ) (told :
       let x = given r (divide_line d t ps) t name is free (0, omega arith, refl) e in
       (r, x.0, x.1, vector)
 
+  -- the same, of as many entries as the value's rank
+  lifted_over :
+      (r : Ring) (t : Token) (ps : List Poly) (name : List ℕ) (v : List (Key × ℕ)) → IsLine line (divide_line divisions.Lift t ps)
+      → ((kind : Kind) → Holds (Some r) infos line kind → ⊥) → name ≡ text_of line t → IsVectorOver r (ring_comparison r) v → HasPositions (length ps) v
+      → IsOfValueRank (record { ring = Some r; values = values }) name v
+  lifted_over r t ps name v is free e vector positions =
+      let x = given r (divide_line divisions.Lift t ps) t name is free (0, omega arith, refl) e in
+      let rank = not_other (length ps) x.0.rank (λ ne. free kinds.Rank (divide_line divisions.Lift t ps, is, (x.0.rank, x.2, ne))) in
+      (r, x.0, x.1, vector, subst (λ m. HasPositions m v) rank positions)
+
+  -- values with two names, whose ranks pass a test
+  two_given :
+      (r : Ring) (w : Written) (s t : Token) (a b : List ℕ) (Test : ℕ → ℕ → Type 0) → IsLine line w → ((kind : Kind) → Holds (Some r) infos line kind → ⊥)
+      → Contains (value_places w) s → Contains (value_places w) t → a ≡ text_of line s → b ≡ text_of line t
+      → ((m n : ℕ) → rank_named infos (text_of line s) ≡ Some m → rank_named infos (text_of line t) ≡ Some n → Test m n)
+      → AreGiven (record { ring = Some r; values = values }) a b Test
+  two_given r w s t a b Test is free at_s at_t e f passes =
+      let x = given r w s a is free at_s e in
+      let y = given r w t b is free at_t f in
+      (r, x.0, y.0, x.1, y.1, passes x.0.rank y.0.rank x.2 y.2)
+
   -- the values with names that are compared: their ranks are one
   compared :
       (ring : Option Ring) (s t : Token) (a b : List ℕ) → IsLine line (equal_line s t)
       → ((kind : Kind) → Holds ring infos line kind → ⊥) → a ≡ text_of line s → b ≡ text_of line t
-      → (r : Ring) × (left : Value) × (right : Value) × HasValue (record { ring = ring; values = values }) a r left
-      × HasValue (record { ring = ring; values = values }) b r right × (left.rank ≡ right.rank)
+      → AreGiven (record { ring = ring; values = values }) a b (λ m n. m ≡ n)
   compared None s t a b is free e f = absurd (free kinds.Ring (equal_line s t, is, refl))
   compared (Some r) s t a b is free e f =
-      let x = given r (equal_line s t) s a is free (0, omega arith, refl) e in
-      let y = given r (equal_line s t) t b is free (1, omega arith, refl) f in
-      (r, x.0, y.0, x.1, y.1, go (eqb_tells x.0.rank y.0.rank) (λ ne. free kinds.Rank (equal_line s t, is, (x.0.rank, y.0.rank, x.2, y.2, ne))))
-    where
-      go : {m n : ℕ} {P Q : Type 0} → (P × (m ≡ n)) ⊎ (Q × (m ≡ n → ⊥)) → ((m ≡ n → ⊥) → ⊥) → m ≡ n
-      go (inl h) k = h.1
-      go (inr h) k = absurd (k h.1)
+      two_given r (equal_line s t) s t a b (λ m n. m ≡ n) is free (0, omega arith, refl) (1, omega arith, refl) e f
+      (λ m n p q. not_other m n (λ ne. free kinds.Rank (equal_line s t, is, (m, n, p, q, ne))))
+
+  -- the names of an operation are those of values that it can work on
+  of_one_rank :
+      (r : Ring) (word : Binary) (g s t : Token) (a b : List ℕ) → IsLine line (let_line g (of_two word s t))
+      → ((kind : Kind) → Holds (Some r) infos line kind → ⊥)
+      → (HaveOtherRanks infos line s t → HasOtherOperands infos line (of_two word s t)) → a ≡ text_of line s → b ≡ text_of line t
+      → AreGiven (record { ring = Some r; values = values }) a b (λ m n. m ≡ n)
+  of_one_rank r word g s t a b is free holds e f =
+      two_given r (let_line g (of_two word s t)) s t a b (λ m n. m ≡ n) is free (0, omega arith, refl) (1, omega arith, refl) e f
+      (λ m n p q. not_other m n (λ ne. free kinds.Rank (let_line g (of_two word s t), is, holds (m, n, p, q, ne))))
+
+  with_polynomial :
+      (r : Ring) (w : Written) (t : Token) (name : List ℕ) (f : List (Key × ℕ)) → IsLine line w
+      → ((kind : Kind) → Holds (Some r) infos line kind → ⊥) → Contains (value_places w) t → name ≡ text_of line t
+      → IsVectorOver r (ring_comparison r) f → HasPositions 1 f → IsWithPolynomial (record { ring = Some r; values = values }) name f
+  with_polynomial r w t name f is free stands e vector positions =
+      let x = given r w t name is free stands e in
+      (r, x.0, x.1, vector, positions)
+
+  length_some : (o : Option Value) (v : Value) → o ≡ Some v → length_of o ≡ Some (length v.list)
+  length_some o v e = ap length_of e
+
+  workable :
+      (r : Ring) (g : Token) (w : WrittenOperation) (x : Operation) → IsLine line (let_line g w) → ((kind : Kind) → Holds (Some r) infos line kind → ⊥)
+      → IsOperationOf r line w x → IsWorkable (record { ring = Some r; values = values }) x
+  workable r g (of_two binaries.Sum s t) (operations.Sum a b) is free h =
+      of_one_rank r binaries.Sum g s t (string_bytes a) (string_bytes b) is free (λ z. z) h.0 h.1
+  workable r g (of_two binaries.Sum s t) _ is free h = absurd h
+  workable r g (of_two binaries.Intersect s t) (operations.Intersect a b) is free h =
+      of_one_rank r binaries.Intersect g s t (string_bytes a) (string_bytes b) is free (λ z. z) h.0 h.1
+  workable r g (of_two binaries.Intersect s t) _ is free h = absurd h
+  workable r g (of_two binaries.Colon s t) (operations.Colon a b) is free h =
+      of_one_rank r binaries.Colon g s t (string_bytes a) (string_bytes b) is free (λ z. z) h.0 h.1
+  workable r g (of_two binaries.Colon s t) _ is free h = absurd h
+  workable r g (of_two binaries.Product s t) (operations.Product a b) is free h =
+      two_given r (let_line g (of_two binaries.Product s t)) s t (string_bytes a) (string_bytes b) (λ m n. m ≤ 1) is free
+      (0, omega arith, refl) (1, omega arith, refl) h.0 h.1
+      (λ m n p q. at_most_one m (λ lt. free kinds.OfKind (let_line g (of_two binaries.Product s t), is, inr (inr (m, p, lt)))))
+  workable r g (of_two binaries.Product s t) _ is free h = absurd h
+  workable r g (of_polynomial divisors.Quotient t p) (operations.Quotient a f) is free h =
+      with_polynomial r (let_line g (of_polynomial divisors.Quotient t p)) t (string_bytes a) f is free (0, omega arith, refl) h.0 h.1.0 h.1.1
+  workable r g (of_polynomial divisors.Quotient t p) _ is free h = absurd h
+  workable r g (of_polynomial divisors.Saturate t p) (operations.Saturate a f) is free h =
+      with_polynomial r (let_line g (of_polynomial divisors.Saturate t p)) t (string_bytes a) f is free (0, omega arith, refl) h.0 h.1.0 h.1.1
+  workable r g (of_polynomial divisors.Saturate t p) _ is free h = absurd h
+  workable r g (elimination t count) (operations.Eliminate a k) is free h =
+      let x = given r (let_line g (elimination t count)) t (string_bytes a) is free (0, omega arith, refl) h.0 in
+      (r, x.0, x.1)
+  workable r g (elimination t count) _ is free h = absurd h
+  workable r g (syzygies t) (operations.Syzygies a) is free h =
+      let x = placed r (let_line g (syzygies t)) t is free (0, omega arith, refl) in
+      let long = lengths_told values infos (text_of line t) told ∙ length_some (value_named values (text_of line t)) x.0 x.1 in (
+        r,
+        x.0,
+        at_name r (string_bytes a) (text_of line t) x.0 h x.1,
+        within (length x.0.list) (λ out. free kinds.Rank (let_line g (syzygies t), is, (length x.0.list, long, out))),
+      )
+  workable r g (syzygies t) _ is free h = absurd h
 
   fit :
       (ring : Option Ring) (w : Written) (s : Statement) → IsLine line w → ((kind : Kind) → Holds ring infos line kind → ⊥)
@@ -193,18 +359,36 @@ module _ (values : List Value) (infos : List NameInfo) (line : List ℕ) (told :
   fit (Some r) (ideal_line t ps) (statements.Ideal name list) is free h = let x = polynomials_fit r line ps list h.1 in (r, refl, x.0, x.1)
   fit (Some r) (ideal_line t ps) _ is free h = absurd h
   fit None (ideal_line t ps) s is free h = absurd h
+  fit (Some r) (module_line t k es) (statements.Module name rank list) is free h =
+      let x = vectors_fit r line (value_of line k) es list h.2 in (
+        r,
+        refl,
+        x.0,
+        subst (λ m. Each (HasPositions m) list) (sym h.1) x.1,
+        subst IsValueRank (sym h.1) (within (value_of line k) (λ out. free kinds.Rank (module_line t k es, is, inl out))),
+      )
+  fit (Some r) (module_line t k es) _ is free h = absurd h
+  fit None (module_line t k es) s is free h = absurd h
+  fit (Some r) (let_line t w) (statements.Let name x) is free h = workable r t w x is free h.1
+  fit (Some r) (let_line t w) _ is free h = absurd h
+  fit None (let_line t w) s is free h = absurd h
   fit ring (ask_line questions.Gens t) (statements.Gens name) is free h = asked_of ring questions.Gens t (string_bytes name) is free h
   fit ring (ask_line questions.Gens t) _ is free h = absurd h
   fit ring (ask_line questions.Gb t) (statements.Gb name) is free h = asked_of ring questions.Gb t (string_bytes name) is free h
   fit ring (ask_line questions.Gb t) _ is free h = absurd h
   fit ring (ask_line questions.Size t) (statements.Size name) is free h = asked_of ring questions.Size t (string_bytes name) is free h
   fit ring (ask_line questions.Size t) _ is free h = absurd h
+  fit ring (ask_line questions.Hilbert t) (statements.Hilbert name) is free h = asked_of ring questions.Hilbert t (string_bytes name) is free h
+  fit ring (ask_line questions.Hilbert t) _ is free h = absurd h
   fit (Some r) (divide_line divisions.NormalForm t ps) (statements.NormalForm name v) is free h =
       divided_by r divisions.NormalForm t ps (string_bytes name) v is free h.0 h.1.0
   fit (Some r) (divide_line divisions.NormalForm t ps) _ is free h = absurd h
   fit (Some r) (divide_line divisions.Member t ps) (statements.Member name v) is free h =
       divided_by r divisions.Member t ps (string_bytes name) v is free h.0 h.1.0
   fit (Some r) (divide_line divisions.Member t ps) _ is free h = absurd h
+  fit (Some r) (divide_line divisions.Lift t ps) (statements.Lift name v) is free h =
+      lifted_over r t ps (string_bytes name) v is free h.0 h.1.0 h.1.1
+  fit (Some r) (divide_line divisions.Lift t ps) _ is free h = absurd h
   fit None (divide_line d t ps) s is free h = absurd h
   fit ring (equal_line s t) (statements.Equal a b) is free h = compared ring s t (string_bytes a) (string_bytes b) is free h.0 h.1
   fit ring (equal_line s t) _ is free h = absurd h

@@ -1,5 +1,5 @@
 -- A reader that is told the ring and the names of a state: what it says is so of the state
-use Rattle.std.proofs.Common.{List, Option, subst, subst₂, ℕ, ◌≡◌}
+use Rattle.std.proofs.Common.{List, Option, inl, subst, subst₂, ℕ, ◌≡◌}
 use Rattle.module_vectors.specs.declared.ring.Ring.{Ring}
 use Rattle.script_parse.specs.Refusals as refusals
 use Rattle.script_parse.specs.Statements as readings
@@ -9,11 +9,11 @@ use Rattle.script_parse.specs.declared.stated.Statement.{Statement}
 use Rattle.session_lang.proofs.Reading.{stated_fits}
 use Rattle.session_lang.proofs.Values.{kept_told}
 use Rattle.session_lang.specs.Kept.{AreKept, IsFit, values_of}
-use Rattle.session_lang.specs.Lines.{Refuses, States}
+use Rattle.session_lang.specs.Lines.{Refuses, RefusesReading, States}
 use Rattle.session_lang.specs.Names.{State}
-use Rattle.session_lang.specs.declared.stored.Stored.{Stored}
+use Rattle.session_lang.specs.Held.{Held}
 
-module _ (before : State) (ring : Option Ring) (infos : List NameInfo) (stored : List Stored)
+module _ (before : State) (ring : Option Ring) (infos : List NameInfo) (stored : List Held)
     (view : record { ring = ring; values = values_of infos stored } ≡ before) (kept : AreKept ring infos stored)
     (told : Option Ring) (names : List NameInfo) (same_ring : told ≡ ring) (same_names : names ≡ infos) (line : List ℕ) where
   pub states : (statement : Statement) → readings.States told names line statement → States before line statement
@@ -29,5 +29,6 @@ module _ (before : State) (ring : Option Ring) (infos : List NameInfo) (stored :
 
   pub refuses : (kind : Kind) → refusals.Refuses told names line kind → Refuses before line kind
   refuses kind h =
-      subst (λ b. Refuses b line kind) view
-      (infos, kept_told ring infos stored kept, subst₂ (λ r i. refusals.Refuses r i line kind) same_ring same_names h)
+      inl
+      (subst (λ b. RefusesReading b line kind) view
+      (infos, kept_told ring infos stored kept, subst₂ (λ r i. refusals.Refuses r i line kind) same_ring same_names h))

@@ -19,12 +19,12 @@ use Rattle.session_lang.specs.Lines.{IsRunFor}
 use Rattle.session_lang.specs.Names.{HasValue, State, Value}
 use Rattle.session_lang.specs.Parts.{IsRunAt, IsRunOf}
 use Rattle.session_lang.specs.Stops.{IsTrailFor, IsTrailOf}
-use Rattle.session_lang.specs.declared.stored.Stored.{Stored}
+use Rattle.session_lang.specs.Held.{Held}
 
 module _ (old new : ℕ) (kept kept' : Option StoppedRun) where
   -- the stop of a run for a value, as a stop of the call that needs it
   pub run_fails :
-      (Trails : KeptTrail → Type 0) (ring : Ring) (info : NameInfo) (s : Stored) (stop : Stop)
+      (Trails : KeptTrail → Type 0) (ring : Ring) (info : NameInfo) (s : Held) (stop : Stop)
       → s.basis ≡ None → StopsRun old new kept kept' ring info.rank s.list stop
       → CallStops (IsRunOf ring (value_of info s)) Trails old new kept kept' (op_stop_of_run stop)
   run_fails Trails ring info s runs.Memory none h = h
@@ -44,7 +44,7 @@ module _ (old new : ℕ) (kept kept' : Option StoppedRun) where
 
 -- the run for an item and its name, as the run for the value at their place
 pub placed_run :
-    (over : Ring) (infos : List NameInfo) (stored : List Stored) (i : ℕ) (d : NameInfo) (e : Stored) (info : NameInfo) (s : Stored)
+    (over : Ring) (infos : List NameInfo) (stored : List Held) (i : ℕ) (d : NameInfo) (e : Held) (info : NameInfo) (s : Held)
     → i < length infos → i < length stored → info ≡ get_or infos i info → s ≡ get_or stored i s
     → (ring : Ring) (rank : ℕ) (list : List (List (Key × ℕ))) → IsRunOf over (value_of info s) ring rank list → IsRunAt over infos stored i d e ring rank list
 placed_run over infos stored i d e info s within below at_info at_item ring rank list h =

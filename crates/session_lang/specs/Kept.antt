@@ -1,5 +1,5 @@
 -- What the code keeps of values, and what it is to the state
-use Rattle.std.specs.Prelude.{IfSome, List, None, Option, Some, [], if◌then◌else◌, is_some, length, nat_eq, option_map, string_bytes, suc, ℕ, ◌∷◌, ◌≡◌}
+use Rattle.std.specs.Prelude.{IfSome, List, None, Option, Some, [], if◌then◌else◌, is_some, length, nat_eq, option_map, string_bytes, suc, ℕ, ◌∷◌, ◌≡◌, ◌≤◌}
 use Rattle.std.specs.Cmp.Lexicographic.{pointwise}
 use Rattle.formal_sums.specs.FormalSums.{Each}
 use Rattle.module_vectors.specs.Rings.{ring_comparison}
@@ -8,34 +8,41 @@ use Rattle.module_vectors.specs.declared.key.Key.{Key}
 use Rattle.module_vectors.specs.declared.ring.Ring.{Ring}
 use Rattle.groebner_iface.specs.Runs.{IsReducedBasisOf}
 use Rattle.script_parse.specs.declared.named.NameInfo.{NameInfo}
+use Rattle.script_parse.specs.declared.operation.Operation.{Operation}
+use Rattle.script_parse.specs.declared.operation.Operation.TheVariants as operations
 use Rattle.script_parse.specs.declared.stated.Statement.{Statement}
 use Rattle.script_parse.specs.declared.stated.Statement.TheVariants as statements
 use Rattle.session_lang.specs.Names.{HasValue, State, Value}
-use Rattle.session_lang.specs.declared.stored.Stored.{Stored}
+use Rattle.session_lang.specs.Held.{Held}
+
+-- the rank of a value: from 1 to 64
+abbrev pub IsValueRank : ℕ → Type 0
+IsValueRank rank = (1 ≤ rank) × (rank ≤ 64)
 
 -- the list is one of vectors of this rank, and what is kept as its reduced basis is that
-pub record IsSound (ring : Ring) (rank : ℕ) (s : Stored) : Type 0 where
+pub record IsSound (ring : Ring) (rank : ℕ) (s : Held) : Type 0 where
+  pub ranked : IsValueRank rank
   pub vectors : AreVectorsOver ring (ring_comparison ring) s.list
   pub positions : Each (HasPositions rank) s.list
   pub basis : IfSome s.basis (IsReducedBasisOf ring rank s.list)
 
 -- name, list and mark of a value as one
-abbrev pub value_of : NameInfo → Stored → Value
+abbrev pub value_of : NameInfo → Held → Value
 value_of i s = record { name = string_bytes i.name; rank = i.rank; list = s.list; kept = is_some s.basis }
 
 -- the values: their names and their lists stand beside one another
-abbrev pub values_of : List NameInfo → List Stored → List Value
+abbrev pub values_of : List NameInfo → List Held → List Value
 values_of (i ∷ infos) (s ∷ stored) = value_of i s ∷ values_of infos stored
 values_of _ _ = []
 
 -- each value is sound, and its length is told
-abbrev pub AreSound : Ring → List NameInfo → List Stored → Type 0
+abbrev pub AreSound : Ring → List NameInfo → List Held → Type 0
 AreSound ring [] [] = Unit {0}
 AreSound ring (i ∷ infos) (s ∷ stored) = IsSound ring i.rank s × (i.length ≡ length s.list) × AreSound ring infos stored
 AreSound ring _ _ = ⊥
 
 -- the values are sound over the ring, and where none is stated there are none
-abbrev pub AreKept : Option Ring → List NameInfo → List Stored → Type 0
+abbrev pub AreKept : Option Ring → List NameInfo → List Held → Type 0
 AreKept None infos stored = (infos ≡ []) × (stored ≡ [])
 AreKept (Some ring) infos stored = AreSound ring infos stored
 
@@ -52,6 +59,33 @@ IsGiven before name = (ring : Ring) × (value : Value) × HasValue before name r
 abbrev pub IsOfValue : State → List ℕ → List (Key × ℕ) → Type 0
 IsOfValue before name v = (ring : Ring) × (value : Value) × HasValue before name ring value × IsVectorOver ring (ring_comparison ring) v
 
+-- the same, and the vector has as many entries as the value
+abbrev pub IsOfValueRank : State → List ℕ → List (Key × ℕ) → Type 0
+IsOfValueRank before name v =
+    (ring : Ring) × (value : Value) × HasValue before name ring value × IsVectorOver ring (ring_comparison ring) v × HasPositions value.rank v
+
+-- two values have these names, and their ranks pass the test
+abbrev pub AreGiven : State → (first second : List ℕ) → (ℕ → ℕ → Type 0) → Type 0
+AreGiven before first second Test =
+    (ring : Ring) × (left : Value) × (right : Value) × HasValue before first ring left × HasValue before second ring right × Test left.rank right.rank
+
+-- a value has this name, and the vector is a polynomial over the ring
+abbrev pub IsWithPolynomial : State → List ℕ → List (Key × ℕ) → Type 0
+IsWithPolynomial before name f =
+    (ring : Ring) × (value : Value) × HasValue before name ring value × IsVectorOver ring (ring_comparison ring) f × HasPositions 1 f
+
+-- the operation's names are those of values that it can work on
+abbrev pub IsWorkable : State → Operation → Type 0
+IsWorkable before (operations.Sum a b) = AreGiven before (string_bytes a) (string_bytes b) (λ r s. r ≡ s)
+IsWorkable before (operations.Product a b) = AreGiven before (string_bytes a) (string_bytes b) (λ r s. r ≤ 1)
+IsWorkable before (operations.Intersect a b) = AreGiven before (string_bytes a) (string_bytes b) (λ r s. r ≡ s)
+IsWorkable before (operations.Colon a b) = AreGiven before (string_bytes a) (string_bytes b) (λ r s. r ≡ s)
+IsWorkable before (operations.Quotient a f) = IsWithPolynomial before (string_bytes a) f
+IsWorkable before (operations.Saturate a f) = IsWithPolynomial before (string_bytes a) f
+IsWorkable before (operations.Eliminate a k) = IsGiven before (string_bytes a)
+IsWorkable before (operations.Syzygies a) =
+    (ring : Ring) × (value : Value) × HasValue before (string_bytes a) ring value × IsValueRank (length value.list)
+
 -- what a statement that is read from a line says is fit to be done
 abbrev pub IsFit : State → Statement → Type 0
 IsFit before statements.Nothing = Unit {0}
@@ -59,11 +93,22 @@ IsFit before (statements.Ring ring) = Unit {0}
 IsFit before (statements.Show v) = (ring : Ring) × (before.ring ≡ Some ring) × IsVectorOver ring (ring_comparison ring) v
 IsFit before (statements.Ideal name list) =
     (ring : Ring) × (before.ring ≡ Some ring) × AreVectorsOver ring (ring_comparison ring) list × Each (HasPositions 1) list
+IsFit before (statements.Module name rank list) =
+    (ring : Ring) × (before.ring ≡ Some ring) × AreVectorsOver ring (ring_comparison ring) list × Each (HasPositions rank) list × IsValueRank rank
+IsFit before (statements.Let name operation) = IsWorkable before operation
 IsFit before (statements.Gens name) = IsGiven before (string_bytes name)
 IsFit before (statements.Gb name) = IsGiven before (string_bytes name)
 IsFit before (statements.Size name) = IsGiven before (string_bytes name)
 IsFit before (statements.NormalForm name v) = IsOfValue before (string_bytes name) v
 IsFit before (statements.Member name v) = IsOfValue before (string_bytes name) v
-IsFit before (statements.Equal first second) =
-    (ring : Ring) × (left : Value) × (right : Value) × HasValue before (string_bytes first) ring left
-    × HasValue before (string_bytes second) ring right × (left.rank ≡ right.rank)
+IsFit before (statements.Lift name v) = IsOfValueRank before (string_bytes name) v
+IsFit before (statements.Hilbert name) = IsGiven before (string_bytes name)
+IsFit before (statements.Equal first second) = AreGiven before (string_bytes first) (string_bytes second) (λ r s. r ≡ s)
+
+-- a list of vectors over the ring, of this rank
+abbrev pub AreOver : Ring → ℕ → List (List (Key × ℕ)) → Type 0
+AreOver ring rank list = AreVectorsOver ring (ring_comparison ring) list × Each (HasPositions rank) list
+
+-- a polynomial over the ring
+abbrev pub IsPolynomialOver : Ring → List (Key × ℕ) → Type 0
+IsPolynomialOver ring f = IsVectorOver ring (ring_comparison ring) f × HasPositions 1 f

@@ -2,9 +2,15 @@
 pub mod Names
 pub mod Texts
 pub mod Answers
+pub mod Operations
+pub mod Lifting
+pub mod Numbers
 pub mod Lines
 pub mod Stops
 -- what private clauses cite
+pub mod Held
 pub mod Kept
+pub mod Tasks
+pub mod Counting
 pub mod Asking
 pub mod Parts

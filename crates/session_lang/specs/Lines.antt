@@ -1,5 +1,5 @@
 -- What a line does to a session
-use Rattle.std.specs.Prelude.{List, Some, [], codes, false, string_bytes, ℕ, ◌++◌, ◌∷◌, ◌≡◌, ◌⊎◌}
+use Rattle.std.specs.Prelude.{List, Some, [], codes, false, string_bytes, true, ℕ, ◌++◌, ◌∷◌, ◌≡◌, ◌⊎◌}
 use Rattle.module_vectors.specs.declared.key.Key.{Key}
 use Rattle.module_vectors.specs.declared.ring.Ring.{Ring}
 use Rattle.poly_text.specs.Texts.{names_of, poly_text}
@@ -7,40 +7,74 @@ use Rattle.script_parse.specs.Refusals as refusals
 use Rattle.script_parse.specs.Statements as readings
 use Rattle.script_parse.specs.declared.kind.Kind.{Kind}
 use Rattle.script_parse.specs.declared.named.NameInfo.{NameInfo}
+use Rattle.script_parse.specs.declared.operation.Operation.{Operation}
 use Rattle.script_parse.specs.declared.stated.Statement.{Statement}
 use Rattle.script_parse.specs.declared.stated.Statement.TheVariants as statements
+use Rattle.syzygy_engine.specs.Marking.{IsMarkedRun}
 use Rattle.session_lang.specs.Answers.{Asked, Decides, IsAnswer, IsOneModule, basis, member, normal_form, sizes_of_basis}
-use Rattle.session_lang.specs.Names.{AreInfosOf, HasValue, State, Value, after_run, with_value}
+use Rattle.session_lang.specs.Lifting.{IsLiftText}
+use Rattle.session_lang.specs.Names.{AreInfosOf, HasValue, State, Value, after_giving, after_run}
+use Rattle.session_lang.specs.Numbers.{IsNumbersText, RefusesNumbers}
+use Rattle.session_lang.specs.Operations.{AreRunsOf, IsResult, Work, WorksOn, result_rank}
 use Rattle.session_lang.specs.Texts.{listing}
 
 -- the line states this, with the ring and the names of this state
 abbrev pub States : State → List ℕ → Statement → Type 0
 States before line statement = (infos : List NameInfo) × AreInfosOf before.values infos × readings.States before.ring infos line statement
 
--- the line is refused for this kind, the first that holds
+-- the line is refused for this kind as it is read: the first that holds
+abbrev pub RefusesReading : State → List ℕ → Kind → Type 0
+RefusesReading before line kind = (infos : List NameInfo) × AreInfosOf before.values infos × refusals.Refuses before.ring infos line kind
+
+-- the statement is refused for this kind once its run is done: it asks for the numbers of a value
+abbrev pub RefusesStated : State → Statement → Kind → Type 0
+RefusesStated before (statements.Hilbert name) kind =
+    (ring : Ring) × (value : Value) × HasValue before (string_bytes name) ring value × RefusesNumbers ring value kind
+RefusesStated before _ kind = ⊥
+
+-- the line is refused for this kind
 abbrev pub Refuses : State → List ℕ → Kind → Type 0
-Refuses before line kind = (infos : List NameInfo) × AreInfosOf before.values infos × refusals.Refuses before.ring infos line kind
+Refuses before line kind = RefusesReading before line kind ⊎ ((statement : Statement) × States before line statement × RefusesStated before statement kind)
 
 -- the text answers what is asked of the value with this name
 abbrev pub Answers : State → List ℕ → Asked → List ℕ → Type 0
 Answers before name asked text = (ring : Ring) × (value : Value) × HasValue before name ring value × IsAnswer ring value asked text
 
+-- the operation, on the values with its names, gives this list of this rank over this ring
+abbrev pub Gives : State → Operation → Ring → ℕ → List (List (Key × ℕ)) → Type 0
+Gives before operation ring rank list = (work : Work) × WorksOn before operation ring work × (rank ≡ result_rank work) × IsResult ring work list
+
+-- the text is the lift of the vector to the list of the value with this name
+abbrev pub Lifts : State → List ℕ → List (Key × ℕ) → List ℕ → Type 0
+Lifts before name v text = (ring : Ring) × (value : Value) × HasValue before name ring value × IsLiftText ring value v text
+
+-- the text has the numbers of the value with this name
+abbrev pub Counts : State → List ℕ → List ℕ → Type 0
+Counts before name text = (ring : Ring) × (value : Value) × HasValue before name ring value × IsNumbersText ring value text
+
 -- From a state, the statement leads to this state and has this text: a blank line changes nothing, a ring is stated anew
--- and takes all names away, a polynomial is printed, an ideal gets a name, the others print what they ask for. A line that needs
--- the reduced basis of a value leaves it kept.
+-- and takes all names away, a polynomial is printed, an ideal, a module or the result of an operation gets a name, the others
+-- print what they ask for. A line that needs the reduced basis of a value leaves it kept; a result is its own, and kept.
 abbrev pub Does : State → Statement → State → List ℕ → Type 0
 Does before statements.Nothing after text = (after ≡ before) × (text ≡ [])
 Does before (statements.Ring ring) after text = (after ≡ record { ring = Some ring; values = [] }) × (text ≡ [])
 Does before (statements.Show v) after text =
     (after ≡ before) × ((ring : Ring) × (before.ring ≡ Some ring) × (text ≡ poly_text (names_of ring) v ++ 10 ∷ []))
 Does before (statements.Ideal name list) after text =
-    (after ≡ record { ring = before.ring; values = with_value (record { name = string_bytes name; rank = 1; list = list; kept = false }) before.values }) × (text ≡ [])
+    (after ≡ after_giving (record { name = string_bytes name; rank = 1; list = list; kept = false }) before) × (text ≡ [])
+Does before (statements.Module name rank list) after text =
+    (after ≡ after_giving (record { name = string_bytes name; rank = rank; list = list; kept = false }) before) × (text ≡ [])
+Does before (statements.Let name operation) after text =
+    ((ring : Ring) × (rank : ℕ) × (list : List (List (Key × ℕ))) × Gives before operation ring rank list
+    × (after ≡ after_giving (record { name = string_bytes name; rank = rank; list = list; kept = true }) before)) × (text ≡ [])
 Does before (statements.Gens name) after text =
     (after ≡ before) × ((ring : Ring) × (value : Value) × HasValue before (string_bytes name) ring value × (text ≡ listing (codes "gens") ring value value.list))
 Does before (statements.Gb name) after text = (after ≡ after_run (string_bytes name) before) × Answers before (string_bytes name) basis text
 Does before (statements.Size name) after text = (after ≡ after_run (string_bytes name) before) × Answers before (string_bytes name) sizes_of_basis text
 Does before (statements.NormalForm name v) after text = (after ≡ after_run (string_bytes name) before) × Answers before (string_bytes name) (normal_form v) text
 Does before (statements.Member name v) after text = (after ≡ after_run (string_bytes name) before) × Answers before (string_bytes name) (member v) text
+Does before (statements.Lift name v) after text = (after ≡ before) × Lifts before (string_bytes name) v text
+Does before (statements.Hilbert name) after text = (after ≡ after_run (string_bytes name) before) × Counts before (string_bytes name) text
 Does before (statements.Equal first second) after text =
     (after ≡ after_run (string_bytes second) (after_run (string_bytes first) before))
     × ((ring : Ring) × (left : Value) × (right : Value) × HasValue before (string_bytes first) ring left × HasValue before (string_bytes second) ring right
@@ -58,15 +92,27 @@ IsRunFor before name ring rank list = (value : Value) × HasValue before name ri
 abbrev pub IsRunForEither : State → (first second : List ℕ) → Ring → ℕ → List (List (Key × ℕ)) → Type 0
 IsRunForEither before first second ring rank list = IsRunFor before first ring rank list ⊎ IsRunFor (after_run first before) second ring rank list
 
+-- a run of the operation
+abbrev pub IsRunOfWork : State → Operation → Ring → ℕ → List (List (Key × ℕ)) → Type 0
+IsRunOfWork before operation ring rank list = (over : Ring) × (work : Work) × WorksOn before operation over work × AreRunsOf over work ring rank list
+
+-- the run for a lift to the list of the value with this name
+abbrev pub IsLiftRun : State → List ℕ → Ring → ℕ → List (List (Key × ℕ)) → Type 0
+IsLiftRun before name ring rank list =
+    (over : Ring) × (value : Value) × HasValue before name over value × IsMarkedRun over value.rank value.list ring rank list
+
 -- the runs that a statement needs
 abbrev pub Needs : State → Statement → Ring → ℕ → List (List (Key × ℕ)) → Type 0
 Needs before (statements.Gb name) ring rank list = IsRunFor before (string_bytes name) ring rank list
 Needs before (statements.Size name) ring rank list = IsRunFor before (string_bytes name) ring rank list
 Needs before (statements.NormalForm name v) ring rank list = IsRunFor before (string_bytes name) ring rank list
 Needs before (statements.Member name v) ring rank list = IsRunFor before (string_bytes name) ring rank list
+Needs before (statements.Hilbert name) ring rank list = IsRunFor before (string_bytes name) ring rank list
+Needs before (statements.Let name operation) ring rank list = IsRunOfWork before operation ring rank list
+Needs before (statements.Lift name v) ring rank list = IsLiftRun before (string_bytes name) ring rank list
 Needs before (statements.Equal first second) ring rank list = IsRunForEither before (string_bytes first) (string_bytes second) ring rank list
 Needs before _ ring rank list = ⊥
 
--- a run of a line that is not refused: its ring, rank and list
+-- a run of a line that is not refused as it is read: its ring, rank and list
 abbrev pub RunOf : State → List ℕ → Ring → ℕ → List (List (Key × ℕ)) → Type 0
 RunOf before line ring rank list = (statement : Statement) × States before line statement × Needs before statement ring rank list

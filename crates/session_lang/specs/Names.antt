@@ -5,7 +5,8 @@ use Rattle.module_vectors.specs.declared.key.Key.{Key}
 use Rattle.module_vectors.specs.declared.ring.Ring.{Ring}
 use Rattle.script_parse.specs.declared.named.NameInfo.{NameInfo}
 
--- a value: its name, its rank, its list as it was typed, and whether a line that was done has computed its reduced basis
+-- a value: its name, its rank, its list as it was typed or as an operation gave it, and whether its reduced basis is kept: a line
+-- that was done has computed it, or the list is it
 pub record Value : Type 0 where
   pub name : List ℕ
   pub rank : ℕ
@@ -30,6 +31,10 @@ value_named (v ∷ values) name = if pointwise nat_eq v.name name then Some v el
 abbrev pub with_value : Value → List Value → List Value
 with_value v [] = v ∷ []
 with_value v (w ∷ values) = if pointwise nat_eq w.name v.name then v ∷ values else w ∷ with_value v values
+
+-- the state once the value is given to its name
+abbrev pub after_giving : Value → State → State
+after_giving v before = record { ring = before.ring; values = with_value v before.values }
 
 -- the values, the one with this name now with its reduced basis
 abbrev pub with_basis : List ℕ → List Value → List Value

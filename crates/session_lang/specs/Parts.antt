@@ -7,7 +7,7 @@ use Rattle.session_lang.specs.Answers.{Decides, IsOneModule}
 use Rattle.session_lang.specs.Kept.{value_of}
 use Rattle.session_lang.specs.Names.{HasValue, State, Value}
 use Rattle.session_lang.specs.Texts.{listing}
-use Rattle.session_lang.specs.declared.stored.Stored.{Stored}
+use Rattle.session_lang.specs.Held.{Held}
 
 -- the text is the list of the value with this name
 abbrev pub Lists : State → (name text : List ℕ) → Type 0
@@ -21,22 +21,22 @@ Compares before first second text =
     × Decides (IsOneModule ring left.list right.list) text
 
 -- the basis of the value at this place is kept now; the other values are as before
-pub record Keeps (before : List Stored) (i : ℕ) (after : List Stored) : Type 0 where
-  pub item : Stored
+pub record Keeps (before : List Held) (i : ℕ) (after : List Held) : Type 0 where
+  pub item : Held
   pub written : after ≡ slice_set before i item
   pub some : IsSome item.basis
-  pub list : (e : Stored) → item.list ≡ (get_or before i e).list
+  pub list : (e : Held) → item.list ≡ (get_or before i e).list
 
 -- the run for the reduced basis of a value over this ring, if it is not yet kept
 abbrev pub IsRunOf : Ring → Value → Ring → ℕ → List (List (Key × ℕ)) → Type 0
 IsRunOf over value ring rank list = (ring ≡ over) × (value.kept ≡ false) × (rank ≡ value.rank) × (list ≡ value.list)
 
 -- the same of the value at a place; past the end these stand for its name and its list
-abbrev pub IsRunAt : Ring → List NameInfo → List Stored → ℕ → NameInfo → Stored → Ring → ℕ → List (List (Key × ℕ)) → Type 0
+abbrev pub IsRunAt : Ring → List NameInfo → List Held → ℕ → NameInfo → Held → Ring → ℕ → List (List (Key × ℕ)) → Type 0
 IsRunAt over infos stored i d e ring rank list = IsRunOf over (value_of (get_or infos i d) (get_or stored i e)) ring rank list
 
 -- the same of one of two places, of the second once the basis of the first is kept
-abbrev pub IsRunAtEither : Ring → List NameInfo → List Stored → ℕ × ℕ → NameInfo → Stored → Ring → ℕ → List (List (Key × ℕ)) → Type 0
+abbrev pub IsRunAtEither : Ring → List NameInfo → List Held → ℕ × ℕ → NameInfo → Held → Ring → ℕ → List (List (Key × ℕ)) → Type 0
 IsRunAtEither over infos stored places d e ring rank list =
     IsRunAt over infos stored places.0 d e ring rank list
-    ⊎ ((middle : List Stored) × Keeps stored places.0 middle × IsRunAt over infos middle places.1 d e ring rank list)
+    ⊎ ((middle : List Held) × Keeps stored places.0 middle × IsRunAt over infos middle places.1 d e ring rank list)

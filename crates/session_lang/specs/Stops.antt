@@ -5,13 +5,16 @@ use Rattle.module_vectors.specs.declared.ring.Ring.{Ring}
 use Rattle.module_vectors.specs.declared.trail.KeptTrail.{KeptTrail}
 use Rattle.vector_division.specs.Divisions.{IsDivisionTrail}
 use Rattle.groebner_iface.specs.Runs.{IsReducedBasisOf}
+use Rattle.script_parse.specs.declared.operation.Operation.{Operation}
 use Rattle.script_parse.specs.declared.stated.Statement.{Statement}
 use Rattle.script_parse.specs.declared.stated.Statement.TheVariants as statements
 use Rattle.session_lang.specs.Answers.{Asked, basis, member, normal_form, sizes_of_basis}
 use Rattle.session_lang.specs.Lines.{Line, Refuses, States}
 use Rattle.session_lang.specs.Names.{HasValue, State, Value}
-use Rattle.session_lang.specs.declared.session.Step.{Step}
-use Rattle.session_lang.specs.declared.session.Step.TheVariants as steps
+use Rattle.session_lang.specs.Operations.{AreTrailsOf, Work, WorksOn}
+use Rattle.syzygy_engine.specs.Lifts.{IsLiftTrail}
+use Rattle.session_lang.specs.declared.step.Step.{Step}
+use Rattle.session_lang.specs.declared.step.Step.TheVariants as steps
 
 -- the line was done and its text appended, or it was refused and all is as before
 abbrev pub Steps : State → List ℕ → State → List ℕ → List ℕ → Step → Type 0
@@ -34,12 +37,22 @@ IsTrailOf ring value asked t =
 abbrev pub IsTrailFor : State → List ℕ → Asked → KeptTrail → Type 0
 IsTrailFor before name asked t = (ring : Ring) × (value : Value) × HasValue before name ring value × IsTrailOf ring value asked t
 
+-- a trail of the operation on the values with its names
+abbrev pub IsTrailOfWork : State → Operation → KeptTrail → Type 0
+IsTrailOfWork before operation t = (ring : Ring) × (work : Work) × WorksOn before operation ring work × AreTrailsOf ring work t
+
+-- a trail of the lift of the vector to the list of the value with this name
+abbrev pub IsTrailOfLift : State → List ℕ → List (Key × ℕ) → KeptTrail → Type 0
+IsTrailOfLift before name v t = (ring : Ring) × (value : Value) × HasValue before name ring value × IsLiftTrail ring value.rank value.list v t
+
 -- the trails that a statement can meet outside of its runs
 abbrev pub Meets : State → Statement → KeptTrail → Type 0
 Meets before (statements.NormalForm name v) t = IsTrailFor before (string_bytes name) (normal_form v) t
 Meets before (statements.Member name v) t = IsTrailFor before (string_bytes name) (member v) t
+Meets before (statements.Let name operation) t = IsTrailOfWork before operation t
+Meets before (statements.Lift name v) t = IsTrailOfLift before (string_bytes name) v t
 Meets before _ t = ⊥
 
--- a trail of a line that is not refused, met outside of its runs
+-- a trail of a line that is not refused as it is read, met outside of its runs
 abbrev pub TrailOf : State → List ℕ → KeptTrail → Type 0
 TrailOf before line t = (statement : Statement) × States before line statement × Meets before statement t

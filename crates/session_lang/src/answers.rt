@@ -5,12 +5,12 @@ ghost use Rattle.groebner_iface.specs.Runs.{IsReducedBasisOf};
 ghost use Rattle.script_parse.specs.declared.named.NameInfo.{NameInfo as NameValue};
 ghost use Rattle.session_lang.specs.Answers.{Decides, IsAnswer, IsOneModule};
 ghost use Rattle.session_lang.specs.Asking.{AnswerStops, IsAskedOver, asked_of};
+ghost use Rattle.session_lang.specs.Held.{Held};
 ghost use Rattle.session_lang.specs.Kept.{AreSound, IsSound, value_of};
 ghost use Rattle.session_lang.specs.Parts.{IsRunAt, IsRunAtEither, IsRunOf, Keeps};
 ghost use Rattle.session_lang.specs.Stops.{IsTrailOf};
-ghost use Rattle.session_lang.specs.declared.stored.Stored.{Stored as StoredValue};
 
-use crate::kept_bases::{forget, is_one_module, keep_basis, kept_of, normal_form};
+use crate::kept_bases::{forget, is_one_module, keep_basis, normal_form};
 use crate::sizes::push_sizes;
 use crate::stored::Stored;
 use crate::texts::{push_line, push_listing, push_verdict};
@@ -98,12 +98,12 @@ pub fn answer_value<R: Threads + Wait + Sync, B: Groebner>(
     ensures later { B.stops engine.old ≤ B.stops engine.new }
     ensures settings { B.settings engine.new ≡ B.settings engine.old }
 {
-    let fresh = stored.basis.is_none();
+    let fresh = stored.lacks_basis();
     match keep_basis(rt, alloc, engine, ring, info.rank, stored) {
         Ok(()) => {}
         Err(stop) => return Err(OpStop::from(stop)),
     }
-    match push_answer(alloc, out, ring, info, kept_of(stored), question) {
+    match push_answer(alloc, out, ring, info, stored.basis(), question) {
         Ok(()) => Ok(()),
         Err(stop) => {
             forget(stored, fresh);
@@ -127,28 +127,28 @@ fn compare_with<R: Threads + Wait + Sync, B: Groebner>(
     requires sound { AreSound ring.now names.now.items stored.old.items }
     requires within { (places.0 < length names.now.items) × (places.1 < length names.now.items) }
     requires rank { (d : NameValue) → (get_or names.now.items places.0 d).rank ≡ (get_or names.now.items places.1 d).rank }
-    requires first { (e : StoredValue) → IsSome (get_or stored.old.items places.0 e).basis }
+    requires first { (e : Held) → IsSome (get_or stored.old.items places.0 e).basis }
     ensures sound { OnOk result (AreSound ring.now names.now.items stored.new.items) }
     ensures kept { OnOk result (Keeps stored.old.items places.1 stored.new.items) }
     ensures as_before { OnErr result (stored.new.items ≡ stored.old.items) }
-    ensures text { OnOk result ((e : StoredValue) → (text : List ℕ)
+    ensures text { OnOk result ((e : Held) → (text : List ℕ)
         × Decides (IsOneModule ring.now (get_or stored.old.items places.0 e).list (get_or stored.old.items places.1 e).list) text
         × (out.new.items ≡ out.old.items ++ text)) }
     ensures unwritten { OnErr result (out.new.items ≡ out.old.items) }
     ensures same { OnOk result ((B.stops engine.new ≡ B.stops engine.old) × (B.stopped engine.new ≡ B.stopped engine.old)) }
-    ensures stop { IfErr result (λ stop. (d : NameValue) (e : StoredValue)
+    ensures stop { IfErr result (λ stop. (d : NameValue) (e : Held)
         → CallStops (IsRunAt ring.now names.now.items stored.old.items places.1 d e) NoTrail
         (B.stops engine.old) (B.stops engine.new) (B.stopped engine.old) (B.stopped engine.new) stop) }
     ensures later { B.stops engine.old ≤ B.stops engine.new }
     ensures settings { B.settings engine.new ≡ B.settings engine.old }
 {
     let (i, j) = places;
-    let fresh = stored[j].basis.is_none();
+    let fresh = stored[j].lacks_basis();
     match keep_basis(rt, alloc, engine, ring, names[j].rank, &mut stored[j]) {
         Ok(()) => {}
         Err(stop) => return Err(OpStop::from(stop)),
     }
-    let one = is_one_module(ring, kept_of(&stored[i]), kept_of(&stored[j]));
+    let one = is_one_module(ring, stored[i].basis(), stored[j].basis());
     match push_verdict(out, one) {
         Ok(()) => Ok(()),
         Err(_) => {
@@ -174,21 +174,21 @@ pub fn compare_values<R: Threads + Wait + Sync, B: Groebner>(
     requires within { (places.0 < length names.now.items) × (places.1 < length names.now.items) }
     requires rank { (d : NameValue) → (get_or names.now.items places.0 d).rank ≡ (get_or names.now.items places.1 d).rank }
     ensures sound { OnOk result (AreSound ring.now names.now.items stored.new.items) }
-    ensures kept { OnOk result ((middle : List StoredValue) × Keeps stored.old.items places.0 middle × Keeps middle places.1 stored.new.items) }
+    ensures kept { OnOk result ((middle : List Held) × Keeps stored.old.items places.0 middle × Keeps middle places.1 stored.new.items) }
     ensures as_before { OnErr result (stored.new.items ≡ stored.old.items) }
-    ensures text { OnOk result ((e : StoredValue) → (text : List ℕ)
+    ensures text { OnOk result ((e : Held) → (text : List ℕ)
         × Decides (IsOneModule ring.now (get_or stored.old.items places.0 e).list (get_or stored.old.items places.1 e).list) text
         × (out.new.items ≡ out.old.items ++ text)) }
     ensures unwritten { OnErr result (out.new.items ≡ out.old.items) }
     ensures same { OnOk result ((B.stops engine.new ≡ B.stops engine.old) × (B.stopped engine.new ≡ B.stopped engine.old)) }
-    ensures stop { IfErr result (λ stop. (d : NameValue) (e : StoredValue)
+    ensures stop { IfErr result (λ stop. (d : NameValue) (e : Held)
         → CallStops (IsRunAtEither ring.now names.now.items stored.old.items places d e) NoTrail
         (B.stops engine.old) (B.stops engine.new) (B.stopped engine.old) (B.stopped engine.new) stop) }
     ensures later { B.stops engine.old ≤ B.stops engine.new }
     ensures settings { B.settings engine.new ≡ B.settings engine.old }
 {
     let i = places.0;
-    let fresh = stored[i].basis.is_none();
+    let fresh = stored[i].lacks_basis();
     match keep_basis(rt, alloc, engine, ring, names[i].rank, &mut stored[i]) {
         Ok(()) => {}
         Err(stop) => return Err(OpStop::from(stop)),

@@ -37,26 +37,15 @@ pub fn keep_basis<R: Threads + Wait + Sync, B: Groebner>(
     ensures later { B.stops engine.old ≤ B.stops engine.new }
     ensures settings { B.settings engine.new ≡ B.settings engine.old }
 {
-    if stored.basis.is_some() {
+    if stored.has_basis() {
         return Ok(());
     }
-    match engine.reduced(rt, alloc, ring, u128::from(rank), &stored.list) {
+    match engine.reduced(rt, alloc, ring, u128::from(rank), stored.list()) {
         Ok(basis) => {
-            stored.basis = Some(basis);
+            stored.keep(basis);
             Ok(())
         }
         Err(stop) => Err(stop),
-    }
-}
-
-/// The basis that is kept.
-pub fn kept_of(stored: &Stored) -> &VectList
-    requires { IsSome stored.now.basis }
-    ensures { stored.now.basis ≡ Some result.now }
-{
-    match &stored.basis {
-        Some(basis) => basis,
-        None => unreachable!(),
     }
 }
 
@@ -66,7 +55,7 @@ pub fn forget(stored: &mut Stored, fresh: bool)
     ensures known { fresh ≡ false → stored.new ≡ stored.old }
 {
     if fresh {
-        stored.basis = None;
+        stored.forget();
     }
 }
 

@@ -6,7 +6,7 @@ ghost use Rattle.module_vectors.specs.declared.ring.Ring.{Ring as RingValue};
 ghost use Rattle.script_parse.specs.Statements.{IsSameStatement};
 ghost use Rattle.script_parse.specs.declared.kind.Kind.{Kind as KindValue};
 ghost use Rattle.script_parse.specs.declared.stated.Statement.{Statement as StatementValue};
-ghost use Rattle.session_lang.specs.Lines.{Line, Refuses, RunOf, States};
+ghost use Rattle.session_lang.specs.Lines.{Line, Refuses, RefusesReading, RunOf, States};
 ghost use Rattle.session_lang.specs.Names.{State};
 
 /// A line that is done has one state behind it and one text, a refused one has one kind, and no line is both: so what a
@@ -17,15 +17,16 @@ pub fn one_result()
     ensures apart { (before : State) (line : List ℕ) (p : State) (x : List ℕ) (kind : KindValue) → Line before line p x → Refuses before line kind → ⊥ }
 {}
 
-/// A line states one thing at most, and a refused one states nothing: so the statement of which a stop speaks is the line's
-/// own.
+/// A line states one thing at most, and one that is refused as it is read states nothing: so the statement of which a stop
+/// speaks is the line's own.
 pub fn one_statement()
     ensures same { (before : State) (line : List ℕ) (s t : StatementValue) → States before line s → States before line t → IsSameStatement s t }
-    ensures apart { (before : State) (line : List ℕ) (s : StatementValue) (kind : KindValue) → States before line s → Refuses before line kind → ⊥ }
+    ensures apart { (before : State) (line : List ℕ) (s : StatementValue) (kind : KindValue) → States before line s → RefusesReading before line kind → ⊥ }
 {}
 
-/// A line that is refused needs no run: so no budget of pairs and no degree in a run stops a script at such a line.
+/// A line that is refused as it is read needs no run: so no budget of pairs and no degree in a run stops a script at such a
+/// line.
 pub fn no_run_of_refused()
     ensures { (before : State) (line : List ℕ) (kind : KindValue) (ring : RingValue) (rank : ℕ) (list : List (List (KeyValue × ℕ)))
-        → Refuses before line kind → RunOf before line ring rank list → ⊥ }
+        → RefusesReading before line kind → RunOf before line ring rank list → ⊥ }
 {}

@@ -5,29 +5,38 @@ ghost use Rattle.session_lang.specs.Lines.{RunOf};
 ghost use Rattle.session_lang.specs.Stops.{Steps, TrailOf};
 
 use crate::answers::{Question, answer_value, compare_values};
+use crate::lifts::push_lift;
 use crate::names::{give_name, place_of};
+use crate::numbers::count_value;
+use crate::operate::{Task, operate, rank_of_result};
+use crate::step::Step;
 use crate::stored::Stored;
 use crate::texts::{push_line, push_listing};
 use groebner_iface::{Groebner, OpStop};
 use module_vectors::{NoMemory, Ring, Vect, VectList};
-use script_parse::{Kind, NameInfo, ParseStop, Statement, statement};
+use script_parse::{NameInfo, Operation, ParseStop, Statement, statement};
 use std::alloc::Global;
 use std::marker::Model;
 use std::sync::Wait;
 use std::thread::Threads;
 
-/// What became of a line.
-#[derive(Clone, Copy, Debug, PartialEq, Eq)]
-pub enum Step {
-    /// It was done, and its text was appended.
-    Done,
+/// A value with the ring that is stated.
+#[derive(Clone, Copy)]
+struct Found<'a> {
+    ring: &'a Ring,
+    info: &'a NameInfo,
+    stored: &'a Stored,
+}
 
-    /// It was refused, for the first kind that holds of it.
-    Refused(Kind),
+/// The rank and the stored list of a value.
+#[derive(Clone, Copy)]
+struct Operand<'a> {
+    rank: u64,
+    list: &'a VectList,
 }
 
 /// What is kept from line to line: the ring, once one is stated, and the values by name. Contracts see of a value its
-/// name, its rank and its list as it was typed.
+/// name, its rank, its list as it was typed or as an operation gave it, and whether its reduced basis is kept.
 #[derive(Drop)]
 pub struct Session {
     ring: Option<Ring>,
@@ -47,19 +56,22 @@ impl Model for Session {
 }
 
 impl Session {
-    ghost use Rattle.std.specs.Prelude.{◌++◌, ◌∷◌, List, Some, [], false, string_bytes, ℕ};
-    ghost use Rattle.formal_sums.specs.FormalSums.{Each};
+    ghost use Rattle.std.specs.Prelude.{◌++◌, ◌∷◌, List, Some, [], is_some, string_bytes, true, ℕ};
     ghost use Rattle.module_vectors.specs.Rings.{ring_comparison};
-    ghost use Rattle.module_vectors.specs.Vectors.{AreVectorsOver, HasPositions, IsVectorOver};
+    ghost use Rattle.module_vectors.specs.Vectors.{IsVectorOver};
+    ghost use Rattle.module_vectors.specs.declared.key.Key.{Key as KeyValue};
     ghost use Rattle.module_vectors.specs.declared.ring.Ring.{Ring as RingValue};
     ghost use Rattle.poly_text.specs.Texts.{names_of, poly_text};
     ghost use Rattle.session_lang.specs.Asking.{IsAskedOver, asked_of};
-    ghost use Rattle.session_lang.specs.Kept.{IsFit, IsGiven};
+    ghost use Rattle.session_lang.specs.Counting.{CountsNamed, Performs};
+    ghost use Rattle.session_lang.specs.Kept.{IsFit, IsGiven, IsOfValueRank, IsSound, IsWorkable, value_of};
     ghost use Rattle.groebner_iface.specs.Calls.{NoTrail};
-    ghost use Rattle.session_lang.specs.Lines.{Answers, Does, IsRunFor, IsRunForEither, Needs};
-    ghost use Rattle.session_lang.specs.Names.{HasValue, Value, after_run, no_names, with_value};
+    ghost use Rattle.session_lang.specs.Lines.{Answers, Gives, IsLiftRun, IsRunFor, IsRunForEither, IsRunOfWork, Lifts, Needs};
+    ghost use Rattle.session_lang.specs.Names.{HasValue, Value, after_giving, after_run, no_names};
+    ghost use Rattle.session_lang.specs.Operations.{WorksOn};
     ghost use Rattle.session_lang.specs.Parts.{Compares, Lists};
-    ghost use Rattle.session_lang.specs.Stops.{IsTrailFor, Meets};
+    ghost use Rattle.session_lang.specs.Stops.{IsTrailFor, IsTrailOfLift, IsTrailOfWork, Meets};
+    ghost use Rattle.session_lang.specs.Tasks.{IsOperand, IsReady, work_of};
 
     /// A session in which no ring is stated and nothing has a name.
     pub fn new(alloc: Global) -> Session
@@ -155,28 +167,21 @@ impl Session {
         )
     }
 
-    // Prints the list of a value as it was typed.
+    // Prints the stored list of a value.
     fn list(&self, alloc: Global, name: &[u8], out: &mut Vec<u8>) -> Result<(), NoMemory>
         requires { IsGiven self.now name.now }
         ensures text { OnOk result ((text : List ℕ) × Lists self.now name.now text × (out.new.items ≡ out.old.items ++ text)) }
         ensures unwritten { OnErr result (out.new.items ≡ out.old.items) }
     {
-        let Some(ring) = &self.ring else {
-            unreachable!()
-        };
-        let Some(i) = place_of(&self.names, name) else {
-            unreachable!()
-        };
-        let info = &self.names[i];
-        let list = &self.stored[i].list;
+        let value = self.found(name);
         push_listing(
             alloc,
             out,
             b"gens",
-            info.name.as_bytes(),
-            ring,
-            info.rank,
-            list,
+            value.info.name.as_bytes(),
+            value.ring,
+            value.info.rank,
+            value.stored.list(),
         )
     }
 
@@ -202,17 +207,191 @@ impl Session {
         self.ring = Some(ring);
     }
 
-    // Gives a name to an ideal.
-    fn name_ideal(&mut self, name: String, list: VectList) -> Result<(), NoMemory>
-        requires { (ring : RingValue) × (self.old.ring ≡ Some ring) × AreVectorsOver ring (ring_comparison ring) list
-            × Each (HasPositions 1) list }
-        ensures named { OnOk result (self.new ≡ record {
-          ring = self.old.ring;
-          values = with_value (record { name = string_bytes name; rank = 1; list = list; kept = false }) self.old.values;
-        }) }
+    // The value with this name.
+    fn found(&self, name: &[u8]) -> Found<'_>
+        requires { IsGiven self.now name.now }
+        ensures has { HasValue self.now name.now result.ring.now (value_of result.info.now result.stored.now) }
+        ensures sound { IsSound result.ring.now result.info.now.rank result.stored.now }
+    {
+        let Some(ring) = &self.ring else {
+            unreachable!()
+        };
+        let Some(i) = place_of(&self.names, name) else {
+            unreachable!()
+        };
+        Found {
+            ring,
+            info: &self.names[i],
+            stored: &self.stored[i],
+        }
+    }
+
+    // Gives a name to a list.
+    fn give(&mut self, name: String, rank: u64, value: Stored) -> Result<(), NoMemory>
+        requires { (ring : RingValue) × (self.old.ring ≡ Some ring) × IsSound ring rank value }
+        ensures named { OnOk result (self.new ≡ after_giving (record { name = string_bytes name; rank = rank; list = value.list; kept = is_some value.basis }) self.old) }
         ensures same { OnErr result (self.new ≡ self.old) }
     {
-        give_name(&mut self.names, &mut self.stored, name, list)
+        give_name(&mut self.names, &mut self.stored, name, rank, value)
+    }
+
+    // The rank and the stored list of the value with this name.
+    fn operand(&self, name: &String) -> Operand<'_>
+        requires { IsGiven self.now (string_bytes name.now) }
+        ensures { (ring : RingValue) → self.now.ring ≡ Some ring → IsOperand self.now name.now ring result.rank result.list.now }
+    {
+        let value = self.found(name.as_bytes());
+        Operand {
+            rank: value.info.rank,
+            list: value.stored.list(),
+        }
+    }
+
+    // What is to be done for the operation.
+    fn task<'a>(&'a self, operation: &'a Operation) -> Task<'a>
+        requires { IsWorkable self.now operation.now }
+        ensures { (ring : RingValue) → self.now.ring ≡ Some ring → WorksOn self.now operation.now ring (work_of result) × IsReady ring (work_of result) }
+    {
+        match operation {
+            Operation::Sum(a, b) => {
+                let left = self.operand(a);
+                let right = self.operand(b);
+                Task::Sum(left.rank, left.list, right.list)
+            }
+            Operation::Product(a, b) => {
+                let left = self.operand(a);
+                let right = self.operand(b);
+                Task::Product(right.rank, left.list, right.list)
+            }
+            Operation::Intersect(a, b) => {
+                let left = self.operand(a);
+                let right = self.operand(b);
+                Task::Intersect(left.rank, left.list, right.list)
+            }
+            Operation::Colon(a, b) => {
+                let left = self.operand(a);
+                let right = self.operand(b);
+                Task::Colon(left.rank, left.list, right.list)
+            }
+            Operation::Quotient(a, f) => {
+                let value = self.operand(a);
+                Task::Quotient(value.rank, value.list, f)
+            }
+            Operation::Saturate(a, f) => {
+                let value = self.operand(a);
+                Task::Saturate(value.rank, value.list, f)
+            }
+            Operation::Eliminate(a, k) => {
+                let value = self.operand(a);
+                Task::Eliminate(value.rank, value.list, *k)
+            }
+            Operation::Syzygies(a) => {
+                let value = self.operand(a);
+                Task::Syzygies(value.rank, value.list)
+            }
+        }
+    }
+
+    // Gives a name to the result of an operation.
+    fn make<R: Threads + Wait + Sync, B: Groebner>(
+        &mut self,
+        rt: &R,
+        alloc: Global,
+        engine: &mut B,
+        name: String,
+        operation: &Operation,
+    ) -> Result<(), OpStop>
+        requires { IsWorkable self.old operation.now }
+        ensures done { OnOk result ((ring : RingValue) × (rank : ℕ) × (list : List (List (KeyValue × ℕ))) × Gives self.old operation.now ring rank list
+            × (self.new ≡ after_giving (record { name = string_bytes name; rank = rank; list = list; kept = true }) self.old)) }
+        ensures same { OnErr result (self.new ≡ self.old) }
+        ensures engine { OnOk result ((B.stops engine.new ≡ B.stops engine.old) × (B.stopped engine.new ≡ B.stopped engine.old)) }
+        ensures stop { IfErr result (CallStops (IsRunOfWork self.old operation.now) (IsTrailOfWork self.old operation.now)
+            (B.stops engine.old) (B.stops engine.new) (B.stopped engine.old) (B.stopped engine.new)) }
+        ensures later { B.stops engine.old ≤ B.stops engine.new }
+        ensures settings { B.settings engine.new ≡ B.settings engine.old }
+    {
+        let Some(ring) = &self.ring else {
+            unreachable!()
+        };
+        let task = self.task(operation);
+        let rank = rank_of_result(task);
+        let list = match operate(rt, alloc, engine, ring, task) {
+            Ok(list) => list,
+            Err(stop) => return Err(stop),
+        };
+        match self.give(name, rank, Stored::of_basis(list)) {
+            Ok(()) => Ok(()),
+            Err(_) => Err(OpStop::Memory),
+        }
+    }
+
+    // Prints the lift of a vector to the list of a value.
+    fn lift<R: Threads + Wait + Sync, B: Groebner>(
+        &self,
+        rt: &R,
+        alloc: Global,
+        engine: &mut B,
+        name: &[u8],
+        v: &Vect,
+        out: &mut Vec<u8>,
+    ) -> Result<(), OpStop>
+        requires { IsOfValueRank self.now name.now v.now }
+        ensures text { OnOk result ((text : List ℕ) × Lifts self.now name.now v.now text × (out.new.items ≡ out.old.items ++ text)) }
+        ensures unwritten { OnErr result (out.new.items ≡ out.old.items) }
+        ensures engine { OnOk result ((B.stops engine.new ≡ B.stops engine.old) × (B.stopped engine.new ≡ B.stopped engine.old)) }
+        ensures stop { IfErr result (CallStops (IsLiftRun self.now name.now) (IsTrailOfLift self.now name.now v.now)
+            (B.stops engine.old) (B.stops engine.new) (B.stopped engine.old) (B.stopped engine.new)) }
+        ensures later { B.stops engine.old ≤ B.stops engine.new }
+        ensures settings { B.settings engine.new ≡ B.settings engine.old }
+    {
+        let value = self.found(name);
+        push_lift(
+            rt,
+            alloc,
+            engine,
+            value.ring,
+            value.info,
+            value.stored,
+            v,
+            out,
+        )
+    }
+
+    // Prints the Hilbert numbers of a value, or says for which kind they are refused.
+    fn count<R: Threads + Wait + Sync, B: Groebner>(
+        &mut self,
+        rt: &R,
+        alloc: Global,
+        engine: &mut B,
+        name: &[u8],
+        out: &mut Vec<u8>,
+    ) -> Result<Step, OpStop>
+        requires { IsGiven self.old name.now }
+        ensures counts { IfOk result (CountsNamed self.old name.now self.new out.old.items out.new.items) }
+        ensures same { OnErr result (self.new ≡ self.old) }
+        ensures unwritten { OnErr result (out.new.items ≡ out.old.items) }
+        ensures engine { OnOk result ((B.stops engine.new ≡ B.stops engine.old) × (B.stopped engine.new ≡ B.stopped engine.old)) }
+        ensures stop { IfErr result (CallStops (IsRunFor self.old name.now) NoTrail
+            (B.stops engine.old) (B.stops engine.new) (B.stopped engine.old) (B.stopped engine.new)) }
+        ensures later { B.stops engine.old ≤ B.stops engine.new }
+        ensures settings { B.settings engine.new ≡ B.settings engine.old }
+    {
+        let Some(ring) = &self.ring else {
+            unreachable!()
+        };
+        let Some(i) = place_of(&self.names, name) else {
+            unreachable!()
+        };
+        count_value(
+            rt,
+            alloc,
+            engine,
+            ring,
+            &self.names[i],
+            &mut self.stored[i],
+            out,
+        )
     }
 
     // Does what a line states.
@@ -223,9 +402,9 @@ impl Session {
         engine: &mut B,
         stated: Statement,
         out: &mut Vec<u8>,
-    ) -> Result<(), OpStop>
+    ) -> Result<Step, OpStop>
         requires fit { IsFit self.old stated }
-        ensures done { OnOk result ((text : List ℕ) × Does self.old stated self.new text × (out.new.items ≡ out.old.items ++ text)) }
+        ensures done { IfOk result (Performs self.old stated self.new out.old.items out.new.items) }
         ensures same { OnErr result (self.new ≡ self.old) }
         ensures unwritten { OnErr result (out.new.items ≡ out.old.items) }
         ensures engine { OnOk result ((B.stops engine.new ≡ B.stops engine.old) × (B.stopped engine.new ≡ B.stopped engine.old)) }
@@ -235,30 +414,71 @@ impl Session {
         ensures settings { B.settings engine.new ≡ B.settings engine.old }
     {
         match stated {
-            Statement::Nothing => Ok(()),
+            Statement::Nothing => Ok(Step::Done),
             Statement::Ring(ring) => {
                 self.state_ring(ring);
-                Ok(())
+                Ok(Step::Done)
             }
-            Statement::Show(shown) => Ok(self.show(alloc, &shown, out)?),
-            Statement::Ideal(name, list) => Ok(self.name_ideal(name, list)?),
-            Statement::Gens(name) => Ok(self.list(alloc, name.as_bytes(), out)?),
+            Statement::Show(shown) => {
+                self.show(alloc, &shown, out)?;
+                Ok(Step::Done)
+            }
+            Statement::Ideal(name, list) => {
+                self.give(name, 1, Stored::of(list))?;
+                Ok(Step::Done)
+            }
+            Statement::Module(name, rank, list) => {
+                self.give(name, rank, Stored::of(list))?;
+                Ok(Step::Done)
+            }
+            Statement::Let(name, operation) => {
+                match self.make(rt, alloc, engine, name, &operation) {
+                    Ok(()) => Ok(Step::Done),
+                    Err(stop) => Err(stop),
+                }
+            }
+            Statement::Gens(name) => {
+                self.list(alloc, name.as_bytes(), out)?;
+                Ok(Step::Done)
+            }
             Statement::Gb(name) => {
-                self.ask(rt, alloc, engine, name.as_bytes(), Question::Basis, out)
+                match self.ask(rt, alloc, engine, name.as_bytes(), Question::Basis, out) {
+                    Ok(()) => Ok(Step::Done),
+                    Err(stop) => Err(stop),
+                }
             }
             Statement::Size(name) => {
-                self.ask(rt, alloc, engine, name.as_bytes(), Question::Sizes, out)
+                match self.ask(rt, alloc, engine, name.as_bytes(), Question::Sizes, out) {
+                    Ok(()) => Ok(Step::Done),
+                    Err(stop) => Err(stop),
+                }
             }
             Statement::NormalForm(name, v) => {
                 let question = Question::NormalForm(&v);
-                self.ask(rt, alloc, engine, name.as_bytes(), question, out)
+                match self.ask(rt, alloc, engine, name.as_bytes(), question, out) {
+                    Ok(()) => Ok(Step::Done),
+                    Err(stop) => Err(stop),
+                }
             }
             Statement::Member(name, v) => {
                 let question = Question::Member(&v);
-                self.ask(rt, alloc, engine, name.as_bytes(), question, out)
+                match self.ask(rt, alloc, engine, name.as_bytes(), question, out) {
+                    Ok(()) => Ok(Step::Done),
+                    Err(stop) => Err(stop),
+                }
             }
+            Statement::Lift(name, v) => {
+                match self.lift(rt, alloc, engine, name.as_bytes(), &v, out) {
+                    Ok(()) => Ok(Step::Done),
+                    Err(stop) => Err(stop),
+                }
+            }
+            Statement::Hilbert(name) => self.count(rt, alloc, engine, name.as_bytes(), out),
             Statement::Equal(first, second) => {
-                self.compare(rt, alloc, engine, first.as_bytes(), second.as_bytes(), out)
+                match self.compare(rt, alloc, engine, first.as_bytes(), second.as_bytes(), out) {
+                    Ok(()) => Ok(Step::Done),
+                    Err(stop) => Err(stop),
+                }
             }
         }
     }
@@ -288,10 +508,7 @@ impl Session {
         ensures settings { B.settings engine.new ≡ B.settings engine.old }
     {
         match statement(alloc, line, self.ring.as_ref(), &self.names) {
-            Ok(stated) => match self.perform(rt, alloc, engine, stated, out) {
-                Ok(()) => Ok(Step::Done),
-                Err(stop) => Err(stop),
-            },
+            Ok(stated) => self.perform(rt, alloc, engine, stated, out),
             Err(ParseStop::Refused(kind)) => Ok(Step::Refused(kind)),
             Err(ParseStop::Memory) => Err(OpStop::Memory),
         }

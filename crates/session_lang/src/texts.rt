@@ -3,13 +3,13 @@ ghost use Rattle.std.specs.Prelude.{◌≡◌, ◌++◌, ◌∷◌, [], OnErr, O
 ghost use Rattle.formal_sums.specs.FormalSums.{Each};
 ghost use Rattle.module_vectors.specs.Rings.{variables};
 ghost use Rattle.module_vectors.specs.Vectors.{HasVariables};
-ghost use Rattle.poly_text.specs.Texts.{list_text, names_of, vector_text};
+ghost use Rattle.poly_text.specs.Texts.{entries_text, list_text, names_of, vector_text};
 ghost use Rattle.poly_text.specs.Writing.{IsFront};
 ghost use Rattle.session_lang.specs.Texts.{heading, verdict};
 
 use itoa::Buffer;
 use module_vectors::{NoMemory, Ring, Vect, VectList};
-use poly_text::{push_list, push_vect};
+use poly_text::{push_entries, push_list, push_vect};
 use std::alloc::Global;
 
 /// Keeps what was written, and after an error only so many bytes as there were before.
@@ -102,6 +102,29 @@ pub fn push_line(
 {
     let before = out.len();
     if push_vect(alloc, out, ring, u128::from(rank), v).is_err() {
+        return Err(NoMemory);
+    }
+    if out.push(b'\n').is_err() {
+        out.truncate(before);
+        return Err(NoMemory);
+    }
+    Ok(())
+}
+
+/// Appends cofactors in brackets, so many, on a line of their own. After an error nothing is appended.
+pub fn push_cofactors(
+    alloc: Global,
+    out: &mut Vec<u8>,
+    ring: &Ring,
+    count: usize,
+    v: &Vect,
+) -> Result<(), NoMemory>
+    requires { Each (HasVariables (variables ring.now)) v.now }
+    ensures ok { OnOk result (out.new.items ≡ out.old.items ++ (entries_text (names_of ring.now) count v.now ++ 10 ∷ [])) }
+    ensures err { OnErr result (out.new.items ≡ out.old.items) }
+{
+    let before = out.len();
+    if push_entries(alloc, out, ring, count as u128, v).is_err() {
         return Err(NoMemory);
     }
     if out.push(b'\n').is_err() {

@@ -7,7 +7,7 @@ use Rattle.session_lang.specs.Answers.{Decides, IsOneModule}
 use Rattle.session_lang.proofs.KeptValues.{at_place, length_written, undone, written_basis, written_lists}
 use Rattle.session_lang.proofs.Stopping.{call_stops, no_trail, placed_run, run_fails}
 use Rattle.session_lang.proofs.Values.{as_many, kept_sound, sound_at}
-use Rattle.session_lang.specs.declared.stored.Stored.{Stored}
+use Rattle.session_lang.specs.Held.{Held}
 use Rattle.session_lang.proofs.answers.compare_values.Goals as goal
 
 pub index-requires : goal.index-requires
@@ -88,9 +88,9 @@ returns-in-Err-compare_with-clause-as_before g c =
     let below : c.args.places.0 < length c.args.stored.now.items = omega (arith, c.requires.within.0, same) in
     let item = c.keep_basis.new.stored in
     let again = c.index_mut-in-Err-compare_with.result.now in
-    subst (λ xs. slice_set xs c.args.places.0 c.forget.new.stored ≡ c.args.stored.now.items) (sym {A = List Stored} c.in-Err-compare_with.ensures.as_before)
-    (undone c.args.stored.now.items c.args.places.0 c.index_mut.result.now c.index.result.now item again c.forget.new.stored c.is_none-fresh.result
-    below c.index_mut.ensures.value c.index.ensures c.is_none-fresh.ensures c.in-Ok.ensures.list c.in-Ok.ensures.known
+    subst (λ xs. slice_set xs c.args.places.0 c.forget.new.stored ≡ c.args.stored.now.items) (sym {A = List Held} c.in-Err-compare_with.ensures.as_before)
+    (undone c.args.stored.now.items c.args.places.0 c.index_mut.result.now c.index.result.now item again c.forget.new.stored c.lacks_basis-fresh.result
+    below c.index_mut.ensures.value c.index.ensures c.lacks_basis-fresh.ensures c.in-Ok.ensures.list c.in-Ok.ensures.known
     (subst (λ xs. again ≡ get_or xs c.args.places.0 again) c.in-Err-compare_with.ensures.as_before c.index_mut-in-Err-compare_with.ensures.value)
     c.forget.ensures.fresh c.forget.ensures.known)
 

@@ -49,8 +49,8 @@ index-requires-4 g c =
     let below : c.args.places.1 < length c.args.stored.now.items = omega (arith, c.requires.within.1, same) in
     search rules
 
-pub kept_of-requires-2 : goal.kept_of-requires-2
-kept_of-requires-2 g c =
+pub basis-requires-2 : goal.basis-requires-2
+basis-requires-2 g c =
     let same = as_many c.args.ring.now c.args.names.now.items c.args.stored.now.items c.requires.sound in
     let below : c.args.places.1 < length c.args.stored.now.items = omega (arith, c.requires.within.1, same) in
     subst (λ s. IsSome s.basis) (sym (at_written c.args.stored.now.items c.args.places.1 c.keep_basis.new.stored c.index-4.result.now below c.index-4.ensures)) c.in-Ok.ensures.kept
@@ -97,10 +97,10 @@ returns-in-Ok-push_verdict-clause-text g c = λ e.
     let second : j < length (slice_set old j item) = omega (arith, c.requires.within.1, same') in (
       verdict c.is_one_module-one.result,
       decided c.is_one_module-one.result
-          (compared ring infos old (slice_set old j item) i j c.kept_of.result.now c.kept_of-2.result.now c.index-2.result.now sound c.requires.within.0 c.requires.within.1 (c.requires.rank c.index-2.result.now)
+          (compared ring infos old (slice_set old j item) i j c.basis.result.now c.basis-2.result.now c.index-2.result.now sound c.requires.within.0 c.requires.within.1 (c.requires.rank c.index-2.result.now)
           (λ k d. written_lists old j k item d (c.in-Ok.ensures.list ∙ ap (λ s. s.list) (at_place old j c.index_mut.result.now d below c.index_mut.ensures.value)))
-          (λ d. subst (λ s. s.basis ≡ Some c.kept_of.result.now) (at_place (slice_set old j item) i c.index-3.result.now d first c.index-3.ensures) c.kept_of.ensures)
-          (λ d. subst (λ s. s.basis ≡ Some c.kept_of-2.result.now) (at_place (slice_set old j item) j c.index-4.result.now d second c.index-4.ensures) c.kept_of-2.ensures)
+          (λ d. subst (λ s. s.basis ≡ Some c.basis.result.now) (at_place (slice_set old j item) i c.index-3.result.now d first c.index-3.ensures) c.basis.ensures)
+          (λ d. subst (λ s. s.basis ≡ Some c.basis-2.result.now) (at_place (slice_set old j item) j c.index-4.result.now d second c.index-4.ensures) c.basis-2.ensures)
           c.is_one_module-one.ensures e),
       c.in-Ok-push_verdict.ensures.ok,
     )
@@ -109,5 +109,5 @@ pub returns-in-Err-push_verdict-clause-as_before : goal.returns-in-Err-push_verd
 returns-in-Err-push_verdict-clause-as_before g c =
     let same = as_many c.args.ring.now c.args.names.now.items c.args.stored.now.items c.requires.sound in
     let below : c.args.places.1 < length c.args.stored.now.items = omega (arith, c.requires.within.1, same) in
-    undone c.args.stored.now.items c.args.places.1 c.index_mut.result.now c.index.result.now c.keep_basis.new.stored c.index_mut-in-Err-push_verdict.result.now c.forget.new.stored c.is_none-fresh.result
-    below c.index_mut.ensures.value c.index.ensures c.is_none-fresh.ensures c.in-Ok.ensures.list c.in-Ok.ensures.known c.index_mut-in-Err-push_verdict.ensures.value c.forget.ensures.fresh c.forget.ensures.known
+    undone c.args.stored.now.items c.args.places.1 c.index_mut.result.now c.index.result.now c.keep_basis.new.stored c.index_mut-in-Err-push_verdict.result.now c.forget.new.stored c.lacks_basis-fresh.result
+    below c.index_mut.ensures.value c.index.ensures c.lacks_basis-fresh.ensures c.in-Ok.ensures.list c.in-Ok.ensures.known c.index_mut-in-Err-push_verdict.ensures.value c.forget.ensures.fresh c.forget.ensures.known

@@ -1,6 +1,6 @@
-use Rattle.std.proofs.Common.{rules, ◌≡◌, ◌<◌, ◌++◌, ◌∷◌, [], length, Some, None}
+use Rattle.std.proofs.Common.{rules, ◌≡◌, ◌<◌, ◌++◌, ◌∷◌, ◌∙◌, [], ap, length, Some, None}
 use Rattle.std.specs.Prelude.{string_bytes}
-use Rattle.session_lang.specs.Kept.{IsSound, place_named}
+use Rattle.session_lang.specs.Kept.{place_named}
 use Rattle.session_lang.proofs.Values.{new_sound, new_values, place_bound, placed_sound, placed_values}
 use Rattle.session_lang.proofs.names.give_name.Goals as goal
 
@@ -23,20 +23,18 @@ returns-in-Some-clause-values c =
     placed_values _ _ c.args.names.now.items c.args.stored.now.items c.in-Some.i c.requires found
 
 pub returns-in-Some-clause-sound : goal.returns-in-Some-clause-sound
-returns-in-Some-clause-sound c = λ ring sound vectors positions.
-    let s : IsSound ring 1 (record { list = c.args.list; basis = None }) = record { vectors = vectors; positions = positions; basis = tt } in
-    placed_sound _ _ ring c.args.names.now.items c.args.stored.now.items c.in-Some.i sound s c.len.ensures
+returns-in-Some-clause-sound c = λ ring sound s.
+    placed_sound _ _ ring c.args.names.now.items c.args.stored.now.items c.in-Some.i sound s (c.len.ensures ∙ ap length c.list.ensures)
 
 pub returns-in_ok-reserve-in-None-2-clause-values : goal.returns-in_ok-reserve-in-None-2-clause-values
 returns-in_ok-reserve-in-None-2-clause-values c =
     let none : place_named c.args.names.now.items (string_bytes c.args.name) ≡ None = search rules in
-    let names : c.push_reserved.new.self.items ≡ c.args.names.now.items ++ record { name = c.args.name; rank = 1; length = c.len.result } ∷ [] = search rules in
-    let lists : c.push_reserved-in-None.new.self.items ≡ c.args.stored.now.items ++ record { list = c.args.list; basis = None } ∷ [] = search rules in
+    let names : c.push_reserved.new.self.items ≡ c.args.names.now.items ++ record { name = c.args.name; rank = c.args.rank; length = c.len.result } ∷ [] = search rules in
+    let lists : c.push_reserved-in-None.new.self.items ≡ c.args.stored.now.items ++ c.args.value ∷ [] = search rules in
     rw (names, lists) (new_values _ _ c.args.names.now.items c.args.stored.now.items c.requires none)
 
 pub returns-in_ok-reserve-in-None-2-clause-sound : goal.returns-in_ok-reserve-in-None-2-clause-sound
-returns-in_ok-reserve-in-None-2-clause-sound c = λ ring sound vectors positions.
-    let s : IsSound ring 1 (record { list = c.args.list; basis = None }) = record { vectors = vectors; positions = positions; basis = tt } in
-    let names : c.push_reserved.new.self.items ≡ c.args.names.now.items ++ record { name = c.args.name; rank = 1; length = c.len.result } ∷ [] = search rules in
-    let lists : c.push_reserved-in-None.new.self.items ≡ c.args.stored.now.items ++ record { list = c.args.list; basis = None } ∷ [] = search rules in
-    rw (names, lists) (new_sound _ _ ring c.args.names.now.items c.args.stored.now.items sound s c.len.ensures)
+returns-in_ok-reserve-in-None-2-clause-sound c = λ ring sound s.
+    let names : c.push_reserved.new.self.items ≡ c.args.names.now.items ++ record { name = c.args.name; rank = c.args.rank; length = c.len.result } ∷ [] = search rules in
+    let lists : c.push_reserved-in-None.new.self.items ≡ c.args.stored.now.items ++ c.args.value ∷ [] = search rules in
+    rw (names, lists) (new_sound _ _ ring c.args.names.now.items c.args.stored.now.items sound s (c.len.ensures ∙ ap length c.list.ensures))

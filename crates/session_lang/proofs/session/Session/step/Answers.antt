@@ -1,6 +1,8 @@
 use Rattle.std.proofs.Common.{refl, subst, sym}
 use Rattle.std.specs.Prelude.{option_copied}
 use Rattle.session_lang.proofs.Reported.{fits, refuses, states}
+use Rattle.std.proofs.lemmas.Result.{IfErr-weaker}
+use Rattle.session_lang.proofs.Counted.{performed}
 use Rattle.session_lang.proofs.Stopping.{call_stops}
 use Rattle.session_lang.specs.Lines.{Refuses}
 use Rattle.session_lang.proofs.session.Session.step.Goals as goal
@@ -10,25 +12,20 @@ perform-requires-clause-fit g c κs within =
     fits c.args.self.now c.self.inside.ring c.self.inside.names.items c.self.inside.stored.items c.self.view_is c.self.invariant
     (option_copied c.as_ref.result) c.deref.result.now c.as_ref.ensures.value c.deref.ensures.value c.args.line.now c.in-Ok.stated c.in-Ok.ensures
 
-pub returns-in-Ok-perform-clause-steps : goal.returns-in-Ok-perform-clause-steps
-returns-in-Ok-perform-clause-steps g c =
-    let done = c.in-Ok-perform.ensures.done in (
-      done.0,
-      (
-        c.in-Ok.stated,
-        states c.args.self.now c.self.inside.ring c.self.inside.names.items c.self.inside.stored.items c.self.view_is c.self.invariant
-            (option_copied c.as_ref.result) c.deref.result.now c.as_ref.ensures.value c.deref.ensures.value c.args.line.now c.in-Ok.stated c.in-Ok.ensures,
-        done.1,
-      ),
-      done.2,
-    )
-
-pub returns-in-Err-clause-stop : goal.returns-in-Err-clause-stop
-returns-in-Err-clause-stop g c =
+pub returns-in-Ok-clause-steps : goal.returns-in-Ok-clause-steps
+returns-in-Ok-clause-steps g c =
     let stated =
     states c.args.self.now c.self.inside.ring c.self.inside.names.items c.self.inside.stored.items c.self.view_is c.self.invariant
     (option_copied c.as_ref.result) c.deref.result.now c.as_ref.ensures.value c.deref.ensures.value c.args.line.now c.in-Ok.stated c.in-Ok.ensures in
-    call_stops _ _ _ _ (λ r m l h. (c.in-Ok.stated, stated, h)) (λ t h. (c.in-Ok.stated, stated, h)) c.in-Err.stop c.in-Err.ensures.stop
+    performed c.args.self.now c.args.line.now c.in-Ok.stated c.perform.new.self c.args.out.now.items c.perform.new.out.items c.perform.result stated c.perform.ensures.done
+
+pub returns-in-Ok-clause-stop : goal.returns-in-Ok-clause-stop
+returns-in-Ok-clause-stop g c =
+    let stated =
+    states c.args.self.now c.self.inside.ring c.self.inside.names.items c.self.inside.stored.items c.self.view_is c.self.invariant
+    (option_copied c.as_ref.result) c.deref.result.now c.as_ref.ensures.value c.deref.ensures.value c.args.line.now c.in-Ok.stated c.in-Ok.ensures in
+    IfErr-weaker c.perform.result _ _
+    (call_stops _ _ _ _ (λ r m l h. (c.in-Ok.stated, stated, h)) (λ t h. (c.in-Ok.stated, stated, h))) c.perform.ensures.stop
 
 pub returns-in-Err-Refused-clause-steps : goal.returns-in-Err-Refused-clause-steps
 returns-in-Err-Refused-clause-steps g c = (

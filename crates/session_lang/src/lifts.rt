@@ -1,0 +1,52 @@
+// Lifts to the stored list of a value.
+ghost use Rattle.std.specs.Prelude.{◌≡◌, ◌≤◌, ◌++◌, IfErr, List, OnErr, OnOk, ℕ, string_bytes};
+ghost use Rattle.module_vectors.specs.Rings.{ring_comparison};
+ghost use Rattle.module_vectors.specs.Vectors.{HasPositions, IsVectorOver};
+ghost use Rattle.groebner_iface.specs.Calls.{CallStops};
+ghost use Rattle.session_lang.specs.Kept.{IsSound, value_of};
+ghost use Rattle.session_lang.specs.Lifting.{IsLiftText};
+ghost use Rattle.syzygy_engine.specs.Lifts.{IsLiftTrail};
+ghost use Rattle.syzygy_engine.specs.Marking.{IsMarkedRun};
+
+use crate::stored::Stored;
+use crate::texts::{push_cofactors, push_verdict};
+use groebner_iface::{Groebner, OpStop};
+use module_vectors::{Ring, Vect};
+use script_parse::NameInfo;
+use std::alloc::Global;
+use std::sync::Wait;
+use std::thread::Threads;
+use syzygy_engine::lift;
+
+/// Appends the lift of a vector to the list of a value, or that there is none. After an error nothing is appended.
+pub fn push_lift<R: Threads + Wait + Sync, B: Groebner>(
+    rt: &R,
+    alloc: Global,
+    engine: &mut B,
+    ring: &Ring,
+    info: &NameInfo,
+    stored: &Stored,
+    v: &Vect,
+    out: &mut Vec<u8>,
+) -> Result<(), OpStop>
+    requires sound { IsSound ring.now info.now.rank stored.now }
+    requires vector { IsVectorOver ring.now (ring_comparison ring.now) v.now }
+    requires positions { HasPositions info.now.rank v.now }
+    ensures text { OnOk result ((text : List ℕ) × IsLiftText ring.now (value_of info.now stored.now) v.now text × (out.new.items ≡ out.old.items ++ text)) }
+    ensures unwritten { OnErr result (out.new.items ≡ out.old.items) }
+    ensures same { OnOk result ((B.stops engine.new ≡ B.stops engine.old) × (B.stopped engine.new ≡ B.stopped engine.old)) }
+    ensures stop { IfErr result (CallStops (IsMarkedRun ring.now info.now.rank stored.now.list) (IsLiftTrail ring.now info.now.rank stored.now.list v.now)
+        (B.stops engine.old) (B.stops engine.new) (B.stopped engine.old) (B.stopped engine.new)) }
+    ensures later { B.stops engine.old ≤ B.stops engine.new }
+    ensures settings { B.settings engine.new ≡ B.settings engine.old }
+{
+    let list = stored.list();
+    let lifted = match lift(rt, alloc, engine, ring, u128::from(info.rank), list, v) {
+        Ok(lifted) => lifted,
+        Err(stop) => return Err(stop),
+    };
+    match lifted {
+        Some(cofactors) => Ok(push_cofactors(alloc, out, ring, list.len(), &cofactors)?),
+        None => Ok(push_verdict(out, false)?),
+    }
+}

@@ -1,0 +1,236 @@
+// Hilbert numerator, dimension and degree of a value.
+ghost use Rattle.std.specs.Prelude.{◌≡◌, ◌≤◌, ◌++◌, IfErr, IfOk, Bool, List, OnErr, OnOk, ℕ, string_bytes, ◌∷◌};
+ghost use Rattle.std.specs.Fmt.{signed_decimal};
+ghost use Rattle.groebner_iface.specs.Calls.{CallStops, NoTrail};
+ghost use Rattle.groebner_iface.specs.Runs.{IsReducedBasisOf};
+ghost use Rattle.hilbert_laws.specs.Dimensions.{HasDimension};
+ghost use Rattle.hilbert_series.specs.Large.{IsLarge};
+ghost use Rattle.module_vectors.specs.Rings.{variables};
+ghost use Rattle.module_vectors.specs.declared.key.Key.{Key as KeyValue};
+ghost use Rattle.module_vectors.specs.declared.ring.Ring.{Ring as RingValue};
+ghost use Rattle.poly_text.specs.Writing.{IsFront};
+ghost use Rattle.session_lang.specs.Counting.{CountsAs, KeepsAs, NumbersStop};
+ghost use Rattle.session_lang.specs.Kept.{IsSound, value_of};
+ghost use Rattle.session_lang.specs.Names.{Value};
+ghost use Rattle.session_lang.specs.Numbers.{HasManyLeads, IsNumeratorFor, coefficients_text, leads_of, measures_text, numbers_text};
+ghost use Rattle.session_lang.specs.Parts.{IsRunOf};
+
+use crate::kept_bases::{forget, keep_basis};
+use crate::step::Step;
+use crate::stored::Stored;
+use crate::texts::whole_or_none;
+use groebner_iface::{Groebner, OpStop};
+use hilbert_series::{HilbertStop, Series, dimension_degree, numerator};
+use module_vectors::{Key, NoMemory, Ring, VectList};
+use poly_text::push_number;
+use script_parse::{Kind, NameInfo};
+use std::alloc::Global;
+use std::sync::Wait;
+use std::thread::Threads;
+
+/// The numbers of a basis.
+#[derive(Drop)]
+struct Numbers {
+    series: Series,
+    dimension: i128,
+    degree: i128,
+}
+
+// The first keys of the vectors.
+fn leads_of(alloc: Global, list: &VectList) -> Result<Vec<Key>, NoMemory>
+    ensures { IfOk result (λ keys. keys.items ≡ leads_of list.now) }
+{
+    let mut keys = Vec::with_capacity(alloc, list.len())?;
+    for v in list.as_slice() {
+        if let Some(term) = v.terms().first() {
+            keys.push(term.0.try_copy(alloc)?)?;
+        }
+    }
+    Ok(keys)
+}
+
+// The numbers of a reduced basis of a value of this rank.
+fn numbers_of(
+    alloc: Global,
+    ring: &Ring,
+    rank: u64,
+    basis: &VectList,
+) -> Result<Numbers, HilbertStop>
+    requires rank { rank ≤ 64 }
+    requires basis { (list : List _) × IsReducedBasisOf ring.now rank list basis.now }
+    ensures few { OnOk result (HasManyLeads ring.now rank basis.now → ⊥) }
+    ensures counts { IfOk result (λ numbers. IsNumeratorFor ring.now rank basis.now numbers.series.coefficients.items) }
+    ensures narrow { IfOk result (λ numbers. IsLarge numbers.series.coefficients.items → ⊥) }
+    ensures measured { IfOk result (λ numbers. HasDimension (variables ring.now) numbers.series.coefficients.items numbers.dimension numbers.degree) }
+    ensures stop { IfErr result (NumbersStop ring.now rank basis.now) }
+{
+    let Ok(leads) = leads_of(alloc, basis) else {
+        return Err(HilbertStop::Memory);
+    };
+    let series = match numerator(alloc, &ring.weights, rank, leads.as_slice()) {
+        Ok(series) => series,
+        Err(stop) => return Err(stop),
+    };
+    match dimension_degree(alloc, &series) {
+        Ok((dimension, degree)) => Ok(Numbers {
+            series,
+            dimension,
+            degree,
+        }),
+        Err(stop) => Err(stop),
+    }
+}
+
+// Appends a coefficient behind a space. After an error what was written so far stands there.
+fn append_coefficient(alloc: Global, out: &mut Vec<u8>, k: i128) -> Result<(), NoMemory>
+    ensures ok { OnOk result (out.new.items ≡ out.old.items ++ (32 ∷ signed_decimal k)) }
+    ensures err { OnErr result (IsFront out.old.items out.new.items) }
+{
+    out.push(b' ')?;
+    match push_number(alloc, out, k) {
+        Ok(()) => Ok(()),
+        Err(_) => Err(NoMemory),
+    }
+}
+
+// Appends the coefficients. After an error what was written so far stands there.
+fn append_coefficients(
+    alloc: Global,
+    out: &mut Vec<u8>,
+    coefficients: &[i128],
+) -> Result<(), NoMemory>
+    ensures ok { OnOk result (out.new.items ≡ out.old.items ++ coefficients_text coefficients.now) }
+    ensures err { OnErr result (IsFront out.old.items out.new.items) }
+{
+    if coefficients.len() == 0 {
+        out.extend_from_slice(b" 0")?;
+        return Ok(());
+    }
+    for k in coefficients {
+        match append_coefficient(alloc, out, *k) {
+            Ok(()) => {}
+            Err(early) => return Err(early),
+        }
+    }
+    Ok(())
+}
+
+// Appends dimension and degree. After an error what was written so far stands there.
+fn append_measures(
+    alloc: Global,
+    out: &mut Vec<u8>,
+    dimension: i128,
+    degree: i128,
+) -> Result<(), NoMemory>
+    ensures ok { OnOk result (out.new.items ≡ out.old.items ++ measures_text dimension degree) }
+    ensures err { OnErr result (IsFront out.old.items out.new.items) }
+{
+    out.extend_from_slice(b"\ndim ")?;
+    if push_number(alloc, out, dimension).is_err() {
+        return Err(NoMemory);
+    }
+    out.extend_from_slice(b" degree ")?;
+    if push_number(alloc, out, degree).is_err() {
+        return Err(NoMemory);
+    }
+    out.push(b'\n')?;
+    Ok(())
+}
+
+// Appends the numbers. After an error what was written so far stands there.
+fn append_numbers(
+    alloc: Global,
+    out: &mut Vec<u8>,
+    name: &[u8],
+    numbers: &Numbers,
+) -> Result<(), NoMemory>
+    ensures ok { OnOk result (out.new.items ≡ out.old.items
+        ++ numbers_text name.now numbers.now.series.coefficients.items numbers.now.dimension numbers.now.degree) }
+    ensures err { OnErr result (IsFront out.old.items out.new.items) }
+{
+    out.extend_from_slice(b"hilb ")?;
+    out.extend_from_slice(name)?;
+    append_coefficients(alloc, out, numbers.series.coefficients.as_slice())?;
+    append_measures(alloc, out, numbers.dimension, numbers.degree)
+}
+
+// What the stop is to the line.
+fn refused(stop: HilbertStop) -> Result<Step, NoMemory>
+    ensures { IfOk result (λ step. (ring : RingValue) (value : Value) (basis : List (List (KeyValue × ℕ))) (out : List ℕ)
+        → IsReducedBasisOf ring value.rank value.list basis → NumbersStop ring value.rank basis stop → CountsAs ring value out out step) }
+{
+    match stop {
+        HilbertStop::Memory => Err(NoMemory),
+        HilbertStop::Leads(_) => Ok(Step::Refused(Kind::Leads)),
+        HilbertStop::Large => Ok(Step::Refused(Kind::Large)),
+    }
+}
+
+// Appends the numbers of a value with this reduced basis, or says for which kind they are refused; then, and after an
+// error, nothing is appended.
+fn push_numbers(
+    alloc: Global,
+    out: &mut Vec<u8>,
+    ring: &Ring,
+    info: &NameInfo,
+    basis: &VectList,
+) -> Result<Step, NoMemory>
+    requires rank { info.now.rank ≤ 64 }
+    requires basis { (list : List _) × IsReducedBasisOf ring.now info.now.rank list basis.now }
+    ensures counts { IfOk result (λ step. (list : List _) → IsReducedBasisOf ring.now info.now.rank list basis.now
+        → (kept : Bool) → CountsAs ring.now (record { name = string_bytes info.now.name; rank = info.now.rank; list = list; kept = kept }) out.old.items out.new.items step) }
+    ensures unwritten { OnErr result (out.new.items ≡ out.old.items) }
+{
+    let numbers = match numbers_of(alloc, ring, info.rank, basis) {
+        Ok(numbers) => numbers,
+        Err(stop) => return refused(stop),
+    };
+    let before = out.len();
+    let written = append_numbers(alloc, out, info.name.as_bytes(), &numbers);
+    match whole_or_none(out, before, written) {
+        Ok(()) => Ok(Step::Done),
+        Err(early) => Err(early),
+    }
+}
+
+/// Appends the numbers of a value, whose reduced basis is kept from then on, or says for which kind they are refused. Then,
+/// and after an error, nothing is appended, and no basis is kept that was not.
+pub fn count_value<R: Threads + Wait + Sync, B: Groebner>(
+    rt: &R,
+    alloc: Global,
+    engine: &mut B,
+    ring: &Ring,
+    info: &NameInfo,
+    stored: &mut Stored,
+    out: &mut Vec<u8>,
+) -> Result<Step, OpStop>
+    requires { IsSound ring.now info.now.rank stored.old }
+    ensures sound { IsSound ring.now info.now.rank stored.new }
+    ensures list { stored.new.list ≡ stored.old.list }
+    ensures kept { IfOk result (KeepsAs stored.old stored.new) }
+    ensures as_before { OnErr result (stored.new ≡ stored.old) }
+    ensures counts { IfOk result (CountsAs ring.now (value_of info.now stored.old) out.old.items out.new.items) }
+    ensures unwritten { OnErr result (out.new.items ≡ out.old.items) }
+    ensures same { OnOk result ((B.stops engine.new ≡ B.stops engine.old) × (B.stopped engine.new ≡ B.stopped engine.old)) }
+    ensures stop { IfErr result (CallStops (IsRunOf ring.now (value_of info.now stored.old)) NoTrail
+        (B.stops engine.old) (B.stops engine.new) (B.stopped engine.old) (B.stopped engine.new)) }
+    ensures later { B.stops engine.old ≤ B.stops engine.new }
+    ensures settings { B.settings engine.new ≡ B.settings engine.old }
+{
+    let fresh = stored.lacks_basis();
+    match keep_basis(rt, alloc, engine, ring, info.rank, stored) {
+        Ok(()) => {}
+        Err(stop) => return Err(OpStop::from(stop)),
+    }
+    match push_numbers(alloc, out, ring, info, stored.basis()) {
+        Ok(Step::Done) => Ok(Step::Done),
+        Ok(Step::Refused(kind)) => {
+            forget(stored, fresh);
+            Ok(Step::Refused(kind))
+        }
+        Err(_) => {
+            forget(stored, fresh);
+            Err(OpStop::Memory)
+        }
+    }
+}
