@@ -1,6 +1,7 @@
 -- From what was done with the lines of a script to what a run says.
 use Rattle.std.proofs.Common.{Some, None, nat_lt, ◌≡◌, ℕ, zero, suc, ◌+◌, ◌<◌, ◌≤◌, ◌⊎◌, inl, inr, Bool, true, false, if◌then◌else◌, ◌==◌, List, [], ◌∷◌, ◌++◌, length, take, refl, sym, ap, ◌∙◌, subst, arith, rules}
-use Rattle.std.proofs.KnownBytes.{Appends-nil, Appends-kept, Keeps-refl}
+use Rattle.std.proofs.KnownBytes.{Appends-nil, Appends-kept, Consumes-nil, Keeps-refl}
+use Rattle.std.proofs.lemmas.List.{append-nil}
 use Rattle.std.proofs.lemmas.Bool.{lt-ltb}
 use Rattle.std.specs.declared.option.Option.{Option}
 use Rattle.std.proofs.Common.{Result, Ok, Err, OnOk, IfErr}
@@ -19,6 +20,10 @@ use Rattle.session_top.specs.Parts.{LinesMeant, LinesStop}
 use Rattle.session_top.specs.Run.{Meant, ReadCut, MemoryCut, RunStops, AreReady, Stopped, StoppedByPairs, StoppedByDegree}
 use Rattle.session_top.specs.Stops.{StopsScript, stop_status}
 use Rattle.session_top.specs.Limits.{Limits}
+use Rattle.session_top.specs.Scripts.{script_before, script_behind}
+use Rattle.command_words.specs.declared.words.Command.{Command}
+use Rattle.command_words.specs.declared.words.Command.TheVariants.{Large, Run}
+use Rattle.large_script.specs.Script.{script_of}
 
 not_lt : (m n : ℕ) → n ≤ m → nat_lt m n ≡ false
 not_lt m n le = search rules
@@ -185,6 +190,10 @@ nothing_read a b t script read = record {
   written = Appends-nil t;
 }
 
+-- known bytes are consumed whole
+pub consumed_whole : (xs : List ℕ) → Consumes (Some xs) (Some []) xs
+consumed_whole xs = sym (append-nil xs)
+
 pub nothing_done : (a b t u : Option (List ℕ)) (script : List ℕ) → Consumes a b script → Keeps t u → MemoryCut a b t u 0
 nothing_done a b t u script read keeps = record {
   script = script;
@@ -198,6 +207,11 @@ nothing_done a b t u script read keeps = record {
   steps = (refl, refl);
   written = Appends-kept t t u [] (Appends-nil t) keeps;
 }
+
+-- nothing was begun, whatever the command
+pub nothing_begun : (command : Command) (left t u : Option (List ℕ)) → Keeps t u → MemoryCut (script_before command left) (script_behind command left) t u 0
+nothing_begun Run left t u keeps = nothing_done left left t u [] (Consumes-nil left) keeps
+nothing_begun (Large seed) left t u keeps = nothing_done (Some (script_of seed)) (Some []) t u (script_of seed) (consumed_whole (script_of seed)) keeps
 
 -- the same of a result
 pub results_done : (a b t u : Option (List ℕ)) (script : List ℕ) → Consumes a b script → IsAtEnd b ⊎ (SCRIPT_LIMIT < length script)

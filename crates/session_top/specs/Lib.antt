@@ -3,6 +3,7 @@ pub mod Limits
 pub mod Lines
 pub mod Meaning
 pub mod Run
+pub mod Scripts
 pub mod Stops
 -- what private clauses cite
 pub mod Parts

@@ -25,6 +25,8 @@ kind_word kind.Name = codes "name"
 kind_word kind.OfKind = codes "kind"
 kind_word kind.Rank = codes "rank"
 kind_word kind.Degree = codes "degree"
+kind_word kind.Leads = codes "leads"
+kind_word kind.Large = codes "large"
 
 abbrev pub refusal_word : Refusal → List ℕ
 refusal_word (OfLine kind) = kind_word kind

@@ -1,4 +1,4 @@
--- When a run of a line, or a division in it, stops a script, and the line that tells it.
+-- When a run of a line, or a division or product in it, stops a script, and the line that tells it.
 use Rattle.std.specs.Prelude.{◌≡◌, ℕ, ◌+◌, ◌⊎◌, List, [], ◌∷◌, ◌++◌, Option, None, Some, length, codes}
 use Rattle.std.specs.Fmt.{decimal}
 use Rattle.monomials.specs.Exponents.{exponents_of}
@@ -59,8 +59,9 @@ pub record StopsByPairs (limits : Limits) (before : State) (line : List ℕ) (s 
   pub taken : s.taken ≡ s.budget
   pub moment : let n = variables_of s in KeepsBudgetStop (run_of n s) (state_of n s)
 
--- The line needed a product of too great a degree: outside a run, in its division by a reduced basis; in a run before there
--- was a state, where a generator is divided; and in a run later, in the work on a pair or where a member's tail is divided.
+-- The line needed a product of too great a degree: outside a run, in its division by a reduced basis or in a product of a list
+-- that it makes; in a run before there was a state, where a generator is divided; and in a run later, in the work on a pair or
+-- where a member's tail is divided.
 abbrev pub StopsByDegree : Limits → State → List ℕ → Option Shown → KeptTrail → Type 0
 StopsByDegree limits before line None t =
     TrailOf before line t

@@ -44,6 +44,8 @@ fn error_end(refusal: Refusal) -> &'static [u8]
         Refusal::OfLine(Kind::OfKind) => b" kind\n",
         Refusal::OfLine(Kind::Rank) => b" rank\n",
         Refusal::OfLine(Kind::Degree) => b" degree\n",
+        Refusal::OfLine(Kind::Leads) => b" leads\n",
+        Refusal::OfLine(Kind::Large) => b" large\n",
         Refusal::Length => b" length\n",
     }
 }
@@ -145,7 +147,7 @@ fn stop_at_run<K: Sink>(sink: &mut K, number: u32, engine: &mut F4Engine) -> Ear
     stop(sink, number, take_stop(engine))
 }
 
-/// The same at a division by a reduced basis that stopped.
+/// The same at a division by a reduced basis, or a product of a list that is made, that stopped.
 fn stop_at_division<K: Sink>(sink: &mut K, number: u32, trail: KeptTrail) -> Early
     ensures says { StopEnds (K.taken sink.old) (K.taken sink.new) number None (Some trail) result }
     ensures write { result ≡ Early.WriteFault → Rose (K.faults sink.old) (K.faults sink.new) }

@@ -2,14 +2,18 @@
 ghost use Rattle.std.specs.Prelude.{◌≡◌, ◌<◌, ◌≤◌, ◌⊎◌, List, ℕ, length, IfOk, IfErr, OnErr, Err};
 ghost use Rattle.std.specs.Io.KnownBytes.{Consumes, IsAtEnd};
 ghost use Rattle.risen_counts.specs.Counts.{Rose};
+ghost use Rattle.command_words.specs.declared.words.Command.TheVariants.{Run};
+ghost use Rattle.session_top.specs.Scripts.{script_before, script_behind};
 
 use crate::SCRIPT_LIMIT;
 use crate::early::Early;
 use byte_ports::Source;
+use command_words::Command;
+use large_script::large_script;
 use std::alloc::Global;
 
 /// Reads a script to its end, or until it is too long.
-pub fn read_script<S: Source>(alloc: Global, source: &mut S) -> Result<Vec<u8>, Early>
+fn read_script<S: Source>(alloc: Global, source: &mut S) -> Result<Vec<u8>, Early>
     ensures read { IfOk result (λ script. Consumes (S.left source.old) (S.left source.new) script.items) }
     ensures end { IfOk result (λ script. IsAtEnd (S.left source.new) ⊎ (SCRIPT_LIMIT < length script.items)) }
     ensures part { OnErr result ((script : List ℕ) × Consumes (S.left source.old) (S.left source.new) script) }
@@ -30,4 +34,28 @@ pub fn read_script<S: Source>(alloc: Global, source: &mut S) -> Result<Vec<u8>, 
         }
     }
     Ok(script)
+}
+
+/// The script of the command: that of the source, read to its end or until it is too long, or the generated one, for which
+/// nothing is read.
+pub fn script_for<S: Source>(
+    alloc: Global,
+    command: Command,
+    source: &mut S,
+) -> Result<Vec<u8>, Early>
+    ensures read { IfOk result (λ script. Consumes (script_before command (S.left source.old)) (script_behind command (S.left source.new)) script.items) }
+    ensures end { IfOk result (λ script. IsAtEnd (script_behind command (S.left source.new)) ⊎ (SCRIPT_LIMIT < length script.items)) }
+    ensures part { OnErr result ((script : List ℕ) × Consumes (script_before command (S.left source.old)) (script_behind command (S.left source.new)) script) }
+    ensures errors { IfErr result (λ early. (early ≡ Early.ReadFault) ⊎ (early ≡ Early.NoMemory 0)) }
+    ensures fault { result ≡ Err Early.ReadFault → Rose (S.faults source.old) (S.faults source.new) }
+    ensures unread { (command ≡ Run → ⊥) → source.new ≡ source.old }
+    ensures later { S.faults source.old ≤ S.faults source.new }
+{
+    match command {
+        Command::Run => read_script(alloc, source),
+        Command::Large(seed) => match large_script(alloc, seed) {
+            Ok(script) => Ok(script),
+            Err(_) => Err(Early::NoMemory(0)),
+        },
+    }
 }

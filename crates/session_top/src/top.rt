@@ -3,15 +3,17 @@ ghost use Rattle.std.specs.Prelude.{◌≡◌, ◌≢◌, ◌<◌, ◌≤◌, ma
 ghost use Rattle.std.specs.Io.KnownBytes.{Appends};
 ghost use Rattle.risen_counts.specs.Counts.{Rose};
 ghost use Rattle.command_words.specs.Command.{IsForm, request_of};
+ghost use Rattle.command_words.specs.declared.words.Command.TheVariants.{Run};
 ghost use Rattle.session_top.specs.Limits.{limits_of};
 ghost use Rattle.session_top.specs.Meaning.{Done};
+ghost use Rattle.session_top.specs.Scripts.{script_before, script_behind, script_left, script_to_come};
 ghost use Rattle.session_top.specs.Stops.{stop_status};
 ghost use Rattle.session_top.specs.Run.{Meant, MeantRefused, ReadCut, WriteCut, MemoryCut, RunStops, StoppedByDegree, StoppedByPairs, WordsEnd, IsComplete};
 
 use crate::SCRIPT_LIMIT;
 use crate::early::{Early, Kept};
 use crate::lines::do_lines;
-use crate::reading::read_script;
+use crate::reading::script_for;
 use basis_core::BasisState;
 use byte_ports::{Sink, Source, write_all_to};
 use command_words::{Request, WordStop, read_words};
@@ -25,7 +27,7 @@ use worker_gate::{Gate, SharedGate};
 /// How a run ended.
 #[derive(Drop)]
 pub struct Ended {
-    /// 0: all lines were done and the input was read to its end. 1: a line was refused, or the script
+    /// 0: all lines were done and, of a script that is read, the input was read to its end. 1: a line was refused, or the script
     /// is too long. 2: the words are not of the form. 3: a read failed. 4: a write failed. 5: memory
     /// ran out. 6: a basis run met its budget of pairs. 7: a product of degree above 65,535, by the
     /// ring's weights, was needed.
@@ -76,7 +78,7 @@ fn stop_ending(line: u32, kept: Kept) -> Ended
     }
 }
 
-/// Reads a script and runs it, each basis run as the request says, by workers that pass this gate.
+/// Runs the script of the request, each basis run as it says, by workers that pass this gate.
 fn run_script<R: Threads + Wait + Sync, S: Source, K: Sink>(
     rt: &R,
     alloc: Global,
@@ -86,14 +88,15 @@ fn run_script<R: Threads + Wait + Sync, S: Source, K: Sink>(
     sink: &mut K,
 ) -> Result<(), Early>
     requires { 0 < request.workers }
-    ensures done { OnOk result (Meant (S.left source.old) (S.left source.new) (K.taken sink.old) (K.taken sink.new) Done) }
-    ensures stops { IfErr result (RunStops (S.left source.old) (S.left source.new) (K.taken sink.old) (K.taken sink.new) (limits_of request)) }
+    ensures done { OnOk result (Meant (script_before request.command (S.left source.old)) (script_behind request.command (S.left source.new)) (K.taken sink.old) (K.taken sink.new) Done) }
+    ensures stops { IfErr result (RunStops (script_before request.command (S.left source.old)) (script_behind request.command (S.left source.new)) (K.taken sink.old) (K.taken sink.new) (limits_of request)) }
     ensures read { result ≡ Err Early.ReadFault → Rose (S.faults source.old) (S.faults source.new) }
     ensures write { result ≡ Err Early.WriteFault → Rose (K.faults sink.old) (K.faults sink.new) }
+    ensures unread { (request.command ≡ Run → ⊥) → source.new ≡ source.old }
     ensures read_later { S.faults source.old ≤ S.faults source.new }
     ensures write_later { K.faults sink.old ≤ K.faults sink.new }
 {
-    match read_script(alloc, source) {
+    match script_for(alloc, request.command, source) {
         Ok(script) => {
             let text = &script[..SCRIPT_LIMIT.min(script.len())];
             do_lines(
@@ -110,11 +113,12 @@ fn run_script<R: Threads + Wait + Sync, S: Source, K: Sink>(
     }
 }
 
-/// Runs the script that the source gives, as the words ask, and writes its text into the sink.
+/// Runs the script that the source gives, or with the command `large` the generated script of its seed, as the words ask, and
+/// writes its text into the sink.
 ///
 /// The script is read whole and then done line by line. The text of a line is written only when the
 /// line is done; a refused line writes its error line, and one that stops its stop line, and both end
-/// the run. Words that are not of the form write `error words`, and nothing is read then. Basis runs
+/// the run. Words that are not of the form write `error words`, and nothing is read then; nor is anything read with `large`. Basis runs
 /// take as many pairs each as the words say, by as many workers, which pass the gate with each job.
 pub fn run<R: Threads + Wait + Sync, S: Source, K: Sink, G: Gate + Sync>(
     rt: &R,
@@ -130,9 +134,9 @@ pub fn run<R: Threads + Wait + Sync, S: Source, K: Sink, G: Gate + Sync>(
     ensures trail { result.status ≢ 7 → result.trail ≡ None }
 
     // Statuses 0 and 1: what was read has this meaning, and its text is what was written.
-    ensures done { result.status ≡ 0 → Meant (S.left source.old) (S.left source.new) (K.taken sink.old) (K.taken sink.new) Done }
+    ensures done { result.status ≡ 0 → Meant (script_to_come (map string_bytes words.now) (S.left source.old)) (script_left (map string_bytes words.now) (S.left source.new)) (K.taken sink.old) (K.taken sink.new) Done }
     ensures refused { result.status ≡ 1
-        → MeantRefused (S.left source.old) (S.left source.new) (K.taken sink.old) (K.taken sink.new) result.line }
+        → MeantRefused (script_to_come (map string_bytes words.now) (S.left source.old)) (script_left (map string_bytes words.now) (S.left source.new)) (K.taken sink.old) (K.taken sink.new) result.line }
 
     // Status 2 comes exactly where the words are not of the form, but for a failed write and want of memory.
     ensures words { result.status ≡ 2 → (IsForm (map string_bytes words.now) → ⊥)
@@ -140,30 +144,33 @@ pub fn run<R: Threads + Wait + Sync, S: Source, K: Sink, G: Gate + Sync>(
     ensures wrong { (IsForm (map string_bytes words.now) → ⊥)
         → (source.new ≡ source.old) × WordsEnd (K.taken sink.old) (K.taken sink.new) result.status }
 
+    // With `large` the source is as it was.
+    ensures unread { ((request_of (map string_bytes words.now)).command ≡ Run → ⊥) → source.new ≡ source.old }
+
     // Statuses 3 and 4 have their cause in the ports.
     ensures read_fault { result.status ≡ 3 → Rose (S.faults source.old) (S.faults source.new) }
     ensures read_cut { result.status ≡ 3
-        → ReadCut (S.left source.old) (S.left source.new) (K.taken sink.old) (K.taken sink.new) }
+        → ReadCut (script_to_come (map string_bytes words.now) (S.left source.old)) (script_left (map string_bytes words.now) (S.left source.new)) (K.taken sink.old) (K.taken sink.new) }
     ensures write_fault { result.status ≡ 4 → Rose (K.faults sink.old) (K.faults sink.new) }
     ensures write_cut { result.status ≡ 4 → IsForm (map string_bytes words.now)
-        → WriteCut (S.left source.old) (S.left source.new) (K.taken sink.old) (K.taken sink.new) (limits_of (request_of (map string_bytes words.now))) }
+        → WriteCut (script_to_come (map string_bytes words.now) (S.left source.old)) (script_left (map string_bytes words.now) (S.left source.new)) (K.taken sink.old) (K.taken sink.new) (limits_of (request_of (map string_bytes words.now))) }
 
     // Want of memory is the one free answer.
     ensures memory { result.status ≡ 5
-        → MemoryCut (S.left source.old) (S.left source.new) (K.taken sink.old) (K.taken sink.new) result.line }
+        → MemoryCut (script_to_come (map string_bytes words.now) (S.left source.old)) (script_left (map string_bytes words.now) (S.left source.new)) (K.taken sink.old) (K.taken sink.new) result.line }
 
     // Status 6: a run of this line took as many pairs as the words allow, and one more was to be looked at.
     ensures pairs { result.status ≡ 6
-        → StoppedByPairs (S.left source.old) (S.left source.new) (K.taken sink.old) (K.taken sink.new) (limits_of (request_of (map string_bytes words.now))) result.line result.kept result.trail }
+        → StoppedByPairs (script_to_come (map string_bytes words.now) (S.left source.old)) (script_left (map string_bytes words.now) (S.left source.new)) (K.taken sink.old) (K.taken sink.new) (limits_of (request_of (map string_bytes words.now))) result.line result.kept result.trail }
 
     // Status 7: this line led to a product of too great a degree.
     ensures degree { result.status ≡ 7
-        → StoppedByDegree (S.left source.old) (S.left source.new) (K.taken sink.old) (K.taken sink.new) (limits_of (request_of (map string_bytes words.now))) result.line result.kept result.trail }
+        → StoppedByDegree (script_to_come (map string_bytes words.now) (S.left source.old)) (script_left (map string_bytes words.now) (S.left source.new)) (K.taken sink.old) (K.taken sink.new) (limits_of (request_of (map string_bytes words.now))) result.line result.kept result.trail }
 
     // Where no count rose, a script that has a meaning ends as it means, or memory ran out, or a line stopped.
     ensures complete { IsForm (map string_bytes words.now)
         → (Rose (S.faults source.old) (S.faults source.new) → ⊥) → (Rose (K.faults sink.old) (K.faults sink.new) → ⊥)
-        → IsComplete (S.left source.old) (S.left source.new) (K.taken sink.old) (K.taken sink.new) result.status result.line }
+        → IsComplete (script_to_come (map string_bytes words.now) (S.left source.old)) (script_left (map string_bytes words.now) (S.left source.new)) (K.taken sink.old) (K.taken sink.new) result.status result.line }
 {
     let request = match read_words(alloc, words) {
         Ok(request) => request,

@@ -1,14 +1,14 @@
-use Rattle.std.proofs.Common.{[], sym, ap, map, string_bytes, ◌≡◌, ◌∙◌}
-use Rattle.std.proofs.KnownBytes.{Consumes-nil, Keeps-refl}
+use Rattle.std.proofs.Common.{sym, ap, map, string_bytes, ◌≡◌, ◌∙◌}
+use Rattle.std.proofs.KnownBytes.{Keeps-refl}
 use Rattle.command_words.specs.Command.{request_of}
 use Rattle.session_top.specs.Stops.{stop_status}
 use Rattle.session_top.specs.Limits.{limits_of}
 use Rattle.session_top.proofs.Complete.{LineLaws, done_complete, refused_complete}
-use Rattle.session_top.proofs.Whole.{as_told, nothing_done, stopped_by_degree, stopped_by_pairs}
+use Rattle.session_top.proofs.Whole.{as_told, nothing_begun, stopped_by_degree, stopped_by_pairs}
 use Rattle.session_top.proofs.top.run.Goals as goal
 
 pub returns-in-Err-Memory-clause-memory : goal.returns-in-Err-Memory-clause-memory
-returns-in-Err-Memory-clause-memory g c five = rw (c.plain_ending.ensures.line) (nothing_done _ _ _ _ [] (Consumes-nil _) (Keeps-refl _))
+returns-in-Err-Memory-clause-memory g c five = rw (c.plain_ending.ensures.line) (nothing_begun (request_of (map string_bytes c.args.words.now)).command _ _ _ (Keeps-refl _))
 
 pub returns-in-Ok-run_script-clause-complete : goal.returns-in-Ok-run_script-clause-complete
 returns-in-Ok-run_script-clause-complete g c form calm_source calm_sink =
