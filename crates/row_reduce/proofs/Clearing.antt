@@ -1,12 +1,12 @@
 -- A column is cleared
-use Rattle.std.proofs.Common.{List, [], ap, ap₂, arith, drop, get_or, get_or-set_other, get_or-set_same, inl, inr, length, set, subst, sym, ℕ, ◌%◌, ◌*◌, ◌+◌, ◌++◌, ◌-◌, ◌<◌, ◌∙◌, ◌∷◌, ◌≡◌}
+use Rattle.std.proofs.Common.{List, [], ap, ap₂, append-nil, append_assoc, arith, drop, get_or, get_or-set_other, get_or-set_same, inl, inr, length, set, subst, sym, ℕ, ◌%◌, ◌*◌, ◌+◌, ◌++◌, ◌-◌, ◌<◌, ◌∙◌, ◌∷◌, ◌≡◌}
 use Rattle.std.proofs.lemmas.Bool.{cases_eq}
 use Rattle.std.proofs.lemmas.List.{get_or-map, get_or_default, length-set, map-append, set-get_or, set-set}
 use Rattle.residues.proofs.Congruences.{IsCongruent_add, IsCongruent_mod, IsCongruent_multiply, IsCongruent_of, IsCongruent_refl, IsCongruent_sym, IsCongruent_trans}
 use native.Mathlib.Nat.{mod_self, zero-mod}
 use Rattle.residues.specs.Residues.{IsCongruent}
 use Rattle.monomials.specs.Exponents.{unit}
-use Rattle.formal_sums.proofs.Combining.{IsSame_combination, combination-append, combination-scale}
+use Rattle.formal_sums.proofs.Combining.{combination-append, combination-scale}
 use Rattle.formal_sums.proofs.Sameness.{IsSame_append, IsSame_of, IsSame_refl, IsSame_scale, IsSame_sym, IsSame_trans, coefficient-scale_unit}
 use Rattle.formal_sums.proofs.WeightedSums.{Each_append, coefficient-append}
 use Rattle.formal_sums.specs.Combinations.{combination}
@@ -17,9 +17,9 @@ use Rattle.row_matrix.specs.Rows.{AreEntries, Entry, IsRow, RowShown, first_colu
 use Rattle.module_vectors.proofs.Scaling.{Each_at}
 use Rattle.row_reduce.proofs.Adding.{Each_set, dense_add}
 use Rattle.row_reduce.proofs.Entries.{entries_from, entries_push, entries_widen, monic_entries}
-use Rattle.row_reduce.specs.Dense.{AddsMultiple, IsDense, dense_sum}
+use Rattle.row_reduce.specs.Dense.{AddsMultiple, AreWithin, IsDense, dense_sum}
 use Rattle.row_reduce.specs.Pivots.{ArePivots, lead_column, no_row, row_at, row_vectors}
-use Rattle.row_reduce.specs.Underway.{AreCombined, IsReducedTo, IsUnderway}
+use Rattle.row_reduce.specs.Underway.{AreCombined, IsReducedTo, IsUnderway, sources_sum, taken_sum}
 
 -- the number at a column is its residue, which is taken out
 pub dense_clear :
@@ -134,21 +134,42 @@ reduced_more {n} p rows v t t' row factor residue span zero e h = record {
   };
 }
 
+-- one more row was added
+taken_push :
+    {n : ℕ} (key : ℕ → Key n) (rows : List RowShown) (taken : List Entry) (t : Entry)
+    → taken_sum key rows (taken ++ t ∷ []) ≡ taken_sum key rows taken ++ scale t.1 (unit n) (row_sum key (row_at rows t.0).sources)
+taken_push {n} key rows [] t = append-nil (scale t.1 (unit n) (row_sum key (row_at rows t.0).sources))
+taken_push {n} key rows (x ∷ taken) t =
+    ap (λ r. scale x.1 (unit n) (row_sum key (row_at rows x.0).sources) ++ r) (taken_push key rows taken t)
+    ∙ sym (append_assoc (scale x.1 (unit n) (row_sum key (row_at rows x.0).sources)) (taken_sum key rows taken) (scale t.1 (unit n) (row_sum key (row_at rows t.0).sources)))
+
+pub sources_push :
+    {n : ℕ} (key : ℕ → Key n) (rows : List RowShown) (row : RowShown) (taken : List Entry) (t : Entry)
+    → sources_sum key rows row (taken ++ t ∷ []) ≡ sources_sum key rows row taken ++ scale t.1 (unit n) (row_sum key (row_at rows t.0).sources)
+sources_push {n} key rows row taken t =
+    ap (λ r. row_sum key row.sources ++ r) (taken_push key rows taken t)
+    ∙ sym (append_assoc (row_sum key row.sources) (taken_sum key rows taken) (scale t.1 (unit n) (row_sum key (row_at rows t.0).sources)))
+
 -- the combination of the input rows grows by the same multiple
 pub combined_more :
-    {n : ℕ} (p : ℕ) → 0 < p → (F : List (FormalSum n)) (key : ℕ → Key n) (row : RowShown) (sources sources' : List ℕ) (t t' : FormalSum n) (factor : ℕ)
-    → IsSame p (combination F (row_sum (source_key n) row.sources)) (row_sum key row.entries)
-    → IsSame p (dense_sum (source_key n) 0 sources') (dense_sum (source_key n) 0 sources ++ scale factor (unit n) (row_sum (source_key n) row.sources))
-    → IsSame p t' (t ++ scale factor (unit n) (row_sum key row.entries))
-    → IsSame p (combination F (dense_sum (source_key n) 0 sources)) t
-    → IsSame p (combination F (dense_sum (source_key n) 0 sources')) t'
-combined_more {n} p pos F key row sources sources' t t' factor from more e h =
-    IsSame_trans (IsSame_combination pos F _ _ more)
-    (IsSame_trans (IsSame_of p _ _ (combination-append F (dense_sum (source_key n) 0 sources) (scale factor (unit n) (row_sum (source_key n) row.sources)) ∙ ap (λ x. combination F (dense_sum (source_key n) 0 sources) ++ x) (combination-scale F factor (unit n) (row_sum (source_key n) row.sources))))
-    (IsSame_trans (IsSame_append h (IsSame_scale pos factor (unit n) from)) (IsSame_sym e)))
+    {n : ℕ} (p : ℕ) → 0 < p → (F : List (FormalSum n)) (key : ℕ → Key n) (rows : List RowShown) (row pivot : RowShown) (taken taken' : List Entry)
+    (number factor : ℕ) (t t' : FormalSum n)
+    → taken' ≡ taken ++ (number, factor) ∷ [] → pivot ≡ row_at rows number
+    → IsSame p (combination F (row_sum (source_key n) pivot.sources)) (row_sum key pivot.entries)
+    → IsSame p t' (t ++ scale factor (unit n) (row_sum key pivot.entries))
+    → IsSame p (combination F (sources_sum (source_key n) rows row taken)) t
+    → IsSame p (combination F (sources_sum (source_key n) rows row taken')) t'
+combined_more {n} p pos F key rows row pivot taken taken' number factor t t' more at from e h =
+    let old = sources_sum (source_key n) rows row taken in
+    let part = scale factor (unit n) (row_sum (source_key n) pivot.sources) in
+    let grown : sources_sum (source_key n) rows row taken' ≡ old ++ part =
+    ap (sources_sum (source_key n) rows row) more ∙ sources_push (source_key n) rows row taken (number, factor)
+    ∙ ap (λ (r : RowShown). old ++ scale factor (unit n) (row_sum (source_key n) r.sources)) (sym at) in
+    IsSame_trans (IsSame_of p _ _ (ap (combination F) grown ∙ combination-append F old part ∙ ap (λ x. combination F old ++ x) (combination-scale F factor (unit n) (row_sum (source_key n) pivot.sources))))
+    (IsSame_trans (IsSame_append h (IsSame_scale pos factor (unit n) from)) (IsSame_sym e))
 
 -- ---- the record of the way
-module _ (p c columns inputs : ℕ) (pivots : List ℕ) (left : List Entry) (numbers sources : List ℕ) (h : IsUnderway p c columns inputs pivots left numbers sources) (lt : c < length numbers) where
+module _ (p c columns count : ℕ) (pivots : List ℕ) (left : List Entry) (numbers : List ℕ) (taken : List Entry) (h : IsUnderway p c columns count pivots left numbers taken) (lt : c < length numbers) where
   cleared_more : (j : ℕ) → j < c + 1 → get_or (set numbers c 0) j 0 ≡ 0
   cleared_more j l = elim (cases_eq j c) [
     | inl e ↦ ap (λ k. get_or (set numbers c 0) k 0) e ∙ get_or-set_same numbers c 0 0 lt
@@ -160,12 +181,25 @@ module _ (p c columns inputs : ℕ) (pivots : List ℕ) (left : List Entry) (num
       let a : get_or numbers c 0 < p * p = Each_at (λ a. a < p * p) numbers c (get_or numbers c 0) h.small lt (get_or_default numbers c 0 (get_or numbers c 0) lt) in
       Each_set (λ a. a < p * p) numbers c 0 h.small (omega arith)
 
-  pub underway_none : IsUnderway p (c + 1) columns inputs pivots left (set numbers c 0) sources
+  -- nothing stands there
+  pub underway_skip : get_or numbers c 0 ≡ 0 → IsUnderway p (c + 1) columns count pivots left numbers taken
+  underway_skip zero = record {
+    numbered = h.numbered;
+    small = h.small;
+    known = h.known;
+    cleared = λ j l. elim (cases_eq j c) [
+      | inl e ↦ ap (λ k. get_or numbers k 0) e ∙ zero
+      | inr ne ↦ h.cleared j (omega arith)
+    ];
+    entries = entries_widen p 0 c (c + 1) left (omega arith) h.entries;
+    free = h.free;
+  }
+
+  pub underway_none : IsUnderway p (c + 1) columns count pivots left (set numbers c 0) taken
   underway_none = record {
     numbered = length-set numbers c 0 ∙ h.numbered;
-    sourced = h.sourced;
     small = small_set;
-    sources_small = h.sources_small;
+    known = h.known;
     cleared = cleared_more;
     entries = entries_widen p 0 c (c + 1) left (omega arith) h.entries;
     free = h.free;
@@ -174,26 +208,25 @@ module _ (p c columns inputs : ℕ) (pivots : List ℕ) (left : List Entry) (num
   pub underway_left :
       (r : ℕ) (left' : List Entry)
       → 0 < r → r < p → get_or pivots c 0 ≡ 0 → left' ≡ left ++ (c, r) ∷ []
-      → IsUnderway p (c + 1) columns inputs pivots left' (set numbers c 0) sources
+      → IsUnderway p (c + 1) columns count pivots left' (set numbers c 0) taken
   underway_left r left' pos small none e = record {
     numbered = length-set numbers c 0 ∙ h.numbered;
-    sourced = h.sourced;
     small = small_set;
-    sources_small = h.sources_small;
+    known = h.known;
     cleared = cleared_more;
     entries = subst (AreEntries p 0 (c + 1)) (sym e) (entries_push p 0 c r left h.entries pos small);
     free = subst (Each (λ x. get_or pivots x.0 0 ≡ 0)) (sym e) (Each_append (λ (x : Entry). get_or pivots x.0 0 ≡ 0) left ((c, r) ∷ []) h.free (none, tt));
   }
 
   pub underway_pivot :
-      (factor : ℕ) (tail more : List Entry) (numbers' sources' : List ℕ)
-      → AreEntries p (c + 1) columns tail → AddsMultiple p factor tail (set numbers c 0) numbers' → AddsMultiple p factor more sources sources'
-      → IsUnderway p (c + 1) columns inputs pivots left numbers' sources'
-  underway_pivot factor tail more numbers' sources' es a b = record {
+      (number factor : ℕ) (tail : List Entry) (numbers' : List ℕ) (taken' : List Entry)
+      → AreEntries p (c + 1) columns tail → AddsMultiple p factor tail (set numbers c 0) numbers' → number < count → factor < p
+      → taken' ≡ taken ++ (number, factor) ∷ []
+      → IsUnderway p (c + 1) columns count pivots left numbers' taken'
+  underway_pivot number factor tail numbers' taken' es a known small e = record {
     numbered = a.count ∙ length-set numbers c 0 ∙ h.numbered;
-    sourced = b.count ∙ h.sourced;
     small = a.small;
-    sources_small = b.small;
+    known = subst (AreWithin p count) (sym e) (Each_append (λ (x : Entry). (x.0 < count) × (x.1 < p)) taken ((number, factor) ∷ []) h.known ((known, small), tt));
     cleared = λ j l. a.before j (entries_from p (c + 1) columns j tail es l) ∙ cleared_more j l;
     entries = entries_widen p 0 c (c + 1) left (omega arith) h.entries;
     free = h.free;

@@ -5,7 +5,7 @@ use Rattle.std.proofs.lemmas.List.{get_or_append_left, get_or_default, get_or_pa
 use Rattle.formal_sums.proofs.WeightedSums.{Each_append}
 use Rattle.formal_sums.specs.FormalSums.{Each, FormalSum, Key}
 use Rattle.module_vectors.proofs.Scaling.{Each_at}
-use Rattle.row_laws.proofs.RowSpans.{IsInSpan_through}
+use Rattle.row_laws.proofs.RowSpans.{IsInSpan_itself, IsInSpan_through}
 use Rattle.row_laws.specs.Rows.{IsInSpan}
 use Rattle.row_matrix.specs.Rows.{IsRow, RowShown, first_column, row_sum}
 use Rattle.row_reduce.proofs.Adding.{Each_back, Each_front}
@@ -177,20 +177,25 @@ module _ (p columns inputs : ℕ) (M E E' : List RowShown) (row : RowShown) (piv
   }
 
 -- no row yet
-pub reducing_start :
-    (p columns inputs : ℕ) (pivots : List ℕ) → pivots ≡ replicate columns 0 → IsReducing p columns inputs [] [] pivots
-reducing_start p columns inputs pivots e = record {
-  pivoted = record {
-    monic = tt;
-    count = ap length e ∙ length-replicate columns 0;
-    named = λ c l pos. (let z : get_or pivots c 0 ≡ 0 = ap (λ xs. get_or xs c 0) e ∙ zeros_at columns c in absurd (omega arith));
-    all = λ k l. absurd (omega arith);
-  };
+pub pivots_none :
+    (p columns inputs : ℕ) (pivots : List ℕ) → pivots ≡ replicate columns 0 → ArePivots p columns inputs [] pivots
+pivots_none p columns inputs pivots e = record {
+  monic = tt;
+  count = ap length e ∙ length-replicate columns 0;
+  named = λ c l pos. (let z : get_or pivots c 0 ≡ 0 = ap (λ xs. get_or xs c 0) e ∙ zeros_at columns c in absurd (omega arith));
+  all = λ k l. absurd (omega arith);
+}
+
+-- pivots are an echelon form of themselves
+pub reducing_pivots :
+    (p columns inputs : ℕ) (E : List RowShown) (pivots : List ℕ) → ArePivots p columns inputs E pivots → IsReducing p columns inputs E E pivots
+reducing_pivots p columns inputs E pivots h = record {
+  pivoted = h;
   few = omega arith;
-  leads = λ i l. absurd (omega arith);
-  inside = λ n key i l. absurd (omega arith);
-  outside = λ n key k l. absurd (omega arith);
-  combined = λ n F key h. tt;
+  leads = λ i l. (let a : get_or pivots (lead_column E i) 0 ≡ i + 1 = h.all i l in omega arith);
+  inside = λ n key i l. IsInSpan_itself p (row_vectors key E) i;
+  outside = λ n key i l. IsInSpan_itself p (row_vectors key E) i;
+  combined = λ n F key from. from;
 }
 
 -- all rows are done

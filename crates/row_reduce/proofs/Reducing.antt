@@ -1,5 +1,5 @@
 -- The start of a row's way, and what is left at its end
-use Rattle.std.proofs.Common.{List, [], ap, ap₂, append-nil, arith, get_or, length, mod-lt, refl, replicate, subst, suc, sym, take, zero, ℕ, ◌%◌, ◌*◌, ◌+◌, ◌++◌, ◌-◌, ◌<◌, ◌∙◌, ◌∷◌, ◌≡◌, ◌≤◌}
+use Rattle.std.proofs.Common.{List, [], ap, ap₂, append-nil, arith, get_or, length, mod-lt, refl, replicate, subst, subst₂, suc, sym, take, zero, ℕ, ◌%◌, ◌*◌, ◌+◌, ◌++◌, ◌-◌, ◌<◌, ◌∙◌, ◌∷◌, ◌≡◌, ◌≤◌}
 use Rattle.std.proofs.lemmas.List.{get_or_append_left, get_or_push, length-replicate, length-take-le, map-append, take_more}
 use Rattle.residues.proofs.Congruences.{IsCongruent_add, IsCongruent_minus, IsCongruent_mod, IsCongruent_multiply, IsCongruent_of, IsCongruent_refl, IsCongruent_sym, IsCongruent_trans}
 use Rattle.std.proofs.Common.{mul_comm}
@@ -15,10 +15,12 @@ use Rattle.zp_field.specs.Moduli.{IsInverse}
 use Rattle.row_laws.proofs.RowSpans.{IsInSpan_append, IsInSpan_itself, IsInSpan_same, IsInSpan_scale, IsInSpan_through}
 use Rattle.row_laws.specs.Rows.{IsInSpan}
 use Rattle.row_matrix.specs.Rows.{AreEntries, Entry, IsRow, RowShown, first_column, first_residue, row_sum, source_key}
+use Rattle.module_vectors.proofs.Scaling.{take_item}
+use Rattle.row_reduce.proofs.Clearing.{sources_push}
 use Rattle.row_reduce.proofs.Entries.{entries_from}
-use Rattle.row_reduce.specs.Dense.{AddsMultiple, IsDense, dense_sum}
-use Rattle.row_reduce.specs.Pivots.{row_vectors}
-use Rattle.row_reduce.specs.Underway.{IsCombinedDense, IsDone, IsLeftRow, IsReducedDense, IsRemainder, IsSpanned, IsUnderway, rescaled}
+use Rattle.row_reduce.specs.Dense.{AddsMultiple, AreWithin, IsDense, dense_sum}
+use Rattle.row_reduce.specs.Pivots.{row_at, row_vectors}
+use Rattle.row_reduce.specs.Underway.{IsCombinedDense, IsDone, IsLeftRow, IsReducedDense, IsRemainder, IsSpanned, IsUnderway, rescaled, sources_sum}
 
 -- ---- numbers, one after another
 dense_push : {n : ℕ} (key : ℕ → Key n) (j a : ℕ) (xs : List ℕ) → dense_sum key j (xs ++ a ∷ []) ≡ dense_sum key j xs ++ (key (j + length xs), a) ∷ []
@@ -92,12 +94,12 @@ inverse_nonzero p a zero one h = let e : (a * 0) % p ≡ 1 = h.one in let z : a 
 inverse_nonzero p a (suc b) one h = omega arith
 
 pub left_row_of :
-    (p columns inputs a inverse : ℕ) (left sources' : List Entry) (sources : List ℕ) (row : RowShown)
+    (p columns inputs a inverse : ℕ) (rows : List RowShown) (start : RowShown) (left taken sources' : List Entry) (row : RowShown)
     → IsDomain p → AreEntries p 0 columns left → 0 < length left → a ≡ first_residue left → IsInverse p a inverse
     → row.entries ≡ rescaled p inverse left → row.sources ≡ sources' → AreEntries p 0 inputs sources'
-    → ((n : ℕ) (key : ℕ → Key n) → IsSame p (row_sum key sources') (scale inverse (unit n) (dense_sum key 0 sources)))
-    → IsLeftRow p columns inputs left sources row
-left_row_of p columns inputs a inverse left sources' sources row d es some first inv er sr ss sum = record {
+    → ((n : ℕ) (key : ℕ → Key n) → IsSame p (row_sum key sources') (scale inverse (unit n) (sources_sum key rows start taken)))
+    → IsLeftRow p columns inputs rows start left taken row
+left_row_of p columns inputs a inverse rows start left taken sources' row d es some first inv er sr ss sum = record {
   good = record {
     entries = subst (AreEntries p 0 columns) (sym er) (rescaled_entries p inverse 0 columns left d (inverse_nonzero p a inverse d.above_one inv) inv.below es);
     monic = ap first_residue er ∙ one left some first;
@@ -147,15 +149,13 @@ zeros_at (suc m) zero = refl
 zeros_at (suc m) (suc j) = zeros_at m j
 
 pub start_underway :
-    (p columns inputs : ℕ) (pivots : List ℕ) (row : RowShown) (zeros zeros' numbers sources : List ℕ) (left : List Entry)
-    → IsRow p columns inputs row → zeros ≡ replicate columns 0 → zeros' ≡ replicate inputs 0
-    → AddsMultiple p 1 row.entries zeros numbers → AddsMultiple p 1 row.sources zeros' sources → left ≡ []
-    → IsUnderway p (first_column row.entries) columns inputs pivots left numbers sources
-start_underway p columns inputs pivots row zeros zeros' numbers sources left good z z' a b e = record {
+    (p columns inputs count : ℕ) (pivots : List ℕ) (row : RowShown) (zeros numbers : List ℕ) (left taken : List Entry)
+    → IsRow p columns inputs row → zeros ≡ replicate columns 0 → AddsMultiple p 1 row.entries zeros numbers → left ≡ [] → taken ≡ []
+    → IsUnderway p (first_column row.entries) columns count pivots left numbers taken
+start_underway p columns inputs count pivots row zeros numbers left taken good z a e none = record {
   numbered = a.count ∙ ap length z ∙ length-replicate columns 0;
-  sourced = b.count ∙ ap length z' ∙ length-replicate inputs 0;
   small = a.small;
-  sources_small = b.small;
+  known = subst (AreWithin p count) (sym none) tt;
   cleared = λ j lt. a.before j (before row.entries good.entries j lt) ∙ ap (λ xs. get_or xs j 0) z ∙ zeros_at columns j;
   entries = subst (AreEntries p 0 (first_column row.entries)) (sym e) (let w : 0 ≤ first_column row.entries = omega arith in w);
   free = subst (Each (λ x. get_or pivots x.0 0 ≡ 0)) (sym e) tt;
@@ -177,10 +177,10 @@ dense_none key j (x ∷ xs) h f =
     rw a (omega (arith, b))
 
 pub done_sum :
-    {n p inputs : ℕ} (key : ℕ → Key n) (pivots : List ℕ) (left : List Entry) (numbers sources : List ℕ)
-    → IsUnderway p (length pivots) (length pivots) inputs pivots left numbers sources
+    {n p count : ℕ} (key : ℕ → Key n) (pivots : List ℕ) (left : List Entry) (numbers : List ℕ) (taken : List Entry)
+    → IsUnderway p (length pivots) (length pivots) count pivots left numbers taken
     → IsSame p (row_sum key left ++ dense_sum key 0 numbers) (row_sum key left)
-done_sum {n} {p} key pivots left numbers sources h = record {
+done_sum {n} {p} key pivots left numbers taken h = record {
   by_key = λ k. IsCongruent_of p _ _ (coefficient-append (row_sum key left) (dense_sum key 0 numbers) k ∙ ap (λ x. coefficient (row_sum key left) k + x) (dense_none key 0 numbers (λ i lt. h.cleared i (omega (arith, h.numbered))) (indicator k)) ∙ omega arith);
 }
 
@@ -198,31 +198,31 @@ span_last {n} {p} key rows r =
     subst (λ xs. IsInSpan p xs (row_sum key r.entries)) (sym (map-append (λ (x : RowShown). row_sum key x.entries) rows (r ∷ [])))
     (subst (IsInSpan p (row_vectors key rows ++ row_sum key r.entries ∷ [])) (get_or_push (row_vectors key rows) (row_sum key r.entries) [] (length (row_vectors key rows)) refl) (IsInSpan_itself p (row_vectors key rows ++ row_sum key r.entries ∷ []) (length (row_vectors key rows))))
 
-module _ (p inputs : ℕ) (pos : 0 < p) (rows : List RowShown) (pivots : List ℕ) (row : RowShown) (left : List Entry) (numbers sources : List ℕ) (done : IsDone p inputs rows pivots row left numbers sources) where
+module _ (p inputs : ℕ) (pos : 0 < p) (rows : List RowShown) (pivots : List ℕ) (row : RowShown) (left : List Entry) (numbers : List ℕ) (taken : List Entry) (done : IsDone p rows pivots row left numbers taken) where
   -- nothing is left
   pub done_nothing : left ≡ [] → IsSpanned p rows row
   done_nothing e n key =
       let h = done.reduced n key in
       IsInSpan_same (row_vectors key rows) h.taken (row_sum key row.entries)
-      (IsSame_sym (IsSame_trans h.sums (IsSame_append (IsSame_trans (done_sum key pivots left numbers sources done.underway) (IsSame_of p _ _ (ap (row_sum key) e))) (IsSame_refl p h.taken))))
+      (IsSame_sym (IsSame_trans h.sums (IsSame_append (IsSame_trans (done_sum key pivots left numbers taken done.underway) (IsSame_of p _ _ (ap (row_sum key) e))) (IsSame_refl p h.taken))))
       h.spanned
 
   -- the row that is left
-  pub done_row : (r : RowShown) → IsLeftRow p (length pivots) inputs left sources r → IsRemainder p inputs rows pivots row r
+  pub done_row : (r : RowShown) → IsLeftRow p (length pivots) inputs rows row left taken r → IsRemainder p inputs rows pivots row r
   done_row r l = record {
     good = l.good;
     free = ap (λ c. get_or pivots c 0) l.first ∙ first left l.some done.underway.free;
     combined = λ n F key from h.
-        let a : IsSame p (combination F (dense_sum (source_key n) 0 sources)) (row_sum key left) = IsSame_trans (done.combined n F key from h) (done_sum key pivots left numbers sources done.underway) in
+        let a : IsSame p (combination F (sources_sum (source_key n) rows row taken)) (row_sum key left) = IsSame_trans (done.combined n F key from h) (done_sum key pivots left numbers taken done.underway) in
         IsSame_trans (IsSame_combination pos F _ _ (l.combination n (source_key n)))
-        (IsSame_trans (IsSame_of p _ _ (combination-scale F l.factor (unit n) (dense_sum (source_key n) 0 sources)))
+        (IsSame_trans (IsSame_of p _ _ (combination-scale F l.factor (unit n) (sources_sum (source_key n) rows row taken)))
         (IsSame_trans (IsSame_scale pos l.factor (unit n) a) (IsSame_sym (l.entries n key))));
     inside = λ n key.
         let h = done.reduced n key in
         let span = row_vectors key (rows ++ r ∷ []) in
         let b : IsInSpan p span (scale l.back (unit n) (row_sum key r.entries)) = IsInSpan_scale span l.back (row_sum key r.entries) (span_last key rows r) in
         IsInSpan_same span (scale l.back (unit n) (row_sum key r.entries) ++ h.taken) (row_sum key row.entries)
-        (IsSame_sym (IsSame_trans h.sums (IsSame_append (IsSame_trans (done_sum key pivots left numbers sources done.underway) (IsSame_sym (back n key))) (IsSame_refl p h.taken))))
+        (IsSame_sym (IsSame_trans h.sums (IsSame_append (IsSame_trans (done_sum key pivots left numbers taken done.underway) (IsSame_sym (back n key))) (IsSame_refl p h.taken))))
         (IsInSpan_append span (scale l.back (unit n) (row_sum key r.entries)) h.taken b (span_front key rows r h.taken h.spanned));
     outside = λ n key.
         let h = done.reduced n key in
@@ -256,7 +256,7 @@ module _ (p inputs : ℕ) (pos : 0 < p) (rows : List RowShown) (pivots : List �
             let t = coefficient h.taken k in
             let x = coefficient (row_sum key left) k in
             let v : IsCongruent p (coefficient (row_sum key row.entries) k) (x + t) =
-            IsCongruent_trans ((IsSame_trans h.sums (IsSame_append (done_sum key pivots left numbers sources done.underway) (IsSame_refl p h.taken))).by_key k) (IsCongruent_of p _ _ (coefficient-append (row_sum key left) h.taken k)) in
+            IsCongruent_trans ((IsSame_trans h.sums (IsSame_append (done_sum key pivots left numbers taken done.underway) (IsSame_refl p h.taken))).by_key k) (IsCongruent_of p _ _ (coefficient-append (row_sum key left) h.taken k)) in
             IsCongruent_trans (IsCongruent_of p _ _ (coefficient-append (row_sum key row.entries) (scale (p - 1) (unit n) h.taken) k ∙ ap (λ y. coefficient (row_sum key row.entries) k + y) (coefficient-scale_unit (p - 1) h.taken k)))
             (IsCongruent_trans (IsCongruent_add v (IsCongruent_refl p ((p - 1) * t)))
             (IsCongruent_trans (IsCongruent_of p (x + t + (p - 1) * t) (x + (t + (p - 1) * t)) (omega arith))
@@ -282,12 +282,13 @@ first_column_within p low high (x ∷ es) h le = omega (arith, bound p (x.0 + 1)
 
 -- at the start the numbers are the row's
 pub start_combined :
-    {n p : ℕ} → 0 < p → (F : List (FormalSum n)) (key : ℕ → Key n) (row : RowShown) (left : List Entry) (numbers sources : List ℕ)
-    → left ≡ [] → IsSame p (dense_sum key 0 numbers) (row_sum key row.entries) → IsSame p (dense_sum (source_key n) 0 sources) (row_sum (source_key n) row.sources)
+    {n p : ℕ} → (F : List (FormalSum n)) (key : ℕ → Key n) (rows : List RowShown) (row : RowShown) (left : List Entry) (numbers : List ℕ) (taken : List Entry)
+    → left ≡ [] → taken ≡ [] → IsSame p (dense_sum key 0 numbers) (row_sum key row.entries)
     → IsSame p (combination F (row_sum (source_key n) row.sources)) (row_sum key row.entries)
-    → IsCombinedDense p F key left numbers sources
-start_combined {n} {p} pos F key row left numbers sources e a b h =
-    subst (λ es. IsCombinedDense p F key es numbers sources) (sym e) (IsSame_trans (IsSame_combination pos F _ _ b) (IsSame_trans h (IsSame_sym a)))
+    → IsCombinedDense p F key rows row left numbers taken
+start_combined {n} {p} F key rows row left numbers taken e none a h =
+    subst₂ (λ es ts. IsCombinedDense p F key rows row es numbers ts) (sym e) (sym none)
+    (IsSame_trans (IsSame_of p _ _ (ap (combination F) (append-nil (row_sum (source_key n) row.sources)))) (IsSame_trans h (IsSame_sym a)))
 
 pub start_reduced :
     {n p : ℕ} (rows : List RowShown) (key : ℕ → Key n) (row : RowShown) (left : List Entry) (numbers : List ℕ)
@@ -298,3 +299,25 @@ start_reduced {n} {p} rows key row left numbers e a =
       spanned = record { residues = []; sums = IsSame_refl p [] };
       sums = IsSame_trans (IsSame_sym a) (IsSame_of p _ _ (sym (append-nil (dense_sum key 0 numbers))));
     })
+
+-- ---- the sources, composed
+-- the row's own
+pub sources_start :
+    {n p : ℕ} (key : ℕ → Key n) (rows : List RowShown) (row : RowShown) (inputs : ℕ) (zeros numbers : List ℕ)
+    → zeros ≡ replicate inputs 0 → AddsMultiple p 1 row.sources zeros numbers
+    → IsSame p (dense_sum key 0 numbers) (sources_sum key rows row [])
+sources_start {n} {p} key rows row inputs zeros numbers e h =
+    IsSame_trans (start_sum key inputs row.sources zeros numbers e h) (IsSame_of p _ _ (sym (append-nil (row_sum key row.sources))))
+
+-- those of one more row
+pub sources_more :
+    {n p : ℕ} (key : ℕ → Key n) (rows : List RowShown) (row : RowShown) (taken : List Entry) (i : ℕ) (t : Entry) (r : RowShown) (numbers numbers' : List ℕ)
+    → i < length taken → t ≡ get_or taken i t → r ≡ row_at rows t.0
+    → AddsMultiple p t.1 r.sources numbers numbers'
+    → IsSame p (dense_sum key 0 numbers) (sources_sum key rows row (take i taken))
+    → IsSame p (dense_sum key 0 numbers') (sources_sum key rows row (take (i + 1) taken))
+sources_more {n} {p} key rows row taken i t r numbers numbers' lt is at a h =
+    IsSame_trans (a.sum n key)
+    (IsSame_trans (IsSame_append h (IsSame_refl p (scale t.1 (unit n) (row_sum key r.sources))))
+    (IsSame_of p _ _ (sym (ap (sources_sum key rows row) (take_item taken i t lt is) ∙ sources_push key rows row (take i taken) t
+    ∙ ap (λ (x : RowShown). sources_sum key rows row (take i taken) ++ scale t.1 (unit n) (row_sum key x.sources)) (sym at)))))

@@ -6,8 +6,8 @@ use Rattle.formal_sums.specs.Combinations.{combination}
 use Rattle.formal_sums.specs.FormalSums.{Each, FormalSum, IsSame, Key, scale}
 use Rattle.row_laws.specs.Rows.{IsInSpan}
 use Rattle.row_matrix.specs.Rows.{AreEntries, Entry, IsRow, RowShown, first_column, row_sum, source_key}
-use Rattle.row_reduce.specs.Dense.{IsDense, dense_sum}
-use Rattle.row_reduce.specs.Pivots.{row_vectors}
+use Rattle.row_reduce.specs.Dense.{AreWithin, IsDense, dense_sum}
+use Rattle.row_reduce.specs.Pivots.{row_at, row_vectors}
 
 -- v is what is left and a vector in the span of the rows
 pub record IsReducedTo {n : ℕ} (p : ℕ) (rows : List (FormalSum n)) (v left : FormalSum n) : Type 0 where
@@ -15,20 +15,29 @@ pub record IsReducedTo {n : ℕ} (p : ℕ) (rows : List (FormalSum n)) (v left :
   pub spanned : IsInSpan p rows taken
   pub sums : IsSame p v (left ++ taken)
 
--- what is left of the row at the columns before c, and the numbers at those from c on
-pub record IsUnderway (p c columns inputs : ℕ) (pivots : List ℕ) (left : List Entry) (numbers sources : List ℕ) : Type 0 where
+-- the sources of rows, each `factor` times, where these are numbers of rows and factors
+abbrev pub taken_sum : {n : ℕ} → (ℕ → Key n) → List RowShown → List Entry → FormalSum n
+taken_sum key rows [] = []
+taken_sum {n} key rows (t ∷ taken) = scale t.1 (unit n) (row_sum key (row_at rows t.0).sources) ++ taken_sum key rows taken
+
+-- the sources of a row to which these rows were added
+abbrev pub sources_sum : {n : ℕ} → (ℕ → Key n) → List RowShown → RowShown → List Entry → FormalSum n
+sources_sum key rows row taken = row_sum key row.sources ++ taken_sum key rows taken
+
+-- what is left of the row at the columns before c, the numbers at those from c on, and the rows, of so many, that were added
+pub record IsUnderway (p c columns count : ℕ) (pivots : List ℕ) (left : List Entry) (numbers : List ℕ) (taken : List Entry) : Type 0 where
   pub numbered : length numbers ≡ columns
-  pub sourced : length sources ≡ inputs
   pub small : IsDense p numbers
-  pub sources_small : IsDense p sources
+  pub known : AreWithin p count taken
   pub cleared : (j : ℕ) → j < c → get_or numbers j 0 ≡ 0
   pub entries : AreEntries p 0 c left
   pub free : Each (λ e. get_or pivots e.0 0 ≡ 0) left
 
--- what is left and the numbers are the combination of the input rows F by the numbers for the sources
-abbrev pub IsCombinedDense : {n : ℕ} → ℕ → List (FormalSum n) → (ℕ → Key n) → List Entry → List ℕ → List ℕ → Type 0
-IsCombinedDense {n} p F key left numbers sources =
-    IsSame p (combination F (dense_sum (source_key n) 0 sources)) (row_sum key left ++ dense_sum key 0 numbers)
+-- what is left and the numbers are the combination of the input rows F by the sources of the row and of those that were added
+abbrev pub IsCombinedDense :
+    {n : ℕ} → ℕ → List (FormalSum n) → (ℕ → Key n) → List RowShown → RowShown → List Entry → List ℕ → List Entry → Type 0
+IsCombinedDense {n} p F key rows row left numbers taken =
+    IsSame p (combination F (sources_sum (source_key n) rows row taken)) (row_sum key left ++ dense_sum key 0 numbers)
 
 -- the row with the vector v was reduced to what is left and the numbers
 abbrev pub IsReducedDense : {n : ℕ} → ℕ → List RowShown → (ℕ → Key n) → FormalSum n → List Entry → List ℕ → Type 0
@@ -43,24 +52,24 @@ AreCombined {n} p F key rows = Each (λ r. IsSame p (combination F (row_sum (sou
 abbrev pub rescaled : ℕ → ℕ → List Entry → List Entry
 rescaled p c entries = map (λ e. (e.0, (c * e.1) % p)) entries
 
--- the row is a monic multiple of what is left, and its sources are the same multiple of the numbers for them
-pub record IsLeftRow (p columns inputs : ℕ) (left : List Entry) (sources : List ℕ) (row : RowShown) : Type 0 where
-  pub good : IsRow p columns inputs row
-  pub first : first_column row.entries ≡ first_column left
+-- r is a monic multiple of what is left, and its sources are the same multiple of those of the row and of what was added
+pub record IsLeftRow (p columns inputs : ℕ) (rows : List RowShown) (row : RowShown) (left taken : List Entry) (r : RowShown) : Type 0 where
+  pub good : IsRow p columns inputs r
+  pub first : first_column r.entries ≡ first_column left
   pub some : 0 < length left
   pub factor : ℕ
   pub back : ℕ
   pub inverse : IsCongruent p (factor * back) 1
-  pub entries : (n : ℕ) (key : ℕ → Key n) → IsSame p (row_sum key row.entries) (scale factor (unit n) (row_sum key left))
-  pub combination : (n : ℕ) (key : ℕ → Key n) → IsSame p (row_sum key row.sources) (scale factor (unit n) (dense_sum key 0 sources))
+  pub entries : (n : ℕ) (key : ℕ → Key n) → IsSame p (row_sum key r.entries) (scale factor (unit n) (row_sum key left))
+  pub combination : (n : ℕ) (key : ℕ → Key n) → IsSame p (row_sum key r.sources) (scale factor (unit n) (sources_sum key rows row taken))
 
 -- all columns are cleared
-pub record IsDone (p inputs : ℕ) (rows : List RowShown) (pivots : List ℕ) (row : RowShown) (left : List Entry) (numbers sources : List ℕ) : Type 0 where
-  pub underway : IsUnderway p (length pivots) (length pivots) inputs pivots left numbers sources
+pub record IsDone (p : ℕ) (rows : List RowShown) (pivots : List ℕ) (row : RowShown) (left : List Entry) (numbers : List ℕ) (taken : List Entry) : Type 0 where
+  pub underway : IsUnderway p (length pivots) (length pivots) (length rows) pivots left numbers taken
   pub combined :
       (n : ℕ) (F : List (FormalSum n)) (key : ℕ → Key n)
       → AreCombined p F key rows → IsSame p (combination F (row_sum (source_key n) row.sources)) (row_sum key row.entries)
-      → IsCombinedDense p F key left numbers sources
+      → IsCombinedDense p F key rows row left numbers taken
   pub reduced : (n : ℕ) (key : ℕ → Key n) → IsReducedDense p rows key (row_sum key row.entries) left numbers
 
 -- the row is in the span of the rows

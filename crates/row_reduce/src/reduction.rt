@@ -4,10 +4,10 @@ ghost use Rattle.std.specs.Vec.{vec_len};
 ghost use Rattle.monomials.specs.Exponents.{unit};
 ghost use Rattle.formal_sums.specs.FormalSums.{Each, FormalSum, IsSame, Key as KeyOf, scale};
 ghost use Rattle.row_matrix.specs.Rows.{AreEntries, IsRow, first_column, row_sum};
-ghost use Rattle.row_reduce.specs.Dense.{AddsMultiple, IsDense, dense_sum};
+ghost use Rattle.row_reduce.specs.Dense.{AddsMultiple, AreWithin, IsDense, dense_sum};
 ghost use Rattle.row_reduce.specs.Pivots.{ArePivots};
 ghost use Rattle.row_reduce.specs.Underway.{AreCombined, IsCombinedDense, IsDone, IsLeftRow, IsReducedDense, IsRemainder};
-ghost use Rattle.row_reduce.specs.Underway.{IsSpanned, IsUnderway, rescaled};
+ghost use Rattle.row_reduce.specs.Underway.{IsSpanned, IsUnderway, rescaled, sources_sum};
 
 use crate::accumulating::add_multiple;
 use module_vectors::NoMemory;
@@ -15,31 +15,25 @@ use row_matrix::Row;
 use std::alloc::Global;
 use zp_field::Modulus;
 
-/// A row on its way: what is left at the columns that are done, a number for each column from there on, and one for each
-/// input row.
+/// A row on its way: what is left at the columns that are done, a number for each column from there on, and the pivots
+/// that were added, each by its number and a factor.
 #[derive(Drop)]
 pub(crate) struct Work {
     pub(crate) left: Vec<(usize, u32)>,
     pub(crate) numbers: Vec<u64>,
-    pub(crate) sources: Vec<u64>,
+    pub(crate) taken: Vec<(usize, u32)>,
 }
 
-// Takes a pivot away, `residue` times. Its first column is done, and is left out.
-fn take_pivot(modulus: &Modulus, row: &Row, residue: u32, work: &mut Work)
-    requires residue { residue < modulus.now.value }
-    requires row { IsRow modulus.now.value (length work.old.numbers.items) (length work.old.sources.items) row.now }
-    requires small { IsDense modulus.now.value work.old.numbers.items }
-    requires sources_small { IsDense modulus.now.value work.old.sources.items }
-    ensures left { work.new.left ≡ work.old.left }
-    ensures numbers { AddsMultiple modulus.now.value ((modulus.now.value - residue) % modulus.now.value) (drop 1 row.now.entries)
-        work.old.numbers.items work.new.numbers.items }
-    ensures sources { AddsMultiple modulus.now.value ((modulus.now.value - residue) % modulus.now.value) row.now.sources
-        work.old.sources.items work.new.sources.items }
+// Adds what is behind the first entry of a row, `factor` times.
+fn add_tail(modulus: &Modulus, row: &Row, factor: u32, numbers: &mut Vec<u64>)
+    requires factor { factor < modulus.now.value }
+    requires entries { AreWithin modulus.now.value (length numbers.old.items) (drop 1 row.now.entries) }
+    requires some { 0 < length row.now.entries }
+    requires small { IsDense modulus.now.value numbers.old.items }
+    ensures { AddsMultiple modulus.now.value factor (drop 1 row.now.entries) numbers.old.items numbers.new.items }
 {
-    let factor = modulus.neg(residue);
     let entries = row.entries();
-    add_multiple(modulus, &mut work.numbers, factor, &entries[1..]);
-    add_multiple(modulus, &mut work.sources, factor, row.sources());
+    add_multiple(modulus, numbers, factor, &entries[1..]);
 }
 
 // Clears a column, by its pivot if it has one; else what stands there is left.
@@ -47,18 +41,20 @@ fn clear_column(
     modulus: &Modulus,
     rows: &[Row],
     pivots: &[usize],
+    _inputs: usize,
+    _row: &Row,
     work: &mut Work,
     c: usize,
 ) -> Result<(), NoMemory>
     requires at { c < length work.old.numbers.items }
-    requires pivots { ArePivots modulus.now.value (length work.old.numbers.items) (length work.old.sources.items) rows.now pivots.now }
-    requires underway { IsUnderway modulus.now.value c (length pivots.now) (length work.old.sources.items) pivots.now
-        work.old.left.items work.old.numbers.items work.old.sources.items }
-    ensures underway { OnOk result (IsUnderway modulus.now.value (c + 1) (length pivots.now) (length work.old.sources.items) pivots.now
-        work.new.left.items work.new.numbers.items work.new.sources.items) }
+    requires pivots { ArePivots modulus.now.value (length work.old.numbers.items) _inputs rows.now pivots.now }
+    requires underway { IsUnderway modulus.now.value c (length pivots.now) (length rows.now) pivots.now
+        work.old.left.items work.old.numbers.items work.old.taken.items }
+    ensures underway { OnOk result (IsUnderway modulus.now.value (c + 1) (length pivots.now) (length rows.now) pivots.now
+        work.new.left.items work.new.numbers.items work.new.taken.items) }
     ensures combined { (n : ℕ) (F : List (FormalSum n)) (key : ℕ → KeyOf n) → AreCombined modulus.now.value F key rows.now
-        → IsCombinedDense modulus.now.value F key work.old.left.items work.old.numbers.items work.old.sources.items
-        → OnOk result (IsCombinedDense modulus.now.value F key work.new.left.items work.new.numbers.items work.new.sources.items) }
+        → IsCombinedDense modulus.now.value F key rows.now _row.now work.old.left.items work.old.numbers.items work.old.taken.items
+        → OnOk result (IsCombinedDense modulus.now.value F key rows.now _row.now work.new.left.items work.new.numbers.items work.new.taken.items) }
     ensures reduced { (n : ℕ) (key : ℕ → KeyOf n) (v : FormalSum n)
         → IsReducedDense modulus.now.value rows.now key v work.old.left.items work.old.numbers.items
         → OnOk result (IsReducedDense modulus.now.value rows.now key v work.new.left.items work.new.numbers.items) }
@@ -74,7 +70,39 @@ fn clear_column(
         work.left.push((c, residue))?;
         return Ok(());
     }
-    take_pivot(modulus, &rows[pivot - 1], residue, work);
+    let factor = modulus.neg(residue);
+    add_tail(modulus, &rows[pivot - 1], factor, &mut work.numbers);
+    work.taken.push((pivot - 1, factor))?;
+    Ok(())
+}
+
+// The same, where most columns have nothing.
+fn pass_column(
+    modulus: &Modulus,
+    rows: &[Row],
+    pivots: &[usize],
+    inputs: usize,
+    row: &Row,
+    work: &mut Work,
+    c: usize,
+) -> Result<(), NoMemory>
+    requires at { c < length work.old.numbers.items }
+    requires pivots { ArePivots modulus.now.value (length work.old.numbers.items) inputs rows.now pivots.now }
+    requires underway { IsUnderway modulus.now.value c (length pivots.now) (length rows.now) pivots.now
+        work.old.left.items work.old.numbers.items work.old.taken.items }
+    ensures underway { OnOk result (IsUnderway modulus.now.value (c + 1) (length pivots.now) (length rows.now) pivots.now
+        work.new.left.items work.new.numbers.items work.new.taken.items) }
+    ensures combined { (n : ℕ) (F : List (FormalSum n)) (key : ℕ → KeyOf n) → AreCombined modulus.now.value F key rows.now
+        → IsCombinedDense modulus.now.value F key rows.now row.now work.old.left.items work.old.numbers.items work.old.taken.items
+        → OnOk result (IsCombinedDense modulus.now.value F key rows.now row.now work.new.left.items work.new.numbers.items work.new.taken.items) }
+    ensures reduced { (n : ℕ) (key : ℕ → KeyOf n) (v : FormalSum n)
+        → IsReducedDense modulus.now.value rows.now key v work.old.left.items work.old.numbers.items
+        → OnOk result (IsReducedDense modulus.now.value rows.now key v work.new.left.items work.new.numbers.items) }
+{
+    if work.numbers[c] == 0 {
+        return Ok(());
+    }
+    clear_column(modulus, rows, pivots, inputs, row, work, c)?;
     Ok(())
 }
 
@@ -120,11 +148,46 @@ fn rescaled_entries(
     Ok(out)
 }
 
+// The combination of the input rows that the row is with the pivots that were added: a number for each input row.
+fn compose_sources(
+    alloc: Global,
+    modulus: &Modulus,
+    inputs: usize,
+    rows: &[Row],
+    row: &Row,
+    taken: &[(usize, u32)],
+) -> Result<Vec<u64>, NoMemory>
+    requires rows { Each (λ r. AreEntries modulus.now.value 0 inputs r.sources) rows.now }
+    requires row { AreEntries modulus.now.value 0 inputs row.now.sources }
+    requires taken { AreWithin modulus.now.value (length rows.now) taken.now }
+    ensures count { IfOk result (λ s. length s.items ≡ inputs) }
+    ensures sum { (n : ℕ) (key : ℕ → KeyOf n)
+        → IfOk result (λ s. IsSame modulus.now.value (dense_sum key 0 s.items) (sources_sum key rows.now row.now taken.now)) }
+{
+    modulus.domain();
+    let mut sources = vec![in alloc; 0; inputs]?;
+    add_multiple(modulus, &mut sources, 1, row.sources());
+    for part in taken {
+        add_multiple(modulus, &mut sources, part.1, rows[part.0].sources());
+    }
+    Ok(sources)
+}
+
 // The row that is left, monic, or none where nothing is left.
-fn left_row(alloc: Global, modulus: &Modulus, work: Work) -> Result<Option<Row>, NoMemory>
+fn left_row(
+    alloc: Global,
+    modulus: &Modulus,
+    inputs: usize,
+    rows: &[Row],
+    row: &Row,
+    work: Work,
+) -> Result<Option<Row>, NoMemory>
     requires entries { AreEntries modulus.now.value 0 (length work.numbers.items) work.left.items }
+    requires rows { Each (λ r. AreEntries modulus.now.value 0 inputs r.sources) rows.now }
+    requires row { AreEntries modulus.now.value 0 inputs row.now.sources }
+    requires taken { AreWithin modulus.now.value (length rows.now) work.taken.items }
     ensures { IfOk result (λ r. MatchOption r (work.left.items ≡ [])
-        (IsLeftRow modulus.now.value (length work.numbers.items) (length work.sources.items) work.left.items work.sources.items)) }
+        (IsLeftRow modulus.now.value (length work.numbers.items) inputs rows.now row.now work.left.items work.taken.items)) }
 {
     modulus.domain();
     let left = work.left;
@@ -135,38 +198,38 @@ fn left_row(alloc: Global, modulus: &Modulus, work: Work) -> Result<Option<Row>,
         None => unreachable!(),
         Some(inverse) => {
             let entries = rescaled_entries(alloc, modulus, inverse, &left)?;
-            let sources = collect_entries(alloc, modulus, inverse, &work.sources)?;
+            let numbers = compose_sources(alloc, modulus, inputs, rows, row, &work.taken)?;
+            let sources = collect_entries(alloc, modulus, inverse, &numbers)?;
             Ok(Some(Row::new(entries, sources)))
         }
     }
 }
 
-// The row with a number for each column and each input row.
+// The row with a number for each column.
 fn start_work(
     alloc: Global,
     modulus: &Modulus,
     columns: usize,
-    inputs: usize,
+    _inputs: usize,
     row: &Row,
 ) -> Result<Work, NoMemory>
-    requires { IsRow modulus.now.value columns inputs row.now }
-    ensures underway { (pivots : List ℕ)
-        → IfOk result (λ w. IsUnderway modulus.now.value (first_column row.now.entries) columns inputs pivots w.left.items w.numbers.items w.sources.items) }
+    requires { IsRow modulus.now.value columns _inputs row.now }
+    ensures underway { (count : ℕ) (pivots : List ℕ)
+        → IfOk result (λ w. IsUnderway modulus.now.value (first_column row.now.entries) columns count pivots w.left.items w.numbers.items w.taken.items) }
     ensures left { IfOk result (λ w. w.left.items ≡ []) }
+    ensures taken { IfOk result (λ w. w.taken.items ≡ []) }
     ensures numbers { (n : ℕ) (key : ℕ → KeyOf n)
         → IfOk result (λ w. IsSame modulus.now.value (dense_sum key 0 w.numbers.items) (row_sum key row.now.entries)) }
-    ensures sources { (n : ℕ) (key : ℕ → KeyOf n)
-        → IfOk result (λ w. IsSame modulus.now.value (dense_sum key 0 w.sources.items) (row_sum key row.now.sources)) }
 {
     modulus.domain();
     let mut numbers = vec![in alloc; 0; columns]?;
-    let mut sources = vec![in alloc; 0; inputs]?;
     add_multiple(modulus, &mut numbers, 1, row.entries());
-    add_multiple(modulus, &mut sources, 1, row.sources());
+    let left = Vec::new(alloc);
+    let taken = Vec::new(alloc);
     Ok(Work {
-        left: Vec::new(alloc),
+        left,
         numbers,
-        sources,
+        taken,
     })
 }
 
@@ -181,12 +244,12 @@ fn clear_columns(
 ) -> Result<Work, NoMemory>
     requires pivots { ArePivots modulus.now.value (length pivots.now) inputs rows.now pivots.now }
     requires row { IsRow modulus.now.value (length pivots.now) inputs row.now }
-    ensures { IfOk result (λ w. IsDone modulus.now.value inputs rows.now pivots.now row.now w.left.items w.numbers.items w.sources.items) }
+    ensures { IfOk result (λ w. IsDone modulus.now.value rows.now pivots.now row.now w.left.items w.numbers.items w.taken.items) }
 {
     modulus.domain();
     let mut work = start_work(alloc, modulus, pivots.len(), inputs, row)?;
     for c in row.entries()[0].0..pivots.len() {
-        clear_column(modulus, rows, pivots, &mut work, c)?;
+        pass_column(modulus, rows, pivots, inputs, row, &mut work, c)?;
     }
     Ok(work)
 }
@@ -207,7 +270,7 @@ pub(crate) fn reduce_row(
 {
     modulus.domain();
     let work = clear_columns(alloc, modulus, rows, pivots, inputs, row)?;
-    let left = left_row(alloc, modulus, work)?;
+    let left = left_row(alloc, modulus, inputs, rows, row, work)?;
     match left {
         None => Ok(None),
         Some(rest) => Ok(Some(rest)),

@@ -1,5 +1,5 @@
 -- Plans that grow until each key that a lead divides is the lead of a row
-use Rattle.std.proofs.Common.{Bool, List, [], ap, arith, append-nil, append_assoc, false, get_or, inl, inr, length, refl, subst, sym, true, ℕ, ◌+◌, ◌++◌, ◌<◌, ◌∙◌, ◌∷◌, ◌≡◌, ◌⊎◌}
+use Rattle.std.proofs.Common.{Bool, Contains, List, [], ap, arith, append-nil, append_assoc, false, get_or, inl, inr, length, refl, subst, sym, true, ℕ, ◌+◌, ◌++◌, ◌<◌, ◌∙◌, ◌∷◌, ◌≡◌, ◌⊎◌}
 use Rattle.std.proofs.lemmas.Bool.{cases_eq, cases_lt}
 use Rattle.std.proofs.lemmas.List.{get_or_append_left, get_or_default, get_or_push, length-append, length_push}
 use Rattle.monomials.proofs.Monomials.{times-quotient, times-quotient_right}
@@ -188,12 +188,36 @@ pairs_more n list steps more steps' (x ∷ pairs) e h = (
 )
 
 pub both_tops :
-    (n : ℕ) (list : List (List (CodeKey × ℕ))) (steps steps' steps'' more : List Step) (x : CodePair)
-    → IsTopStep n list steps' x.lcm x.i (length steps) → steps'' ≡ steps' ++ more → IsTopStep n list steps'' x.lcm x.j (length steps')
-    → HasPairSteps n list steps'' x
-both_tops n list steps steps' steps'' more x a e b = record {
-  left = length steps;
-  right = length steps';
-  first = top_more n list steps' more steps'' x.lcm x.i (length steps) e a;
-  second = b;
+    (n : ℕ) (list : List (List (CodeKey × ℕ))) (steps steps' more : List Step) (x : CodePair)
+    → (number : ℕ) × IsTopStep n list steps x.lcm x.i number → steps' ≡ steps ++ more
+    → (number : ℕ) × IsTopStep n list steps' x.lcm x.j number → HasPairSteps n list steps' x
+both_tops n list steps steps' more x a e b = record {
+  left = a.0;
+  right = b.0;
+  first = top_more n list steps more steps' x.lcm x.i a.0 e a.1;
+  second = b.1;
 }
+
+-- the product was there
+pub top_found :
+    (n : ℕ) (ws : List ℕ) (list : List (List (CodeKey × ℕ))) (steps : List Step) (lcm : CodeKey) (member : ℕ) (t : Monomial) (v : List (CodeKey × ℕ))
+    → v ≡ get_or list member [] → IsFactorOf n ws lcm v t → Contains steps (member, t)
+    → (number : ℕ) × IsTopStep n list steps lcm member number
+top_found n ws list steps lcm member t v is h there =
+    let s : Step = (member, t) in
+    let at : step_at steps there.0 ≡ s = get_or_default steps there.0 no_step s there.1 ∙ there.2 in
+    let f : IsFactorOf n ws lcm (get_or list member []) t = subst (λ w. IsFactorOf n ws lcm w t) is h in (
+      there.0,
+      record {
+        there = there.1;
+        of = ap (λ (x : Step). x.0) at;
+        exponents = ap (λ (x : Step). exponents_of n x.1.exponents) at ∙ f.exponents;
+      },
+    )
+
+-- where there are pairs there are products
+pub some_steps :
+    (n : ℕ) (list : List (List (CodeKey × ℕ))) (steps : List Step) (pairs : List CodePair)
+    → 0 < length pairs → Each (HasPairSteps n list steps) pairs → 0 < length steps
+some_steps n list steps [] lt h = absurd (omega arith)
+some_steps n list steps (x ∷ pairs) lt h = let t = h.0.first.there in omega arith

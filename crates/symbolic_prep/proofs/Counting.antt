@@ -1,5 +1,5 @@
 -- How many rows a plan has: no more than leads of their own and rows of pairs
-use Rattle.std.proofs.Common.{Bool, List, [], ap, arith, get_or, inl, inr, length, refl, subst, sym, true, false, ℕ, ◌*◌, ◌+◌, ◌++◌, ◌-◌, ◌<◌, ◌∙◌, ◌∷◌, ◌≡◌}
+use Rattle.std.proofs.Common.{Bool, List, [], ap, arith, get_or, inl, inr, length, refl, subst, sym, true, false, ℕ, ◌*◌, ◌+◌, ◌++◌, ◌-◌, ◌<◌, ◌∙◌, ◌∷◌, ◌≡◌, ◌≤◌}
 use Rattle.std.proofs.lemmas.Bool.{cases_eq}
 use Rattle.std.proofs.lemmas.List.{get_or_append_left, get_or_push, length_push}
 use Rattle.formal_sums.proofs.WeightedSums.{Each_append}
@@ -62,8 +62,9 @@ module _ (rows rows' : List RowShown) (chosen : List ℕ) (tops : ℕ) (r : RowS
           ]
 
 -- ---- the rows of pairs
-pub sparse_start : (rows : List RowShown) (pairs : ℕ) → 0 < pairs → length rows ≡ 2 * pairs → IsSparse rows (0 ∷ []) (2 * pairs - 1)
-sparse_start rows pairs some size = record {
+pub sparse_start :
+    (rows : List RowShown) (pairs : ℕ) → 0 < pairs → 0 < length rows → length rows ≤ 2 * pairs → IsSparse rows (0 ∷ []) (2 * pairs - 1)
+sparse_start rows pairs some there size = record {
   within = (omega arith, tt);
   distinct = λ j k lt bound. absurd (omega (arith, bound, lt));
   few = omega arith;

@@ -3,3 +3,4 @@ pub mod Closing
 pub mod Matrices
 pub mod Tracing
 pub mod Counting
+pub mod Dividing

@@ -3,3 +3,4 @@ pub mod Prepared
 pub mod Traces
 pub mod Plans
 pub mod Counts
+pub mod Divisors

@@ -1,5 +1,5 @@
 // The products of a job's pairs.
-ghost use Rattle.std.specs.Prelude.{◌≡◌, ◌<◌, ◌≤◌, ◌+◌, ◌*◌, List, [], ℕ, Bool, Contains, false, true, length, get_or, IfOk, IfErr, OnOk};
+ghost use Rattle.std.specs.Prelude.{◌≡◌, ◌<◌, ◌≤◌, ◌+◌, ◌*◌, List, [], ℕ, Bool, Contains, IsTrue, false, true, length, get_or, IfOk, IfErr, OnOk};
 ghost use Rattle.monomials.specs.Exponents.{Divides, exponents_of, quotient, times};
 ghost use Rattle.formal_sums.specs.FormalSums.{Each};
 ghost use Rattle.bases.specs.Leads.{head_key};
@@ -34,7 +34,23 @@ fn factor_of(alloc: Global, _ring: &Ring, lcm: &Key, v: &Vect) -> Result<Mono, N
     }
 }
 
-// Puts the product of a pair's member that has the lcm as its lead behind the other rows.
+// The product of this member and this monomial is among those from the number `first` on.
+fn has_product(products: &[(u64, Mono)], first: usize, member: u64, t: &Mono) -> bool
+    ensures { IsTrue result → Contains products.now (member, t.now) }
+{
+    for k in first..products.len() {
+        let product = &products[k];
+        if product.0 == member {
+            if product.1.equal(t) {
+                return true;
+            }
+        }
+    }
+    false
+}
+
+// Puts the product of a pair's member that has the lcm as its lead behind the other rows, unless it is there: then it is
+// among those from the number `first` on, since those of one lcm stand together.
 fn add_top<L: Vectors>(
     alloc: Global,
     ring: &Ring,
@@ -43,6 +59,7 @@ fn add_top<L: Vectors>(
     plan: &mut Plan,
     pair: &Pair,
     member: u64,
+    first: usize,
 ) -> Result<(), PlanStop>
     requires lcm { IsMonomialOver ring.now pair.now.lcm.monomial }
     requires member { member < length (L.listed members.now) }
@@ -57,20 +74,34 @@ fn add_top<L: Vectors>(
     ensures later { OnOk result (IsLaterPlan (variables ring.now) ring.now.weights (L.listed members.now)
         plan.old.keys plan.old.products.items plan.old.led.items
         plan.new.keys plan.new.rows.items plan.new.products.items plan.new.led.items) }
-    ensures top { OnOk result (IsTopStep (variables ring.now) (L.listed members.now) plan.new.products.items
-        pair.now.lcm member (length plan.old.products.items)) }
+    ensures top { OnOk result ((number : ℕ) × IsTopStep (variables ring.now) (L.listed members.now) plan.new.products.items
+        pair.now.lcm member number) }
     ensures traced { OnOk result (AreTraced (variables ring.now) (L.listed members.now) _pairs.now plan.new.products.items) }
-    ensures one { OnOk result (length plan.new.rows.items ≡ length plan.old.rows.items + 1) }
+    ensures one { OnOk result (length plan.new.rows.items ≤ length plan.old.rows.items + 1) }
     ensures stop { IfErr result (PlanStops (variables ring.now) ring.now.weights (L.listed members.now) _pairs.now plan.new.products.items) }
 {
     let t = factor_of(alloc, ring, &pair.lcm, members.at(member as usize))?;
+    if has_product(&plan.products, first, member, &t) {
+        return Ok(());
+    }
     match add_product(alloc, ring, members, plan, member, t) {
         Ok(()) => Ok(()),
         Err(stop) => Err(stop),
     }
 }
 
-/// Puts both products of each pair behind the other rows.
+// Has the pair with this number another least common multiple than the one before it?
+fn starts_lcm(pairs: &[Pair], i: usize) -> bool
+    requires { i < length pairs.now }
+{
+    if i == 0 {
+        return true;
+    }
+    !pairs[i - 1].lcm.equal(&pairs[i].lcm)
+}
+
+/// Puts both products of each pair behind the other rows, those of one least common multiple once each where its pairs
+/// stand together.
 pub(crate) fn add_pairs<L: Vectors>(
     alloc: Global,
     ring: &Ring,
@@ -88,15 +119,20 @@ pub(crate) fn add_pairs<L: Vectors>(
         plan.new.keys plan.new.rows.items plan.new.products.items plan.new.led.items) }
     ensures pairs { OnOk result (Each (HasPairSteps (variables ring.now) (L.listed members.now) plan.new.products.items) pairs.now) }
     ensures traced { OnOk result (AreTraced (variables ring.now) (L.listed members.now) pairs.now plan.new.products.items) }
-    ensures count { OnOk result (length plan.new.rows.items ≡ length plan.old.rows.items + 2 * length pairs.now) }
+    ensures count { OnOk result (length plan.new.rows.items ≤ length plan.old.rows.items + 2 * length pairs.now) }
     ensures stop { IfErr result (PlanStops (variables ring.now) ring.now.weights (L.listed members.now) pairs.now plan.new.products.items) }
 {
-    for pair in pairs {
-        match add_top(alloc, ring, members, pairs, plan, pair, pair.i) {
+    let mut first = 0;
+    for i in 0..pairs.len() {
+        if starts_lcm(pairs, i) {
+            first = plan.products.len();
+        }
+        let pair = &pairs[i];
+        match add_top(alloc, ring, members, pairs, plan, pair, pair.i, first) {
             Ok(()) => {}
             Err(stop) => return Err(stop),
         }
-        match add_top(alloc, ring, members, pairs, plan, pair, pair.j) {
+        match add_top(alloc, ring, members, pairs, plan, pair, pair.j, first) {
             Ok(()) => {}
             Err(stop) => return Err(stop),
         }

@@ -4,19 +4,18 @@ ghost use Rattle.module_vectors.specs.Rings.{variables};
 ghost use Rattle.module_vectors.specs.Vectors.{key_of, sums_of};
 ghost use Rattle.vector_division.specs.Divisions.{IsUncovered};
 ghost use Rattle.row_matrix.specs.Rows.{column_key};
-ghost use Rattle.vector_division.specs.Marks.{AreMarks};
 ghost use Rattle.vector_division.specs.Progress.{AreWeighed, IsFound};
 ghost use Rattle.symbolic_prep.specs.Counts.{IsSparse};
+ghost use Rattle.symbolic_prep.specs.Divisors.{AreDivisors};
 ghost use Rattle.symbolic_prep.specs.Plans.{AreClosed, IsLaterPlan, IsPlan};
 ghost use Rattle.symbolic_prep.specs.Traces.{AreTraced, PlanStops};
 
-use crate::divisors::{find_divisor, marks_of};
+use crate::divisors::{Divisor, divisors_of, find_divisor};
 use crate::plan::{Plan, add_product};
 use crate::stop::PlanStop;
 use module_vectors::{Ring, Vectors};
 use pair_criteria::Pair;
 use std::alloc::Global;
-use vector_division::Mark;
 
 // A product with the lead of this key, unless a row has it or no member's lead divides it.
 fn add_reducer<L: Vectors>(
@@ -24,13 +23,13 @@ fn add_reducer<L: Vectors>(
     ring: &Ring,
     members: &L,
     _pairs: &[Pair],
-    marks: &[Mark],
+    divisors: &[Divisor],
     plan: &mut Plan,
     cursor: usize,
 ) -> Result<(), PlanStop>
     requires within { cursor < length plan.old.keys }
     requires weighed { AreWeighed (variables ring.now) ring.now.weights (L.listed members.now) }
-    requires marks { AreMarks (L.listed members.now) marks.now }
+    requires divisors { AreDivisors (L.listed members.now) divisors.now }
     requires plan { IsPlan (variables ring.now) ring.now.weights (L.listed members.now)
         plan.old.keys plan.old.rows.items plan.old.products.items plan.old.led.items }
     requires traced { AreTraced (variables ring.now) (L.listed members.now) _pairs.now plan.old.products.items }
@@ -50,7 +49,7 @@ fn add_reducer<L: Vectors>(
         }
     }
     let keys = plan.keys.keys();
-    let found = find_divisor(alloc, ring, &keys[cursor], members, marks)?;
+    let found = find_divisor(alloc, ring, &keys[cursor], members, divisors)?;
     match found {
         None => Ok(()),
         Some((member, t)) => match add_product(alloc, ring, members, plan, member as u64, t) {
@@ -85,12 +84,12 @@ pub(crate) fn close_plan<L: Vectors>(
         → OnOk result ((more : List ℕ) × IsSparse plan.new.rows.items more others) }
     ensures stop { IfErr result (PlanStops (variables ring.now) ring.now.weights (L.listed members.now) pairs.now plan.new.products.items) }
 {
-    let marks = marks_of(alloc, members)?;
+    let divisors = divisors_of(alloc, members)?;
     for cursor in 0..usize::MAX {
         if plan.keys.len() <= cursor {
             return Ok(());
         }
-        match add_reducer(alloc, ring, members, pairs, &marks, plan, cursor) {
+        match add_reducer(alloc, ring, members, pairs, &divisors, plan, cursor) {
             Ok(()) => {}
             Err(stop) => return Err(stop),
         }

@@ -1,57 +1,18 @@
-use Rattle.std.proofs.Common.{[], ap, append_assoc, append-nil, arith, refl, subst, sym, ◌++◌, ◌∙◌, ◌∷◌, ◌≡◌}
-use Rattle.std.proofs.lemmas.List.{nil_from_length}
-use Rattle.formal_sums.specs.FormalSums.{Each}
+use Rattle.std.proofs.Common.{◌++◌}
+use Rattle.std.proofs.lemmas.List.Sorted.{IsPermutation-trans}
+use Rattle.row_reduce.proofs.Orders.{echelon_permuted}
+use Rattle.module_vectors.proofs.Gathers.{Each_permutation}
 use Rattle.row_matrix.specs.Rows.{IsRow}
-use Rattle.row_reduce.proofs.Echelons.{reducing_end, reducing_more, reducing_start}
-use Rattle.row_reduce.specs.Echelons.{IsReducing}
-use Rattle.row_reduce.specs.Pivots.{ArePivots}
 use Rattle.row_reduce.proofs.elimination.reduce_rows.Goals as goal
 
-pub loop-row-init : goal.loop-row-init
-loop-row-init c =
-    let p = c.args.modulus.now.value in
-    record {
-      reducing = (
-        [],
-        refl,
-        subst (λ done. IsReducing p c.args.columns c.args.inputs [] done c.in_ok-pivots.pivots.items) (sym c.new-done.ensures.items)
-            (reducing_start p c.args.columns c.args.inputs c.in_ok-pivots.pivots.items (c.in_ok-pivots.ensures.items_if_clones_equal (λ y e. e))),
-      );
-      left = subst (Each (IsRow p c.args.columns c.args.inputs)) (sym c.from_vec-rest.ensures.items) c.requires;
-    }
-
-pub add_row-requires : goal.add_row-requires
-add_row-requires c =
-    let p = c.args.modulus.now.value in
-    let v = c.loop-row.invariant in
-    let left : Each (IsRow p c.args.columns c.args.inputs) (c.in-Some.row ∷ c.pop_front.new.self.items) = subst (Each (IsRow p c.args.columns c.args.inputs)) c.in-Some.ensures.items v.left in
-    let size = v.reducing.2.pivoted.count in
-    record {
-      pivots = subst (λ m. ArePivots p m c.args.inputs c.loop-row.done.items c.loop-row.pivots.items) (sym size) v.reducing.2.pivoted;
-      row = subst (λ m. IsRow p m c.args.inputs c.in-Some.row) (sym size) left.0;
-    }
-
-pub loop-row-preserved : goal.loop-row-preserved
-loop-row-preserved c =
-    let p = c.args.modulus.now.value in
-    let v = c.loop-row.invariant in
-    let a = c.in_ok-add_row.ensures in
-    let left : Each (IsRow p c.args.columns c.args.inputs) (c.in-Some.row ∷ c.pop_front.new.self.items) = subst (Each (IsRow p c.args.columns c.args.inputs)) c.in-Some.ensures.items v.left in
-    record {
-      reducing = (
-        v.reducing.0 ++ c.in-Some.row ∷ [],
-        v.reducing.1 ∙ ap (λ r. v.reducing.0 ++ r) c.in-Some.ensures.items ∙ sym (append_assoc v.reducing.0 (c.in-Some.row ∷ []) c.pop_front.new.self.items),
-        reducing_more p c.args.columns c.args.inputs v.reducing.0 c.loop-row.done.items c.add_row.new.rows.items c.in-Some.row c.loop-row.pivots.items c.add_row.new.pivots.items
-            v.reducing.2 a.added (subst (λ m. ArePivots p m c.args.inputs c.add_row.new.rows.items c.add_row.new.pivots.items) v.reducing.2.pivoted.count a.pivots) a.kept a.lead,
-      );
-      left = left.1;
-    }
+pub choose_pivots-requires : goal.choose_pivots-requires
+choose_pivots-requires c =
+    Each_permutation (IsRow c.args.modulus.now.value c.args.columns c.args.inputs) c.args.rows.items c.by_weight-sorted.result.items c.by_weight-sorted.ensures c.requires
 
 pub returns : goal.returns
 returns c =
-    let p = c.args.modulus.now.value in
-    let v = c.loop-row.invariant in
-    let none : c.loop-row.rest.items ≡ [] = nil_from_length c.loop-row.rest.items (omega (arith, c.in_default.ensures.cases.0)) in
-    let all : c.args.rows.items ≡ v.reducing.0 = sym c.from_vec-rest.ensures.items ∙ v.reducing.1 ∙ ap (λ r. v.reducing.0 ++ r) none ∙ append-nil v.reducing.0 in
-    reducing_end p c.args.columns c.args.inputs c.args.rows.items c.loop-row.done.items c.loop-row.pivots.items c.requires
-    (subst (λ rows. IsReducing p c.args.columns c.args.inputs rows c.loop-row.done.items c.loop-row.pivots.items) (sym all) v.reducing.2)
+    let chosen = c.in_ok-chosen.chosen in
+    let all = chosen.done.items ++ chosen.others.items in
+    echelon_permuted c.args.modulus.now.value c.args.columns c.args.inputs c.args.rows.items all c.in_ok-done.done.items
+    (IsPermutation-trans c.args.rows.items c.by_weight-sorted.result.items all c.by_weight-sorted.ensures c.in_ok-chosen.ensures.same)
+    c.in_ok-done.ensures

@@ -1,9 +1,9 @@
 use Rattle.module_vectors.specs.Rings.{variables}
 use Rattle.module_vectors.specs.Vectors.{key_of}
-use Rattle.vector_division.specs.Progress.{AreTried}
+use Rattle.symbolic_prep.proofs.Dividing.{AreTriedTo}
 use Rattle.symbolic_prep.proofs.divisors.find_divisor.Given as goal
 
 abbrev pub invariant-loop-i : goal.invariant-loop-i
 invariant-loop-i g l =
     let n = variables l.ring in
-    AreTried n (g.L.Vectors.listed l.list) (key_of n l.key) l.i
+    AreTriedTo n (g.L.Vectors.listed l.list) l.divisors (key_of n l.key) l.i

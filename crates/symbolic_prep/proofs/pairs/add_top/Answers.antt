@@ -1,11 +1,11 @@
-use Rattle.std.proofs.Common.{ap, length, subst, sym, ◌<◌, ◌∙◌}
+use Rattle.std.proofs.Common.{Contains, ap, arith, length, subst, sym, ◌+◌, ◌<◌, ◌∙◌, ◌≡◌}
 use Rattle.std.proofs.lemmas.List.{length_push}
 use Rattle.monomials.specs.Exponents.{Divides, exponents_of}
 use Rattle.formal_sums.specs.FormalSums.{Each}
 use Rattle.bases.specs.Leads.{head_key}
 use Rattle.module_vectors.specs.Rings.{variables}
 use Rattle.module_vectors.specs.Vectors.{IsMonomialOver, sum_of}
-use Rattle.symbolic_prep.proofs.Closing.{later_of_more, top_step}
+use Rattle.symbolic_prep.proofs.Closing.{later_itself, later_of_more, top_found, top_step}
 use Rattle.symbolic_prep.proofs.Planning.{terms_weighed}
 use Rattle.symbolic_prep.proofs.Tracing.{top_stop, top_traced}
 use Rattle.symbolic_prep.proofs.pairs.add_top.Goals as goal
@@ -37,9 +37,11 @@ returns-in-Ok-clause-later g c =
 
 pub returns-in-Ok-clause-top : goal.returns-in-Ok-clause-top
 returns-in-Ok-clause-top g c =
-    let ring = c.args.ring.now in
-    top_step (variables ring) ring.weights (g.L.Vectors.listed c.args.members.now) c.args.plan.now.products.items c.add_product.new.plan.products.items c.args.pair.now.lcm c.args.member c.in_ok-t.t c.at.result.now
-    c.at.ensures c.in_ok-t.ensures c.in-Ok.ensures.planned.steps_more
+    let ring = c.args.ring.now in (
+      length c.args.plan.now.products.items,
+      top_step (variables ring) ring.weights (g.L.Vectors.listed c.args.members.now) c.args.plan.now.products.items c.add_product.new.plan.products.items c.args.pair.now.lcm c.args.member c.in_ok-t.t c.at.result.now
+          c.at.ensures c.in_ok-t.ensures c.in-Ok.ensures.planned.steps_more,
+    )
 
 pub returns-in-Ok-clause-traced : goal.returns-in-Ok-clause-traced
 returns-in-Ok-clause-traced g c =
@@ -59,4 +61,18 @@ returns-in-Err-clause-stop g c =
 pub returns-in-Ok-clause-one : goal.returns-in-Ok-clause-one
 returns-in-Ok-clause-one g c =
     let more = c.in-Ok.ensures.planned.rows_more in
-    ap length more.1 ∙ length_push c.args.plan.now.rows.items more.0
+    let e : length c.add_product.new.plan.rows.items ≡ length c.args.plan.now.rows.items + 1 = ap length more.1 ∙ length_push c.args.plan.now.rows.items more.0 in
+    omega arith
+
+pub returns-then-has_product-clause-later : goal.returns-then-has_product-clause-later
+returns-then-has_product-clause-later g c =
+    let ring = c.args.ring.now in
+    let p = c.args.plan.now in
+    later_itself (variables ring) ring.weights (g.L.Vectors.listed c.args.members.now) p.keys p.rows.items p.products.items p.led.items c.requires.plan
+
+pub returns-then-has_product-clause-top : goal.returns-then-has_product-clause-top
+returns-then-has_product-clause-top g c =
+    let ring = c.args.ring.now in
+    let p = c.args.plan.now in
+    top_found (variables ring) ring.weights (g.L.Vectors.listed c.args.members.now) p.products.items c.args.pair.now.lcm c.args.member c.in_ok-t.t c.at.result.now
+    c.at.ensures c.in_ok-t.ensures (subst (λ xs. Contains xs (c.args.member, c.in_ok-t.t)) c.deref.ensures.value (c.has_product.ensures c.if-has_product.true))

@@ -1,6 +1,6 @@
-use Rattle.std.proofs.Common.{[], arith, length, ◌*◌, ◌-◌, ◌∷◌, ◌≡◌}
+use Rattle.std.proofs.Common.{[], arith, length, ◌*◌, ◌-◌, ◌<◌, ◌∷◌, ◌≤◌}
 use Rattle.module_vectors.specs.Rings.{ring_comparison, variables}
-use Rattle.symbolic_prep.proofs.Closing.{pairs_more}
+use Rattle.symbolic_prep.proofs.Closing.{pairs_more, some_steps}
 use Rattle.symbolic_prep.proofs.Counting.{sparse_start}
 use Rattle.vector_division.proofs.Looping.{are_weighed}
 use Rattle.symbolic_prep.proofs.preparing.prepare.Goals as goal
@@ -39,6 +39,9 @@ matrix_of-requires-clause-steps g c =
 
 pub matrix_of-requires-clause-few : goal.matrix_of-requires-clause-few
 matrix_of-requires-clause-few g c = λ some.
-    let count : length c.add_pairs.new.plan.rows.items ≡ 2 * length c.args.pairs.now = omega (arith, c.in_default.ensures.count, c.in_ok-plan.ensures.no_rows) in
+    let rows = c.add_pairs.new.plan.rows.items in
+    let steps = c.add_pairs.new.plan.products.items in
+    let count : length rows ≤ 2 * length c.args.pairs.now = omega (arith, c.in_default.ensures.count, c.in_ok-plan.ensures.no_rows) in
+    let there : 0 < length rows = omega (arith, c.in_default.ensures.later.plan.count, some_steps (variables c.args.ring.now) (g.L.Vectors.listed c.args.members.now) steps c.args.pairs.now some c.in_default.ensures.pairs) in
     c.in_default-close_plan.ensures.sparse (0 ∷ []) (2 * length c.args.pairs.now - 1)
-    (sparse_start c.add_pairs.new.plan.rows.items (length c.args.pairs.now) some count)
+    (sparse_start rows (length c.args.pairs.now) some there count)

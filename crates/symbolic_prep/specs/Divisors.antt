@@ -1,0 +1,16 @@
+-- Vectors of a list, in the order in which they are tried as divisors
+use Rattle.std.specs.Prelude.{Contains, List, [], get_or, length, ℕ, ◌<◌, ◌≡◌}
+use Rattle.formal_sums.specs.FormalSums.{Each}
+use Rattle.module_vectors.specs.declared.key.Key.{Key as CodeKey}
+use Rattle.symbolic_prep.specs.declared.divisors.Divisor.{Divisor}
+use Rattle.vector_division.specs.Marks.{IsMarkOf}
+
+-- the divisor has the number of a vector of the list, and the vector's mark
+pub record IsDivisorOf (list : List (List (CodeKey × ℕ))) (d : Divisor) : Type 0 where
+  pub within : d.member < length list
+  pub mark : IsMarkOf (get_or list d.member []) d.mark
+
+-- they are vectors of the list, and all of it
+pub record AreDivisors (list : List (List (CodeKey × ℕ))) (divisors : List Divisor) : Type 0 where
+  pub each : Each (IsDivisorOf list) divisors
+  pub all : (i : ℕ) → i < length list → (d : Divisor) × Contains divisors d × (d.member ≡ i)
