@@ -1,6 +1,5 @@
 -- Where the script of a run comes from
 use Rattle.std.specs.Prelude.{List, Option, Some, [], ℕ}
-use Rattle.clap.specs.Walk.{Text}
 use Rattle.command_words.specs.Command.{request_of}
 use Rattle.command_words.specs.declared.words.Command.{Command}
 use Rattle.command_words.specs.declared.words.Command.TheVariants.{Large, Run}
@@ -17,8 +16,8 @@ script_behind Run left = left
 script_behind (Large seed) left = Some []
 
 -- the same by the words
-abbrev pub script_to_come : List Text → Option (List ℕ) → Option (List ℕ)
+abbrev pub script_to_come : List (List ℕ) → Option (List ℕ) → Option (List ℕ)
 script_to_come words left = script_before (request_of words).command left
 
-abbrev pub script_left : List Text → Option (List ℕ) → Option (List ℕ)
+abbrev pub script_left : List (List ℕ) → Option (List ℕ) → Option (List ℕ)
 script_left words left = script_behind (request_of words).command left
