@@ -1,5 +1,5 @@
 -- Two jobs out at once on (x^2 + y, xy, y^3 + x), event by event
-use Rattle.std.proofs.Common.{List, [], ap, arith, cond, inl, inr, refl, suc, zero, ℕ, ◌+◌, ◌<◌, ◌∷◌, ◌≡◌}
+use Rattle.std.proofs.Common.{List, [], ap, arith, cond, inl, inr, length, refl, suc, zero, ℕ, ◌+◌, ◌<◌, ◌∷◌, ◌≡◌}
 use Rattle.monomials.specs.Exponents.{cons, head, nil, tail}
 use Rattle.formal_sums.proofs.Comparing.{IsSame_compared}
 use Rattle.formal_sums.proofs.Sameness.{IsSame_of}
@@ -15,6 +15,7 @@ use Rattle.base_examples.specs.Examples.{at, generators, setting, square_plus, x
 use Rattle.base_examples.specs.Histories.{member_0, member_1, state_4, two_members}
 use Rattle.basis_steps.specs.Criteria.{CriterionApplies}
 use Rattle.basis_steps.specs.Divisions.{IsMonicMember, LeavesMember, LeavesNothing, Makes}
+use Rattle.basis_steps.proofs.JobProducts.{IsJobProductAt, job_products_from}
 use Rattle.basis_steps.specs.Outcomes.{AreJobProducts, HasLeadBelowJob, IsOutcome}
 use Rattle.basis_steps.specs.Pairs.{Pair, count}
 use Rattle.basis_steps.specs.Queues.{is_new_pair}
@@ -129,10 +130,13 @@ y_low : HasLeadBelowJob setting (vectors old_members) ((1, 2) ∷ []) only_y
 y_low k h = ((1, 2), omega arith, ap (λ l. setting.compare l (at 0 1 3)) (lead_unique setting lawful only_y k (at 0 0 1) h (IsLead_of_monic setting lawful monic_y.monic)))
 
 y_job_products : AreJobProducts 101 (vectors old_members) ((1, 2) ∷ []) y_products
-y_job_products zero h = (omega arith, inl ((1, 2), omega arith, refl))
-y_job_products (suc zero) h = (omega arith, inl ((1, 2), omega arith, refl))
-y_job_products (suc (suc zero)) h = (omega arith, inr (1, omega arith, omega arith, occurs_at ((at 0 1 3, 1) ∷ ((at 0 2 0, 1) ∷ [])) (at 0 2 0) refl))
-y_job_products (suc (suc (suc i))) h = absurd (omega arith)
+y_job_products = job_products_from 101 (vectors old_members) ((1, 2) ∷ []) y_products by_number
+  where
+    by_number : (i : ℕ) → i < length y_products → IsJobProductAt 101 (vectors old_members) ((1, 2) ∷ []) y_products i
+    by_number zero h = (omega arith, inl ((1, 2), omega arith, refl))
+    by_number (suc zero) h = (omega arith, inl ((1, 2), omega arith, refl))
+    by_number (suc (suc zero)) h = (omega arith, inr (1, omega arith, omega arith, occurs_at ((at 0 1 3, 1) ∷ ((at 0 2 0, 1) ∷ [])) (at 0 2 0) refl))
+    by_number (suc (suc (suc i))) h = absurd (omega arith)
 
 y_outcome : IsOutcome setting (vectors old_members) ((1, 2) ∷ []) (y_member ∷ []) y_products
 y_outcome = record {
@@ -161,9 +165,7 @@ square_low : HasLeadBelowJob setting (vectors old_members) ((0, 1) ∷ []) y_squ
 square_low k h = ((0, 1), omega arith, ap (λ l. setting.compare l (at 0 2 1)) (lead_unique setting lawful y_squared k (at 0 0 2) h (IsLead_of_monic setting lawful monic_2.monic)))
 
 square_job_products : AreJobProducts 101 (vectors old_members) ((0, 1) ∷ []) square_products
-square_job_products zero h = (omega arith, inl ((0, 1), omega arith, refl))
-square_job_products (suc zero) h = (omega arith, inl ((0, 1), omega arith, refl))
-square_job_products (suc (suc i)) h = absurd (omega arith)
+square_job_products = ((omega arith, (omega arith, tt)), (inl ((0, 1), omega arith, refl), (inl ((0, 1), omega arith, refl), tt)))
 
 square_outcome : IsOutcome setting (vectors old_members) ((0, 1) ∷ []) (square_row ∷ []) square_products
 square_outcome = record {

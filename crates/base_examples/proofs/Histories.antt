@@ -167,9 +167,7 @@ low : HasLeadBelowJob setting generators ((0, 1) ∷ []) y_squared
 low k h = ((0, 1), omega arith, ap (λ l. setting.compare l (at 0 2 1)) (lead_unique setting lawful y_squared k (at 0 0 2) h (IsLead_of_monic setting lawful monic_2.monic)))
 
 job_products : AreJobProducts 101 generators ((0, 1) ∷ []) products
-job_products zero h = (omega arith, inl ((0, 1), omega arith, refl))
-job_products (suc zero) h = (omega arith, inl ((0, 1), omega arith, refl))
-job_products (suc (suc i)) h = absurd (omega arith)
+job_products = ((omega arith, (omega arith, tt)), (inl ((0, 1), omega arith, refl), (inl ((0, 1), omega arith, refl), tt)))
 
 outcome_01 : IsOutcome setting (vectors two_members) ((0, 1) ∷ []) (member_2 ∷ []) products
 outcome_01 = record {
@@ -190,7 +188,7 @@ outcome_12 = record {
   few = omega arith;
   low = tt;
   sums = tt;
-  job_products = λ i h. absurd (omega arith);
+  job_products = (tt, tt);
 }
 
 -- ---- the beginning and the events

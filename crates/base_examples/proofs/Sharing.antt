@@ -88,10 +88,10 @@ represents_12 : HasLcmRepresentation setting (vectors monomial_members) 1 2
 represents_12 = record { cofactors = []; below = tt; sums = IsSame_compared _ _ (record { same = refl }, (record { same = refl }, tt)) }
 
 outcome_01 : IsOutcome setting (vectors monomial_members) ((0, 1) ∷ []) [] []
-outcome_01 = record { some = omega arith; pairs = (record { ordered = omega arith; within = omega arith; position = refl }, tt); represented = (represents_01, tt); few = omega arith; low = tt; sums = tt; job_products = λ i h. absurd (omega arith) }
+outcome_01 = record { some = omega arith; pairs = (record { ordered = omega arith; within = omega arith; position = refl }, tt); represented = (represents_01, tt); few = omega arith; low = tt; sums = tt; job_products = (tt, tt) }
 
 outcome_12 : IsOutcome setting (vectors monomial_members) ((1, 2) ∷ []) [] []
-outcome_12 = record { some = omega arith; pairs = (record { ordered = omega arith; within = omega arith; position = refl }, tt); represented = (represents_12, tt); few = omega arith; low = tt; sums = tt; job_products = λ i h. absurd (omega arith) }
+outcome_12 = record { some = omega arith; pairs = (record { ordered = omega arith; within = omega arith; position = refl }, tt); represented = (represents_12, tt); few = omega arith; low = tt; sums = tt; job_products = (tt, tt) }
 
 begins : Begins sharing (sharing_state 0 ((1, 2) ∷ ((0, 1) ∷ ((0, 2) ∷ []))) [] 0 none)
 begins = record {

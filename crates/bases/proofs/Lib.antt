@@ -2,6 +2,7 @@ pub mod Below
 pub mod Covering
 pub mod FreeTerms
 pub mod Leading
+pub mod Meeting
 pub mod MoreMembers
 pub mod NormalForms
 pub mod Normalizing

@@ -4,7 +4,7 @@ use Rattle.std.proofs.Common.{true, vec_capacity, zero, ℕ, ◌*◌, ◌++◌, 
 use Rattle.std.proofs.lemmas.List.{length-map, take-map}
 use Rattle.formal_sums.specs.FormalSums.{Each, FormalSum}
 use Rattle.module_vectors.specs.Rings.{variables}
-use Rattle.module_vectors.specs.Trails.{Step, last_step}
+use Rattle.module_vectors.specs.Trails.{Step, last_step, no_step}
 use Rattle.module_vectors.specs.Vectors.{sum_of}
 use Rattle.module_vectors.specs.declared.trail.KeptTrail.{KeptTrail}
 use Rattle.member_products.specs.Generators.{IsVectorOf}
@@ -24,7 +24,7 @@ use Rattle.basis_core.specs.declared.event.Event.TheVariants.{Put}
 use Rattle.basis_core.specs.declared.row_division.RowStop.{RowStop}
 use Rattle.basis_core.specs.declared.row_division.RowTrail.{RowTrail}
 use Rattle.basis_core.specs.declared.row_division.RowStop.TheVariants as row_stops
-use Rattle.basis_core.specs.Stops.{IsTrailBy, earlier_steps, no_step, trail_of}
+use Rattle.basis_core.specs.Stops.{IsTrailBy, earlier_steps, trail_of}
 use Rattle.std.specs.Prelude.{Contains}
 use Rattle.basis_core.specs.declared.state.BasisState.TheInside.{Inside}
 use Rattle.module_vectors.specs.declared.trail.WorkStop.{WorkStop}

@@ -5,7 +5,7 @@ use Rattle.std.proofs.lemmas.Bool.{cases_lt}
 use Rattle.formal_sums.specs.FormalSums.{Each, Key, shift}
 use Rattle.bases.specs.Leads.{head_key}
 use Rattle.module_vectors.specs.Rings.{variables}
-use Rattle.module_vectors.specs.Trails.{HasKey, Step, product_lead}
+use Rattle.module_vectors.specs.Trails.{HasKey, Step, product_lead, step_at}
 use Rattle.module_vectors.specs.Vectors.{IsTerm, key_of, sum_of}
 use Rattle.module_vectors.specs.declared.key.Key.{Key as CodeKey}
 use Rattle.basis_core.specs.Members.{Shared, Tracked}
@@ -13,7 +13,6 @@ use Rattle.basis_core.specs.Members.{IsTracked}
 use Rattle.basis_core.specs.Rows.{vectors_in}
 use Rattle.monomials.specs.Exponents.{cons, exponents_of, head, tail, times, unit}
 use Rattle.monomials.proofs.Monomials.{times-unit}
-use Rattle.basis_core.specs.Chains.{step_at}
 
 -- products are the same where the sums of the exponents are
 pub times_same :

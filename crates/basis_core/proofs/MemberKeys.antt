@@ -4,14 +4,17 @@ use Rattle.residues.proofs.Congruences.{IsCongruent_of, IsCongruent_trans}
 use Rattle.monomials.specs.Exponents.{Exponents, exponents_of}
 use Rattle.formal_sums.proofs.WeightedSums.{same_key-shift, weighted_sum-scale, weighted_sum_ext}
 use Rattle.formal_sums.specs.FormalSums.{Each, FormalSum, Key, coefficient, indicator, scale, shift}
+use Rattle.bases.specs.Leads.{head_key}
 use Rattle.bases.specs.Settings.{IsLawful, Setting}
 use Rattle.module_vectors.proofs.NormalVectors.{residues_of}
 use Rattle.module_vectors.specs.Rings.{ring_comparison}
-use Rattle.module_vectors.specs.Trails.{HasKey, IsInProduct, Step}
-use Rattle.module_vectors.specs.Vectors.{IsVector, IsVectorOver, sum_of}
+use Rattle.module_vectors.specs.Trails.{HasKey, IsInProduct, Step, product_lead}
+use Rattle.module_vectors.specs.Vectors.{IsVector, IsVectorOver, sum_of, sums_of}
 use Rattle.module_vectors.specs.declared.key.Key.{Key as CodeKey}
+use Rattle.vector_division.proofs.Members.{sums_at}
 use Rattle.vector_division.proofs.Occurring.{at_key, nonzeros, occurs, scaled_key}
 use Rattle.basis_steps.specs.Divisions.{Occurs}
+use Rattle.basis_steps.specs.Outcomes as plain
 use Rattle.basis_steps.specs.Outcomes.{product_vector}
 use Rattle.basis_steps.specs.States.{vectors}
 use Rattle.basis_core.specs.Members.{Shared, Tracked, members_of}
@@ -33,6 +36,10 @@ member_vector shared (m ∷ ms) zero h = h.0.vector.vector
 member_vector shared (m ∷ ms) (suc k) h = member_vector shared ms k h.1
 
 -- ---- keys of products
+-- the lead of a product, by the vectors of a list
+pub lead_same : (n : ℕ) (list : List (List (CodeKey × ℕ))) (s : Step) → plain.product_lead (sums_of n list) (product_of n s) ≡ product_lead n list s
+lead_same n list s = ap (λ v. shift (exponents_of n s.1.exponents) (head_key v)) (sums_at n list s.0)
+
 -- what occurs in a product is a key of it
 pub occurs_in :
     (n p : ℕ) (vs : List (List (CodeKey × ℕ))) (G : List (FormalSum n)) (s : Step) (k : Key n)

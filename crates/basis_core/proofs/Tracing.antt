@@ -5,14 +5,16 @@ use Rattle.std.proofs.lemmas.Bool.{cases_lt}
 use Rattle.std.specs.Prelude.{Contains}
 use Rattle.monomials.specs.Exponents.{exponents_of}
 use Rattle.formal_sums.specs.FormalSums.{Each, FormalSum, Key, shift}
+use Rattle.bases.proofs.Meeting.{met_at, turn_from}
 use Rattle.bases.specs.Leads.{head_key}
 use Rattle.monomial_orders.specs.Kept.{Monomial}
 use Rattle.module_vectors.specs.Rings.{variables}
-use Rattle.module_vectors.specs.Trails.{AreMet, HasKey, IsInProduct, IsMet, Step, product_lead}
+use Rattle.module_vectors.specs.Trails.{AreMet, HasKey, IsInProduct, IsMet, IsStep, Step, no_step, product_lead, step_at}
 use Rattle.module_vectors.specs.Vectors.{IsMonomialOver, sum_of}
 use Rattle.module_vectors.specs.declared.key.Key.{Key as CodeKey}
 use Rattle.pair_criteria.specs.declared.pair.Pair.{Pair as CodePair}
 use Rattle.basis_steps.proofs.Counting.{is_same_pair-refl, is_same_pair-true}
+use Rattle.basis_steps.proofs.JobProducts.{job_product_at}
 use Rattle.basis_steps.proofs.Listing.{row_made}
 use Rattle.basis_steps.specs.Criteria.{lcm_of}
 use Rattle.member_products.specs.declared.member.Row.{Row as CodeRow}
@@ -21,7 +23,7 @@ use Rattle.basis_steps.specs.Divisions.{Occurs}
 use Rattle.basis_steps.specs.Outcomes.{IsOutcome, IsRow, OccursBefore, product_at, product_vector}
 use Rattle.basis_steps.specs.Pairs.{Pair, count, is_same_pair}
 use Rattle.basis_steps.specs.States.{Member, Product, vectors}
-use Rattle.basis_core.specs.Chains.{AreTraced, IsLcmOf, IsStep, step_at}
+use Rattle.basis_core.specs.Chains.{AreTraced}
 use Rattle.basis_core.specs.Jobs.{HasLcm, pair_of, pairs_of}
 use Rattle.basis_core.specs.Members.{IsRunRow, IsTracked, Shared, Tracked, members_of, row_of, rows_of, setting_of}
 use Rattle.basis_core.specs.Outcomes.{product_of, products_of}
@@ -29,6 +31,7 @@ use Rattle.basis_core.specs.Rows.{IsRowTrail, vectors_in}
 use Rattle.basis_core.proofs.AfterPut.{members_length}
 use Rattle.basis_core.proofs.MemberKeys.{key_occurs, occurs_in, vector_at}
 use Rattle.basis_core.proofs.Tracking.{ring_lawful}
+use Rattle.pair_criteria.specs.Pairs.{IsLcmOf}
 
 -- ---- lists
 pub step_front : (xs ys : List Step) (i : ℕ) → i < length xs → step_at (xs ++ ys) i ≡ step_at xs i
@@ -45,14 +48,6 @@ step_behind (x ∷ xs) ys i = ap (step_at (x ∷ (xs ++ ys))) sucs ∙ step_behi
   where
     sucs : suc (length xs) + i ≡ suc (length xs + i)
     sucs = omega arith
-
-contained_index : (xs : List Step) (s : Step) → Contains xs s → (j : ℕ) × (j < length xs) × (step_at xs j ≡ s)
-contained_index xs s (j, l, e) = (j, l, go xs j l e)
-  where
-    go : (xs : List Step) (j : ℕ) → j < length xs → get_or xs j s ≡ s → step_at xs j ≡ s
-    go [] j l e = absurd (omega arith)
-    go (x ∷ xs) zero l e = e
-    go (x ∷ xs) (suc j) l e = go xs j (omega arith) e
 
 -- a pair that stands in the list
 pub counted_pair : (x : Pair) (xs : List CodePair) → 0 < count x (pairs_of xs) → (y : CodePair) × Contains xs y × (pair_of y ≡ x)
@@ -105,28 +100,7 @@ pub met_index :
     → AreMet n v vs earlier later → (i : ℕ) → i < length later
     → HasKey v (product_lead n vs (step_at later i))
     ⊎ ((j : ℕ) × (j < length earlier + i) × IsInProduct n vs (product_lead n vs (step_at later i)) (step_at (earlier ++ later) j))
-met_index n v vs earlier [] met i l = absurd (omega arith)
-met_index n v vs earlier (s ∷ later) met zero l = go met.0
-  where
-    go : IsMet n v vs earlier (product_lead n vs s)
-        → HasKey v (product_lead n vs s) ⊎ ((j : ℕ) × (j < length earlier + 0) × IsInProduct n vs (product_lead n vs s) (step_at (earlier ++ s ∷ later) j))
-    go (inl h) = inl h
-    go (inr (t, there, h)) =
-        let at = contained_index earlier t there in
-        inr (at.0, omega (arith, at.1), subst (IsInProduct n vs (product_lead n vs s)) (sym (step_front earlier (s ∷ later) at.0 at.1 ∙ at.2)) h)
-met_index n v vs earlier (s ∷ later) met (suc i) l = go (met_index n v vs (earlier ++ s ∷ []) later met.1 i (omega arith))
-  where
-    go : HasKey v (product_lead n vs (step_at later i))
-        ⊎ ((j : ℕ) × (j < length (earlier ++ s ∷ []) + i) × IsInProduct n vs (product_lead n vs (step_at later i)) (step_at ((earlier ++ s ∷ []) ++ later) j))
-        → HasKey v (product_lead n vs (step_at later i))
-        ⊎ ((j : ℕ) × (j < length earlier + suc i) × IsInProduct n vs (product_lead n vs (step_at later i)) (step_at (earlier ++ s ∷ later) j))
-    go (inl h) = inl h
-    go (inr (j, lt, h)) = inr (
-      j,
-      omega (arith, lt, length-append earlier (s ∷ [])),
-      subst (λ l. IsInProduct n vs (product_lead n vs (step_at later i)) (step_at l j))
-          (append_assoc earlier (s ∷ []) later) h,
-    )
+met_index n v vs earlier later met i l = met_at (HasKey v) (IsInProduct n vs) (product_lead n vs) no_step earlier later met i l
 
 -- ---- a row that stops, of an outcome
 pub product_is : (n : ℕ) (products : List Step) (i : ℕ) → i < length products → product_at (products_of n products) i ≡ product_of n (step_at products i)
@@ -180,7 +154,7 @@ module _
 
   product_known : (i : ℕ) → i < length products → (step_at products i).0 < length base
   product_known i l =
-      let r = ((h.outcome).job_products i (omega (arith, l, products_length n products))).0 in
+      let r = (job_product_at p G (pairs_of pairs) (products_of n products) (h.outcome).job_products i (omega (arith, l, products_length n products))).0 in
       let e : (product_at (products_of n products) i).0 ≡ (step_at products i).0 = ap (λ (t : Product n). t.0) (product_is n products i l) in
       omega (arith, r, e, members_length n base)
 
@@ -206,7 +180,7 @@ module _
       (i : ℕ) → i < length products
       → ((x : CodePair) × IsLcmOf n pairs (product_lead n vs (step_at products i)) x)
       ⊎ ((j : ℕ) × (j < i) × IsInProduct n vs (product_lead n vs (step_at products i)) (step_at products j))
-  product_traced i l = go ((h.outcome).job_products i (omega (arith, l, products_length n products))).1
+  product_traced i l = go (job_product_at p G (pairs_of pairs) (products_of n products) (h.outcome).job_products i (omega (arith, l, products_length n products))).1
     where
       go : ((x : Pair) × (0 < count x (pairs_of pairs)) × (plain.product_lead G (product_at (products_of n products) i) ≡ lcm_of G x))
           ⊎ OccursBefore p G (products_of n products) i (plain.product_lead G (product_at (products_of n products) i))
@@ -271,12 +245,14 @@ module _
 
   -- all together
   pub all_traced : AreTraced n vs pairs (products ++ steps)
-  all_traced i l = go (cases_lt i (length products))
+  all_traced =
+      turn_from (λ (k : Key n). (x : CodePair) × IsLcmOf n pairs k x) (IsInProduct n vs) (product_lead n vs) no_step (products ++ steps)
+      (λ i l. go i l (cases_lt i (length products)))
     where
-      go : (i < length products) ⊎ (length products ≤ i)
+      go : (i : ℕ) → i < length (products ++ steps) → (i < length products) ⊎ (length products ≤ i)
           → ((x : CodePair) × IsLcmOf n pairs (product_lead n vs (step_at (products ++ steps) i)) x)
           ⊎ ((j : ℕ) × (j < i) × IsInProduct n vs (product_lead n vs (step_at (products ++ steps) i)) (step_at (products ++ steps) j))
-      go (inl q) = by (product_traced i q)
+      go i l (inl q) = by (product_traced i q)
         where
           by : ((x : CodePair) × IsLcmOf n pairs (product_lead n vs (step_at products i)) x)
               ⊎ ((j : ℕ) × (j < i) × IsInProduct n vs (product_lead n vs (step_at products i)) (step_at products j))
@@ -289,7 +265,7 @@ module _
             subst (λ (z : Step × Step). IsInProduct n vs (product_lead n vs z.0) z.1)
                 (λ t. (sym (step_front products steps i q) t, sym (step_front products steps j (omega (arith, lt, q))) t)) r,
           )
-      go (inr q) =
+      go i l (inr q) =
           let k : i ≡ length products + (i - length products) = omega (arith, q) in
           let r = step_traced (i - length products) (omega (arith, l, q, length-append products steps)) in
           let there : step_at steps (i - length products) ≡ step_at (products ++ steps) i = sym (step_behind products steps (i - length products))

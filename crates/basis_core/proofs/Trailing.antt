@@ -11,7 +11,7 @@ use Rattle.bases.specs.Leads.{head_key}
 use Rattle.bases.specs.Representations.{key_lcm}
 use Rattle.module_vectors.specs.Rings.{ring_comparison, variables}
 use Rattle.module_vectors.specs.Stops.{HasMonomial}
-use Rattle.module_vectors.specs.Trails.{AreMet, HasKey, IsChain, IsInProduct, IsOfStep, Step, last_step, product_lead}
+use Rattle.module_vectors.specs.Trails.{AreMet, HasKey, IsChain, IsInProduct, IsOfStep, IsStep, Step, last_step, no_step, product_lead, step_at}
 use Rattle.module_vectors.specs.Vectors.{IsMonomialOver, IsVectorOver, key_of, sum_of}
 use Rattle.module_vectors.specs.declared.key.Key.{Key as CodeKey}
 use Rattle.module_vectors.specs.declared.trail.KeptTrail.{KeptTrail}
@@ -19,19 +19,20 @@ use Rattle.module_vectors.specs.declared.trail.TrailStart.TheVariants as starts
 use Rattle.pair_criteria.specs.declared.pair.Pair.{Pair as CodePair}
 use Rattle.basis_steps.proofs.Counting.{count_each, is_same_pair-refl}
 use Rattle.basis_steps.proofs.Growing.{each_at}
+use Rattle.basis_steps.proofs.JobProducts.{IsJobProductAt, job_products_from}
 use Rattle.basis_core.proofs.AfterPut.{members_length}
 use Rattle.basis_steps.specs.Criteria.{IsPair, lcm_of}
 use Rattle.basis_steps.specs.Outcomes as plain
 use Rattle.basis_steps.specs.Outcomes.{AreJobProducts, IsOutcome, product_at, product_vector}
 use Rattle.basis_steps.specs.Pairs.{count, is_same_pair}
 use Rattle.basis_steps.specs.States.{Product, Trail, vectors}
-use Rattle.basis_core.specs.Chains.{IsLinked, IsStep, IsTracedTo, step_at}
+use Rattle.basis_core.specs.Chains.{IsLinked, IsTracedTo}
 use Rattle.basis_core.specs.Jobs.{HasLcm, IsJobOver, pairs_of}
 use Rattle.basis_core.specs.Makings.{EndsAs}
 use Rattle.basis_core.specs.Members.{IsRunRow, IsTracked, Shared, Tracked, members_of, rows_of, setting_of}
 use Rattle.basis_core.specs.Outcomes.{IsOutcomeOver, OutcomeShown, product_of, products_of}
 use Rattle.basis_core.specs.Rows.{IsRowTrail, vectors_in}
-use Rattle.basis_core.specs.Stops.{IsTrailBy, earlier_steps, no_step, trail_by, trail_of, trail_over}
+use Rattle.basis_core.specs.Stops.{IsTrailBy, earlier_steps, trail_by, trail_of, trail_over}
 use Rattle.basis_core.proofs.Chaining.{nonzero_at}
 use Rattle.basis_core.proofs.MemberKeys.{in_occurs, key_occurs, member_vector, vector_at}
 use Rattle.basis_core.proofs.Tracing.{HasStoppedRow, at_base, contained_each, listed_length, pair_counted, product_is, step_behind}
@@ -172,8 +173,8 @@ module _
   lead_here : (s : Step) → plain.product_lead G (product_of n s) ≡ product_lead n vs s
   lead_here s = ap (λ v. shift (exponents_of n s.1.exponents) (head_key v)) (vector_at n ms s.0)
 
-  products : AreJobProducts p G ((i, j) ∷ []) (products_of n (first ∷ later))
-  products zero l = (
+  numbered : (k : ℕ) → k < length (products_of n (first ∷ later)) → IsJobProductAt p G ((i, j) ∷ []) (products_of n (first ∷ later)) k
+  numbered zero l = (
     omega (arith, (known.0).0, listed_length ms, members_length n ms),
     inl ((i, j), pair_first, lead_here first ∙ lcm_key ∙ (λ t. key_lcm (head_key (sym (same_vector i left) t)) (head_key (sym (same_vector j right) t)))),
   )
@@ -182,7 +183,7 @@ module _
       pair_first =
           let one : ◌≡◌ {A = ℕ} (cond (is_same_pair (i, j) (i, j)) 1 0) 1 = ap (λ b. cond b 1 0) (is_same_pair-refl (i, j)) in
           omega (arith, one)
-  products (suc k) l = (here, inr (k, omega arith, omega (arith, l), occurs))
+  numbered (suc k) l = (here, inr (k, omega arith, omega (arith, l), occurs))
     where
       short : k < length later
       short = omega (arith, l, length-map later (λ t. product_of n t))
@@ -210,6 +211,9 @@ module _
           (in_occurs (setting_of n shared) (ring_lawful shared) vs G (step_at (first ∷ later) k) (product_lead n vs (step_at later k))
           (vector_at n ms (step_at (first ∷ later) k).0) (member_vector shared ms (step_at (first ∷ later) k).0 h.tracked)
           (linked_at n vs first later (c.chain_is).linked k short))
+
+  products : AreJobProducts p G ((i, j) ∷ []) (products_of n (first ∷ later))
+  products = job_products_from p G ((i, j) ∷ []) (products_of n (first ∷ later)) numbered
 
   of_last : IsOfStep vs (last_step first later) last
   of_last = subst (λ s. IsOfStep vs s last) (sym same_last) (h.trail).monomial

@@ -4,7 +4,7 @@ use Rattle.monomials.specs.Exponents.{exponents_of}
 use Rattle.monomials.specs.Weights.{weighted_degree}
 use Rattle.formal_sums.specs.FormalSums.{FormalSum}
 use Rattle.module_vectors.specs.Rings.{ring_comparison, variables}
-use Rattle.module_vectors.specs.Trails.{IsTrail as IsKeptTrail, Step, last_step}
+use Rattle.module_vectors.specs.Trails.{IsTrail as IsKeptTrail, Step, last_step, no_step}
 use Rattle.module_vectors.specs.Vectors.{AreVectorsOver, sums_of}
 use Rattle.module_vectors.specs.declared.trail.KeptTrail.{KeptTrail}
 use Rattle.module_vectors.specs.declared.trail.TrailStart.{TrailStart}
@@ -34,10 +34,6 @@ start_pair starts.Product = (0, 0)
 abbrev pub earlier_steps : Step → List Step → List Step
 earlier_steps s [] = []
 earlier_steps s (t ∷ ts) = s ∷ earlier_steps t ts
-
--- the monomial 1 in no variables, at the first member
-abbrev pub no_step : Step
-no_step = (0, record { exponents = []; degree = 0 })
 
 -- the trail of these steps, the first of them apart
 abbrev pub trail_by : (n : ℕ) → KeptTrail → Step → List Step → Trail n

@@ -3,15 +3,16 @@ ghost use Rattle.std.specs.Prelude.{ℕ, ◌≡◌, ◌<◌, ◌++◌, ◌∷◌
 ghost use Rattle.monomials.specs.Exponents.{exponents_of, unit};
 ghost use Rattle.formal_sums.specs.FormalSums.{Each, shift};
 ghost use Rattle.module_vectors.specs.Rings.{variables};
-ghost use Rattle.module_vectors.specs.Trails.{IsInProduct, product_lead};
+ghost use Rattle.module_vectors.specs.Trails.{IsInProduct, IsStep, product_lead, step_at};
 ghost use Rattle.module_vectors.specs.Vectors.{IsMonomialOver, key_of};
 ghost use Rattle.pair_criteria.specs.declared.pair.Pair.{Pair as PairValue};
-ghost use Rattle.basis_core.specs.Chains.{AreTraced, IsLcmOf, IsStep, IsTracedTo, step_at};
+ghost use Rattle.basis_core.specs.Chains.{AreTraced, IsTracedTo};
 ghost use Rattle.basis_core.specs.Jobs.{pairs_of};
 ghost use Rattle.basis_core.specs.Makings.{EndsAs, StopsAt, StopsOne};
 ghost use Rattle.basis_core.specs.Members.{AreMonic};
 ghost use Rattle.basis_core.specs.Rows.{vectors_in};
 ghost use Rattle.basis_core.specs.Stops.{IsTrailBy};
+ghost use Rattle.pair_criteria.specs.Pairs.{IsLcmOf};
 
 use crate::copies::trail_over;
 use crate::members::Members;

@@ -20,6 +20,7 @@ use Rattle.basis_steps.specs.Cofactors.{AreMade, IsMade}
 use Rattle.basis_steps.specs.Criteria.{AreCovered, IsPair, Skips, waiting}
 use Rattle.basis_steps.specs.Divisions.{IsMonicMember, Makes}
 use Rattle.basis_steps.specs.Invariant.{HasNewLeads, HoldsInvariant}
+use Rattle.basis_steps.proofs.JobProducts.{job_product_at}
 use Rattle.basis_steps.specs.Outcomes.{AreJobProducts, IsOutcome}
 use Rattle.basis_steps.specs.Pairs.{Pair, count}
 use Rattle.basis_steps.specs.Queues.{IsSorted, compare_pairs, is_new_pair, share}
@@ -172,7 +173,7 @@ pub known_products :
     → AreJobProducts p G job products → (t : Product n) → Contains products t → t.0 < length G
 known_products {n} p G job products h t c =
     let e = contained_at products t (0, unit n) c in
-    subst (λ u. u.0 < length G) e.2 (h e.0 e.1).0
+    subst (λ u. u.0 < length G) e.2 (job_product_at p G job products h e.0 e.1).0
 
 -- a pair with a new member
 abbrev IsNew : {n : ℕ} → State n → List (Member n) → Pair → Type 0

@@ -1,12 +1,13 @@
 -- Rows divided by members until none divides the lead, and the members that this makes (IVA chapter 2, sections 3 and 7)
-use Rattle.std.specs.Prelude.{Contains, List, [], get_or, length, ⊤, ℕ, ◌*◌, ◌++◌, ◌-◌, ◌<◌, ◌∷◌, ◌≡◌, ◌⊎◌}
+use Rattle.std.specs.Prelude.{List, [], get_or, length, ℕ, ◌*◌, ◌++◌, ◌-◌, ◌<◌, ◌∷◌, ◌≡◌, ◌⊎◌}
 use Rattle.std.specs.declared.cmp.Ordering.TheVariants.{Less}
 use Rattle.residues.specs.Residues.{IsCongruent}
 use Rattle.monomials.specs.Exponents.{unit}
 use Rattle.formal_sums.specs.Combinations.{combination}
-use Rattle.formal_sums.specs.FormalSums.{Each, FormalSum, HasRank, IsSame, Key, coefficient, scale}
+use Rattle.formal_sums.specs.FormalSums.{Each, FormalSum, HasRank, IsSame, Key, Term, coefficient, scale}
 use Rattle.bases.specs.Bases.{IsCovered}
 use Rattle.bases.specs.Leads.{IsMonicLead, head_key}
+use Rattle.bases.specs.Meeting.{AreMetInTurn, IsMetBy}
 use Rattle.bases.specs.Representations.{place}
 use Rattle.bases.specs.Settings.{Setting}
 use Rattle.basis_steps.specs.States.{Member}
@@ -28,16 +29,17 @@ AreQuotients S G k a = Each (λ t. (t.0.0 < length G) × IsKeyAtMost S (place G 
 abbrev pub Occurs : {n : ℕ} → ℕ → FormalSum n → Key n → Type 0
 Occurs p v k = IsCongruent p (coefficient v k) 0 → ⊥
 
+-- k is a monomial of the product of a member of G by this quotient
+abbrev pub OccursInProduct : {n : ℕ} → ℕ → List (FormalSum n) → Key n → Term n → Type 0
+OccursInProduct p G k t = Occurs p (scale 1 t.0.1 (get_or G t.0.0 [])) k
+
 -- k is a monomial of v, or of the product of a member of G by one of these quotients
 abbrev pub IsReached : {n : ℕ} → ℕ → List (FormalSum n) → FormalSum n → FormalSum n → Key n → Type 0
-IsReached {n} p G v quotients k =
-    Occurs p v k
-    ⊎ ((t : Key n × ℕ) × Contains quotients t × Occurs p (scale 1 t.0.1 (get_or G t.0.0 [])) k)
+IsReached p G v quotients k = IsMetBy (Occurs p v) (OccursInProduct p G) quotients k
 
 -- the products by the quotients a can be taken away one after another: the lead of each is a monomial of v or of a product before it
 abbrev pub AreReached : {n : ℕ} → ℕ → List (FormalSum n) → FormalSum n → FormalSum n → FormalSum n → Type 0
-AreReached p G v before [] = ⊤
-AreReached p G v before (t ∷ a) = IsReached p G v before (place G t) × AreReached p G v (before ++ (t ∷ [])) a
+AreReached p G v before a = AreMetInTurn (Occurs p v) (OccursInProduct p G) (place G) before a
 
 -- v - w modulo p
 abbrev pub difference : {n : ℕ} → ℕ → FormalSum n → FormalSum n → FormalSum n

@@ -1,23 +1,23 @@
 -- The leads of new rows are below the least common multiples of the pairs
-use Rattle.std.proofs.Common.{Bool, Contains, Less, List, [], ap, arith, get_or, inl, inr, length, refl, subst, suc, sym, zero, ℕ, ◌*◌, ◌+◌, ◌<◌, ◌∙◌, ◌∷◌, ◌≡◌, ◌⊎◌}
+use Rattle.std.proofs.Common.{Bool, Contains, Less, List, [], ap, arith, get_or, inl, inr, length, refl, subst, suc, sym, zero, ℕ, ◌<◌, ◌∙◌, ◌∷◌, ◌≡◌, ◌⊎◌}
 use Rattle.std.proofs.lemmas.List.{get_or-map, length-map}
-use Rattle.residues.proofs.Congruences.{IsCongruent_add, IsCongruent_decide, IsCongruent_multiply, IsCongruent_of, IsCongruent_refl, IsCongruent_sym, IsCongruent_trans}
+use Rattle.residues.proofs.Congruences.{IsCongruent_of, IsCongruent_sym, IsCongruent_trans}
 use Rattle.residues.specs.Residues.{IsCongruent}
-use Rattle.monomials.specs.Exponents.{exponents_of, unit}
+use Rattle.monomials.specs.Exponents.{exponents_of}
 use Rattle.formal_sums.proofs.Combining.{Each_map}
-use Rattle.formal_sums.proofs.Sameness.{coefficient-scale_unit}
-use Rattle.formal_sums.proofs.WeightedSums.{coefficient-append}
+use Rattle.formal_sums.proofs.Items.{item_of}
 use Rattle.formal_sums.specs.FormalSums.{Each, FormalSum, Key, coefficient, scale, shift}
 use Rattle.orders.proofs.KeyOrdering.{less_of_greater}
 use Rattle.orders.specs.KeyOrders.{Descends}
 use Rattle.bases.proofs.Leading.{one_not_zero}
 use Rattle.bases.specs.Leads.{head_key, leads}
 use Rattle.bases.specs.Settings.{IsLawful, Setting}
-use Rattle.module_vectors.specs.Trails.{HasKey, Step, product_lead}
+use Rattle.module_vectors.specs.Trails.{HasKey, Step, no_step, product_lead, step_at}
 use Rattle.module_vectors.specs.Vectors.{IsVector, key_of, sum_of}
 use Rattle.module_vectors.specs.declared.key.Key.{Key as CodeKey}
 use Rattle.pair_criteria.specs.declared.pair.Pair.{Pair as CodePair}
 use Rattle.basis_steps.specs.Divisions.{IsKeyAtMost}
+use Rattle.row_laws.proofs.NewRows.{find_row}
 use Rattle.row_laws.specs.Jobs.{IsNewRows}
 use Rattle.row_laws.specs.Rows.{row_combination}
 use Rattle.row_matrix.specs.Rows.{IsRow, MatrixShown, RowShown, column_key, vector_of, vectors_of}
@@ -25,42 +25,15 @@ use Rattle.row_reduce.proofs.Forms.{row_monic, row_normal}
 use Rattle.row_reduce.specs.Echelons.{IsEchelonOf}
 use Rattle.row_reduce.specs.Pivots.{no_row, row_at}
 use Rattle.symbolic_prep.proofs.Matrices.{Each_index, contains_at}
+use Rattle.symbolic_prep.proofs.Tracing.{traced_at}
 use Rattle.symbolic_prep.specs.Plans.{product_sum}
 use Rattle.symbolic_prep.specs.Prepared.{IsPrepared}
-use Rattle.symbolic_prep.specs.Traces.{IsOfEarlier, IsOfPair, no_step, step_at}
+use Rattle.symbolic_prep.specs.Traces.{IsOfEarlier, IsOfPair}
 use Rattle.vector_division.proofs.Occurring.{at_key, occurs}
 use Rattle.f4_job.proofs.Flagging.{unflagged_from}
 use Rattle.f4_job.proofs.News.{lead, row_good}
 use Rattle.f4_job.specs.Flags.{AreFlags, unflagged}
 use Rattle.f4_job.specs.Solved.{IsBelowPairs}
-
--- some row is not 0 at k, or each combination of the rows is 0 there
-find_row :
-    {n p : ℕ} (k : Key n) (cs : List ℕ) (rows : List (FormalSum n))
-    → ((i : ℕ) × (i < length rows) × (IsCongruent p (coefficient (get_or rows i []) k) 0 → ⊥)) ⊎ IsCongruent p (coefficient (row_combination cs rows) k) 0
-find_row {n} {p} k [] rows = inr (IsCongruent_refl p 0)
-find_row {n} {p} k (c ∷ cs) [] = inr (IsCongruent_refl p 0)
-find_row {n} {p} k (c ∷ cs) (e ∷ rows) = go (IsCongruent_decide p (coefficient e k)) (find_row k cs rows)
-  where
-    go :
-        IsCongruent p (coefficient e k) 0 ⊎ (IsCongruent p (coefficient e k) 0 → ⊥)
-        → ((i : ℕ) × (i < length rows) × (IsCongruent p (coefficient (get_or rows i []) k) 0 → ⊥)) ⊎ IsCongruent p (coefficient (row_combination cs rows) k) 0
-        → ((i : ℕ) × (i < length (e ∷ rows)) × (IsCongruent p (coefficient (get_or (e ∷ rows) i []) k) 0 → ⊥)) ⊎ IsCongruent p
-        (coefficient (row_combination (c ∷ cs) (e ∷ rows)) k) 0
-    go (inr nz) r = inl (0, omega arith, nz)
-    go (inl z) (inl (i, lt, nz)) = inl (suc i, omega arith, nz)
-    go (inl z) (inr w) =
-        inr (IsCongruent_trans
-        (IsCongruent_of p _ (c * coefficient e k + coefficient (row_combination cs rows) k)
-        (coefficient-append (scale c (unit n) e) (row_combination cs rows) k
-        ∙ ap (λ x. x + coefficient (row_combination cs rows) k) (coefficient-scale_unit c e k)))
-        (IsCongruent_trans (IsCongruent_add (IsCongruent_multiply (IsCongruent_refl p c) z) w) (IsCongruent_of p (c * 0 + 0) 0 (omega arith))))
-
--- what holds of each item of a list, and of no items
-pub item_of : {X : Type 0} (P : List X → Type 0) (list : List (List X)) (i : ℕ) → P [] → Each P list → P (get_or list i [])
-item_of P [] i z h = z
-item_of P (v ∷ list) zero z h = h.0
-item_of P (v ∷ list) (suc i) z h = item_of P list i z h.1
 
 module _ {n : ℕ} (S : Setting n) (lawful : IsLawful S) where
   -- no key of a vector is above its first one
@@ -150,7 +123,7 @@ module _ (n : ℕ) (S : Setting n) (lawful : IsLawful S) (list : List (List (Cod
       sym (at m.rows i lt) ∙ ap (λ xs. get_or xs i []) h.vectors ∙ get_or-map (λ (s : Step). product_sum n list s) steps i no_step [] l in
       let first : head_key (vector_of n m.columns (row_at m.rows i)) ≡ product_lead n list (step_at steps i) =
       ap head_key is ∙ product_first n list (step_at steps i) (h.steps_of i l).some in
-      let w = step_within S lawful list vectors pairs steps h.traced (suc i) i (omega arith) l in
+      let w = step_within S lawful list vectors pairs steps (traced_at n list pairs steps h.traced) (suc i) i (omega arith) l in
       elim (occurs r k) [
         | inr z ↦ absurd (nz (IsCongruent_of S.modulus _ 0 z))
         | inl has ↦ elim (key_at_most S lawful r k d has) [

@@ -6,7 +6,7 @@ use Rattle.member_products.proofs.Ranks.{ring_lawful}
 use Rattle.module_vectors.proofs.NormalVectors.{residues_of}
 use Rattle.module_vectors.proofs.SumsOfProducts.{Each_member}
 use Rattle.module_vectors.specs.Rings.{ring_comparison, setting, variables}
-use Rattle.module_vectors.specs.Trails.{Step}
+use Rattle.module_vectors.specs.Trails.{Step, no_step}
 use Rattle.module_vectors.specs.Vectors.{AreTermsOver, IsMonomialOver, IsVectorOver, StandsFor, sum_of}
 use Rattle.module_vectors.specs.declared.key.Key.{Key as CodeKey}
 use Rattle.module_vectors.specs.declared.ring.Ring.{Ring}
@@ -16,7 +16,6 @@ use Rattle.row_matrix.specs.Hashes.{no_key}
 use Rattle.row_matrix.specs.Rows.{AreEntries, AreKeys, Descend, Entry, IsRow, RowShown, column_key, row_sum, vector_of}
 use Rattle.row_reduce.proofs.Entries.{entries_within}
 use Rattle.row_reduce.proofs.Forms.{row_normal}
-use Rattle.symbolic_prep.specs.Traces.{no_step}
 use Rattle.vector_division.specs.declared.reduction.Quotient.{Quotient}
 use Rattle.f4_job.specs.Made.{AreMadeRows, AreWeighedSteps, IsMadeRow, entry_term, source_parts}
 

@@ -6,14 +6,15 @@ use Rattle.monomials.specs.Exponents.{Exponents, exponents_of, unit}
 use Rattle.formal_sums.proofs.Combining.{Each_map, IsSame_combination, scale-one}
 use Rattle.formal_sums.proofs.Sameness.{IsSame_of, IsSame_sym, IsSame_trans, scale-scale}
 use Rattle.formal_sums.specs.Combinations.{combination}
-use Rattle.formal_sums.specs.FormalSums.{Each, FormalSum, IsOfRank, IsSame, scale, shift}
+use Rattle.formal_sums.proofs.Items.{item_of}
+use Rattle.formal_sums.specs.FormalSums.{Each, FormalSum, IsOfRank, IsSame, scale}
 use Rattle.bases.proofs.Leading.{IsLead_of_monic, lead_unique, positive}
 use Rattle.bases.specs.Leads.{IsLead, head_key}
 use Rattle.bases.specs.Settings.{IsLawful, Setting}
 use Rattle.monomial_orders.specs.Kept.{IsWeighed}
 use Rattle.module_vectors.proofs.Scaling.{Each_at}
 use Rattle.module_vectors.specs.Rings.{ring_comparison, variables}
-use Rattle.module_vectors.specs.Trails.{Step, product_lead}
+use Rattle.module_vectors.specs.Trails.{Step, no_step, product_lead, step_at}
 use Rattle.module_vectors.specs.Vectors.{IsVector, sum_of, sums_of}
 use Rattle.module_vectors.specs.declared.key.Key.{Key as CodeKey}
 use Rattle.pair_criteria.specs.declared.pair.Pair.{Pair as CodePair}
@@ -21,14 +22,15 @@ use Rattle.vector_division.proofs.Members.{sums_at}
 use Rattle.vector_division.specs.Reductions.{cofactors_of, step_of}
 use Rattle.member_products.proofs.Ranks.{ranked_by}
 use Rattle.member_products.specs.declared.member.Row.{Row as CodeRow}
-use Rattle.basis_steps.proofs.Counting.{is_same_pair-refl}
+use Rattle.basis_steps.proofs.JobProducts.{IsJobProductAt, job_products_from}
 use Rattle.basis_steps.specs.Criteria.{IsRepresented, lcm_of}
 use Rattle.basis_steps.specs.Divisions.{Occurs}
 use Rattle.basis_steps.specs.Outcomes as plain
 use Rattle.basis_steps.specs.Outcomes.{AreJobProducts, HasLeadBelowJob, IsRow as IsSumRow, product_at}
-use Rattle.basis_steps.specs.Pairs.{Pair, count}
+use Rattle.basis_steps.specs.Pairs.{Pair}
 use Rattle.basis_steps.specs.States.{Member, vectors}
-use Rattle.basis_core.proofs.MemberKeys.{in_occurs}
+use Rattle.basis_core.proofs.MemberKeys.{in_occurs, lead_same}
+use Rattle.basis_core.proofs.Tracing.{pair_counted}
 use Rattle.basis_core.proofs.Tracking.{vectors_over, vectors_rank}
 use Rattle.basis_core.specs.Jobs.{HasLcm, IsJobOver, JobShown, pair_of, pairs_of}
 use Rattle.basis_core.specs.Members.{IsRunRow, IsTracked, members_of, row_of, rows_of, setting_of}
@@ -42,17 +44,10 @@ use Rattle.s_vectors.proofs.Listed.{row_listed, row_ranked}
 use Rattle.s_vectors.proofs.TopParts.{shared_lawful}
 use Rattle.s_vectors.specs.Parts.{IsPart}
 use Rattle.symbolic_prep.proofs.Matrices.{Each_index}
+use Rattle.symbolic_prep.proofs.Tracing.{traced_at}
 use Rattle.symbolic_prep.specs.Plans.{product_sum}
-use Rattle.symbolic_prep.specs.Traces.{no_step, step_at}
-use Rattle.f4_job.proofs.Lowering.{item_of}
 use Rattle.f4_job.specs.Made.{AreMadeRows, IsMadeRow, source_parts}
 use Rattle.f4_job.specs.Solved.{AreNewRows, IsBelowPairs}
-
--- a listed pair is one of the job
-count_in : (xs : List CodePair) (i : ℕ) (x : CodePair) → i < length xs → get_or xs i x ≡ x → 0 < count (pair_of x) (pairs_of xs)
-count_in [] i x lt e = absurd (omega arith)
-count_in (y ∷ xs) zero x lt e = rw e (rw (is_same_pair-refl (pair_of x)) (omega arith))
-count_in (y ∷ xs) (suc i) x lt e = let h = count_in xs i x (omega arith) e in omega arith
 
 module _ (j : JobShown) (job : IsJobOver j) (tracked : Each (IsTracked j.shared) j.members) (columns : List CodeKey) (steps : List Step) (rows : List RowShown)
     (new : AreNewRows (variables j.shared.ring) (setting_of (variables j.shared.ring) j.shared) (vectors_in j.members) j.pairs steps columns rows) where
@@ -197,21 +192,18 @@ module _ (j : JobShown) (job : IsJobOver j) (tracked : Each (IsTracked j.shared)
   step_is : (i : ℕ) → i < length steps → product_at (products_of n steps) i ≡ product_of n (step_at steps i)
   step_is i lt = get_or-map (λ (t : Step). product_of n t) steps i no_step (0, unit n) lt
 
-  lead_same : (s : Step) → plain.product_lead G (product_of n s) ≡ product_lead n list s
-  lead_same s = ap (λ v. shift (exponents_of n s.1.exponents) (head_key v)) (sums_at n list s.0)
-
-  of_job : AreJobProducts j.shared.ring.modulus.value G (pairs_of j.pairs) (products_of n steps)
-  of_job i lt =
+  numbered : (i : ℕ) → i < length (products_of n steps) → IsJobProductAt j.shared.ring.modulus.value G (pairs_of j.pairs) (products_of n steps) i
+  numbered i lt =
       let li : i < length steps = omega (arith, length-map steps (λ (t : Step). product_of n t)) in
       let s = step_at steps i in
       let lead : plain.product_lead G (product_at (products_of n steps) i) ≡ product_lead n list (step_at steps i) =
-      ap (plain.product_lead G) (step_is i li) ∙ lead_same (step_at steps i) in (
+      ap (plain.product_lead G) (step_is i li) ∙ lead_same n list (step_at steps i) in (
         subst (λ z. (product_at (products_of n steps) i).0 < z) (sym (length-map list (λ (v : List (CodeKey × ℕ)). sum_of n v)))
             (subst (λ (t : ℕ × Exponents (variables j.shared.ring)). t.0 < length list) (sym (step_is i li)) (new.steps_of i li).member),
-        elim (new.traced i li) [
+        elim (traced_at n list j.pairs steps new.traced i li) [
           | inl (x, q) ↦
               let l = Each_at (HasLcm n j.shared.ring.weights j.members) j.pairs q.0.0 x job.lcms q.0.1 (sym q.0.2) in
-              inl (pair_of x, count_in j.pairs q.0.0 x q.0.1 q.0.2, lead ∙ q.1 ∙ l.lcm ∙ ap (λ g. lcm_of g (pair_of x)) same)
+              inl (pair_of x, pair_counted x j.pairs q.0, lead ∙ q.1 ∙ l.lcm ∙ ap (λ g. lcm_of g (pair_of x)) same)
           | inr (k, lk, has) ↦
               let lk' : k < length steps = omega arith in
               inr (
@@ -225,6 +217,9 @@ module _ (j : JobShown) (job : IsJobOver j) (tracked : Each (IsTracked j.shared)
               )
         ],
       )
+
+  of_job : AreJobProducts j.shared.ring.modulus.value G (pairs_of j.pairs) (products_of n steps)
+  of_job = job_products_from j.shared.ring.modulus.value G (pairs_of j.pairs) (products_of n steps) numbered
 
   pub weighed_steps : Each (λ (t : Step). IsWeighed (variables j.shared.ring) j.shared.ring.weights t.1) steps
   weighed_steps = Each_index (λ (t : Step). IsWeighed n j.shared.ring.weights t.1) steps no_step (λ i lt. (new.steps_of i lt).weighed)

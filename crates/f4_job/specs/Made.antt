@@ -3,7 +3,7 @@ use Rattle.std.specs.Prelude.{List, [], get_or, map, ⊤, ℕ, ◌∷◌, ◌≡
 use Rattle.formal_sums.specs.FormalSums.{Each}
 use Rattle.monomial_orders.specs.Kept.{IsWeighed}
 use Rattle.module_vectors.specs.Rings.{variables}
-use Rattle.module_vectors.specs.Trails.{Step}
+use Rattle.module_vectors.specs.Trails.{Step, step_at}
 use Rattle.module_vectors.specs.Vectors.{StandsFor, sum_of}
 use Rattle.module_vectors.specs.declared.key.Key.{Key as CodeKey}
 use Rattle.module_vectors.specs.declared.ring.Ring.{Ring}
@@ -11,7 +11,6 @@ use Rattle.member_products.specs.Generators.{IsVectorOf}
 use Rattle.member_products.specs.declared.member.Row.{Row as CodeRow}
 use Rattle.row_matrix.specs.Hashes.{no_key}
 use Rattle.row_matrix.specs.Rows.{Entry, RowShown, vector_of}
-use Rattle.symbolic_prep.specs.Traces.{step_at}
 use Rattle.vector_division.specs.Reductions.{cofactors_of}
 use Rattle.vector_division.specs.declared.reduction.Quotient.{Quotient}
 

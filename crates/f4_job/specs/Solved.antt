@@ -5,13 +5,13 @@ use Rattle.formal_sums.specs.FormalSums.{Each, IsOfRank, Key}
 use Rattle.bases.specs.Leads.{head_key}
 use Rattle.bases.specs.Representations.{HasLcmRepresentation}
 use Rattle.bases.specs.Settings.{Setting}
-use Rattle.module_vectors.specs.Trails.{Step}
+use Rattle.module_vectors.specs.Trails.{Step, step_at}
 use Rattle.module_vectors.specs.Vectors.{key_of, sums_of}
 use Rattle.module_vectors.specs.declared.key.Key.{Key as CodeKey}
 use Rattle.pair_criteria.specs.declared.pair.Pair.{Pair as CodePair}
 use Rattle.row_matrix.specs.Rows.{AreKeys, Descend, IsFromSources, IsRow, RowShown, vector_of, vectors_of}
 use Rattle.symbolic_prep.specs.Plans.{IsProductOf, product_sum}
-use Rattle.symbolic_prep.specs.Traces.{AreTraced, step_at}
+use Rattle.symbolic_prep.specs.Traces.{AreTraced}
 
 -- the key is below the least common multiple of one of the pairs
 abbrev pub IsBelowPairs : {n : ℕ} → Setting n → List CodePair → Key n → Type 0

@@ -5,3 +5,5 @@ pub mod Sameness
 pub mod WeightedSums
 pub mod OfRank
 pub mod Linear
+pub mod Items
+pub mod TakenAway

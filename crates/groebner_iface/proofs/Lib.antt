@@ -1,1 +1,2 @@
 mod OneBasis
+pub mod CallingRuns

@@ -1,8 +1,9 @@
 -- A trail: a chain of products that leads to one of too great a degree
-use Rattle.std.specs.Prelude.{Contains, List, [], get_or, length, map, ⊤, ℕ, ◌∷◌, ◌++◌, ◌+◌, ◌<◌, ◌≡◌, ◌⊎◌}
+use Rattle.std.specs.Prelude.{Contains, List, [], get_or, length, map, ℕ, ◌∷◌, ◌+◌, ◌<◌, ◌≡◌}
 use Rattle.monomials.specs.Exponents.{exponents_of}
 use Rattle.formal_sums.specs.FormalSums.{Each, FormalSum, Key, shift}
 use Rattle.bases.specs.Leads.{head_key}
+use Rattle.bases.specs.Meeting.{AreMetInTurn, IsMetBy}
 use Rattle.bases.specs.Representations.{key_lcm}
 use Rattle.monomial_orders.specs.Kept.{IsWeighed, Monomial}
 use Rattle.module_vectors.specs.Rings.{variables}
@@ -16,6 +17,18 @@ use Rattle.module_vectors.specs.declared.trail.TrailStart.TheVariants.{Pair, Ter
 -- a step (k, t): the product of the monomial t and member k
 abbrev pub Step : Type 0
 Step = ℕ × Monomial
+
+-- the monomial 1 in no variables, at the first member: what stands past the end of a list of steps
+abbrev pub no_step : Step
+no_step = (0, record { exponents = []; degree = 0 })
+
+-- the step with this index
+abbrev pub step_at : List Step → ℕ → Step
+step_at steps i = get_or steps i no_step
+
+-- a monomial in n variables of these weights times one of the members
+abbrev pub IsStep : (n : ℕ) (ws : List ℕ) → List (List (CodeKey × ℕ)) → Step → Type 0
+IsStep n ws members s = (s.0 < length members) × IsWeighed n ws s.1
 
 -- the key of a term of the vector
 abbrev pub HasKey : {n : ℕ} → FormalSum n → Key n → Type 0
@@ -35,12 +48,11 @@ IsInProduct n members k s = (l : Key n) × HasKey (member_of n members s) l × (
 
 -- k is a key of the vector or of the product of an earlier step
 abbrev pub IsMet : (n : ℕ) → FormalSum n → List (List (CodeKey × ℕ)) → List Step → Key n → Type 0
-IsMet n v members earlier k = HasKey v k ⊎ ((s : Step) × Contains earlier s × IsInProduct n members k s)
+IsMet n v members earlier k = IsMetBy (HasKey v) (IsInProduct n members) earlier k
 
 -- the leads of these products are met, each by the vector or by the products before it
 abbrev pub AreMet : (n : ℕ) → FormalSum n → List (List (CodeKey × ℕ)) → List Step → List Step → Type 0
-AreMet n v members earlier [] = ⊤
-AreMet n v members earlier (s ∷ steps) = IsMet n v members earlier (product_lead n members s) × AreMet n v members (earlier ++ s ∷ []) steps
+AreMet n v members earlier steps = AreMetInTurn (HasKey v) (IsInProduct n members) (product_lead n members) earlier steps
 
 -- the lead of each member: the key of its first term
 abbrev pub lead_at : (n : ℕ) → List (List (CodeKey × ℕ)) → ℕ → Key n

@@ -4,7 +4,7 @@ ghost use Rattle.monomials.specs.Exponents.{exponents_of};
 ghost use Rattle.formal_sums.specs.FormalSums.{scale};
 ghost use Rattle.module_vectors.specs.Rings.{variables};
 ghost use Rattle.module_vectors.specs.Vectors.{sum_of, IsMonomialOver, IsVectorOver, StandsFor};
-ghost use Rattle.module_vectors.specs.Multiples.{IsMultiple, ProductStops};
+ghost use Rattle.module_vectors.specs.Multiples.{IsMultiple, MonomialProductStops};
 ghost use Rattle.module_vectors.specs.Stops.{Fits, ScaledStops};
 
 use crate::{Frame, Key, VectStop};
@@ -25,7 +25,7 @@ fn scaled_term(
     requires variables { length m.now.exponents ≡ length t.now.0.monomial.exponents }
     ensures term { IfOk result (IsMultiple (length m.now.exponents) modulus.now.value c m.now t.now) }
     ensures fits { OnOk result (m.now.degree + t.now.0.monomial.degree ≤ 65535) }
-    ensures stop { IfErr result (ProductStops m.now t.now.0.monomial) }
+    ensures stop { IfErr result (MonomialProductStops m.now t.now.0.monomial) }
 {
     match Mono::mul(alloc, m, &t.0.monomial) {
         Ok(monomial) => Ok((

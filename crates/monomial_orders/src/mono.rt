@@ -141,9 +141,10 @@ impl Mono {
         self.exponents()[i]
     }
 
-    /// The degree by the ring's weights.
+    /// The degree by the ring's weights, below 2^32.
     pub fn degree(&self) -> u128
-        ensures { result ≡ self.now.degree }
+        ensures value { result ≡ self.now.degree }
+        ensures small { result < 4294967296 }
     {
         self.kept().degree()
     }

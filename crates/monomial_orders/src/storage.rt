@@ -73,7 +73,8 @@ impl Stored {
 
     /// The degree.
     pub(crate) fn degree(&self) -> u128
-        ensures { result ≡ degree_kept self.now }
+        ensures value { result ≡ degree_kept self.now }
+        ensures small { result < 4294967296 }
     {
         u128::from(self.degree)
     }

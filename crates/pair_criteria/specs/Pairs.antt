@@ -1,7 +1,11 @@
 -- Pairs of leads
-use Rattle.std.specs.Prelude.{List, None, Option, Some, [], get_or, length, ℕ, ◌≡◌}
+use Rattle.std.specs.Prelude.{Contains, List, None, Option, Some, [], get_or, length, ℕ, ◌≡◌}
+use Rattle.monomials.specs.Exponents.{exponents_of, quotient, times}
+use Rattle.formal_sums.specs.FormalSums.{Key}
+use Rattle.bases.specs.Leads.{head_key}
 use Rattle.bases.specs.Representations.{key_lcm}
-use Rattle.module_vectors.specs.Vectors.{key_of}
+use Rattle.monomial_orders.specs.Kept.{IsWeighed, Monomial}
+use Rattle.module_vectors.specs.Vectors.{key_of, sum_of}
 use Rattle.module_vectors.specs.declared.key.Key.{Key as CodeKey}
 use Rattle.pair_criteria.specs.declared.pair.Pair.{Pair}
 
@@ -27,3 +31,13 @@ pub record IsPair (leads : List CodeKey) (i j : ℕ) (pair : Pair) : Type 0 wher
 abbrev pub IsPairOf : List CodeKey → ℕ → ℕ → Option Pair → Type 0
 IsPairOf leads i j None = (lead_at leads i).position ≡ (lead_at leads j).position → ⊥
 IsPairOf leads i j (Some pair) = IsPair leads i j pair
+
+-- k is the least common multiple of this pair of the list
+abbrev pub IsLcmOf : (n : ℕ) → List Pair → Key n → Pair → Type 0
+IsLcmOf n pairs k x = Contains pairs x × (k ≡ key_of n x.lcm)
+
+-- t times the lead of v is the lcm
+pub record IsFactorOf (n : ℕ) (ws : List ℕ) (lcm : CodeKey) (v : List (CodeKey × ℕ)) (t : Monomial) : Type 0 where
+  pub weighed : IsWeighed n ws t
+  pub exponents : exponents_of n t.exponents ≡ quotient (exponents_of n lcm.monomial.exponents) (head_key (sum_of n v)).1
+  pub product : times (exponents_of n t.exponents) (head_key (sum_of n v)).1 ≡ exponents_of n lcm.monomial.exponents

@@ -3,9 +3,11 @@
 #![tactic(auto)]
 
 mod criteria;
+mod factors;
 mod pair;
 mod pairing;
 
 pub use criteria::{chain_applies, product_applies};
+pub use factors::factor_of;
 pub use pair::Pair;
 pub use pairing::pair_of;

@@ -21,7 +21,7 @@ use Rattle.module_vectors.specs.declared.ring.Ring.{Ring}
 use Rattle.sparse_poly.proofs.Bounding.{HasDegreeWithin_constant, HasDegreeWithin_power, HasDegreeWithin_product}
 use Rattle.sparse_poly.specs.Degrees.{HasDegreeWithin}
 use Rattle.sparse_poly.specs.Powers.{constant, power}
-use Rattle.poly_value.specs.Parts.{AreWithin}
+use Rattle.poly_value.specs.Parts.{HaveDegreesWithin}
 use Rattle.poly_value.specs.Values.{degrees_of, name_weight, place_of, polynomials_of, variable_sum, weight_at}
 
 append_within : {n p d e : ℕ} {ws : List ℕ} (v w : FormalSum n) → HasDegreeWithin ws p d v → HasDegreeWithin ws p e w → HasDegreeWithin ws p (max d e) (v ++ w)
@@ -62,21 +62,21 @@ allowed n ds lower e = go (nat_le n 1000) refl e
 
 module _ (ring : Ring) (line : List ℕ) where
   moved :
-      (vs left : List (FormalSum (variables ring))) (ds lower : List ℕ) → Some vs ≡ Some left → ds ≡ lower → AreWithin ring.weights ring.modulus.value vs ds
-      → AreWithin ring.weights ring.modulus.value left lower
-  moved vs left ds lower e f h = subst (AreWithin ring.weights ring.modulus.value left) f (subst (λ x. AreWithin ring.weights ring.modulus.value x ds) (same_Some vs left e) h)
+      (vs left : List (FormalSum (variables ring))) (ds lower : List ℕ) → Some vs ≡ Some left → ds ≡ lower → HaveDegreesWithin ring.weights ring.modulus.value vs ds
+      → HaveDegreesWithin ring.weights ring.modulus.value left lower
+  moved vs left ds lower e f h = subst (HaveDegreesWithin ring.weights ring.modulus.value left) f (subst (λ x. HaveDegreesWithin ring.weights ring.modulus.value x ds) (same_Some vs left e) h)
 
   named :
       (o : Option ℕ) (vs left : List (FormalSum (variables ring))) (ds lower : List ℕ) → push vs (option_map (variable_sum (variables ring)) o) ≡ Some left
-      → weight_at ring.weights o ∷ ds ≡ lower → AreWithin ring.weights ring.modulus.value vs ds → AreWithin ring.weights ring.modulus.value left lower
+      → weight_at ring.weights o ∷ ds ≡ lower → HaveDegreesWithin ring.weights ring.modulus.value vs ds → HaveDegreesWithin ring.weights ring.modulus.value left lower
   named None vs left ds lower e f h = absurd (none-some left e)
   named (Some i) vs left ds lower e f h = moved (variable_sum (variables ring) i ∷ vs) left (weight_at ring.weights (Some i) ∷ ds) lower e f (variable_within (variables ring) ring.weights ring.modulus.value i, h)
 
   -- a step keeps the bounds
   pub within_step :
       (step : Step) (vs left : List (FormalSum (variables ring))) (ds lower : List ℕ) → worth_step (polynomials_of ring line) step vs ≡ Some left
-      → worth_step (degrees_of ring line) step ds ≡ Some lower → AreWithin ring.weights ring.modulus.value vs ds
-      → AreWithin ring.weights ring.modulus.value left lower
+      → worth_step (degrees_of ring line) step ds ≡ Some lower → HaveDegreesWithin ring.weights ring.modulus.value vs ds
+      → HaveDegreesWithin ring.weights ring.modulus.value left lower
   within_step (Number t) vs left ds lower e f h =
       moved (constant (variables ring) (value_of line t) ∷ vs) left (0 ∷ ds) lower e (same_Some (0 ∷ ds) lower f) (HasDegreeWithin_constant (variables ring) ring.weights ring.modulus.value (value_of line t), h)
   within_step (Name t) vs left ds lower e f h = named (place_of ring.vars (text_of line t)) vs left ds lower e (allowed (name_weight ring (text_of line t)) ds lower f).1 h

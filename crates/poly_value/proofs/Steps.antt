@@ -21,7 +21,7 @@ use Rattle.sparse_poly.proofs.Bounding.{HasDegreeWithin_same}
 use Rattle.sparse_poly.specs.Degrees.{HasDegreeWithin}
 use Rattle.poly_value.proofs.Degrees.{allowed, within_step}
 use Rattle.poly_value.proofs.Sums.{joined_part}
-use Rattle.poly_value.specs.Parts.{Advances, AreParts, AreWithin, IsPart, IsReady, PowerFits, ProductFits}
+use Rattle.poly_value.specs.Parts.{Advances, AreParts, HaveDegreesWithin, IsPart, IsReady, PowerFits, ProductFits}
 use Rattle.poly_value.specs.Values.{degrees_of, polynomials_of}
 
 -- the terms of a sum, and a stack of them, the top first
@@ -128,7 +128,7 @@ pub record IsWorking (ring : Ring) (line : List ℕ) (all left : List Step) (sta
   pub parts : AreParts ring stack values
   pub worth_is : (worths (polynomials_of ring line) left values >>= top) ≡ worth_of_steps (polynomials_of ring line) all
   pub bounds : List ℕ
-  pub within : AreWithin ring.weights ring.modulus.value values bounds
+  pub within : HaveDegreesWithin ring.weights ring.modulus.value values bounds
   pub degree_is : (worths (degrees_of ring line) left bounds >>= top) ≡ worth_of_steps (degrees_of ring line) all
   pub numerals : AllByRecursion (λ t. value_of line t < 2 ^ 128) (numbers_of_steps left)
 
@@ -183,7 +183,7 @@ pub product_fits :
 product_fits ring line stack mid rest right left h e f = go h.values h.bounds (subst (λ l. AreParts ring l h.values) (e ∙ ap (λ l. right ∷ l) f) h.parts) h.within h.degree.1
   where
     go :
-        (vs : List (FormalSum (variables ring))) (ds : List ℕ) → AreParts ring (right ∷ left ∷ rest) vs → AreWithin ring.weights ring.modulus.value vs ds
+        (vs : List (FormalSum (variables ring))) (ds : List ℕ) → AreParts ring (right ∷ left ∷ rest) vs → HaveDegreesWithin ring.weights ring.modulus.value vs ds
         → worth_step (degrees_of ring line) Multiply ds ≡ Some h.degree.0 → ProductFits ring left.items right.items
     go [] ds p q r = absurd p
     go (b ∷ []) ds p q r = absurd p.1
@@ -199,7 +199,7 @@ pub power_fits :
 power_fits ring line token stack rest base n h e is = go h.values h.bounds (subst (λ l. AreParts ring l h.values) e h.parts) h.within h.degree.1
   where
     go :
-        (vs : List (FormalSum (variables ring))) (ds : List ℕ) → AreParts ring (base ∷ rest) vs → AreWithin ring.weights ring.modulus.value vs ds
+        (vs : List (FormalSum (variables ring))) (ds : List ℕ) → AreParts ring (base ∷ rest) vs → HaveDegreesWithin ring.weights ring.modulus.value vs ds
         → worth_step (degrees_of ring line) (Power token) ds ≡ Some h.degree.0 → PowerFits ring base.items n
     go [] ds p q r = absurd p
     go (v ∷ vs) [] p q r = absurd q

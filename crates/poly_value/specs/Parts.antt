@@ -40,10 +40,10 @@ AreParts ring (terms ∷ stack) (v ∷ vs) = IsPart ring v terms.items × ArePar
 AreParts ring _ _ = ⊥
 
 -- the values have degrees of at most these
-abbrev pub AreWithin : {n : ℕ} → List ℕ → ℕ → List (FormalSum n) → List ℕ → Type 0
-AreWithin ws p [] [] = Unit {0}
-AreWithin ws p (v ∷ vs) (d ∷ ds) = HasDegreeWithin ws p d v × AreWithin ws p vs ds
-AreWithin ws p _ _ = ⊥
+abbrev pub HaveDegreesWithin : {n : ℕ} → List ℕ → ℕ → List (FormalSum n) → List ℕ → Type 0
+HaveDegreesWithin ws p [] [] = Unit {0}
+HaveDegreesWithin ws p (v ∷ vs) (d ∷ ds) = HasDegreeWithin ws p d v × HaveDegreesWithin ws p vs ds
+HaveDegreesWithin ws p _ _ = ⊥
 
 -- the step can be done on a stack of sums, the top first: it has a worth for their values, a formal degree for theirs, and
 -- its number is below 2^128
@@ -52,7 +52,7 @@ pub record IsReady (ring : Ring) (line : List ℕ) (step : Step) (stack : List (
   pub parts : AreParts ring stack values
   pub worth : (left : List (FormalSum (variables ring))) × (worth_step (polynomials_of ring line) step values ≡ Some left)
   pub bounds : List ℕ
-  pub within : AreWithin ring.weights ring.modulus.value values bounds
+  pub within : HaveDegreesWithin ring.weights ring.modulus.value values bounds
   pub degree : (left : List ℕ) × (worth_step (degrees_of ring line) step bounds ≡ Some left)
   pub numerals : AllByRecursion (λ t. value_of line t < 2 ^ 128) (numbers_of_steps (step ∷ []))
 

@@ -27,7 +27,7 @@ Each_at P (e ∷ rows) zero h lt = h.0
 Each_at P (e ∷ rows) (suc i) h lt = Each_at P rows i h.1 (omega arith)
 
 -- some row is not 0 at k, or each combination is 0 there
-find_row :
+pub find_row :
     {n p : ℕ} (k : Key n) (cs : List ℕ) (rows : List (FormalSum n))
     → ((i : ℕ) × (i < length rows) × (IsCongruent p (coefficient (get_or rows i []) k) 0 → ⊥)) ⊎ IsCongruent p (coefficient (row_combination cs rows) k) 0
 find_row {n} {p} k [] rows = inr (IsCongruent_refl p 0)

@@ -1,7 +1,7 @@
 -- Copies of trails are trails of the same run
 use Rattle.std.proofs.Common.{List, Some, [], ap, subst, sym, ℕ, ◌∙◌, ◌∷◌, ◌≡◌}
 use Rattle.module_vectors.specs.Rings.{ring_comparison}
-use Rattle.module_vectors.specs.Trails.{IsTrail as IsKeptTrail, Step, last_step}
+use Rattle.module_vectors.specs.Trails.{IsTrail as IsKeptTrail, Step, last_step, no_step}
 use Rattle.module_vectors.specs.Vectors.{AreVectorsOver, sums_of}
 use Rattle.module_vectors.specs.declared.trail.KeptTrail.{KeptTrail}
 use Rattle.basis_steps.specs.States.{vectors}
@@ -12,7 +12,7 @@ use Rattle.basis_core.specs.Answers.{IsRunTrail}
 use Rattle.basis_core.specs.Inside.{IsStopOver}
 use Rattle.basis_core.specs.Outcomes.{product_of, products_of}
 use Rattle.basis_core.specs.Shown.{Shown}
-use Rattle.basis_core.specs.Stops.{earlier_steps, no_step, start_pair, stop_of, trail_of, trail_over}
+use Rattle.basis_core.specs.Stops.{earlier_steps, start_pair, stop_of, trail_of, trail_over}
 use Rattle.basis_core.specs.Views.{run_of, state_of, variables_of}
 use Rattle.monomials.specs.Exponents.{exponents_of}
 use Rattle.run_endings.specs.Copies.{IsSameTrail}

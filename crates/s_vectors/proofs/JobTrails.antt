@@ -17,7 +17,6 @@ use Rattle.module_vectors.specs.declared.ring.Ring.{Ring}
 use Rattle.module_vectors.specs.declared.trail.KeptTrail.{KeptTrail}
 use Rattle.module_vectors.specs.declared.trail.TrailStart.TheVariants as starts
 use Rattle.pair_criteria.specs.declared.pair.Pair.{Pair as CodePair}
-use Rattle.basis_steps.proofs.Counting.{is_same_pair-refl}
 use Rattle.basis_steps.specs.Criteria.{IsPair, lcm_of}
 use Rattle.basis_steps.specs.Divisions.{Occurs}
 use Rattle.basis_steps.specs.Outcomes.{AreJobProducts}
@@ -34,17 +33,12 @@ use Rattle.s_vectors.proofs.Making.{job_steps, vector_occurs}
 use Rattle.s_vectors.proofs.TopParts.{lead_is, left_within, member_some, right_within, same_position, shared_lawful}
 use Rattle.s_vectors.specs.Divided.{AreOfPair}
 use Rattle.s_vectors.specs.Steps.{ArePairSteps, IsPairChain}
+use Rattle.basis_core.proofs.Tracing.{pair_counted}
 
 -- all steps, the last one apart
 steps_apart : (n : ℕ) (first : Step) (later : List Step) → products_of n (earlier_steps first later) ++ product_of n (last_step first later) ∷ [] ≡ products_of n (first ∷ later)
 steps_apart n first [] = refl
 steps_apart n first (s ∷ later) = ap (λ l. product_of n first ∷ l) (steps_apart n s later)
-
--- a pair at an index is one of the list
-count_at : (xs : List CodePair) (i : ℕ) (x : CodePair) → i < length xs → x ≡ get_or xs i x → 0 < count (pair_of x) (pairs_of xs)
-count_at [] i x lt e = absurd (omega arith)
-count_at (y ∷ xs) zero x lt e = rw (sym e) (rw (is_same_pair-refl (pair_of x)) (omega arith))
-count_at (y ∷ xs) (suc i) x lt e = let h = count_at xs i x (omega arith) e in omega arith
 
 -- the key of a term
 monomial_key : (n : ℕ) (v : List (CodeKey × ℕ)) (t : Monomial) → HasMonomial v t → (i : ℕ) × HasKey (sum_of n v) (i, exponents_of n t.exponents)
@@ -213,4 +207,4 @@ pub job_trail :
     → IsTrailBy j.shared j.members (pairs_of j.pairs) t
 job_trail j i x t h tracked lt e chain e_ring e_rank e_generators e_below e_start e_vector e_members =
     trail_by_members (record { shared = j.shared; list = j.members }) x (job_pair j i x h lt e) tracked t (pairs_of j.pairs) chain
-    e_ring e_rank e_generators e_below e_start e_vector e_members (count_at j.pairs i x lt e)
+    e_ring e_rank e_generators e_below e_start e_vector e_members (pair_counted x j.pairs (i, lt, sym e))

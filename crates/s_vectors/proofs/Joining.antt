@@ -12,6 +12,7 @@ use Rattle.bases.specs.Settings.{IsLawful, Setting}
 use Rattle.row_laws.proofs.Jobs.{HasLcmRepresentation_added}
 use Rattle.basis_steps.proofs.Counting.{count-append}
 use Rattle.basis_steps.proofs.Growing.{vectors-append}
+use Rattle.basis_steps.proofs.JobProducts.{IsJobProductAt, job_product_at, job_products_from}
 use Rattle.basis_steps.specs.Criteria.{IsPair, IsRepresented, lcm_of}
 use Rattle.basis_steps.specs.Divisions.{Occurs}
 use Rattle.basis_steps.specs.Outcomes.{AreJobProducts, HasLeadBelowJob, IsOutcome, IsRow, OccursBefore, product_at, product_lead, product_vector}
@@ -50,8 +51,14 @@ module _ {n : ℕ} (p : ℕ) (G : List (FormalSum n)) where
   pub products_joined :
       (xs ys : List Pair) (a b : List (Product n))
       → AreJobProducts p G xs a → AreJobProducts p G ys b → AreJobProducts p G (xs ++ ys) (a ++ b)
-  products_joined xs ys a b ha hb i lt = go (cases_lt i (length a))
+  products_joined xs ys a b ja jb = job_products_from p G (xs ++ ys) (a ++ b) (λ i lt. go i lt (cases_lt i (length a)))
     where
+      ha : (i : ℕ) → i < length a → IsJobProductAt p G xs a i
+      ha = job_product_at p G xs a ja
+
+      hb : (i : ℕ) → i < length b → IsJobProductAt p G ys b i
+      hb = job_product_at p G ys b jb
+
       front : (j : ℕ) → j < length a
           → ((product_at a j).0 < length G) × (((x : Pair) × (0 < count x (xs ++ ys)) × (product_lead G (product_at a j) ≡ lcm_of G x)) ⊎ OccursBefore p G (a ++ b) j (product_lead G (product_at a j)))
       front j l = ((ha j l).0, elim (ha j l).1 [ inl s ↦ inl (s.0, count_left s.0 xs ys s.1, s.2) | inr o ↦ inr (before_left a b j (product_lead G (product_at a j)) o) ])
@@ -60,12 +67,12 @@ module _ {n : ℕ} (p : ℕ) (G : List (FormalSum n)) where
           → ((product_at b j).0 < length G) × (((x : Pair) × (0 < count x (xs ++ ys)) × (product_lead G (product_at b j) ≡ lcm_of G x)) ⊎ OccursBefore p G (a ++ b) (length a + j) (product_lead G (product_at b j)))
       behind j l = ((hb j l).0, elim (hb j l).1 [ inl s ↦ inl (s.0, count_right s.0 xs ys s.1, s.2) | inr o ↦ inr (before_right a b j (product_lead G (product_at b j)) o) ])
 
-      go : (i < length a) ⊎ (length a ≤ i)
+      go : (i : ℕ) → i < length (a ++ b) → (i < length a) ⊎ (length a ≤ i)
           → ((product_at (a ++ b) i).0 < length G) × (((x : Pair) × (0 < count x (xs ++ ys)) × (product_lead G (product_at (a ++ b) i) ≡ lcm_of G x)) ⊎ OccursBefore p G (a ++ b) i (product_lead G (product_at (a ++ b) i)))
-      go (inl l) =
+      go i lt (inl l) =
           subst (λ t. (t.0 < length G) × (((x : Pair) × (0 < count x (xs ++ ys)) × (product_lead G t ≡ lcm_of G x)) ⊎ OccursBefore p G (a ++ b) i (product_lead G t)))
           (sym (at_left a b i l)) (front i l)
-      go (inr le) =
+      go i lt (inr le) =
           let j : ℕ = i - length a in
           let e : length a + j ≡ i = omega arith in
           let short : j < length b = omega (arith, length-append a b) in
@@ -108,7 +115,7 @@ module _ {n : ℕ} (S : Setting n) (lawful : IsLawful S) (G : List (FormalSum n)
     represented = tt;
     few = omega arith;
     low = tt;
-    job_products = λ i lt. absurd (omega arith);
+    job_products = (tt, tt);
     sums = tt;
   }
 

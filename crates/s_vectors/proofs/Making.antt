@@ -1,33 +1,28 @@
 -- Keys that occur in the products of steps
 use Rattle.std.proofs.Common.{List, [], ap, append_assoc, arith, get_or, inl, inr, length, length-append, refl, subst, subst₂, suc, sym, zero, ℕ, ◌++◌, ◌+◌, ◌<◌, ◌∙◌, ◌∷◌, ◌≡◌, ◌⊎◌}
 use Rattle.std.proofs.lemmas.List.{get_or-map, get_or_append_left, length-map}
-use Rattle.monomials.specs.Exponents.{exponents_of, unit}
-use Rattle.formal_sums.specs.FormalSums.{Each, Key, coefficient, shift}
-use Rattle.bases.specs.Leads.{head_key}
+use Rattle.monomials.specs.Exponents.{unit}
+use Rattle.formal_sums.proofs.Items.{item_of}
+use Rattle.formal_sums.specs.FormalSums.{Each, Key, coefficient}
 use Rattle.bases.specs.Settings.{IsLawful, Setting}
-use Rattle.module_vectors.specs.Trails.{AreMet, HasKey, IsInProduct, IsMet, Step, product_lead}
+use Rattle.module_vectors.specs.Trails.{AreMet, HasKey, IsInProduct, IsMet, Step, no_step, product_lead}
 use Rattle.module_vectors.specs.Vectors.{IsVector, sum_of, sums_of}
 use Rattle.module_vectors.specs.declared.key.Key.{Key as CodeKey}
 use Rattle.vector_division.proofs.Members.{sums_at}
 use Rattle.vector_division.proofs.Occurring.{occurs}
 use Rattle.basis_steps.proofs.Counting.{is_same_pair-refl}
+use Rattle.basis_steps.proofs.JobProducts.{job_products_from}
 use Rattle.basis_steps.specs.Criteria.{lcm_of}
 use Rattle.basis_steps.specs.Outcomes as plain
 use Rattle.basis_steps.specs.Divisions.{Occurs}
 use Rattle.basis_steps.specs.Outcomes.{AreJobProducts, OccursBefore, product_at, product_vector}
 use Rattle.basis_steps.specs.Pairs.{Pair, count}
-use Rattle.basis_core.proofs.MemberKeys.{in_occurs, key_occurs}
-use Rattle.basis_core.specs.Stops.{no_step}
+use Rattle.basis_core.proofs.MemberKeys.{in_occurs, key_occurs, lead_same}
 use Rattle.basis_core.specs.Outcomes.{product_of, products_of}
 use Rattle.s_vectors.specs.Steps.{ArePairSteps}
 
 pub count_here : (x : Pair) → 0 < count x (x ∷ [])
 count_here x = rw (is_same_pair-refl x) (omega arith)
-
-item_of : {X : Type 0} (P : List X → Type 0) (list : List (List X)) (i : ℕ) → P [] → Each P list → P (get_or list i [])
-item_of P [] i z h = z
-item_of P (v ∷ list) zero z h = h.0
-item_of P (v ∷ list) (suc i) z h = item_of P list i z h.1
 
 pub product_is : (n : ℕ) (steps : List Step) (i : ℕ) (s : Step) → i < length steps → get_or steps i s ≡ s → product_at (products_of n steps) i ≡ product_of n s
 product_is n steps i s lt e = get_or-map (λ t. product_of n t) steps i s (0, unit n) lt ∙ ap (λ t. product_of n t) e
@@ -68,16 +63,13 @@ module _ {n : ℕ} (S : Setting n) (lawful : IsLawful S) (list : List (List (Cod
       subst₂ (λ z c. OccursBefore S.modulus (sums_of n list) (products_of n z) c (product_lead n list s)) (append_assoc e (t ∷ []) later) (omega (arith, length-append e (t ∷ [])))
       (met_before (e ++ t ∷ []) later i s h.1 (omega arith) is)
 
-  lead_same : (s : Step) → plain.product_lead (sums_of n list) (product_of n s) ≡ product_lead n list s
-  lead_same s = ap (λ v. shift (exponents_of n s.1.exponents) (head_key v)) (sums_at n list s.0)
-
   -- the products of a pair's steps are products of a job of that pair
   pub job_steps :
       (x : Pair) (k : Key n) (steps : List Step)
       → k ≡ lcm_of (sums_of n list) x → ArePairSteps n S.weights list k steps
       → AreJobProducts S.modulus (sums_of n list) (x ∷ []) (products_of n steps)
-  job_steps x k [] e h = λ i lt. absurd (omega arith)
-  job_steps x k (first ∷ later) e h = λ i lt. at i lt
+  job_steps x k [] e h = (tt, tt)
+  job_steps x k (first ∷ later) e h = job_products_from S.modulus (sums_of n list) (x ∷ []) (products_of n (first ∷ later)) (λ i lt. at i lt)
     where
       steps : List Step
       steps = first ∷ later
@@ -94,7 +86,7 @@ module _ {n : ℕ} (S : Setting n) (lawful : IsLawful S) (list : List (List (Cod
           ⊎ OccursBefore S.modulus (sums_of n list) (products_of n (first ∷ later)) i (plain.product_lead (sums_of n list) (product_at (products_of n (first ∷ later)) i)))
       at zero lt = (
         subst (λ z. first.0 < z) (sym (length-map list (λ v. sum_of n v))) h.known.0,
-        inl (x, count_here x, lead_same first ∙ h.linked.0 ∙ e),
+        inl (x, count_here x, lead_same n list first ∙ h.linked.0 ∙ e),
       )
       at (suc i) lt =
           let s = get_or later i no_step in
@@ -103,7 +95,7 @@ module _ {n : ℕ} (S : Setting n) (lawful : IsLawful S) (list : List (List (Cod
           let pr : product_at (products_of n (first ∷ later)) (suc i) ≡ product_of n s = product_is n later i s short (sym is) in (
             subst (λ t. t.0 < length (sums_of n list)) (sym pr) (subst (λ z. s.0 < z) (sym (length-map list (λ v. sum_of n v))) (known_at later i no_step h.known.1 short)),
             inr (subst (λ t. OccursBefore S.modulus (sums_of n list) (products_of n (first ∷ later)) (suc i) (plain.product_lead (sums_of n list) t)) (sym pr)
-                (subst₂ (λ z c. OccursBefore S.modulus (sums_of n list) (products_of n (first ∷ later)) c z) (sym (lead_same s)) (omega arith)
+                (subst₂ (λ z c. OccursBefore S.modulus (sums_of n list) (products_of n (first ∷ later)) c z) (sym (lead_same n list s)) (omega arith)
                 (met_before (first ∷ []) later i s h.linked.1 short is))),
           )
         where

@@ -24,7 +24,8 @@ use Rattle.basis_core.specs.Jobs.{HasLcm, pair_of}
 use Rattle.basis_core.specs.Members.{Shared, Tracked, members_of, setting_of}
 use Rattle.basis_core.specs.Rows.{vectors_in}
 use Rattle.s_vectors.proofs.Lists.{vectors_are}
-use Rattle.s_vectors.specs.Parts.{IsFactorOf, IsTopPart}
+use Rattle.pair_criteria.specs.Pairs.{IsFactorOf}
+use Rattle.s_vectors.specs.Parts.{IsTopPart}
 
 -- the setting of a run is lawful
 pub shared_lawful : (n : ℕ) (shared : Shared) → IsLawful (setting_of n shared)

@@ -3,9 +3,7 @@ use Rattle.std.specs.Prelude.{List, [], get_or, length, ⊤, ℕ, ◌++◌, ◌-
 use Rattle.monomials.specs.Exponents.{exponents_of, quotient, times}
 use Rattle.monomial_orders.specs.Kept.{IsWeighed, Monomial}
 use Rattle.module_vectors.specs.Stops.{HasMonomial, IsTooGreat}
-use Rattle.bases.specs.Leads.{head_key}
 use Rattle.module_vectors.specs.Trails.{lead_at}
-use Rattle.module_vectors.specs.Vectors.{sum_of}
 use Rattle.module_vectors.specs.declared.key.Key.{Key as CodeKey}
 use Rattle.module_vectors.specs.declared.product.Product.{Product}
 use Rattle.vector_division.specs.declared.reduction.Quotient.{Quotient}
@@ -33,12 +31,6 @@ pub record IsGreatPart (list : List (List (CodeKey × ℕ))) (parts : List Quoti
 abbrev pub SumStops : List (List (CodeKey × ℕ)) → List Quotient → SumStop → Type 0
 SumStops list parts Memory = ⊤
 SumStops list parts (Degree number m) = IsGreatPart list parts number m
-
--- t times the lead of v is the lcm
-pub record IsFactorOf (n : ℕ) (ws : List ℕ) (lcm : CodeKey) (v : List (CodeKey × ℕ)) (t : Monomial) : Type 0 where
-  pub weighed : IsWeighed n ws t
-  pub exponents : exponents_of n t.exponents ≡ quotient (exponents_of n lcm.monomial.exponents) (head_key (sum_of n v)).1
-  pub product : times (exponents_of n t.exponents) (head_key (sum_of n v)).1 ≡ exponents_of n lcm.monomial.exponents
 
 -- this residue times the monomial that takes the lead of the vector with this index to the lcm
 pub record IsTopPart (n : ℕ) (ws : List ℕ) (list : List (List (CodeKey × ℕ))) (lcm : CodeKey) (index residue : ℕ) (q : Quotient) : Type 0 where

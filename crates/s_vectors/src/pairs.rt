@@ -1,41 +1,21 @@
 // The two products of an S-vector.
-ghost use Rattle.std.specs.Prelude.{◌≡◌, ◌<◌, IfOk, length};
-ghost use Rattle.monomials.specs.Exponents.{Divides, exponents_of};
+ghost use Rattle.std.specs.Prelude.{◌≡◌, IfOk};
 ghost use Rattle.formal_sums.specs.FormalSums.{Each};
-ghost use Rattle.bases.specs.Leads.{head_key};
 ghost use Rattle.module_vectors.specs.Rings.{ring_comparison, variables};
-ghost use Rattle.module_vectors.specs.Vectors.{AreVectorsOver, IsMonomialOver, sum_of};
+ghost use Rattle.module_vectors.specs.Vectors.{AreVectorsOver};
 ghost use Rattle.basis_steps.specs.Criteria.{IsPair};
 ghost use Rattle.basis_steps.specs.Divisions.{IsMonicMember};
 ghost use Rattle.basis_steps.specs.States.{vectors};
 ghost use Rattle.basis_core.specs.Jobs.{HasLcm, pair_of};
 ghost use Rattle.basis_core.specs.Members.{members_of, setting_of};
 ghost use Rattle.basis_core.specs.Rows.{vectors_in};
-ghost use Rattle.s_vectors.specs.Parts.{ArePairParts, IsFactorOf};
+ghost use Rattle.s_vectors.specs.Parts.{ArePairParts};
 
 use basis_core::Members;
-use module_vectors::{Key, NoMemory, Ring, Vect, Vectors};
-use monomial_orders::Mono;
-use pair_criteria::Pair;
+use module_vectors::{NoMemory, Ring, Vectors};
+use pair_criteria::{Pair, factor_of};
 use std::alloc::Global;
 use vector_division::Quotient;
-
-// The monomial that takes the lead of a vector to the lcm, which it divides.
-fn factor_of(alloc: Global, _ring: &Ring, lcm: &Key, v: &Vect) -> Result<Mono, NoMemory>
-    requires lcm { IsMonomialOver _ring.now lcm.now.monomial }
-    requires vector { Each (λ t. IsMonomialOver _ring.now t.0.monomial) v.now }
-    requires some { 0 < length v.now }
-    requires divides { let n = variables _ring.now in Divides (head_key (sum_of n v.now)).1 (exponents_of n lcm.now.monomial.exponents) }
-    ensures { IfOk result (IsFactorOf (variables _ring.now) _ring.now.weights lcm.now v.now) }
-{
-    match v.lead() {
-        None => unreachable!(),
-        Some(lead) => match Mono::quotient(alloc, &lcm.monomial, &lead.key.monomial)? {
-            Some(monomial) => Ok(monomial),
-            None => unreachable!(),
-        },
-    }
-}
 
 /// The parts of the pair's S-vector: its members are monic, so their residues are 1 and -1.
 pub(crate) fn pair_parts(

@@ -12,7 +12,7 @@ use Rattle.module_vectors.specs.declared.stop.VectStop.{VectStop}
 use Rattle.module_vectors.specs.declared.stop.VectStop.TheVariants.{Degree, Memory}
 use Rattle.sparse_poly.proofs.Terms.{each_at, each_of}
 use Rattle.sparse_poly.specs.Multiples.{AreMultiples, exchanged}
-use Rattle.sparse_poly.specs.Stops.{ProductFits, ProductStops}
+use Rattle.sparse_poly.specs.Stops.{ProductFits, PolynomialProductStops}
 
 pub AreMultiples_push :
     (v terms : List (CodeKey × ℕ)) (xs : List Product) (t : CodeKey × ℕ) (x : Product)
@@ -84,7 +84,7 @@ multiples_monomial v (t ∷ terms) (x ∷ xs) h = (((t, (0, omega arith, refl), 
 
 pub multiples_stop :
     (v terms : List (CodeKey × ℕ)) (xs : List Product) (stop : VectStop) → AreMultiples v terms xs
-    → ProductsStop xs stop → ProductStops terms v stop
+    → ProductsStop xs stop → PolynomialProductStops terms v stop
 multiples_stop v terms xs Memory h s = tt
 multiples_stop v terms xs (Degree a b) h s =
     let x = s.0 in
@@ -96,7 +96,7 @@ pub ProductFits_exchanged : (a b : List (CodeKey × ℕ)) → ProductFits a b �
 ProductFits_exchanged a b h =
     each_of (λ u. Fits u.0.monomial a) b (λ u d. each_of (λ t. u.0.monomial.degree + t.0.monomial.degree ≤ 65535) a (λ t c. (let le : t.0.monomial.degree + u.0.monomial.degree ≤ 65535 = each_at (λ w. t.0.monomial.degree + w.0.monomial.degree ≤ 65535) b u (each_at (λ w. Fits w.0.monomial b) a t h c) d in omega arith)))
 
-pub ProductStops_exchanged :
-    (a b : List (CodeKey × ℕ)) (stop : VectStop) → ProductStops a b stop → ProductStops b a (exchanged stop)
-ProductStops_exchanged a b Memory h = tt
-ProductStops_exchanged a b (Degree s t) h = (h.1, h.0, (let lt : 65535 < s.degree + t.degree = h.2 in omega arith))
+pub PolynomialProductStops_exchanged :
+    (a b : List (CodeKey × ℕ)) (stop : VectStop) → PolynomialProductStops a b stop → PolynomialProductStops b a (exchanged stop)
+PolynomialProductStops_exchanged a b Memory h = tt
+PolynomialProductStops_exchanged a b (Degree s t) h = (h.1, h.0, (let lt : 65535 < s.degree + t.degree = h.2 in omega arith))

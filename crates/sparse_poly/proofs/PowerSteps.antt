@@ -16,12 +16,12 @@ use Rattle.module_vectors.specs.declared.stop.VectStop.{VectStop}
 use Rattle.module_vectors.specs.declared.stop.VectStop.TheVariants.{Degree, Memory}
 use Rattle.sparse_poly.proofs.Bounding.{HasDegreeWithin_constant, HasDegreeWithin_power, HasDegreeWithin_same}
 use Rattle.sparse_poly.proofs.Powering.{IsSame_product_both, power_add, product_one}
-use Rattle.sparse_poly.proofs.Products.{ProductStops_memory}
+use Rattle.sparse_poly.proofs.Products.{PolynomialProductStops_memory}
 use Rattle.sparse_poly.proofs.Terms.{HasDegreeWithin_of, HasMonomial_of, IsPolynomial_of, IsWithinDegree_of, Occurs_of, each_at, each_weighed, weighed_of}
 use Rattle.sparse_poly.proofs.TopDegrees.{Occurs_within, PowersFit_of}
 use Rattle.sparse_poly.specs.Degrees.{IsWithinDegree}
 use Rattle.sparse_poly.specs.Powers.{constant, power}
-use Rattle.sparse_poly.specs.Stops.{Occurs, PowerStops, PowersFit, ProductFits, ProductStops}
+use Rattle.sparse_poly.specs.Stops.{Occurs, PowerStops, PowersFit, ProductFits, PolynomialProductStops}
 
 -- a stop of a lower power is one of a higher
 pub PowerStops_higher :
@@ -90,7 +90,7 @@ module _ {n r p : ℕ} {compare : Key n → Key n → Ordering} (order : IsKeyOr
   -- where it stops, two monomials of these powers do not fit
   pub power_stops :
       (base : FormalSum n) (i j k : ℕ) (a b : List (CodeKey × ℕ)) (stop : VectStop)
-      → i + j ≤ k → IsPower ws p compare base i a → IsPower ws p compare base j b → ProductStops a b stop
+      → i + j ≤ k → IsPower ws p compare base i a → IsPower ws p compare base j b → PolynomialProductStops a b stop
       → PowerStops n ws p base k stop
   power_stops base i j k a b Memory le ha hb h = tt
   power_stops base i j k a b (Degree s t) le ha hb h = (
@@ -118,12 +118,12 @@ module _ {n r p : ℕ} {compare : Key n → Key n → Ordering} (order : IsKeyOr
   pub power_memory :
       (base : List (CodeKey × ℕ)) (i j k d : ℕ) (a b : List (CodeKey × ℕ)) (stop : VectStop)
       → IsVector n ws p compare base → IsWithinDegree d base → i + j ≤ k → k * d ≤ 65535
-      → IsPower ws p compare (sum_of n base) i a → IsPower ws p compare (sum_of n base) j b → ProductStops a b stop
+      → IsPower ws p compare (sum_of n base) i a → IsPower ws p compare (sum_of n base) j b → PolynomialProductStops a b stop
       → stop ≡ Memory
   power_memory base i j k d a b stop vector within le small ha hb h =
       let most : (i + j) * d ≤ k * d = mul-le-mul_right d le in
       let split : (i + j) * d ≡ i * d + j * d = omega arith in
-      ProductStops_memory a b (i * d) (j * d)
+      PolynomialProductStops_memory a b (i * d) (j * d)
       (power_within base i d (i * d) a vector within refl ha.vector ha.same)
       (power_within base j d (j * d) b vector within refl hb.vector hb.same)
       (omega arith) stop h

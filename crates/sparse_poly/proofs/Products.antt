@@ -12,7 +12,7 @@ use Rattle.sparse_poly.proofs.Bounding.{HasDegreeWithin_product, HasDegreeWithin
 use Rattle.sparse_poly.proofs.Powering.{IsPolynomial_product}
 use Rattle.sparse_poly.proofs.Terms.{HasDegreeWithin_of, HasPositions_of, IsPolynomial_of, IsWithinDegree_of, each_at, each_weighed}
 use Rattle.sparse_poly.specs.Degrees.{IsWithinDegree}
-use Rattle.sparse_poly.specs.Stops.{ProductStops}
+use Rattle.sparse_poly.specs.Stops.{PolynomialProductStops}
 
 module _ {n r : ℕ} {compare : Key n → Key n → Ordering} (order : IsKeyOrder r compare) (ws : List ℕ) (p : ℕ) (a b : List (CodeKey × ℕ)) where
   -- its terms are at position 0
@@ -41,11 +41,11 @@ module _ {n r : ℕ} {compare : Key n → Key n → Ordering} (order : IsKeyOrde
       IsSame_trans same (product_comm p (sum_of n b) (sum_of n a) (IsPolynomial_of n b hb) (IsPolynomial_of n a ha))
 
 -- within small degrees a product stops for want of memory alone
-pub ProductStops_memory :
+pub PolynomialProductStops_memory :
     (a b : List (CodeKey × ℕ)) (d e : ℕ) → IsWithinDegree d a → IsWithinDegree e b → d + e ≤ 65535
-    → (stop : VectStop) → ProductStops a b stop → stop ≡ Memory
-ProductStops_memory a b d e ha hb small Memory h = refl
-ProductStops_memory a b d e ha hb small (Degree s t) h =
+    → (stop : VectStop) → PolynomialProductStops a b stop → stop ≡ Memory
+PolynomialProductStops_memory a b d e ha hb small Memory h = refl
+PolynomialProductStops_memory a b d e ha hb small (Degree s t) h =
     let left : h.0.0.0.monomial.degree ≤ d = each_at (λ u. u.0.monomial.degree ≤ d) a h.0.0 ha h.0.1 in
     let right : h.1.0.0.monomial.degree ≤ e = each_at (λ u. u.0.monomial.degree ≤ e) b h.1.0 hb h.1.1 in
     let ls : h.0.0.0.monomial.degree ≡ s.degree = ap (λ m. m.degree) h.0.2 in

@@ -16,9 +16,9 @@ abbrev pub ProductFits : List (CodeKey × ℕ) → List (CodeKey × ℕ) → Typ
 ProductFits a b = Each (λ t. Fits t.0.monomial b) a
 
 -- Degree comes where a monomial of a times one of b has too great a degree, and carries these two
-abbrev pub ProductStops : List (CodeKey × ℕ) → List (CodeKey × ℕ) → VectStop → Type 0
-ProductStops a b Memory = ⊤
-ProductStops a b (Degree s t) = HasMonomial a s × HasMonomial b t × IsTooGreat s t
+abbrev pub PolynomialProductStops : List (CodeKey × ℕ) → List (CodeKey × ℕ) → VectStop → Type 0
+PolynomialProductStops a b Memory = ⊤
+PolynomialProductStops a b (Degree s t) = HasMonomial a s × HasMonomial b t × IsTooGreat s t
 
 -- the polynomial has a term with this monomial, modulo p
 abbrev pub Occurs : {n : ℕ} → ℕ → FormalSum n → Exponents n → Type 0

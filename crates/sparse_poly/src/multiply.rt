@@ -5,7 +5,7 @@ ghost use Rattle.module_vectors.specs.Rings.{variables};
 ghost use Rattle.module_vectors.specs.Vectors.{sum_of, IsVectorOver, StandsFor, HasPositions};
 ghost use Rattle.sparse_poly.specs.Degrees.{IsWithinDegree};
 ghost use Rattle.sparse_poly.specs.Multiples.{AreMultiples, exchanged};
-ghost use Rattle.sparse_poly.specs.Stops.{ProductFits, ProductStops};
+ghost use Rattle.sparse_poly.specs.Stops.{ProductFits, PolynomialProductStops};
 
 use module_vectors::{Frame, Key, NoMemory, Product, Vect, VectStop};
 use std::alloc::Global;
@@ -21,7 +21,7 @@ pub fn mul<F: Frame>(alloc: Global, frame: &F, a: &Vect, b: &Vect) -> Result<Vec
     ensures polynomial { IfOk result (λ v. HasPositions 1 v) }
     ensures product { let n = variables (F.over frame.now) in IfOk result (λ v. StandsFor (F.over frame.now) v (product (sum_of n a.now) (sum_of n b.now))) }
     ensures fits { OnOk result (ProductFits a.now b.now) }
-    ensures stop { IfErr result (ProductStops a.now b.now) }
+    ensures stop { IfErr result (PolynomialProductStops a.now b.now) }
     ensures within { (d e : ℕ) → IsWithinDegree d a.now → IsWithinDegree e b.now → IfOk result (IsWithinDegree (d + e)) }
     ensures memory { (d e : ℕ) → IsWithinDegree d a.now → IsWithinDegree e b.now → d + e ≤ 65535 → OnErr result (result ≡ Err VectStop.Memory) }
 {
@@ -43,7 +43,7 @@ fn mul_terms<F: Frame>(alloc: Global, frame: &F, a: &Vect, b: &Vect) -> Result<V
     ensures vector { IfOk result (λ v. IsVectorOver (F.over frame.now) (F.compare frame.now) v) }
     ensures product { let n = variables (F.over frame.now) in IfOk result (λ v. StandsFor (F.over frame.now) v (product (sum_of n a.now) (sum_of n b.now))) }
     ensures fits { OnOk result (ProductFits a.now b.now) }
-    ensures stop { IfErr result (ProductStops a.now b.now) }
+    ensures stop { IfErr result (PolynomialProductStops a.now b.now) }
 {
     match multiples(alloc, a.terms(), b) {
         Ok(products) => Vect::sum_of_products(alloc, frame, &products),

@@ -8,7 +8,7 @@ use Rattle.formal_sums.specs.FormalSums.{Each, Key}
 use Rattle.pair_criteria.specs.declared.pair.Pair.{Pair as CodePair}
 use Rattle.monomial_orders.specs.Kept.{IsWeighed, Monomial}
 use Rattle.module_vectors.proofs.Scaling.{Each_at}
-use Rattle.module_vectors.specs.Trails.{Step, lead_at, product_lead}
+use Rattle.module_vectors.specs.Trails.{Step, lead_at, no_step, product_lead, step_at}
 use Rattle.module_vectors.specs.Vectors.{key_of, sums_of}
 use Rattle.module_vectors.specs.declared.key.Key.{Key as CodeKey}
 use Rattle.row_matrix.proofs.KeyPlaces.{key_exact}
@@ -16,7 +16,6 @@ use Rattle.row_matrix.specs.Hashes.{AreApart, no_key}
 use Rattle.row_matrix.specs.Rows.{AreKeys, RowShown, column_key, first_column}
 use Rattle.symbolic_prep.proofs.Planning.{entries_some, lead_known}
 use Rattle.symbolic_prep.specs.Plans.{AreClosed, HasPairSteps, IsFactorOf, IsLaterPlan, IsMorePlanned, IsPairOf, IsPlan, IsPlannedRow, IsTopStep, no_row, row_at}
-use Rattle.symbolic_prep.specs.Traces.{no_step, step_at}
 use Rattle.vector_division.specs.Divisions.{IsUncovered}
 use Rattle.vector_division.specs.Progress.{IsDivisor}
 

@@ -11,7 +11,7 @@ use Rattle.orders.specs.KeyOrders.{Descends, IsKeyOrder, KeyDivides}
 use Rattle.bases.specs.Leads.{head_coefficient, head_key, leads}
 use Rattle.module_vectors.proofs.Scaling.{Each_at, descends_scale}
 use Rattle.module_vectors.proofs.SumsOfProducts.{Each_member}
-use Rattle.module_vectors.specs.Trails.{HasKey, Step}
+use Rattle.module_vectors.specs.Trails.{HasKey, Step, no_step, step_at}
 use Rattle.module_vectors.specs.Vectors.{IsTerm, IsVector, key_of, sum_of, sums_of}
 use Rattle.module_vectors.specs.declared.key.Key.{Key as CodeKey}
 use Rattle.pair_criteria.specs.declared.pair.Pair.{Pair as CodePair}
@@ -27,7 +27,7 @@ use Rattle.symbolic_prep.proofs.Closing.{one_number}
 use Rattle.symbolic_prep.proofs.Planning.{entries_some, head_of, head_product, lead_known}
 use Rattle.symbolic_prep.specs.Counts.{HasFewRows, IsSparse}
 use Rattle.symbolic_prep.specs.Plans.{AreClosed, HasPairSteps, IsPairOf, IsPlan, IsTopStep, lead_number, no_row, product_sum, row_at}
-use Rattle.symbolic_prep.specs.Traces.{AreTraced, no_step, step_at}
+use Rattle.symbolic_prep.specs.Traces.{AreTraced}
 use Rattle.symbolic_prep.specs.Prepared.{IsMonicVector, IsPrepared}
 
 pub Each_index : {X : Type 0} (P : X → Type 0) (xs : List X) (d : X) → ((i : ℕ) → i < length xs → P (get_or xs i d)) → Each P xs

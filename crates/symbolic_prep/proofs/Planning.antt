@@ -5,7 +5,7 @@ use Rattle.std.proofs.lemmas.List.{get_or_append_left, get_or_push, length_push}
 use Rattle.monomials.specs.Exponents.{Exponents, exponents_of}
 use Rattle.formal_sums.specs.FormalSums.{Each, Key, scale, shift}
 use Rattle.bases.specs.Leads.{head_key}
-use Rattle.module_vectors.specs.Trails.{Step, product_lead}
+use Rattle.module_vectors.specs.Trails.{Step, no_step, product_lead, step_at}
 use Rattle.formal_sums.proofs.Combining.{Each_map}
 use Rattle.monomial_orders.proofs.Over.{weighed_at}
 use Rattle.monomial_orders.specs.Kept.{IsWeighed, Monomial}
@@ -17,7 +17,6 @@ use Rattle.row_matrix.proofs.Names.{named_more}
 use Rattle.row_matrix.specs.Naming.{AreNamed, IsGrown, Names}
 use Rattle.row_matrix.specs.Rows.{AreKeys, Entry, RowShown, column_key, first_column, row_sum}
 use Rattle.symbolic_prep.specs.Plans.{IsMorePlanned, IsPlan, IsPlannedRow, IsProductOf, lead_number, no_row, product_sum, row_at}
-use Rattle.symbolic_prep.specs.Traces.{no_step, step_at}
 
 -- the first key of what entries stand for
 pub head_of : {n : ℕ} (key : ℕ → Key n) (es : List Entry) → 0 < length es → head_key (row_sum key es) ≡ key (first_column es)

@@ -3,6 +3,7 @@ use Rattle.std.proofs.Common.{Bool, Contains, List, [], ap, ap₂, arith, get_or
 use Rattle.std.proofs.lemmas.Bool.{cases_eq}
 use Rattle.std.proofs.lemmas.List.{get_or_append_left, get_or_push, length_push}
 use Rattle.monomials.specs.Exponents.{Exponents, exponents_of, times}
+use Rattle.bases.proofs.Meeting.{turn_at, turn_from}
 use Rattle.bases.specs.Leads.{head_key}
 use Rattle.formal_sums.proofs.WeightedSums.{Each_append}
 use Rattle.formal_sums.specs.FormalSums.{Each, FormalSum, Key, scale, shift}
@@ -10,7 +11,7 @@ use Rattle.monomial_orders.specs.Kept.{IsWeighed, Monomial}
 use Rattle.module_vectors.proofs.Scaling.{Each_at}
 use Rattle.module_vectors.proofs.SumsOfProducts.{Each_member}
 use Rattle.module_vectors.specs.Stops.{HasMonomial, IsTooGreat}
-use Rattle.module_vectors.specs.Trails.{HasKey, IsInProduct, Step, lead_at, product_lead}
+use Rattle.module_vectors.specs.Trails.{HasKey, IsInProduct, IsStep, Step, lead_at, no_step, product_lead, step_at}
 use Rattle.module_vectors.specs.Vectors.{key_of, sum_of}
 use Rattle.module_vectors.specs.declared.key.Key.{Key as CodeKey}
 use Rattle.pair_criteria.specs.declared.pair.Pair.{Pair as CodePair}
@@ -18,12 +19,26 @@ use Rattle.vector_division.specs.Progress.{AreWeighed, IsDivisor}
 use Rattle.row_matrix.specs.Naming.{Names}
 use Rattle.row_matrix.specs.Rows.{Entry, RowShown, column_key, row_sum}
 use Rattle.symbolic_prep.specs.Plans.{IsFactorOf, IsPairOf, IsPlan, IsProductOf, row_at}
-use Rattle.symbolic_prep.specs.Traces.{AreTraced, IsGreatEnd, IsOfEarlier, IsOfPair, IsStep, PlanStops, ProductEnds, no_step, step_at}
+use Rattle.symbolic_prep.specs.Traces.{AreTraced, IsGreatEnd, IsOfEarlier, IsOfPair, PlanStops, ProductEnds}
 use Rattle.symbolic_prep.specs.declared.stop.PlanStop.{PlanStop}
 use Rattle.symbolic_prep.specs.declared.stop.PlanStop.TheVariants.{Memory, Degree}
+use Rattle.pair_criteria.specs.Pairs.{IsLcmOf}
 
 abbrev pub Terms : Type 0
 Terms = List (CodeKey × ℕ)
+
+-- ---- where the lead of each product comes from, by its number
+pub traced_at :
+    (n : ℕ) (list : List (List (CodeKey × ℕ))) (pairs : List CodePair) (steps : List Step)
+    → AreTraced n list pairs steps → (i : ℕ) → i < length steps → IsOfPair n list pairs (step_at steps i) ⊎ IsOfEarlier n list steps i (step_at steps i)
+traced_at n list pairs steps h i lt =
+    turn_at (λ (k : Key n). (x : CodePair) × IsLcmOf n pairs k x) (IsInProduct n list) (product_lead n list) no_step steps h i lt
+
+traced_from :
+    (n : ℕ) (list : List (List (CodeKey × ℕ))) (pairs : List CodePair) (steps : List Step)
+    → ((i : ℕ) → i < length steps → IsOfPair n list pairs (step_at steps i) ⊎ IsOfEarlier n list steps i (step_at steps i)) → AreTraced n list pairs steps
+traced_from n list pairs steps h =
+    turn_from (λ (k : Key n). (x : CodePair) × IsLcmOf n pairs k x) (IsInProduct n list) (product_lead n list) no_step steps h
 
 -- ---- one more product
 module _ (n : ℕ) (list : List (List (CodeKey × ℕ))) (pairs : List CodePair) (steps steps' : List Step) (s : Step) (more : steps' ≡ steps ++ s ∷ []) where
@@ -54,13 +69,13 @@ module _ (n : ℕ) (list : List (List (CodeKey × ℕ))) (pairs : List CodePair)
   pub traced_push :
       AreTraced n list pairs steps → IsOfPair n list pairs s ⊎ IsOfEarlier n list steps (length steps) s
       → AreTraced n list pairs steps'
-  traced_push h here i lt = elim (cases_eq i (length steps)) [
+  traced_push traced here = traced_from n list pairs steps' (λ i lt. elim (cases_eq i (length steps)) [
     | inl e ↦ moved i s (step_at steps' i) (omega arith) (new_step i e)
         (subst (λ c. IsOfPair n list pairs s ⊎ IsOfEarlier n list steps c s) (sym e) here)
     | inr ne ↦
         let l : i < length steps = omega (arith, size) in
-        moved i (step_at steps i) (step_at steps' i) (omega arith) (old_step i l) (h i l)
-  ]
+        moved i (step_at steps i) (step_at steps' i) (omega arith) (old_step i l) (traced_at n list pairs steps traced i l)
+  ])
 
   -- ---- a product that is too great
   pub great_end :

@@ -2,7 +2,7 @@
 use Rattle.std.specs.Prelude.{Bool, List, [], false, get_or, length, true, ℕ, ◌++◌, ◌<◌, ◌∷◌, ◌≡◌, ◌⊎◌}
 use Rattle.monomials.specs.Exponents.{exponents_of, quotient, times}
 use Rattle.formal_sums.specs.FormalSums.{FormalSum, scale}
-use Rattle.module_vectors.specs.Trails.{Step, lead_at, product_lead}
+use Rattle.module_vectors.specs.Trails.{Step, lead_at, product_lead, step_at}
 use Rattle.monomial_orders.specs.Kept.{IsWeighed, Monomial}
 use Rattle.module_vectors.specs.Vectors.{key_of, sum_of, sums_of}
 use Rattle.bases.specs.Leads.{head_key}
@@ -11,7 +11,6 @@ use Rattle.pair_criteria.specs.declared.pair.Pair.{Pair as CodePair}
 use Rattle.vector_division.specs.Divisions.{IsUncovered}
 use Rattle.module_vectors.specs.declared.key.Key.{Key as CodeKey}
 use Rattle.row_matrix.specs.Naming.{AreNamed, Names}
-use Rattle.symbolic_prep.specs.Traces.{step_at}
 use Rattle.row_matrix.specs.Rows.{AreKeys, RowShown, column_key, first_column}
 
 -- a row without entries

@@ -3,7 +3,7 @@ use Rattle.std.specs.Prelude.{List, [], length, map, ℕ, ◌<◌, ◌∷◌, �
 use Rattle.formal_sums.specs.FormalSums.{Each}
 use Rattle.bases.specs.Leads.{head_coefficient}
 use Rattle.bases.specs.Settings.{Setting}
-use Rattle.module_vectors.specs.Trails.{Step}
+use Rattle.module_vectors.specs.Trails.{Step, step_at}
 use Rattle.module_vectors.specs.Vectors.{sum_of, sums_of}
 use Rattle.module_vectors.specs.declared.key.Key.{Key as CodeKey}
 use Rattle.pair_criteria.specs.declared.pair.Pair.{Pair as CodePair}
@@ -11,7 +11,7 @@ use Rattle.row_laws.specs.Jobs.{AreProductRows, HasPairRows, HasReducers}
 use Rattle.row_matrix.specs.Rows.{IsMatrix, MatrixShown, vectors_of}
 use Rattle.symbolic_prep.specs.Counts.{HasFewRows}
 use Rattle.symbolic_prep.specs.Plans.{IsProductOf, product_sum, row_at}
-use Rattle.symbolic_prep.specs.Traces.{AreTraced, step_at}
+use Rattle.symbolic_prep.specs.Traces.{AreTraced}
 
 -- the vector is not zero, and its first coefficient is 1
 abbrev pub IsMonicVector : ℕ → List (CodeKey × ℕ) → Type 0

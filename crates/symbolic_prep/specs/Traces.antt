@@ -1,28 +1,17 @@
 -- Where the products of a job come from, and the one that is too great
-use Rattle.std.specs.Prelude.{Contains, List, [], get_or, length, ⊤, ℕ, ◌++◌, ◌-◌, ◌<◌, ◌∷◌, ◌≡◌, ◌⊎◌}
+use Rattle.std.specs.Prelude.{List, [], length, ⊤, ℕ, ◌++◌, ◌-◌, ◌<◌, ◌∷◌, ◌≡◌}
 use Rattle.formal_sums.specs.FormalSums.{Each, Key}
+use Rattle.bases.specs.Meeting.{AreMetInTurn}
 use Rattle.monomial_orders.specs.Kept.{IsWeighed, Monomial}
 use Rattle.module_vectors.specs.Stops.{HasMonomial, IsTooGreat}
-use Rattle.module_vectors.specs.Trails.{IsInProduct, IsOfStep, Step, product_lead}
-use Rattle.module_vectors.specs.Vectors.{key_of}
+use Rattle.module_vectors.specs.Trails.{IsInProduct, IsOfStep, IsStep, Step, product_lead, step_at}
 use Rattle.module_vectors.specs.declared.key.Key.{Key as CodeKey}
+use Rattle.pair_criteria.specs.Pairs.{IsLcmOf}
 use Rattle.pair_criteria.specs.declared.pair.Pair.{Pair as CodePair}
 use Rattle.symbolic_prep.specs.declared.stop.PlanStop.{PlanStop}
 use Rattle.symbolic_prep.specs.declared.stop.PlanStop.TheVariants.{Memory, Degree}
 use Rattle.symbolic_prep.specs.declared.stop.PrepareStop.{PrepareStop}
 use Rattle.symbolic_prep.specs.declared.stop.PrepareStop.TheVariants.{Memory as NoRoom, Degree as TooGreat}
-
--- the product of the monomial 1 of no variables, where a list has no product
-abbrev pub no_step : Step
-no_step = (0, record { exponents = []; degree = 0 })
-
--- the product with this number
-abbrev pub step_at : List Step → ℕ → Step
-step_at steps i = get_or steps i no_step
-
--- k is the least common multiple of this pair of the list
-abbrev pub IsLcmOf : (n : ℕ) → List CodePair → Key n → CodePair → Type 0
-IsLcmOf n pairs k x = Contains pairs x × (k ≡ key_of n x.lcm)
 
 -- the lead of the product is the least common multiple of one of the pairs
 abbrev pub IsOfPair : (n : ℕ) → List (List (CodeKey × ℕ)) → List CodePair → Step → Type 0
@@ -35,11 +24,7 @@ IsOfEarlier n list steps count s = (j : ℕ) × (j < count) × IsInProduct n lis
 -- the lead of each product is the least common multiple of a pair, or a key of an earlier product
 abbrev pub AreTraced : (n : ℕ) → List (List (CodeKey × ℕ)) → List CodePair → List Step → Type 0
 AreTraced n list pairs steps =
-    (i : ℕ) → i < length steps → IsOfPair n list pairs (step_at steps i) ⊎ IsOfEarlier n list steps i (step_at steps i)
-
--- a monomial in n variables of these weights times one of the vectors
-abbrev pub IsStep : (n : ℕ) (ws : List ℕ) → List (List (CodeKey × ℕ)) → Step → Type 0
-IsStep n ws list s = (s.0 < length list) × IsWeighed n ws s.1
+    AreMetInTurn (λ (k : Key n). (x : CodePair) × IsLcmOf n pairs k x) (IsInProduct n list) (product_lead n list) [] steps
 
 -- such products, the last of which is too great for this monomial of its vector
 pub record IsGreatEnd (n : ℕ) (ws : List ℕ) (list : List (List (CodeKey × ℕ))) (pairs : List CodePair) (steps : List Step) (last : Monomial) : Type 0 where

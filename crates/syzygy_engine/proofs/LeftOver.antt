@@ -4,14 +4,15 @@ use Rattle.std.proofs.lemmas.Bool.{cases_lt}
 use Rattle.std.proofs.lemmas.Bool.Decides.{nat_tests}
 use Rattle.std.proofs.lemmas.List.{length-map}
 use Rattle.std.specs.Prelude.{nat_le, ◌&&◌}
-use Rattle.residues.proofs.Congruences.{IsCongruent_add, IsCongruent_minus, IsCongruent_of, IsCongruent_refl, IsCongruent_trans}
+use Rattle.residues.proofs.Congruences.{IsCongruent_of}
 use Rattle.residues.specs.Residues.{IsCongruent}
 use Rattle.monomials.proofs.Monomials.{and_left, and_right}
 use Rattle.monomials.specs.Exponents.{unit}
 use Rattle.formal_sums.proofs.Combining.{IsMember_combination, IsMember_same}
 use Rattle.formal_sums.proofs.OfRank.{IsOfRank_of}
-use Rattle.formal_sums.proofs.Sameness.{IsSame_refl, IsSame_scale, IsSame_sym, IsSame_trans, weighted_sum-minus}
-use Rattle.formal_sums.proofs.WeightedSums.{coefficient-append, indicator_other}
+use Rattle.formal_sums.proofs.Sameness.{IsSame_refl, IsSame_scale, IsSame_sym, IsSame_trans}
+use Rattle.formal_sums.proofs.TakenAway.{taken_away}
+use Rattle.formal_sums.proofs.WeightedSums.{indicator_other}
 use Rattle.formal_sums.specs.Combinations.{IsMember, combination}
 use Rattle.formal_sums.specs.FormalSums.{Each, FormalSum, HasRank, IsOfRank, IsSame, Key, coefficient, indicator, scale}
 use Rattle.bases.proofs.Leading.{positive}
@@ -43,20 +44,6 @@ use Rattle.syzygy_engine.specs.Marking.{AreMarked, IsMarkedRun, position_ring, p
 use Rattle.syzygy_engine.proofs.Generated.{by_length, count, exact, own_basis, ranks}
 use Rattle.syzygy_engine.proofs.Marks.{lawful_by_position, run_reduced}
 use Rattle.syzygy_engine.proofs.Standing.{Terms, rank_of_positions}
-
--- what was taken away from v is v without what is left
-taken_away : {n : ℕ} (p : ℕ) (v a r : FormalSum n) → 0 < p → IsSame p v (a ++ r) → IsSame p a (v ++ scale (p - 1) (unit n) r)
-taken_away {n} p v a r pos h = IsSame_sym (record {
-  by_key = λ k.
-      let x = coefficient v k in
-      let y = coefficient a k in
-      let z = coefficient r k in
-      let d : coefficient (v ++ scale (p - 1) (unit n) r) k ≡ x + (p - 1) * z = weighted_sum-minus p (indicator k) v r in
-      IsCongruent_trans (IsCongruent_of p _ _ d)
-      (IsCongruent_trans (IsCongruent_add (IsCongruent_trans (h.by_key k) (IsCongruent_of p _ (y + z) (coefficient-append a r k))) (IsCongruent_refl p ((p - 1) * z)))
-      (IsCongruent_trans (IsCongruent_of p ((y + z) + (p - 1) * z) (y + (z + (p - 1) * z)) (omega arith))
-      (IsCongruent_trans (IsCongruent_add (IsCongruent_refl p y) (IsCongruent_minus p z pos)) (IsCongruent_of p (y + 0) y (omega arith)))));
-})
 
 -- the quotients of a division are cofactors of its list
 pub cofactor_rank :

@@ -1,5 +1,4 @@
 pub mod Standing
-pub mod Stops
 pub mod Marks
 pub mod LoweredTerms
 pub mod KernelSteps

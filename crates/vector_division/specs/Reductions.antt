@@ -1,12 +1,12 @@
 -- The products that a division takes away, in the order in which it does
-use Rattle.std.specs.Prelude.{List, [], get_or, length, map, ⊤, ℕ, ◌++◌, ◌<◌, ◌∷◌, ◌≡◌}
+use Rattle.std.specs.Prelude.{List, [], get_or, length, map, ℕ, ◌<◌, ◌≡◌}
 use Rattle.std.specs.declared.cmp.Ordering.{Ordering}
 use Rattle.std.specs.declared.cmp.Ordering.TheVariants.{Greater}
 use Rattle.monomials.specs.Exponents.{exponents_of}
 use Rattle.formal_sums.specs.FormalSums.{Each, FormalSum, Key}
 use Rattle.monomial_orders.specs.Kept.{IsWeighed}
 use Rattle.module_vectors.specs.Stops.{Fits}
-use Rattle.module_vectors.specs.Trails.{IsMet, Step, product_lead}
+use Rattle.module_vectors.specs.Trails.{AreMet, Step, product_lead}
 use Rattle.module_vectors.specs.declared.key.Key.{Key as CodeKey}
 use Rattle.vector_division.specs.declared.reduction.Quotient.{Quotient}
 
@@ -32,9 +32,7 @@ pub record IsQuotient (n : ℕ) (weights : List ℕ) (p : ℕ) (list : List (Lis
 
 -- each product's lead is a key of v or of the product of an earlier one
 abbrev pub AreMetFrom : (n : ℕ) → FormalSum n → List (List (CodeKey × ℕ)) → List Step → List Quotient → Type 0
-AreMetFrom n v list earlier [] = ⊤
-AreMetFrom n v list earlier (q ∷ qs) =
-    IsMet n v list earlier (product_lead n list (step_of q)) × AreMetFrom n v list (earlier ++ step_of q ∷ []) qs
+AreMetFrom n v list earlier qs = AreMet n v list earlier (map step_of qs)
 
 -- each product's lead is at most k
 abbrev pub HaveLeadsUpTo : (n : ℕ) → (Key n → Key n → Ordering) → List (List (CodeKey × ℕ)) → Key n → List Quotient → Type 0

@@ -1,7 +1,6 @@
 use Rattle.std.proofs.Common.{ℕ, ◌<◌}
 use Rattle.module_vectors.specs.Rings.{variables}
-use Rattle.module_vectors.specs.Trails.{IsInProduct, product_lead}
-use Rattle.basis_core.specs.Chains.{step_at}
+use Rattle.module_vectors.specs.Trails.{IsInProduct, product_lead, step_at}
 use Rattle.basis_core.specs.Rows.{vectors_in}
 use Rattle.basis_core.proofs.trails.find_earlier.Given as goal
 

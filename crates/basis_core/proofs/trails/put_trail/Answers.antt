@@ -1,13 +1,13 @@
 use Rattle.std.proofs.Common.{List, ap, subst, sym, ℕ, ◌++◌, ◌∙◌, ◌≡◌}
 use Rattle.formal_sums.specs.FormalSums.{Each}
 use Rattle.module_vectors.specs.Rings.{variables}
-use Rattle.module_vectors.specs.Trails.{Step}
+use Rattle.module_vectors.specs.Trails.{IsStep, Step}
 use Rattle.module_vectors.specs.Vectors.{IsMonomialOver}
 use Rattle.module_vectors.specs.declared.key.Key.{Key as CodeKey}
 use Rattle.module_vectors.specs.declared.ring.Ring.{Ring}
 use Rattle.module_vectors.specs.declared.trail.KeptTrail.{KeptTrail}
 use Rattle.pair_criteria.specs.declared.pair.Pair.{Pair as CodePair}
-use Rattle.basis_core.specs.Chains.{AreTraced, IsStep, IsTracedTo}
+use Rattle.basis_core.specs.Chains.{AreTraced, IsTracedTo}
 use Rattle.basis_core.specs.Jobs.{IsJobOver, JobShown}
 use Rattle.basis_core.specs.Members.{Shared, Tracked}
 use Rattle.basis_core.specs.Outcomes.{OutcomeShown}

@@ -1,13 +1,15 @@
 use Rattle.std.proofs.Common.{List, ap, inl, inr, length, subst, sym, ℕ, ◌<◌, ◌∙◌, ◌≡◌, ◌⊎◌}
 use Rattle.monomials.specs.Exponents.{exponents_of, unit}
 use Rattle.module_vectors.specs.Rings.{variables}
-use Rattle.module_vectors.specs.Trails.{IsInProduct, Step, product_lead}
+use Rattle.module_vectors.specs.Trails.{IsInProduct, IsStep, Step, no_step, product_lead, step_at}
 use Rattle.module_vectors.specs.declared.key.Key.{Key as CodeKey}
 use Rattle.pair_criteria.specs.declared.pair.Pair.{Pair as CodePair}
-use Rattle.basis_core.specs.Chains.{IsLcmOf, IsStep, step_at}
 use Rattle.basis_core.specs.Rows.{vectors_in}
+use Rattle.bases.proofs.Meeting.{turn_at}
+use Rattle.formal_sums.specs.FormalSums.{Key}
 use Rattle.basis_core.proofs.Chaining.{each_item, step_is}
 use Rattle.basis_core.proofs.trails.trace_back.Goals as goal
+use Rattle.pair_criteria.specs.Pairs.{IsLcmOf}
 
 pub find_pair-requires-clause-unit : goal.find_pair-requires-clause-unit
 find_pair-requires-clause-unit c =
@@ -33,4 +35,4 @@ find_earlier-at-requires-clause-some c =
       | inl x ↦ absurd (c.in_default.ensures.none x.0 (subst (λ (s : Step). IsLcmOf n c.args.pairs.now (product_lead n vs s) x.0) (sym here) x.1))
       | inr h ↦ h
     ] in
-    go (c.requires.traced c.loop-pair.at c.loop-pair.invariant.within)
+    go (turn_at (λ (k : Key n). (x : CodePair) × IsLcmOf n c.args.pairs.now k x) (IsInProduct n vs) (product_lead n vs) no_step c.args.all.now c.requires.traced c.loop-pair.at c.loop-pair.invariant.within)

@@ -1,8 +1,9 @@
 use Rattle.std.proofs.Common.{length, reverse, ◌<◌}
 use Rattle.module_vectors.specs.Rings.{variables}
-use Rattle.basis_core.specs.Chains.{IsChainTo, step_at}
+use Rattle.basis_core.specs.Chains.{IsChainTo}
 use Rattle.basis_core.specs.Rows.{vectors_in}
 use Rattle.basis_core.proofs.trails.trace_back.Given as goal
+use Rattle.module_vectors.specs.Trails.{step_at}
 
 -- backwards it is a chain from the product that is at hand
 abbrev pub invariant-loop-pair : goal.invariant-loop-pair

@@ -5,7 +5,7 @@ use Rattle.module_vectors.specs.Rings.{ring_comparison}
 use Rattle.module_vectors.specs.Vectors.{AreVectorsOver, HasPositions}
 use Rattle.groebner_iface.specs.Calls.{NoTrail}
 use Rattle.groebner_iface.specs.Runs.{IsReducedBasisOf}
-use Rattle.syzygy_engine.proofs.Stops.{run_stops}
+use Rattle.groebner_iface.proofs.CallingRuns.{run_stops}
 use Rattle.ideal_ops.specs.Runs.{IsRunOn}
 use Rattle.ideal_ops.proofs.Shared.{basis_of_sum, both_positions}
 use Rattle.ideal_ops.proofs.adding.sum.Goals as goal

@@ -1,7 +1,7 @@
 use Rattle.std.proofs.Common.{inl, inr, refl, subst, sym, ◌∙◌, ◌≡◌}
 use Rattle.groebner_iface.specs.Calls.{NoTrail}
 use Rattle.groebner_iface.specs.Runs.{IsReducedBasisOf}
-use Rattle.syzygy_engine.proofs.Stops.{run_stops}
+use Rattle.groebner_iface.proofs.CallingRuns.{run_stops}
 use Rattle.ideal_ops.specs.Runs.{IsRunOnEither}
 use Rattle.ideal_ops.proofs.Shared.{later_stops, members_of_one, one_of_members}
 use Rattle.ideal_ops.proofs.Witness.{same_or_apart, settle}

@@ -5,7 +5,7 @@ use Rattle.module_vectors.specs.Rings.{variables}
 use Rattle.module_vectors.specs.Vectors.{AreTermsOver, sums_of}
 use Rattle.groebner_iface.specs.Calls.{NoTrail}
 use Rattle.groebner_iface.specs.Runs.{IsReducedBasisOf}
-use Rattle.syzygy_engine.proofs.Stops.{run_stops}
+use Rattle.groebner_iface.proofs.CallingRuns.{run_stops}
 use Rattle.ideal_ops.specs.Runs.{AreEliminationRuns, AreVectorsFor, elimination_ring}
 use Rattle.ideal_ops.proofs.Shared.{basis_of_elimination, free_ranks, later_stops, loose_list, positions_for, sorted_positions}
 use Rattle.ideal_ops.proofs.eliminating.eliminate.Goals as goal

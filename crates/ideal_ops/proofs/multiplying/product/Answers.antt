@@ -1,5 +1,5 @@
 use Rattle.std.proofs.Common.{refl}
-use Rattle.syzygy_engine.proofs.Stops.{run_stops}
+use Rattle.groebner_iface.proofs.CallingRuns.{run_stops}
 use Rattle.ideal_ops.specs.Products.{IsProductRun, IsTrailOfProducts}
 use Rattle.ideal_ops.proofs.Multiplied.{basis_of_product, product_positions, work_stops}
 use Rattle.ideal_ops.proofs.multiplying.product.Goals as goal

@@ -5,7 +5,7 @@ use Rattle.module_vectors.specs.Vectors.{sum_of, sums_of}
 use Rattle.groebner_iface.specs.Calls.{NoTrail}
 use Rattle.syzygy_engine.specs.Marking.{IsMarkedRun}
 use Rattle.syzygy_engine.proofs.Marks.{loose}
-use Rattle.syzygy_engine.proofs.Stops.{more_stops, run_stops}
+use Rattle.groebner_iface.proofs.CallingRuns.{more_stops, run_stops}
 use Rattle.ideal_ops.specs.Components.{AreQuotientRuns}
 use Rattle.ideal_ops.specs.Runs.{AreVectorsFor}
 use Rattle.ideal_ops.proofs.Dividing.{basis_of_quotient, parts_positions, quotient_list, quotient_positions}

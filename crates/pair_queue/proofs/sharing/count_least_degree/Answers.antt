@@ -20,9 +20,9 @@ returns-then-degree-least-clause-count c = λ m h sorted.
     let x = c.index-queue-k.result in
     let first = c.index-queue-0.result in
     least_before m queue c.loop-k.k c.degree-least.result first x h sorted c.index-queue-0.is
-    (c.degree-least.ensures ∙ ap (λ (z : CodePair). z.lcm.monomial.degree) (sym c.index-queue-0.is))
+    (c.degree-least.ensures.value ∙ ap (λ (z : CodePair). z.lcm.monomial.degree) (sym c.index-queue-0.is))
     c.loop-k-test.true c.index-queue-k.is (λ e. c.if-degree-least.true
-    (c.degree.ensures ∙ ap (λ (z : CodePair). z.lcm.monomial.degree) (sym c.index-queue-k.is) ∙ e)) (c.loop-k.invariant m h)
+    (c.degree.ensures.value ∙ ap (λ (z : CodePair). z.lcm.monomial.degree) (sym c.index-queue-k.is) ∙ e)) (c.loop-k.invariant m h)
 
 pub loop-k-preserved : goal.loop-k-preserved
 loop-k-preserved c = λ m h.
@@ -34,7 +34,7 @@ loop-k-preserved c = λ m h.
     let more = number_more S G least c.args.queue.now k x c.loop-k-test.true c.index-queue-k.is in
     let at : degree_of S G (pair_of x) ≡ c.degree.result =
     degree_is m x (Each_at (HasLcm m) c.args.queue.now k x h c.loop-k-test.true c.index-queue-k.is)
-    ∙ ap (λ (z : CodePair). z.lcm.monomial.degree) c.index-queue-k.is ∙ sym c.degree.ensures in
+    ∙ ap (λ (z : CodePair). z.lcm.monomial.degree) c.index-queue-k.is ∙ sym c.degree.ensures.value in
     let one : ◌≡◌ {A = ℕ} (cond (nat_eq (degree_of S G (pair_of x)) least) 1 0) 1 =
     same_degree (degree_of S G (pair_of x)) least c.degree.result c.degree.result at refl c.if-degree-least.false in
     omega (arith, more, one, c.loop-k.invariant m h)
@@ -50,4 +50,4 @@ returns-clause-count c = λ m h sorted.
     sym end ∙ sym (c.loop-k.invariant m h)
     ∙ ap (number_of_degree (setting_of m.variables m) (sums_shown m) least) (take_all k (pairs_of queue) whole)
     ∙ least_is m queue c.index-queue-0.result least some c.index-queue-0.is h
-    (c.degree-least.ensures ∙ ap (λ (z : CodePair). z.lcm.monomial.degree) (sym c.index-queue-0.is))
+    (c.degree-least.ensures.value ∙ ap (λ (z : CodePair). z.lcm.monomial.degree) (sym c.index-queue-0.is))

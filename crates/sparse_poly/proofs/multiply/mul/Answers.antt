@@ -2,8 +2,8 @@ use Rattle.std.proofs.Common.{◌+◌, ◌≡◌}
 use Rattle.module_vectors.specs.Rings.{variables}
 use Rattle.module_vectors.specs.Vectors.{HasPositions}
 use Rattle.module_vectors.specs.declared.stop.VectStop.TheVariants.{Memory}
-use Rattle.sparse_poly.proofs.Multiplying.{ProductFits_exchanged, ProductStops_exchanged}
-use Rattle.sparse_poly.proofs.Products.{ProductStops_memory, product_exchanged, product_positions, product_within}
+use Rattle.sparse_poly.proofs.Multiplying.{ProductFits_exchanged, PolynomialProductStops_exchanged}
+use Rattle.sparse_poly.proofs.Products.{PolynomialProductStops_memory, product_exchanged, product_positions, product_within}
 use Rattle.sparse_poly.proofs.Results.{both_ok, one_err}
 use Rattle.sparse_poly.specs.Degrees.{IsWithinDegree}
 use Rattle.sparse_poly.proofs.multiply.mul.Goals as goal
@@ -46,12 +46,12 @@ returns-in-Ok-clause-within g c d e ha hb =
 
 pub returns-then-terms-clause-memory : goal.returns-then-terms-clause-memory
 returns-then-terms-clause-memory g c d e ha hb small =
-    one_err _ c.mul_terms.result Memory (ProductStops_memory c.args.a.now c.args.b.now d e ha hb small) c.mul_terms.ensures.stop
+    one_err _ c.mul_terms.result Memory (PolynomialProductStops_memory c.args.a.now c.args.b.now d e ha hb small) c.mul_terms.ensures.stop
 
 pub returns-in-Err-clause-stop : goal.returns-in-Err-clause-stop
-returns-in-Err-clause-stop g c = rw c.exchange.ensures (ProductStops_exchanged c.args.b.now c.args.a.now c.in-Err.stop c.in-Err.ensures.stop)
+returns-in-Err-clause-stop g c = rw c.exchange.ensures (PolynomialProductStops_exchanged c.args.b.now c.args.a.now c.in-Err.stop c.in-Err.ensures.stop)
 
 pub returns-in-Err-clause-memory : goal.returns-in-Err-clause-memory
 returns-in-Err-clause-memory g c d e ha hb small =
-    let none : c.exchange.result ≡ Memory = ProductStops_memory c.args.a.now c.args.b.now d e ha hb small c.exchange.result (returns-in-Err-clause-stop g c) in
+    let none : c.exchange.result ≡ Memory = PolynomialProductStops_memory c.args.a.now c.args.b.now d e ha hb small c.exchange.result (returns-in-Err-clause-stop g c) in
     cc

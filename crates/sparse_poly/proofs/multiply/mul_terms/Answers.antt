@@ -6,7 +6,7 @@ use Rattle.module_vectors.specs.Stops.{ProductsFit, ProductsStop}
 use Rattle.module_vectors.specs.Vectors.{IsVectorOver, StandsFor, sum_of}
 use Rattle.sparse_poly.proofs.Multiplying.{multiples_factors, multiples_fit, multiples_stop, multiples_sum, multiples_vectors}
 use Rattle.sparse_poly.proofs.Results.{each_err, each_ok}
-use Rattle.sparse_poly.specs.Stops.{ProductFits, ProductStops}
+use Rattle.sparse_poly.specs.Stops.{ProductFits, PolynomialProductStops}
 use Rattle.sparse_poly.proofs.multiply.mul_terms.Goals as goal
 
 pub sum_of_products-requires-clause-factors : goal.sum_of_products-requires-clause-factors
@@ -36,6 +36,6 @@ returns-in-Ok-clause-fits g c =
 
 pub returns-in-Ok-clause-stop : goal.returns-in-Ok-clause-stop
 returns-in-Ok-clause-stop g c =
-    each_err _ (ProductStops c.args.a.now c.args.b.now) c.sum_of_products.result
-    (λ s h. subst (λ a. ProductStops a c.args.b.now s) c.terms.ensures (multiples_stop c.args.b.now c.terms.result.now c.in-Ok.products.items s c.in-Ok.ensures (subst (λ xs. ProductsStop xs s) c.deref.ensures.value h)))
+    each_err _ (PolynomialProductStops c.args.a.now c.args.b.now) c.sum_of_products.result
+    (λ s h. subst (λ a. PolynomialProductStops a c.args.b.now s) c.terms.ensures (multiples_stop c.args.b.now c.terms.result.now c.in-Ok.products.items s c.in-Ok.ensures (subst (λ xs. ProductsStop xs s) c.deref.ensures.value h)))
     c.sum_of_products.ensures.stop

@@ -5,7 +5,7 @@ use Rattle.groebner_iface.specs.Stops.{op_stop_of_run}
 use Rattle.syzygy_engine.specs.Kernels.{IsSyzygyRun}
 use Rattle.syzygy_engine.specs.Marking.{IsMarkedRun}
 use Rattle.syzygy_engine.proofs.Generated.{by_position_done, generate, run_done, run_generates}
-use Rattle.syzygy_engine.proofs.Stops.{more_stops, run_stops}
+use Rattle.groebner_iface.proofs.CallingRuns.{more_stops, run_stops}
 use Rattle.syzygy_engine.proofs.generating.syzygies.Goals as goal
 
 pub returns-in-Err-clause-stop : goal.returns-in-Err-clause-stop

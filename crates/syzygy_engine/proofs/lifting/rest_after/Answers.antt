@@ -9,3 +9,9 @@ returns-in-Ok-clause-sum c =
     let n = variables ring in
     let qs = c.in-Ok.reduction.quotients.items in
     rw c.rest_of.ensures (cofactors_of n qs, cofactor_rank n ring.weights ring.modulus.value c.args.list.now qs c.in-Ok.ensures.quotients, c.in-Ok.ensures.sum)
+
+pub returns-in-Ok-clause-rest : goal.returns-in-Ok-clause-rest
+returns-in-Ok-clause-rest c = rw c.rest_of.ensures c.in-Ok.ensures.rest
+
+pub returns-in-Ok-clause-reduced : goal.returns-in-Ok-clause-reduced
+returns-in-Ok-clause-reduced c = rw c.rest_of.ensures c.in-Ok.ensures.reduced

@@ -6,7 +6,7 @@ use Rattle.groebner_iface.specs.Calls.{NoTrail}
 use Rattle.groebner_iface.specs.Runs.{IsReducedBasisOf}
 use Rattle.syzygy_engine.specs.Marking.{AreMarked, IsMarkedRun}
 use Rattle.syzygy_engine.proofs.Marks.{marked_positions}
-use Rattle.syzygy_engine.proofs.Stops.{run_stops}
+use Rattle.groebner_iface.proofs.CallingRuns.{run_stops}
 use Rattle.syzygy_engine.proofs.marked_runs.marked_basis.Goals as goal
 
 pub reduced-requires-clause-vectors : goal.reduced-requires-clause-vectors

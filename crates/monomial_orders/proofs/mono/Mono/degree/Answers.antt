@@ -1,5 +1,5 @@
 use Rattle.std.proofs.Common.{◌∙◌}
 use Rattle.monomial_orders.proofs.mono.Mono.degree.Goals as goal
 
-pub returns : goal.returns
-returns c = c.degree.ensures ∙ c.kept.ensures.degree
+pub returns-clause-value : goal.returns-clause-value
+returns-clause-value c = c.degree.ensures.value ∙ c.kept.ensures.degree

@@ -85,7 +85,7 @@ overflow_sub-degree c =
     let h = differs a b c.kept.result.now c.kept-2.result.now c.in_ok-stored.stored c.variables.result
     c.requires.variables c.requires.weights c.kept.ensures c.kept-2.ensures
     (c.divides.ensures.places.0 yes) c.variables.ensures c.in_ok-stored.ensures.variables c.in_ok-stored.ensures.places c.in_ok-stored.ensures.bounded in
-    omega (arith, no_greater a b c.kept.result.now c.kept-2.result.now c.in_ok-stored.stored h, c.degree.ensures, c.degree-2.ensures)
+    omega (arith, no_greater a b c.kept.result.now c.kept-2.result.now c.in_ok-stored.stored h, c.degree.ensures.value, c.degree-2.ensures.value)
 
 pub keep-requires : goal.keep-requires
 keep-requires c =
@@ -95,7 +95,7 @@ keep-requires c =
     let u = c.in_ok-stored.stored in
     let h = differs a b c.kept.result.now c.kept-2.result.now u c.variables.result c.requires.variables c.requires.weights c.kept.ensures c.kept-2.ensures
     (c.divides.ensures.places.0 yes) c.variables.ensures c.in_ok-stored.ensures.variables c.in_ok-stored.ensures.places c.in_ok-stored.ensures.bounded in
-    subst (λ d. IsKept (variables_of u) d u) (sym (ap₂ ◌-◌ c.degree.ensures c.degree-2.ensures))
+    subst (λ d. IsKept (variables_of u) d u) (sym (ap₂ ◌-◌ c.degree.ensures.value c.degree-2.ensures.value))
     (kept_at (length a.exponents) (a.degree - b.degree) u h.counted (kept a b c.kept.result.now c.kept-2.result.now u h))
 
 -- how the answer is shown
@@ -116,7 +116,7 @@ returns-clause-ok c =
     let u = c.in_ok-stored.stored in
     let h = differs a b c.kept.result.now c.kept-2.result.now u c.variables.result c.requires.variables c.requires.weights c.kept.ensures c.kept-2.ensures
     (c.divides.ensures.places.0 yes) c.variables.ensures c.in_ok-stored.ensures.variables c.in_ok-stored.ensures.places c.in_ok-stored.ensures.bounded in
-    shown a b c.kept.result.now c.kept-2.result.now u c.degree.result c.degree-2.result c.keep.result h c.degree.ensures c.degree-2.ensures c.keep.ensures
+    shown a b c.kept.result.now c.kept-2.result.now u c.degree.result c.degree-2.result c.keep.result h c.degree.ensures.value c.degree-2.ensures.value c.keep.ensures
 
 pub returns-clause-weighed : goal.returns-clause-weighed
 returns-clause-weighed c = λ ws h k.

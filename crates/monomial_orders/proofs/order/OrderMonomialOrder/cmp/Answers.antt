@@ -22,7 +22,7 @@ returns-in-Equal c =
     let ys = c.args.b.now.exponents in
     let n = length xs in
     grevlex_tie c.args.weights.now (exponents_of n xs) (exponents_of n ys) _ _ _
-    (c.degree.ensures ∙ c.requires.left.degree) (c.degree-in-Grevlex.ensures ∙ c.requires.right.degree) c.in-Equal.ensures
+    (c.degree.ensures.value ∙ c.requires.left.degree) (c.degree-in-Grevlex.ensures.value ∙ c.requires.right.degree) c.in-Equal.ensures
     (c.compare_last.ensures
     ∙ ap₂ (λ us vs. reverse_lex (exponents_of (length us) us) (exponents_of (length us) vs))
     c.exponents-in-Equal.ensures.value c.exponents-in-Equal-2.ensures.value)
@@ -34,5 +34,5 @@ returns-in_default c =
     let ys = c.args.b.now.exponents in
     let n = length xs in
     grevlex_degree c.args.weights.now (exponents_of n xs) (exponents_of n ys) _ _ _
-    (c.degree.ensures ∙ c.requires.left.degree) (c.degree-in-Grevlex.ensures ∙ c.requires.right.degree) c.cmp-in-Grevlex.ensures c.in_default.not-Equal
+    (c.degree.ensures.value ∙ c.requires.left.degree) (c.degree-in-Grevlex.ensures.value ∙ c.requires.right.degree) c.cmp-in-Grevlex.ensures c.in_default.not-Equal
     ∙ ap (λ o. comparison o c.args.weights.now n (exponents_of n xs) (exponents_of n ys)) (sym c.in-Grevlex.is)

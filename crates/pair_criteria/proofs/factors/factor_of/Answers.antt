@@ -8,8 +8,8 @@ use Rattle.monomial_orders.specs.Monomials.{IsCofactor, IsQuotient}
 use Rattle.module_vectors.specs.Rings.{variables}
 use Rattle.module_vectors.specs.Vectors.{IsMonomialOver, sum_of}
 use Rattle.module_vectors.specs.declared.key.Key.{Key as CodeKey}
-use Rattle.s_vectors.specs.Parts.{IsFactorOf}
-use Rattle.s_vectors.proofs.pairs.factor_of.Goals as goal
+use Rattle.pair_criteria.specs.Pairs.{IsFactorOf}
+use Rattle.pair_criteria.proofs.factors.factor_of.Goals as goal
 
 -- the lcm and the lead are monomials of the ring
 pub quotient-requires-clause-weights : goal.quotient-requires-clause-weights
