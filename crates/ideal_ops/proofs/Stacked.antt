@@ -27,7 +27,7 @@ use Rattle.syzygy_engine.specs.Kernels.{IsKernelOf}
 use Rattle.syzygy_engine.proofs.Generated.{lawful_at}
 use Rattle.syzygy_engine.proofs.Marks.{sum-append}
 use Rattle.syzygy_engine.proofs.Standing.{Terms, ranks_of_positions, stand_module}
-use Rattle.syzygy_engine.proofs.Stops.{more_stops}
+use Rattle.groebner_iface.proofs.CallingRuns.{more_stops}
 use Rattle.ideal_ops.specs.Answers.{IsBasisOfThose}
 use Rattle.ideal_ops.specs.Components.{AreColonRuns, AreComponentRuns, raised_terms}
 use Rattle.ideal_ops.specs.Runs.{AreVectorsFor, IsRunFor}

@@ -4,7 +4,7 @@ use Rattle.module_vectors.specs.Vectors.{HasPositions}
 use Rattle.groebner_iface.specs.Calls.{NoTrail}
 use Rattle.syzygy_engine.specs.Kernels.{IsKernelOf}
 use Rattle.syzygy_engine.specs.Marking.{IsMarkedRun}
-use Rattle.syzygy_engine.proofs.Stops.{more_stops, run_stops}
+use Rattle.groebner_iface.proofs.CallingRuns.{more_stops, run_stops}
 use Rattle.ideal_ops.specs.Components.{AreColonRuns}
 use Rattle.ideal_ops.proofs.Dividing.{parts_positions}
 use Rattle.ideal_ops.proofs.Shared.{later_stops, loose_list}

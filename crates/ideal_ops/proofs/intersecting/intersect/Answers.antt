@@ -2,7 +2,7 @@ use Rattle.module_vectors.specs.Rings.{variables}
 use Rattle.module_vectors.specs.Vectors.{sums_of}
 use Rattle.operation_laws.specs.Operations.{intersection_list}
 use Rattle.groebner_iface.specs.Calls.{NoTrail}
-use Rattle.syzygy_engine.proofs.Stops.{more_stops}
+use Rattle.groebner_iface.proofs.CallingRuns.{more_stops}
 use Rattle.ideal_ops.specs.FrontSteps.{AreRunsOnFront}
 use Rattle.ideal_ops.specs.FrontVariable.{AreIntersectionRuns, IsTrailOfIntersection}
 use Rattle.ideal_ops.proofs.FrontBases.{basis_of_intersection, intersection_positions, runs_for}

@@ -5,7 +5,7 @@ use Rattle.module_vectors.specs.Rings.{variables}
 use Rattle.module_vectors.specs.Vectors.{sum_of, sums_of}
 use Rattle.groebner_iface.specs.Calls.{NoTrail}
 use Rattle.syzygy_engine.proofs.Marks.{loose}
-use Rattle.syzygy_engine.proofs.Stops.{more_stops}
+use Rattle.groebner_iface.proofs.CallingRuns.{more_stops}
 use Rattle.ideal_ops.specs.FrontSteps.{AreRunsOnFront}
 use Rattle.ideal_ops.specs.FrontVariable.{AreSaturationRuns, IsTrailOfSaturation}
 use Rattle.ideal_ops.specs.Runs.{AreVectorsFor}

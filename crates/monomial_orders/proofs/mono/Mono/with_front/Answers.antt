@@ -12,7 +12,7 @@ pub keep-requires : goal.keep-requires
 keep-requires c =
     let xs = c.exponents.result.now in
     let s = c.in_ok-stored.stored in
-    let d : c.degree.result ≡ c.args.self.now.degree = c.degree.ensures ∙ c.kept.ensures.degree in
+    let d : c.degree.result ≡ c.args.self.now.degree = c.degree.ensures.value ∙ c.kept.ensures.degree in
     let is : xs ≡ c.args.self.now.exponents = c.exponents.ensures.value in
     kept_at (length (0 ∷ xs)) c.degree.result s c.in_ok-stored.ensures.variables
     (kept_of c.degree.result s (0 ∷ xs) c.in_ok-stored.ensures.variables c.in_ok-stored.ensures.long (omega (arith, d, c.kept.ensures.kept.narrow))
@@ -29,7 +29,7 @@ shown c =
     (ap (λ k. take k (places_of s)) c.in_ok-stored.ensures.variables
     ∙ same_front (0 ∷ xs) (places_of s) c.in_ok-stored.ensures.long c.in_ok-stored.ensures.places
     ∙ ap (λ ys. 0 ∷ ys) c.exponents.ensures.value)
-    (c.degree.ensures ∙ c.kept.ensures.degree)
+    (c.degree.ensures.value ∙ c.kept.ensures.degree)
 
 pub returns-clause-ok : goal.returns-clause-ok
 returns-clause-ok c = ap (λ (m : Monomial). m.exponents) (shown c)

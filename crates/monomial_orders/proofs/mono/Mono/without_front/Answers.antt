@@ -18,7 +18,7 @@ pub keep-requires : goal.keep-requires
 keep-requires c =
     let xs = c.exponents.result.now in
     let s = c.in_ok-stored.stored in
-    let d : c.degree.result ≡ c.args.self.degree = c.degree.ensures ∙ c.kept.ensures.degree in
+    let d : c.degree.result ≡ c.args.self.degree = c.degree.ensures.value ∙ c.kept.ensures.degree in
     let is : xs ≡ c.args.self.exponents = c.exponents.ensures.value in
     let counted = c.in_ok-stored.ensures.variables ∙ ap length (whole xs) in
     kept_at (length (drop 1 xs)) c.degree.result s counted
