@@ -3,11 +3,13 @@ use Rattle.std.proofs.Common.{List, [], ap, ap₂, arith, get_or, inl, inr, leng
 use Rattle.std.proofs.Common.{◌≤◌}
 use Rattle.std.proofs.lemmas.Bool.{cases_lt}
 use Rattle.formal_sums.specs.FormalSums.{Each, Key, shift}
+use Rattle.bases.proofs.Meeting.{met_behind}
 use Rattle.bases.specs.Leads.{head_key}
 use Rattle.module_vectors.specs.Rings.{variables}
-use Rattle.module_vectors.specs.Trails.{HasKey, Step, product_lead, step_at}
+use Rattle.module_vectors.specs.Trails.{HasKey, IsInProduct, IsStep, Step, product_lead, step_at}
 use Rattle.module_vectors.specs.Vectors.{IsTerm, key_of, sum_of}
 use Rattle.module_vectors.specs.declared.key.Key.{Key as CodeKey}
+use Rattle.basis_core.specs.Chains.{IsChainTo}
 use Rattle.basis_core.specs.Members.{Shared, Tracked}
 use Rattle.basis_core.specs.Members.{IsTracked}
 use Rattle.basis_core.specs.Rows.{vectors_in}
@@ -149,3 +151,18 @@ none_below P all i before here j l = go (cases_lt j i)
     go (inr q) =
         let same : j ≡ i = omega arith in
         λ p. here (subst (λ k. P (step_at all k)) same p)
+
+-- a chain, and a product before it that has the lead of its first one as a key
+pub chain_before :
+    (n : ℕ) (ws : List ℕ) (vs : List (List (CodeKey × ℕ))) (all : List Step) (first s : Step) (chain : List Step)
+    → IsChainTo n ws vs all first chain → IsStep n ws vs s → IsInProduct n vs (product_lead n vs first) s → IsChainTo n ws vs all s (s ∷ chain)
+chain_before n ws vs all first s chain c known there = record {
+  later = first ∷ c.later;
+  steps = ap (λ l. s ∷ l) c.steps;
+  known = (known, c.known);
+  met = (
+    inr (s, (0, omega arith, refl), there),
+    met_behind (HasKey {n = n} []) (IsInProduct n vs) (product_lead n vs) (s ∷ []) (first ∷ []) c.later c.met,
+  );
+  last = c.last;
+}

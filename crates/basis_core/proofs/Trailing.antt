@@ -1,6 +1,6 @@
 -- The trail that a chain of products stands for
 use Rattle.std.proofs.Common.{List, cond, [], ap, arith, get_or, inl, inr, length, length-append, refl, subst, suc, sym, take, zero, ℕ, ◌++◌}
-use Rattle.std.proofs.Common.{◌+◌, ◌-◌, ◌<◌, ◌∙◌, ◌∷◌, ◌≡◌}
+use Rattle.std.proofs.Common.{◌+◌, ◌-◌, ◌<◌, ◌∙◌, ◌∷◌, ◌≡◌, ◌⊎◌}
 use Rattle.std.proofs.lemmas.List.{length-map, length-take}
 use Rattle.std.specs.Prelude.{Contains}
 use Rattle.monomials.specs.Exponents.{exponents_of}
@@ -26,7 +26,7 @@ use Rattle.basis_steps.specs.Outcomes as plain
 use Rattle.basis_steps.specs.Outcomes.{AreJobProducts, IsOutcome, product_at, product_vector}
 use Rattle.basis_steps.specs.Pairs.{count, is_same_pair}
 use Rattle.basis_steps.specs.States.{Product, Trail, vectors}
-use Rattle.basis_core.specs.Chains.{IsLinked, IsTracedTo}
+use Rattle.basis_core.specs.Chains.{IsTracedTo}
 use Rattle.basis_core.specs.Jobs.{HasLcm, IsJobOver, pairs_of}
 use Rattle.basis_core.specs.Makings.{EndsAs}
 use Rattle.basis_core.specs.Members.{IsRunRow, IsTracked, Shared, Tracked, members_of, rows_of, setting_of}
@@ -35,7 +35,7 @@ use Rattle.basis_core.specs.Rows.{IsRowTrail, vectors_in}
 use Rattle.basis_core.specs.Stops.{IsTrailBy, earlier_steps, trail_by, trail_of, trail_over}
 use Rattle.basis_core.proofs.Chaining.{nonzero_at}
 use Rattle.basis_core.proofs.MemberKeys.{in_occurs, key_occurs, member_vector, vector_at}
-use Rattle.basis_core.proofs.Tracing.{HasStoppedRow, at_base, contained_each, listed_length, pair_counted, product_is, step_behind}
+use Rattle.basis_core.proofs.Tracing.{HasStoppedRow, at_base, contained_each, listed_length, met_index, pair_counted, product_is, step_behind}
 use Rattle.bases.proofs.Leading.{one_not_zero}
 use Rattle.residues.proofs.Congruences.{IsCongruent_sym}
 use Rattle.basis_steps.specs.Divisions.{IsMonicMember, Occurs}
@@ -56,27 +56,6 @@ last_of_all products s ss =
 products_whole : (n : ℕ) (s : Step) (ss : List Step) → products_of n (earlier_steps s ss) ++ (product_of n (last_step s ss) ∷ []) ≡ products_of n (s ∷ ss)
 products_whole n s [] = refl
 products_whole n s (t ∷ ss) = ap (λ l. product_of n s ∷ l) (products_whole n t ss)
-
--- a chain is met step by step
-linked_met :
-    (n : ℕ) (v : FormalSum n) (vs : List (List (CodeKey × ℕ))) (earlier : List Step) (s : Step) (ss : List Step)
-    → Contains earlier s → IsLinked n vs s ss → AreMet n v vs earlier ss
-linked_met n v vs earlier s [] there h = tt
-linked_met n v vs earlier s (t ∷ ss) there h = (inr (s, there, h.0), linked_met n v vs (earlier ++ t ∷ []) t ss (behind earlier) h.1)
-  where
-    behind : (l : List Step) → Contains (l ++ t ∷ []) t
-    behind l = (length l, omega (arith, length-append l (t ∷ [])), at l)
-      where
-        at : (l : List Step) → get_or (l ++ t ∷ []) (length l) t ≡ t
-        at [] = refl
-        at (x ∷ l) = at l
-
-linked_at :
-    (n : ℕ) (vs : List (List (CodeKey × ℕ))) (s : Step) (ss : List Step)
-    → IsLinked n vs s ss → (k : ℕ) → k < length ss → IsInProduct n vs (product_lead n vs (step_at ss k)) (step_at (s ∷ ss) k)
-linked_at n vs s [] h k l = absurd (omega arith)
-linked_at n vs s (t ∷ ss) h zero l = h.0
-linked_at n vs s (t ∷ ss) h (suc k) l = linked_at n vs t ss h.1 k (omega arith)
 
 -- ---- monomials of vectors
 term_key : (n : ℕ) (v : List (CodeKey × ℕ)) (t : CodeKey × ℕ) → Contains v t → HasKey (sum_of n v) (key_of n t.0)
@@ -183,16 +162,13 @@ module _
       pair_first =
           let one : ◌≡◌ {A = ℕ} (cond (is_same_pair (i, j) (i, j)) 1 0) 1 = ap (λ b. cond b 1 0) (is_same_pair-refl (i, j)) in
           omega (arith, one)
-  numbered (suc k) l = (here, inr (k, omega arith, omega (arith, l), occurs))
+  numbered (suc k) l = (here, go (met_index n [] vs (first ∷ []) later (c.chain_is).met k short))
     where
       short : k < length later
       short = omega (arith, l, length-map later (λ t. product_of n t))
 
       is : product_at (products_of n (first ∷ later)) (suc k) ≡ product_of n (step_at later k)
       is = product_is n (first ∷ later) (suc k) (omega (arith, short))
-
-      before : product_at (products_of n (first ∷ later)) k ≡ product_of n (step_at (first ∷ later) k)
-      before = product_is n (first ∷ later) k (omega (arith, short))
 
       here : (product_at (products_of n (first ∷ later)) (suc k)).0 < length G
       here =
@@ -204,13 +180,20 @@ module _
             members_length n ms,
           )
 
-      occurs : Occurs p (product_vector G (product_at (products_of n (first ∷ later)) k))
+      occurs : (m : ℕ) → m < suc k → IsInProduct n vs (product_lead n vs (step_at later k)) (step_at (first ∷ later) m)
+          → Occurs p (product_vector G (product_at (products_of n (first ∷ later)) m))
           (plain.product_lead G (product_at (products_of n (first ∷ later)) (suc k)))
-      occurs = subst (λ (z : Product n × Key n). Occurs p (product_vector G z.0) z.1)
-          (λ t. (sym before t, sym (ap (plain.product_lead G) is ∙ lead_here (step_at later k)) t))
-          (in_occurs (setting_of n shared) (ring_lawful shared) vs G (step_at (first ∷ later) k) (product_lead n vs (step_at later k))
-          (vector_at n ms (step_at (first ∷ later) k).0) (member_vector shared ms (step_at (first ∷ later) k).0 h.tracked)
-          (linked_at n vs first later (c.chain_is).linked k short))
+      occurs m low there = subst (λ (z : Product n × Key n). Occurs p (product_vector G z.0) z.1)
+          (λ t. (sym (product_is n (first ∷ later) m (omega (arith, short, low))) t, sym (ap (plain.product_lead G) is ∙ lead_here (step_at later k)) t))
+          (in_occurs (setting_of n shared) (ring_lawful shared) vs G (step_at (first ∷ later) m) (product_lead n vs (step_at later k))
+          (vector_at n ms (step_at (first ∷ later) m).0) (member_vector shared ms (step_at (first ∷ later) m).0 (h.tracked)) there)
+
+      go : HasKey {n = n} [] (product_lead n vs (step_at later k))
+          ⊎ ((m : ℕ) × (m < length (first ∷ []) + k) × IsInProduct n vs (product_lead n vs (step_at later k)) (step_at ((first ∷ []) ++ later) m))
+          → plain.IsJobLcm G ((i, j) ∷ []) (plain.product_lead G (product_at (products_of n (first ∷ later)) (suc k)))
+          ⊎ plain.OccursBefore p G (products_of n (first ∷ later)) (suc k) (plain.product_lead G (product_at (products_of n (first ∷ later)) (suc k)))
+      go (inl (m, low, e)) = absurd (let z : m < 0 = low in omega arith)
+      go (inr (m, low, there)) = inr (m, omega (arith, low), omega (arith, l, low), occurs m (omega (arith, low)) there)
 
   products : AreJobProducts p G ((i, j) ∷ []) (products_of n (first ∷ later))
   products = job_products_from p G ((i, j) ∷ []) (products_of n (first ∷ later)) numbered
@@ -283,7 +266,7 @@ module _
       },
       refl,
     );
-    met = linked_met n (sum_of n []) vs (first ∷ []) first later (0, omega arith, refl) (c.chain_is).linked;
+    met = (c.chain_is).met;
     last = of_last;
     last_variables = last_here;
     too_great = too_great;

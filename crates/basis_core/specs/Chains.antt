@@ -1,8 +1,8 @@
 -- How one comes from a pair of a job to the last of some products: each has its lead from a pair or from an earlier product
-use Rattle.std.specs.Prelude.{List, [], length, ⊤, ℕ, ◌-◌, ◌∷◌, ◌≡◌}
+use Rattle.std.specs.Prelude.{List, [], length, ℕ, ◌-◌, ◌∷◌, ◌≡◌}
 use Rattle.formal_sums.specs.FormalSums.{Each, Key}
 use Rattle.bases.specs.Meeting.{AreMetInTurn}
-use Rattle.module_vectors.specs.Trails.{IsInProduct, IsStep, Step, last_step, product_lead, step_at}
+use Rattle.module_vectors.specs.Trails.{AreMet, IsInProduct, IsStep, Step, last_step, product_lead, step_at}
 use Rattle.module_vectors.specs.declared.key.Key.{Key as CodeKey}
 use Rattle.pair_criteria.specs.Pairs.{IsLcmOf}
 use Rattle.pair_criteria.specs.declared.pair.Pair.{Pair as CodePair}
@@ -13,17 +13,12 @@ abbrev pub AreTraced : (n : ℕ) → List (List (CodeKey × ℕ)) → List CodeP
 AreTraced n vs pairs steps =
     AreMetInTurn (λ (k : Key n). (x : CodePair) × IsLcmOf n pairs k x) (IsInProduct n vs) (product_lead n vs) [] steps
 
--- a chain: the lead of each later product is a key of the one right before it, not only of an earlier one
-abbrev pub IsLinked : (n : ℕ) → List (List (CodeKey × ℕ)) → Step → List Step → Type 0
-IsLinked n vs s [] = ⊤
-IsLinked n vs s (t ∷ ts) = IsInProduct n vs (product_lead n vs t) s × IsLinked n vs t ts
-
--- a chain of products of these vectors from this one to the last of the list
+-- a chain of products of these vectors from this one to the last of the list: the lead of each later one is a key of an earlier one
 pub record IsChainTo (n : ℕ) (ws : List ℕ) (vs : List (List (CodeKey × ℕ))) (all : List Step) (first : Step) (chain : List Step) : Type 0 where
   pub later : List Step
   pub steps : chain ≡ first ∷ later
   pub known : Each (IsStep n ws vs) (first ∷ later)
-  pub linked : IsLinked n vs first later
+  pub met : AreMet n [] vs (first ∷ []) later
   pub last : last_step first later ≡ step_at all (length all - 1)
 
 -- a chain that begins with a pair of the job, of which these are the indices

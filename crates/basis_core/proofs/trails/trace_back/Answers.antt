@@ -1,13 +1,15 @@
-use Rattle.std.proofs.Common.{List, ap, inl, inr, length, subst, sym, ℕ, ◌<◌, ◌∙◌, ◌≡◌, ◌⊎◌}
+use Rattle.std.proofs.Common.{List, [], ap, arith, inl, inr, length, reverse, subst, subst₂, sym, ℕ, ◌<◌, ◌∙◌, ◌∷◌, ◌≡◌, ◌⊎◌}
+use Rattle.std.proofs.lemmas.List.{reverse-append}
 use Rattle.monomials.specs.Exponents.{exponents_of, unit}
 use Rattle.module_vectors.specs.Rings.{variables}
 use Rattle.module_vectors.specs.Trails.{IsInProduct, IsStep, Step, no_step, product_lead, step_at}
 use Rattle.module_vectors.specs.declared.key.Key.{Key as CodeKey}
 use Rattle.pair_criteria.specs.declared.pair.Pair.{Pair as CodePair}
+use Rattle.basis_core.specs.Chains.{IsChainTo}
 use Rattle.basis_core.specs.Rows.{vectors_in}
 use Rattle.bases.proofs.Meeting.{turn_at}
 use Rattle.formal_sums.specs.FormalSums.{Key}
-use Rattle.basis_core.proofs.Chaining.{each_item, step_is}
+use Rattle.basis_core.proofs.Chaining.{chain_before, each_item, step_is}
 use Rattle.basis_core.proofs.trails.trace_back.Goals as goal
 use Rattle.pair_criteria.specs.Pairs.{IsLcmOf}
 
@@ -36,3 +38,24 @@ find_earlier-at-requires-clause-some c =
       | inr h ↦ h
     ] in
     go (turn_at (λ (k : Key n). (x : CodePair) × IsLcmOf n c.args.pairs.now k x) (IsInProduct n vs) (product_lead n vs) no_step c.args.all.now c.requires.traced c.loop-pair.at c.loop-pair.invariant.within)
+
+pub loop-pair-preserved : goal.loop-pair-preserved
+loop-pair-preserved c =
+    let n : ℕ = variables c.args.members.now.shared.ring in
+    let ws : List ℕ = c.args.members.now.shared.ring.weights in
+    let vs : List (List (CodeKey × ℕ)) = vectors_in c.args.members.now.list in
+    let all : List Step = c.args.all.now in
+    let j : ℕ = c.find_earlier-at.result in
+    let step : Step = c.index-all-at-in-loop-pair-2.result in
+    let within : j < length all = omega (arith, c.find_earlier-at.ensures.earlier, c.loop-pair.invariant.within) in
+    let there : step ≡ step_at all j = step_is all j step within c.index-all-at-in-loop-pair-2.is in
+    let known : IsStep n ws vs step = each_item (IsStep n ws vs) all j step c.requires.all within c.index-all-at-in-loop-pair-2.is in
+    let met : IsInProduct n vs (product_lead n vs (step_at all c.loop-pair.at)) step =
+    subst (IsInProduct n vs (product_lead n vs (step_at all c.loop-pair.at))) (sym there) c.find_earlier-at.ensures.met in
+    let longer : reverse c.push_step-in-loop-pair.new.steps.items ≡ step ∷ reverse c.loop-pair.chain.items =
+    ap reverse c.in_ok-push_step-2.ensures ∙ reverse-append c.loop-pair.chain.items (step ∷ []) in
+    record {
+      within = within;
+      chain = subst₂ (IsChainTo n ws vs all) there (sym longer)
+          (chain_before n ws vs all (step_at all c.loop-pair.at) step (reverse c.loop-pair.chain.items) c.loop-pair.invariant.chain known met);
+    }
