@@ -1,4 +1,3 @@
-use Rattle.std.proofs.Common.{◌<◌}
 use Rattle.ruled_lock.specs.Plays.{IsIdle}
 use Rattle.basis_core.specs.Logs.{base}
 use Rattle.f4_engine.specs.Workers.{IsSameWorker, IsWorking}
@@ -10,6 +9,5 @@ invariant-loop g l = record {
   finite : (goal.iterator-loop g).is_finite l.iterator';
   idle : IsIdle l.lock.table.shared.table_id (base l.lock.table.shared.key.value) l.seat.place;
   works : IsWorking (base l.lock.table.shared.key.value) l.seat.place.me.0;
-  some : 0 < l.pairs;
   same : IsSameWorker l.initial.seat.place.me.0 l.seat.place.me.0;
 }
