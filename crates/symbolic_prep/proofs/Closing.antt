@@ -5,6 +5,7 @@ use Rattle.std.proofs.lemmas.List.{get_or_append_left, get_or_default, get_or_pu
 use Rattle.monomials.proofs.Monomials.{times-quotient, times-quotient_right}
 use Rattle.monomials.specs.Exponents.{Divides, exponents_of, lcm, quotient}
 use Rattle.formal_sums.specs.FormalSums.{Each, Key}
+use Rattle.pair_criteria.specs.Pairs.{IsFactorOf}
 use Rattle.pair_criteria.specs.declared.pair.Pair.{Pair as CodePair}
 use Rattle.monomial_orders.specs.Kept.{IsWeighed, Monomial}
 use Rattle.module_vectors.proofs.Scaling.{Each_at}
@@ -15,7 +16,7 @@ use Rattle.row_matrix.proofs.KeyPlaces.{key_exact}
 use Rattle.row_matrix.specs.Hashes.{AreApart, no_key}
 use Rattle.row_matrix.specs.Rows.{AreKeys, RowShown, column_key, first_column}
 use Rattle.symbolic_prep.proofs.Planning.{entries_some, lead_known}
-use Rattle.symbolic_prep.specs.Plans.{AreClosed, HasPairSteps, IsFactorOf, IsLaterPlan, IsMorePlanned, IsPairOf, IsPlan, IsPlannedRow, IsTopStep, no_row, row_at}
+use Rattle.symbolic_prep.specs.Plans.{AreClosed, HasPairSteps, IsLaterPlan, IsMorePlanned, IsPairOf, IsPlan, IsPlannedRow, IsTopStep, no_row, row_at}
 use Rattle.vector_division.specs.Divisions.{IsUncovered}
 use Rattle.vector_division.specs.Progress.{IsDivisor}
 

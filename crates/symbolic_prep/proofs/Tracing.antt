@@ -18,11 +18,11 @@ use Rattle.pair_criteria.specs.declared.pair.Pair.{Pair as CodePair}
 use Rattle.vector_division.specs.Progress.{AreWeighed, IsDivisor}
 use Rattle.row_matrix.specs.Naming.{Names}
 use Rattle.row_matrix.specs.Rows.{Entry, RowShown, column_key, row_sum}
-use Rattle.symbolic_prep.specs.Plans.{IsFactorOf, IsPairOf, IsPlan, IsProductOf, row_at}
+use Rattle.symbolic_prep.specs.Plans.{IsPairOf, IsPlan, IsProductOf, row_at}
 use Rattle.symbolic_prep.specs.Traces.{AreTraced, IsGreatEnd, IsOfEarlier, IsOfPair, PlanStops, ProductEnds}
 use Rattle.symbolic_prep.specs.declared.stop.PlanStop.{PlanStop}
 use Rattle.symbolic_prep.specs.declared.stop.PlanStop.TheVariants.{Memory, Degree}
-use Rattle.pair_criteria.specs.Pairs.{IsLcmOf}
+use Rattle.pair_criteria.specs.Pairs.{IsFactorOf, IsLcmOf}
 
 abbrev pub Terms : Type 0
 Terms = List (CodeKey × ℕ)

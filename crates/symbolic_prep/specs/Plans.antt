@@ -1,11 +1,10 @@
 -- Products of members as rows over numbers of keys
 use Rattle.std.specs.Prelude.{Bool, List, [], false, get_or, length, true, ℕ, ◌++◌, ◌<◌, ◌∷◌, ◌≡◌, ◌⊎◌}
-use Rattle.monomials.specs.Exponents.{exponents_of, quotient, times}
+use Rattle.monomials.specs.Exponents.{exponents_of, quotient}
 use Rattle.formal_sums.specs.FormalSums.{FormalSum, scale}
 use Rattle.module_vectors.specs.Trails.{Step, lead_at, product_lead, step_at}
-use Rattle.monomial_orders.specs.Kept.{IsWeighed, Monomial}
+use Rattle.monomial_orders.specs.Kept.{IsWeighed}
 use Rattle.module_vectors.specs.Vectors.{key_of, sum_of, sums_of}
-use Rattle.bases.specs.Leads.{head_key}
 use Rattle.bases.specs.Representations.{key_lcm}
 use Rattle.pair_criteria.specs.declared.pair.Pair.{Pair as CodePair}
 use Rattle.vector_division.specs.Divisions.{IsUncovered}
@@ -100,9 +99,3 @@ pub record IsPairOf (n : ℕ) (ws : List ℕ) (list : List (List (CodeKey × ℕ
   pub weighed : IsWeighed n ws x.lcm.monomial
   pub position : (lead_at n list x.i).0 ≡ (lead_at n list x.j).0
   pub lcm : key_of n x.lcm ≡ key_lcm (lead_at n list x.i) (lead_at n list x.j)
-
--- t times the lead of v is the lcm
-pub record IsFactorOf (n : ℕ) (ws : List ℕ) (lcm : CodeKey) (v : List (CodeKey × ℕ)) (t : Monomial) : Type 0 where
-  pub weighed : IsWeighed n ws t
-  pub exponents : exponents_of n t.exponents ≡ quotient (exponents_of n lcm.monomial.exponents) (head_key (sum_of n v)).1
-  pub product : times (exponents_of n t.exponents) (head_key (sum_of n v)).1 ≡ exponents_of n lcm.monomial.exponents

@@ -1,59 +1,14 @@
 // Which member has a lead that divides a key.
-ghost use Rattle.std.specs.Prelude.{◌≡◌, ◌<◌, IfOk};
-ghost use Rattle.formal_sums.specs.FormalSums.{Each};
+ghost use Rattle.std.specs.Prelude.{IfOk};
 ghost use Rattle.module_vectors.specs.Rings.{variables};
 ghost use Rattle.module_vectors.specs.Vectors.{key_of, IsMonomialOver};
-ghost use Rattle.vector_division.specs.Marks.{HasBits, IsMarkOf};
-ghost use Rattle.vector_division.specs.Progress.{AreWeighed, IsFound, IsTried};
+ghost use Rattle.vector_division.specs.Progress.{AreWeighed, IsFound};
 ghost use Rattle.symbolic_prep.specs.Divisors.{AreDivisors};
 
-use module_vectors::{Key, NoMemory, Ring, Vect, Vectors};
+use module_vectors::{Key, NoMemory, Ring, Vectors};
 use monomial_orders::Mono;
 use std::alloc::Global;
-use vector_division::{Mark, is_possible, mark_of, occurring_variables};
-
-// The monomial whose product with the lead of `v` is the key, or none where there is no such monomial.
-fn quotient_by_lead(
-    alloc: Global,
-    _ring: &Ring,
-    key: &Key,
-    v: &Vect,
-) -> Result<Option<Mono>, NoMemory>
-    requires key { IsMonomialOver _ring.now key.now.monomial }
-    requires vector { Each (λ t. IsMonomialOver _ring.now t.0.monomial) v.now }
-    ensures { let n = variables _ring.now in IfOk result (IsTried n _ring.now.weights v.now (key_of n key.now)) }
-{
-    match v.lead() {
-        None => Ok(None),
-        Some(lead) => {
-            if lead.key.position != key.position {
-                return Ok(None);
-            }
-            Ok(Mono::quotient(alloc, &key.monomial, &lead.key.monomial)?)
-        }
-    }
-}
-
-// The same, where the vector's mark is tested first.
-fn quotient_by_marked(
-    alloc: Global,
-    ring: &Ring,
-    key: &Key,
-    occurring: u64,
-    mark: &Mark,
-    v: &Vect,
-) -> Result<Option<Mono>, NoMemory>
-    requires bits { HasBits key.now.monomial.exponents occurring }
-    requires mark { IsMarkOf v.now mark.now }
-    requires key { IsMonomialOver ring.now key.now.monomial }
-    requires vector { Each (λ t. IsMonomialOver ring.now t.0.monomial) v.now }
-    ensures { let n = variables ring.now in IfOk result (IsTried n ring.now.weights v.now (key_of n key.now)) }
-{
-    if !is_possible(mark, key, occurring) {
-        return Ok(None);
-    }
-    quotient_by_lead(alloc, ring, key, v)
-}
+use vector_division::{Mark, mark_of, occurring_variables, quotient_by_marked};
 
 /// A vector of a list: its number, how many terms it has, and its mark.
 #[derive(Clone, Copy)]

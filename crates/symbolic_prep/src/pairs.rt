@@ -1,38 +1,20 @@
 // The products of a job's pairs.
-ghost use Rattle.std.specs.Prelude.{◌≡◌, ◌<◌, ◌≤◌, ◌+◌, ◌*◌, List, [], ℕ, Bool, Contains, IsTrue, false, true, length, get_or, IfOk, IfErr, OnOk};
-ghost use Rattle.monomials.specs.Exponents.{Divides, exponents_of, quotient, times};
+ghost use Rattle.std.specs.Prelude.{◌≡◌, ◌<◌, ◌≤◌, ◌+◌, ◌*◌, List, [], ℕ, Bool, Contains, IsTrue, false, true, length, get_or, IfErr, OnOk};
+ghost use Rattle.monomials.specs.Exponents.{Divides, exponents_of};
 ghost use Rattle.formal_sums.specs.FormalSums.{Each};
-ghost use Rattle.bases.specs.Leads.{head_key};
 ghost use Rattle.module_vectors.specs.Rings.{variables};
 ghost use Rattle.module_vectors.specs.Trails.{lead_at};
-ghost use Rattle.module_vectors.specs.Vectors.{IsMonomialOver, key_of, sum_of};
+ghost use Rattle.module_vectors.specs.Vectors.{IsMonomialOver};
 ghost use Rattle.vector_division.specs.Progress.{AreWeighed};
-ghost use Rattle.symbolic_prep.specs.Plans.{HasPairSteps, IsFactorOf, IsLaterPlan, IsPairOf, IsPlan, IsTopStep};
+ghost use Rattle.symbolic_prep.specs.Plans.{HasPairSteps, IsLaterPlan, IsPairOf, IsPlan, IsTopStep};
 ghost use Rattle.symbolic_prep.specs.Traces.{AreTraced, PlanStops};
 
 use crate::plan::{Plan, add_product};
 use crate::stop::PlanStop;
-use module_vectors::{Key, NoMemory, Ring, Vect, Vectors};
+use module_vectors::{Ring, Vectors};
 use monomial_orders::Mono;
-use pair_criteria::Pair;
+use pair_criteria::{Pair, factor_of};
 use std::alloc::Global;
-
-// The monomial that takes the lead of a vector to the lcm, which it divides.
-fn factor_of(alloc: Global, _ring: &Ring, lcm: &Key, v: &Vect) -> Result<Mono, NoMemory>
-    requires lcm { IsMonomialOver _ring.now lcm.now.monomial }
-    requires vector { Each (λ t. IsMonomialOver _ring.now t.0.monomial) v.now }
-    requires some { 0 < length v.now }
-    requires divides { let n = variables _ring.now in Divides (head_key (sum_of n v.now)).1 (exponents_of n lcm.now.monomial.exponents) }
-    ensures { IfOk result (IsFactorOf (variables _ring.now) _ring.now.weights lcm.now v.now) }
-{
-    match v.lead() {
-        None => unreachable!(),
-        Some(lead) => match Mono::quotient(alloc, &lcm.monomial, &lead.key.monomial)? {
-            Some(monomial) => Ok(monomial),
-            None => unreachable!(),
-        },
-    }
-}
 
 // The product of this member and this monomial is among those from the number `first` on.
 fn has_product(products: &[(u64, Mono)], first: usize, member: u64, t: &Mono) -> bool
