@@ -23,7 +23,7 @@ use Rattle.basis_steps.specs.Divisions.{Occurs}
 use Rattle.basis_steps.specs.Outcomes.{IsOutcome, IsRow, OccursBefore, product_at, product_vector}
 use Rattle.basis_steps.specs.Pairs.{Pair, count, is_same_pair}
 use Rattle.basis_steps.specs.States.{Member, Product, vectors}
-use Rattle.basis_core.specs.Chains.{AreTraced}
+use Rattle.pair_criteria.specs.Traces.{AreTraced}
 use Rattle.basis_core.specs.Jobs.{HasLcm, pair_of, pairs_of}
 use Rattle.basis_core.specs.Members.{IsRunRow, IsTracked, Shared, Tracked, members_of, row_of, rows_of, setting_of}
 use Rattle.basis_core.specs.Outcomes.{product_of, products_of}

@@ -1,17 +1,11 @@
 -- How one comes from a pair of a job to the last of some products: each has its lead from a pair or from an earlier product
 use Rattle.std.specs.Prelude.{List, [], length, ℕ, ◌-◌, ◌∷◌, ◌≡◌}
-use Rattle.formal_sums.specs.FormalSums.{Each, Key}
-use Rattle.bases.specs.Meeting.{AreMetInTurn}
-use Rattle.module_vectors.specs.Trails.{AreMet, IsInProduct, IsStep, Step, last_step, product_lead, step_at}
+use Rattle.formal_sums.specs.FormalSums.{Each}
+use Rattle.module_vectors.specs.Trails.{AreMet, IsStep, Step, last_step, product_lead, step_at}
 use Rattle.module_vectors.specs.declared.key.Key.{Key as CodeKey}
 use Rattle.pair_criteria.specs.Pairs.{IsLcmOf}
 use Rattle.pair_criteria.specs.declared.pair.Pair.{Pair as CodePair}
 use Rattle.basis_core.specs.Jobs.{pair_of}
-
--- the lead of each product is the lcm of a pair, or a key of an earlier product
-abbrev pub AreTraced : (n : ℕ) → List (List (CodeKey × ℕ)) → List CodePair → List Step → Type 0
-AreTraced n vs pairs steps =
-    AreMetInTurn (λ (k : Key n). (x : CodePair) × IsLcmOf n pairs k x) (IsInProduct n vs) (product_lead n vs) [] steps
 
 -- a chain of products of these vectors from this one to the last of the list: the lead of each later one is a key of an earlier one
 pub record IsChainTo (n : ℕ) (ws : List ℕ) (vs : List (List (CodeKey × ℕ))) (all : List Step) (first : Step) (chain : List Step) : Type 0 where

@@ -11,7 +11,7 @@ use Rattle.module_vectors.specs.declared.key.Key.{Key as CodeKey}
 use Rattle.pair_criteria.specs.declared.pair.Pair.{Pair as CodePair}
 use Rattle.row_matrix.specs.Rows.{AreKeys, Descend, IsFromSources, IsRow, RowShown, vector_of, vectors_of}
 use Rattle.symbolic_prep.specs.Plans.{IsProductOf, product_sum}
-use Rattle.symbolic_prep.specs.Traces.{AreTraced}
+use Rattle.pair_criteria.specs.Traces.{AreTraced}
 
 -- the key is below the least common multiple of one of the pairs
 abbrev pub IsBelowPairs : {n : ℕ} → Setting n → List CodePair → Key n → Type 0

@@ -27,7 +27,7 @@ use Rattle.symbolic_prep.proofs.Closing.{one_number}
 use Rattle.symbolic_prep.proofs.Planning.{entries_some, head_of, head_product, lead_known}
 use Rattle.symbolic_prep.specs.Counts.{HasFewRows, IsSparse}
 use Rattle.symbolic_prep.specs.Plans.{AreClosed, HasPairSteps, IsPairOf, IsPlan, IsTopStep, lead_number, no_row, product_sum, row_at}
-use Rattle.symbolic_prep.specs.Traces.{AreTraced}
+use Rattle.pair_criteria.specs.Traces.{AreTraced}
 use Rattle.symbolic_prep.specs.Prepared.{IsMonicVector, IsPrepared}
 
 pub Each_index : {X : Type 0} (P : X → Type 0) (xs : List X) (d : X) → ((i : ℕ) → i < length xs → P (get_or xs i d)) → Each P xs

@@ -19,7 +19,8 @@ use Rattle.vector_division.specs.Progress.{AreWeighed, IsDivisor}
 use Rattle.row_matrix.specs.Naming.{Names}
 use Rattle.row_matrix.specs.Rows.{Entry, RowShown, column_key, row_sum}
 use Rattle.symbolic_prep.specs.Plans.{IsPairOf, IsPlan, IsProductOf, row_at}
-use Rattle.symbolic_prep.specs.Traces.{AreTraced, IsGreatEnd, IsOfEarlier, IsOfPair, PlanStops, ProductEnds}
+use Rattle.pair_criteria.specs.Traces.{AreTraced}
+use Rattle.symbolic_prep.specs.Traces.{IsGreatEnd, IsOfEarlier, IsOfPair, PlanStops, ProductEnds}
 use Rattle.symbolic_prep.specs.declared.stop.PlanStop.{PlanStop}
 use Rattle.symbolic_prep.specs.declared.stop.PlanStop.TheVariants.{Memory, Degree}
 use Rattle.pair_criteria.specs.Pairs.{IsFactorOf, IsLcmOf}

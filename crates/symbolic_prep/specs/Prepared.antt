@@ -11,7 +11,7 @@ use Rattle.row_laws.specs.Jobs.{AreProductRows, HasPairRows, HasReducers}
 use Rattle.row_matrix.specs.Rows.{IsMatrix, MatrixShown, vectors_of}
 use Rattle.symbolic_prep.specs.Counts.{HasFewRows}
 use Rattle.symbolic_prep.specs.Plans.{IsProductOf, product_sum, row_at}
-use Rattle.symbolic_prep.specs.Traces.{AreTraced}
+use Rattle.pair_criteria.specs.Traces.{AreTraced}
 
 -- the vector is not zero, and its first coefficient is 1
 abbrev pub IsMonicVector : ℕ → List (CodeKey × ℕ) → Type 0

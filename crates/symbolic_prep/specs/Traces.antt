@@ -1,12 +1,12 @@
 -- Where the products of a job come from, and the one that is too great
 use Rattle.std.specs.Prelude.{List, [], length, ⊤, ℕ, ◌++◌, ◌-◌, ◌<◌, ◌∷◌, ◌≡◌}
-use Rattle.formal_sums.specs.FormalSums.{Each, Key}
-use Rattle.bases.specs.Meeting.{AreMetInTurn}
+use Rattle.formal_sums.specs.FormalSums.{Each}
 use Rattle.monomial_orders.specs.Kept.{IsWeighed, Monomial}
 use Rattle.module_vectors.specs.Stops.{HasMonomial, IsTooGreat}
 use Rattle.module_vectors.specs.Trails.{IsInProduct, IsOfStep, IsStep, Step, product_lead, step_at}
 use Rattle.module_vectors.specs.declared.key.Key.{Key as CodeKey}
 use Rattle.pair_criteria.specs.Pairs.{IsLcmOf}
+use Rattle.pair_criteria.specs.Traces.{AreTraced}
 use Rattle.pair_criteria.specs.declared.pair.Pair.{Pair as CodePair}
 use Rattle.symbolic_prep.specs.declared.stop.PlanStop.{PlanStop}
 use Rattle.symbolic_prep.specs.declared.stop.PlanStop.TheVariants.{Memory, Degree}
@@ -20,11 +20,6 @@ IsOfPair n list pairs s = (x : CodePair) × IsLcmOf n pairs (product_lead n list
 -- the lead of the product is a key of one of the first products, so many
 abbrev pub IsOfEarlier : (n : ℕ) → List (List (CodeKey × ℕ)) → List Step → ℕ → Step → Type 0
 IsOfEarlier n list steps count s = (j : ℕ) × (j < count) × IsInProduct n list (product_lead n list s) (step_at steps j)
-
--- the lead of each product is the least common multiple of a pair, or a key of an earlier product
-abbrev pub AreTraced : (n : ℕ) → List (List (CodeKey × ℕ)) → List CodePair → List Step → Type 0
-AreTraced n list pairs steps =
-    AreMetInTurn (λ (k : Key n). (x : CodePair) × IsLcmOf n pairs k x) (IsInProduct n list) (product_lead n list) [] steps
 
 -- such products, the last of which is too great for this monomial of its vector
 pub record IsGreatEnd (n : ℕ) (ws : List ℕ) (list : List (List (CodeKey × ℕ))) (pairs : List CodePair) (steps : List Step) (last : Monomial) : Type 0 where

@@ -7,7 +7,8 @@ ghost use Rattle.module_vectors.specs.Trails.{lead_at};
 ghost use Rattle.module_vectors.specs.Vectors.{IsMonomialOver};
 ghost use Rattle.vector_division.specs.Progress.{AreWeighed};
 ghost use Rattle.symbolic_prep.specs.Plans.{HasPairSteps, IsLaterPlan, IsPairOf, IsPlan, IsTopStep};
-ghost use Rattle.symbolic_prep.specs.Traces.{AreTraced, PlanStops};
+ghost use Rattle.pair_criteria.specs.Traces.{AreTraced};
+ghost use Rattle.symbolic_prep.specs.Traces.{PlanStops};
 
 use crate::plan::{Plan, add_product};
 use crate::stop::PlanStop;

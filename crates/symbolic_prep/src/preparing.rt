@@ -8,7 +8,8 @@ ghost use Rattle.pair_criteria.specs.declared.pair.Pair.{Pair as PairValue};
 ghost use Rattle.symbolic_prep.specs.Counts.{IsSparse};
 ghost use Rattle.symbolic_prep.specs.Plans.{HasPairSteps, IsPairOf, IsPlan, AreClosed};
 ghost use Rattle.symbolic_prep.specs.Prepared.{IsMonicVector, IsPrepared};
-ghost use Rattle.symbolic_prep.specs.Traces.{AreTraced, PlanStops, PrepareStops};
+ghost use Rattle.pair_criteria.specs.Traces.{AreTraced};
+ghost use Rattle.symbolic_prep.specs.Traces.{PlanStops, PrepareStops};
 
 use crate::pairs::add_pairs;
 use crate::plan::Plan;

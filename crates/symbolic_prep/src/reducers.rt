@@ -8,7 +8,8 @@ ghost use Rattle.vector_division.specs.Progress.{AreWeighed, IsFound};
 ghost use Rattle.symbolic_prep.specs.Counts.{IsSparse};
 ghost use Rattle.symbolic_prep.specs.Divisors.{AreDivisors};
 ghost use Rattle.symbolic_prep.specs.Plans.{AreClosed, IsLaterPlan, IsPlan};
-ghost use Rattle.symbolic_prep.specs.Traces.{AreTraced, PlanStops};
+ghost use Rattle.pair_criteria.specs.Traces.{AreTraced};
+ghost use Rattle.symbolic_prep.specs.Traces.{PlanStops};
 
 use crate::divisors::{Divisor, divisors_of, find_divisor};
 use crate::plan::{Plan, add_product};

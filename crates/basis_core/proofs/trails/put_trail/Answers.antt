@@ -7,7 +7,8 @@ use Rattle.module_vectors.specs.declared.key.Key.{Key as CodeKey}
 use Rattle.module_vectors.specs.declared.ring.Ring.{Ring}
 use Rattle.module_vectors.specs.declared.trail.KeptTrail.{KeptTrail}
 use Rattle.pair_criteria.specs.declared.pair.Pair.{Pair as CodePair}
-use Rattle.basis_core.specs.Chains.{AreTraced, IsTracedTo}
+use Rattle.pair_criteria.specs.Traces.{AreTraced}
+use Rattle.basis_core.specs.Chains.{IsTracedTo}
 use Rattle.basis_core.specs.Jobs.{IsJobOver, JobShown}
 use Rattle.basis_core.specs.Members.{Shared, Tracked}
 use Rattle.basis_core.specs.Outcomes.{OutcomeShown}

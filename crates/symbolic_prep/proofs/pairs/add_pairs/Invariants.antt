@@ -2,7 +2,7 @@ use Rattle.std.proofs.Common.{length, take, ◌*◌, ◌+◌, ◌≤◌}
 use Rattle.formal_sums.specs.FormalSums.{Each}
 use Rattle.module_vectors.specs.Rings.{variables}
 use Rattle.symbolic_prep.specs.Plans.{HasPairSteps, IsLaterPlan}
-use Rattle.symbolic_prep.specs.Traces.{AreTraced}
+use Rattle.pair_criteria.specs.Traces.{AreTraced}
 use Rattle.symbolic_prep.proofs.pairs.add_pairs.Given as goal
 
 abbrev pub invariant-loop-i : goal.invariant-loop-i

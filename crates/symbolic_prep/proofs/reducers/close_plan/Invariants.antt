@@ -2,7 +2,7 @@ use Rattle.std.proofs.Common.{List, ℕ}
 use Rattle.symbolic_prep.specs.Counts.{IsSparse}
 use Rattle.module_vectors.specs.Rings.{variables}
 use Rattle.symbolic_prep.specs.Plans.{AreClosed, IsLaterPlan}
-use Rattle.symbolic_prep.specs.Traces.{AreTraced}
+use Rattle.pair_criteria.specs.Traces.{AreTraced}
 use Rattle.symbolic_prep.proofs.reducers.close_plan.Given as goal
 
 abbrev pub invariant-loop-cursor : goal.invariant-loop-cursor
