@@ -1,3 +1,4 @@
 -- what public clauses cite
 pub mod Causes
 pub mod InMemory
+pub mod Lines

@@ -12,7 +12,7 @@ use crate::{Failed, Sink, Source};
 use std::alloc::{AllocError, Global};
 use std::marker::Model;
 
-/// There was no room for a sink's bytes.
+/// There was no room for what is to be made.
 #[derive(Clone, Copy, Debug, PartialEq, Eq)]
 pub struct NoMemory;
 
