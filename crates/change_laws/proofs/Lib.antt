@@ -1,0 +1,9 @@
+pub mod Pigeons
+pub mod Listing
+pub mod Pushing
+pub mod Powers
+pub mod Modulo
+pub mod Expansions
+pub mod Triangles
+pub mod Independent
+pub mod NewBases
