@@ -1,0 +1,8 @@
+use Rattle.std.proofs.Common.{get_or, length, ℕ, ◌<◌, ◌≡◌}
+use Rattle.monomials.specs.Exponents.{Divides, exponents_of, unit}
+use Rattle.change_laws.specs.Standard.{Has, power}
+use Rattle.order_change.specs.Lists.{monomials}
+use Rattle.order_change.proofs.leads.has_power.Given as goal
+
+abbrev pub invariant-loop-lead : goal.invariant-loop-lead
+invariant-loop-lead l = let n = length l.weights in (k : ℕ) → k < l.lead-index → (a : ℕ) → get_or (monomials n l.leads) k (unit n) ≡ power n l.i a → ⊥

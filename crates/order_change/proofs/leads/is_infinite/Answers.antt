@@ -1,0 +1,17 @@
+use Rattle.std.proofs.Common.{ap, arith, false, get_or, length, refl, subst, sym, true, ℕ, ◌+◌, ◌<◌, ◌∙◌, ◌≡◌, ◌≤◌}
+use Rattle.monomials.specs.Exponents.{Divides, exponents_of, times, unit}
+use Rattle.change_laws.specs.Standard.{Has, IsStandard, power}
+use Rattle.order_change.specs.Lists.{AreListed, IsNew, monomials}
+use Rattle.order_change.proofs.Items.{divides_by, equal_by, is_free, item_at, not_standard, one_more, product_by, variable_power}
+use Rattle.order_change.proofs.leads.is_infinite.Goals as goal
+
+pub loop-i-preserved : goal.loop-i-preserved
+loop-i-preserved c =
+    let n = length c.args.weights.now in
+    one_more (λ v. (a : ℕ) × Has (monomials n c.args.leads.now) (power n v a)) c.loop-i.i c.loop-i.invariant (c.if-not-has_power.ensures.0 refl)
+
+pub returns : goal.returns
+returns c =
+    let n = length c.args.weights.now in
+    let le : n ≤ c.loop-i.i = omega arith in
+    ((λ t. let q : false ≡ true = t in cc), λ inf. absurd (let lt : inf.0 < c.loop-i.i = (let l = inf.1 in omega (arith, l, le)) in let h = c.loop-i.invariant inf.0 lt in inf.2 h.0 h.1))

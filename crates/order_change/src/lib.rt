@@ -1,0 +1,11 @@
+//! From the reduced Gröbner basis of an ideal with finitely many standard monomials to the one in another order, by linear
+//! algebra on normal forms (Faugère, Gianni, Lazard, Mora, Journal of Symbolic Computation 16, 1993).
+#![tactic(auto)]
+
+mod enumeration;
+mod leads;
+mod listing;
+mod stop;
+
+pub use listing::standard;
+pub use stop::ChangeStop;
