@@ -146,7 +146,7 @@ module _ (j : JobShown) (job : IsJobOver j) (tracked : Each (IsTracked j.shared)
         lead_unique S lawful (vector_of n columns r) k (head_key (vector_of n columns r)) (subst (λ v. IsLead S v k) made.sum lead)
         (IsLead_of_monic S lawful (row_monic n S lawful columns new.descend (length steps) r good)) in
         let l = Each_at (HasLcm n j.shared.ring.weights j.members) j.pairs i x job.lcms lt (sym is) in
-        (pair_of x, count_in j.pairs i x lt is, subst₂ (λ a b. S.compare a b ≡ Less) (sym e) l.lcm less)
+        (pair_of x, pair_counted x j.pairs (i, lt, is), subst₂ (λ a b. S.compare a b ≡ Less) (sym e) l.lcm less)
 
   -- ---- all rows
   made_vectors : (rs : List RowShown) (ms : List CodeRow) → AreMadeRows j.shared.ring columns steps rs ms → vectors (rows_of n ms) ≡ vectors_of n columns rs
