@@ -6,7 +6,8 @@ mod Reading
 mod OneModule
 mod Finding
 mod Making
-mod Counted
+mod Placing
+mod Performing
 mod Stopping
 mod Reported
 mod KeptValues

@@ -14,3 +14,4 @@ pub mod Tasks
 pub mod Counting
 pub mod Asking
 pub mod Parts
+pub mod Performing

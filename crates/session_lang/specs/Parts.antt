@@ -1,24 +1,11 @@
--- What the parts of a session say of values with names, and of values at places
-use Rattle.std.specs.Prelude.{IsSome, List, codes, false, get_or, slice_set, ℕ, ◌≡◌, ◌⊎◌}
+-- What the calls for values at places say
+use Rattle.std.specs.Prelude.{IsSome, List, false, get_or, slice_set, ℕ, ◌≡◌, ◌⊎◌}
 use Rattle.module_vectors.specs.declared.key.Key.{Key}
 use Rattle.module_vectors.specs.declared.ring.Ring.{Ring}
 use Rattle.script_parse.specs.declared.named.NameInfo.{NameInfo}
-use Rattle.session_lang.specs.Answers.{Decides, IsOneModule}
 use Rattle.session_lang.specs.Kept.{value_of}
-use Rattle.session_lang.specs.Names.{HasValue, State, Value}
-use Rattle.session_lang.specs.Texts.{listing}
+use Rattle.session_lang.specs.Names.{Value}
 use Rattle.session_lang.specs.Held.{Held}
-
--- the text is the list of the value with this name
-abbrev pub Lists : State → (name text : List ℕ) → Type 0
-Lists before name text =
-    (ring : Ring) × (value : Value) × HasValue before name ring value × (text ≡ listing (codes "gens") ring value value.list)
-
--- the text says whether the values with these names generate one module
-abbrev pub Compares : State → (first second text : List ℕ) → Type 0
-Compares before first second text =
-    (ring : Ring) × (left : Value) × (right : Value) × HasValue before first ring left × HasValue before second ring right
-    × Decides (IsOneModule ring left.list right.list) text
 
 -- the basis of the value at this place is kept now; the other values are as before
 pub record Keeps (before : List Held) (i : ℕ) (after : List Held) : Type 0 where

@@ -1,8 +1,9 @@
 // What the lines of a script do, one after another.
-ghost use Rattle.std.specs.Prelude.{◌≡◌, ◌≤◌, IfErr, IfOk, OnErr, OnOk};
+ghost use Rattle.std.specs.Prelude.{◌≡◌, ◌≤◌, Err, IfErr, IfOk, Ok, OnErr, OnOk};
 ghost use Rattle.groebner_iface.specs.Calls.{CallStops};
 ghost use Rattle.session_lang.specs.Lines.{RunOf};
 ghost use Rattle.session_lang.specs.Stops.{Steps, TrailOf};
+ghost use Rattle.session_lang.specs.declared.step.Step.TheVariants as steps;
 
 use crate::answers::{Question, answer_value, compare_values};
 use crate::lifts::push_lift;
@@ -44,6 +45,17 @@ pub struct Session {
     stored: Vec<Stored>,
 }
 
+// What became of the line for which a call was made.
+fn done(called: Result<(), OpStop>) -> Result<Step, OpStop>
+    ensures ok { OnOk called (result ≡ Ok steps.Done) }
+    ensures err { IfErr called (λ stop. result ≡ Err stop) }
+{
+    match called {
+        Ok(()) => Ok(Step::Done),
+        Err(stop) => Err(stop),
+    }
+}
+
 impl Model for Session {
     ghost use Rattle.session_lang.specs.Kept.{AreKept, values_of};
     ghost use Rattle.session_lang.specs.Names.{State};
@@ -56,21 +68,14 @@ impl Model for Session {
 }
 
 impl Session {
-    ghost use Rattle.std.specs.Prelude.{◌++◌, ◌∷◌, List, Some, [], is_some, string_bytes, true, ℕ};
-    ghost use Rattle.module_vectors.specs.Rings.{ring_comparison};
-    ghost use Rattle.module_vectors.specs.Vectors.{IsVectorOver};
-    ghost use Rattle.module_vectors.specs.declared.key.Key.{Key as KeyValue};
+    ghost use Rattle.std.specs.Prelude.{◌++◌, List, Some, [], is_some, string_bytes, ℕ};
     ghost use Rattle.module_vectors.specs.declared.ring.Ring.{Ring as RingValue};
-    ghost use Rattle.poly_text.specs.Texts.{names_of, poly_text};
-    ghost use Rattle.session_lang.specs.Asking.{IsAskedOver, asked_of};
-    ghost use Rattle.session_lang.specs.Counting.{CountsNamed, Performs};
-    ghost use Rattle.session_lang.specs.Kept.{IsFit, IsGiven, IsOfValueRank, IsSound, IsWorkable, value_of};
-    ghost use Rattle.groebner_iface.specs.Calls.{NoTrail};
-    ghost use Rattle.session_lang.specs.Lines.{Answers, Gives, IsLiftRun, IsRunFor, IsRunForEither, IsRunOfWork, Lifts, Needs};
-    ghost use Rattle.session_lang.specs.Names.{HasValue, Value, after_giving, after_run, no_names};
+    ghost use Rattle.script_parse.specs.declared.stated.Statement.TheVariants as statements;
+    ghost use Rattle.session_lang.specs.Asking.{asked_of};
+    ghost use Rattle.session_lang.specs.Kept.{IsFit, IsGiven, IsSound, IsWorkable, value_of};
+    ghost use Rattle.session_lang.specs.Names.{HasValue, after_giving, no_names};
     ghost use Rattle.session_lang.specs.Operations.{WorksOn};
-    ghost use Rattle.session_lang.specs.Parts.{Compares, Lists};
-    ghost use Rattle.session_lang.specs.Stops.{IsTrailFor, IsTrailOfLift, IsTrailOfWork, Meets};
+    ghost use Rattle.session_lang.specs.Performing.{Performed, PerformedAlone, asking};
     ghost use Rattle.session_lang.specs.Tasks.{IsOperand, IsReady, work_of};
 
     /// A session in which no ring is stated and nothing has a name.
@@ -84,35 +89,63 @@ impl Session {
         }
     }
 
+    // Prints a polynomial.
+    fn show(&self, alloc: Global, shown: &Vect, out: &mut Vec<u8>) -> Result<Step, OpStop>
+        requires { IsFit self.now (statements.Show shown.now) }
+        ensures { PerformedAlone self.now (statements.Show shown.now) self.now out.old.items out.new.items result }
+    {
+        let Some(ring) = &self.ring else {
+            unreachable!()
+        };
+        match push_line(alloc, out, ring, 1, shown) {
+            Ok(()) => Ok(Step::Done),
+            Err(_) => Err(OpStop::Memory),
+        }
+    }
+
+    // Prints the stored list of a value.
+    fn list(&self, alloc: Global, name: &String, out: &mut Vec<u8>) -> Result<Step, OpStop>
+        requires { IsFit self.now (statements.Gens name.now) }
+        ensures { PerformedAlone self.now (statements.Gens name.now) self.now out.old.items out.new.items result }
+    {
+        let value = self.found(name.as_bytes());
+        match push_listing(
+            alloc,
+            out,
+            b"gens",
+            value.info.name.as_bytes(),
+            value.ring,
+            value.info.rank,
+            value.stored.list(),
+        ) {
+            Ok(()) => Ok(Step::Done),
+            Err(_) => Err(OpStop::Memory),
+        }
+    }
+
     // Prints the answer to a question of a value.
     fn ask<R: Threads + Wait + Sync, B: Groebner>(
         &mut self,
         rt: &R,
         alloc: Global,
         engine: &mut B,
-        name: &[u8],
+        name: &String,
         question: Question<'_>,
         out: &mut Vec<u8>,
-    ) -> Result<(), OpStop>
-        requires given { IsGiven self.old name.now }
-        requires over { (ring : RingValue) → self.old.ring ≡ Some ring → IsAskedOver ring (asked_of question) }
-        ensures done { OnOk result (self.new ≡ after_run name.now self.old) }
-        ensures same { OnErr result (self.new ≡ self.old) }
-        ensures text { OnOk result ((text : List ℕ) × Answers self.old name.now (asked_of question.entry) text × (out.new.items ≡ out.old.items ++ text)) }
-        ensures unwritten { OnErr result (out.new.items ≡ out.old.items) }
-        ensures engine { OnOk result ((B.stops engine.new ≡ B.stops engine.old) × (B.stopped engine.new ≡ B.stopped engine.old)) }
-        ensures stop { IfErr result (CallStops (IsRunFor self.old name.now) (IsTrailFor self.old name.now (asked_of question.entry))
-            (B.stops engine.old) (B.stops engine.new) (B.stopped engine.old) (B.stopped engine.new)) }
+    ) -> Result<Step, OpStop>
+        requires { IsFit self.old (asking name.now (asked_of question)) }
+        ensures performed { Performed self.old (asking name.now (asked_of question.entry)) self.new out.old.items out.new.items
+            (B.stops engine.old) (B.stops engine.new) (B.stopped engine.old) (B.stopped engine.new) result }
         ensures later { B.stops engine.old ≤ B.stops engine.new }
         ensures settings { B.settings engine.new ≡ B.settings engine.old }
     {
         let Some(ring) = &self.ring else {
             unreachable!()
         };
-        let Some(i) = place_of(&self.names, name) else {
+        let Some(i) = place_of(&self.names, name.as_bytes()) else {
             unreachable!()
         };
-        answer_value(
+        done(answer_value(
             rt,
             alloc,
             engine,
@@ -121,7 +154,7 @@ impl Session {
             &mut self.stored[i],
             question,
             out,
-        )
+        ))
     }
 
     // Prints whether two values generate one module.
@@ -130,32 +163,26 @@ impl Session {
         rt: &R,
         alloc: Global,
         engine: &mut B,
-        first: &[u8],
-        second: &[u8],
+        first: &String,
+        second: &String,
         out: &mut Vec<u8>,
-    ) -> Result<(), OpStop>
-        requires given { (ring : RingValue) × (left : Value) × (right : Value) × HasValue self.old first.now ring left
-            × HasValue self.old second.now ring right × (left.rank ≡ right.rank) }
-        ensures done { OnOk result (self.new ≡ after_run second.now (after_run first.now self.old)) }
-        ensures same { OnErr result (self.new ≡ self.old) }
-        ensures text { OnOk result ((text : List ℕ) × Compares self.old first.now second.now text × (out.new.items ≡ out.old.items ++ text)) }
-        ensures unwritten { OnErr result (out.new.items ≡ out.old.items) }
-        ensures engine { OnOk result ((B.stops engine.new ≡ B.stops engine.old) × (B.stopped engine.new ≡ B.stopped engine.old)) }
-        ensures stop { IfErr result (CallStops (IsRunForEither self.old first.now second.now) NoTrail
-            (B.stops engine.old) (B.stops engine.new) (B.stopped engine.old) (B.stopped engine.new)) }
+    ) -> Result<Step, OpStop>
+        requires { IsFit self.old (statements.Equal first.now second.now) }
+        ensures performed { Performed self.old (statements.Equal first.now second.now) self.new out.old.items out.new.items
+            (B.stops engine.old) (B.stops engine.new) (B.stopped engine.old) (B.stopped engine.new) result }
         ensures later { B.stops engine.old ≤ B.stops engine.new }
         ensures settings { B.settings engine.new ≡ B.settings engine.old }
     {
         let Some(ring) = &self.ring else {
             unreachable!()
         };
-        let Some(i) = place_of(&self.names, first) else {
+        let Some(i) = place_of(&self.names, first.as_bytes()) else {
             unreachable!()
         };
-        let Some(j) = place_of(&self.names, second) else {
+        let Some(j) = place_of(&self.names, second.as_bytes()) else {
             unreachable!()
         };
-        compare_values(
+        done(compare_values(
             rt,
             alloc,
             engine,
@@ -164,38 +191,7 @@ impl Session {
             &mut self.stored,
             (i, j),
             out,
-        )
-    }
-
-    // Prints the stored list of a value.
-    fn list(&self, alloc: Global, name: &[u8], out: &mut Vec<u8>) -> Result<(), NoMemory>
-        requires { IsGiven self.now name.now }
-        ensures text { OnOk result ((text : List ℕ) × Lists self.now name.now text × (out.new.items ≡ out.old.items ++ text)) }
-        ensures unwritten { OnErr result (out.new.items ≡ out.old.items) }
-    {
-        let value = self.found(name);
-        push_listing(
-            alloc,
-            out,
-            b"gens",
-            value.info.name.as_bytes(),
-            value.ring,
-            value.info.rank,
-            value.stored.list(),
-        )
-    }
-
-    // Prints a polynomial.
-    fn show(&self, alloc: Global, shown: &Vect, out: &mut Vec<u8>) -> Result<(), NoMemory>
-        requires { (ring : RingValue) × (self.now.ring ≡ Some ring) × IsVectorOver ring (ring_comparison ring) shown.now }
-        ensures text { OnOk result ((ring : RingValue) × (self.now.ring ≡ Some ring)
-            × (out.new.items ≡ out.old.items ++ (poly_text (names_of ring) shown.now ++ 10 ∷ []))) }
-        ensures unwritten { OnErr result (out.new.items ≡ out.old.items) }
-    {
-        let Some(ring) = &self.ring else {
-            unreachable!()
-        };
-        push_line(alloc, out, ring, 1, shown)
+        ))
     }
 
     // States a ring, and takes all names away.
@@ -233,6 +229,17 @@ impl Session {
         ensures same { OnErr result (self.new ≡ self.old) }
     {
         give_name(&mut self.names, &mut self.stored, name, rank, value)
+    }
+
+    // Gives a name to a list that was typed.
+    fn define(&mut self, name: String, rank: u64, list: VectList) -> Result<Step, OpStop>
+        requires { IsFit self.old (statements.Module name rank list) }
+        ensures { (text : List ℕ) → PerformedAlone self.old (statements.Module name rank list) self.new text text result }
+    {
+        match self.give(name, rank, Stored::of(list)) {
+            Ok(()) => Ok(Step::Done),
+            Err(_) => Err(OpStop::Memory),
+        }
     }
 
     // The rank and the stored list of the value with this name.
@@ -300,14 +307,10 @@ impl Session {
         engine: &mut B,
         name: String,
         operation: &Operation,
-    ) -> Result<(), OpStop>
-        requires { IsWorkable self.old operation.now }
-        ensures done { OnOk result ((ring : RingValue) × (rank : ℕ) × (list : List (List (KeyValue × ℕ))) × Gives self.old operation.now ring rank list
-            × (self.new ≡ after_giving (record { name = string_bytes name; rank = rank; list = list; kept = true }) self.old)) }
-        ensures same { OnErr result (self.new ≡ self.old) }
-        ensures engine { OnOk result ((B.stops engine.new ≡ B.stops engine.old) × (B.stopped engine.new ≡ B.stopped engine.old)) }
-        ensures stop { IfErr result (CallStops (IsRunOfWork self.old operation.now) (IsTrailOfWork self.old operation.now)
-            (B.stops engine.old) (B.stops engine.new) (B.stopped engine.old) (B.stopped engine.new)) }
+    ) -> Result<Step, OpStop>
+        requires { IsFit self.old (statements.Let name operation.now) }
+        ensures performed { (text : List ℕ) → Performed self.old (statements.Let name operation.now) self.new text text
+            (B.stops engine.old) (B.stops engine.new) (B.stopped engine.old) (B.stopped engine.new) result }
         ensures later { B.stops engine.old ≤ B.stops engine.new }
         ensures settings { B.settings engine.new ≡ B.settings engine.old }
     {
@@ -321,7 +324,7 @@ impl Session {
             Err(stop) => return Err(stop),
         };
         match self.give(name, rank, Stored::of_basis(list)) {
-            Ok(()) => Ok(()),
+            Ok(()) => Ok(Step::Done),
             Err(_) => Err(OpStop::Memory),
         }
     }
@@ -332,21 +335,18 @@ impl Session {
         rt: &R,
         alloc: Global,
         engine: &mut B,
-        name: &[u8],
+        name: &String,
         v: &Vect,
         out: &mut Vec<u8>,
-    ) -> Result<(), OpStop>
-        requires { IsOfValueRank self.now name.now v.now }
-        ensures text { OnOk result ((text : List ℕ) × Lifts self.now name.now v.now text × (out.new.items ≡ out.old.items ++ text)) }
-        ensures unwritten { OnErr result (out.new.items ≡ out.old.items) }
-        ensures engine { OnOk result ((B.stops engine.new ≡ B.stops engine.old) × (B.stopped engine.new ≡ B.stopped engine.old)) }
-        ensures stop { IfErr result (CallStops (IsLiftRun self.now name.now) (IsTrailOfLift self.now name.now v.now)
-            (B.stops engine.old) (B.stops engine.new) (B.stopped engine.old) (B.stopped engine.new)) }
+    ) -> Result<Step, OpStop>
+        requires { IsFit self.now (statements.Lift name.now v.now) }
+        ensures performed { Performed self.now (statements.Lift name.now v.now) self.now out.old.items out.new.items
+            (B.stops engine.old) (B.stops engine.new) (B.stopped engine.old) (B.stopped engine.new) result }
         ensures later { B.stops engine.old ≤ B.stops engine.new }
         ensures settings { B.settings engine.new ≡ B.settings engine.old }
     {
-        let value = self.found(name);
-        push_lift(
+        let value = self.found(name.as_bytes());
+        done(push_lift(
             rt,
             alloc,
             engine,
@@ -355,7 +355,7 @@ impl Session {
             value.stored,
             v,
             out,
-        )
+        ))
     }
 
     // Prints the Hilbert numbers of a value, or says for which kind they are refused.
@@ -364,23 +364,19 @@ impl Session {
         rt: &R,
         alloc: Global,
         engine: &mut B,
-        name: &[u8],
+        name: &String,
         out: &mut Vec<u8>,
     ) -> Result<Step, OpStop>
-        requires { IsGiven self.old name.now }
-        ensures counts { IfOk result (CountsNamed self.old name.now self.new out.old.items out.new.items) }
-        ensures same { OnErr result (self.new ≡ self.old) }
-        ensures unwritten { OnErr result (out.new.items ≡ out.old.items) }
-        ensures engine { OnOk result ((B.stops engine.new ≡ B.stops engine.old) × (B.stopped engine.new ≡ B.stopped engine.old)) }
-        ensures stop { IfErr result (CallStops (IsRunFor self.old name.now) NoTrail
-            (B.stops engine.old) (B.stops engine.new) (B.stopped engine.old) (B.stopped engine.new)) }
+        requires { IsFit self.old (statements.Hilbert name.now) }
+        ensures performed { Performed self.old (statements.Hilbert name.now) self.new out.old.items out.new.items
+            (B.stops engine.old) (B.stops engine.new) (B.stopped engine.old) (B.stopped engine.new) result }
         ensures later { B.stops engine.old ≤ B.stops engine.new }
         ensures settings { B.settings engine.new ≡ B.settings engine.old }
     {
         let Some(ring) = &self.ring else {
             unreachable!()
         };
-        let Some(i) = place_of(&self.names, name) else {
+        let Some(i) = place_of(&self.names, name.as_bytes()) else {
             unreachable!()
         };
         count_value(
@@ -394,7 +390,7 @@ impl Session {
         )
     }
 
-    // Does what a line states.
+    // Does what a line states. Each kind of statement has its own call, which answers for the statement.
     fn perform<R: Threads + Wait + Sync, B: Groebner>(
         &mut self,
         rt: &R,
@@ -404,12 +400,8 @@ impl Session {
         out: &mut Vec<u8>,
     ) -> Result<Step, OpStop>
         requires fit { IsFit self.old stated }
-        ensures done { IfOk result (Performs self.old stated self.new out.old.items out.new.items) }
-        ensures same { OnErr result (self.new ≡ self.old) }
-        ensures unwritten { OnErr result (out.new.items ≡ out.old.items) }
-        ensures engine { OnOk result ((B.stops engine.new ≡ B.stops engine.old) × (B.stopped engine.new ≡ B.stopped engine.old)) }
-        ensures stop { IfErr result (CallStops (Needs self.old stated) (Meets self.old stated)
-            (B.stops engine.old) (B.stops engine.new) (B.stopped engine.old) (B.stopped engine.new)) }
+        ensures performed { Performed self.old stated self.new out.old.items out.new.items
+            (B.stops engine.old) (B.stops engine.new) (B.stopped engine.old) (B.stopped engine.new) result }
         ensures later { B.stops engine.old ≤ B.stops engine.new }
         ensures settings { B.settings engine.new ≡ B.settings engine.old }
     {
@@ -419,66 +411,23 @@ impl Session {
                 self.state_ring(ring);
                 Ok(Step::Done)
             }
-            Statement::Show(shown) => {
-                self.show(alloc, &shown, out)?;
-                Ok(Step::Done)
-            }
-            Statement::Ideal(name, list) => {
-                self.give(name, 1, Stored::of(list))?;
-                Ok(Step::Done)
-            }
-            Statement::Module(name, rank, list) => {
-                self.give(name, rank, Stored::of(list))?;
-                Ok(Step::Done)
-            }
-            Statement::Let(name, operation) => {
-                match self.make(rt, alloc, engine, name, &operation) {
-                    Ok(()) => Ok(Step::Done),
-                    Err(stop) => Err(stop),
-                }
-            }
-            Statement::Gens(name) => {
-                self.list(alloc, name.as_bytes(), out)?;
-                Ok(Step::Done)
-            }
-            Statement::Gb(name) => {
-                match self.ask(rt, alloc, engine, name.as_bytes(), Question::Basis, out) {
-                    Ok(()) => Ok(Step::Done),
-                    Err(stop) => Err(stop),
-                }
-            }
-            Statement::Size(name) => {
-                match self.ask(rt, alloc, engine, name.as_bytes(), Question::Sizes, out) {
-                    Ok(()) => Ok(Step::Done),
-                    Err(stop) => Err(stop),
-                }
-            }
+            Statement::Show(shown) => self.show(alloc, &shown, out),
+            Statement::Ideal(name, list) => self.define(name, 1, list),
+            Statement::Module(name, rank, list) => self.define(name, rank, list),
+            Statement::Let(name, operation) => self.make(rt, alloc, engine, name, &operation),
+            Statement::Gens(name) => self.list(alloc, &name, out),
+            Statement::Gb(name) => self.ask(rt, alloc, engine, &name, Question::Basis, out),
+            Statement::Size(name) => self.ask(rt, alloc, engine, &name, Question::Sizes, out),
             Statement::NormalForm(name, v) => {
-                let question = Question::NormalForm(&v);
-                match self.ask(rt, alloc, engine, name.as_bytes(), question, out) {
-                    Ok(()) => Ok(Step::Done),
-                    Err(stop) => Err(stop),
-                }
+                self.ask(rt, alloc, engine, &name, Question::NormalForm(&v), out)
             }
             Statement::Member(name, v) => {
-                let question = Question::Member(&v);
-                match self.ask(rt, alloc, engine, name.as_bytes(), question, out) {
-                    Ok(()) => Ok(Step::Done),
-                    Err(stop) => Err(stop),
-                }
+                self.ask(rt, alloc, engine, &name, Question::Member(&v), out)
             }
-            Statement::Lift(name, v) => {
-                match self.lift(rt, alloc, engine, name.as_bytes(), &v, out) {
-                    Ok(()) => Ok(Step::Done),
-                    Err(stop) => Err(stop),
-                }
-            }
-            Statement::Hilbert(name) => self.count(rt, alloc, engine, name.as_bytes(), out),
+            Statement::Lift(name, v) => self.lift(rt, alloc, engine, &name, &v, out),
+            Statement::Hilbert(name) => self.count(rt, alloc, engine, &name, out),
             Statement::Equal(first, second) => {
-                match self.compare(rt, alloc, engine, first.as_bytes(), second.as_bytes(), out) {
-                    Ok(()) => Ok(Step::Done),
-                    Err(stop) => Err(stop),
-                }
+                self.compare(rt, alloc, engine, &first, &second, out)
             }
         }
     }

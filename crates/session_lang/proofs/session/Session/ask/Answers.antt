@@ -1,106 +1,63 @@
-use Rattle.std.proofs.Common.{None, Some, ap, arith, length, refl, rules, slice_set, subst, subst₂, sym, ◌<◌, ◌∙◌, ◌≡◌}
-use Rattle.std.proofs.lemmas.Result.{IfErr-weaker, on_ok_weaker}
-use Rattle.session_lang.specs.Kept.{AreKept, IsSound, place_named, value_of}
-use Rattle.session_lang.specs.Names.{HasValue}
+use Rattle.std.proofs.Common.{None, Some, arith, length, rules, subst, sym, ◌<◌, ◌≡◌}
+use Rattle.std.proofs.lemmas.Result.{on_err_weaker, on_ok_weaker}
 use Rattle.session_lang.specs.Asking.{asked_of}
-use Rattle.session_lang.specs.Parts.{Keeps}
-use Rattle.session_lang.proofs.Finding.{has_value, kept_after, no_stored, place_given, sound_over}
-use Rattle.session_lang.proofs.KeptValues.{at_place}
-use Rattle.session_lang.proofs.Stopping.{call_stops, run_for, trail_for}
-use Rattle.session_lang.proofs.Values.{kept_as_many, kept_sound, place_bound, sound_at}
+use Rattle.session_lang.specs.Kept.{IsGiven, place_named, value_of}
+use Rattle.session_lang.proofs.Finding.{asked_over, place_given}
+use Rattle.session_lang.proofs.Performing.{asked_fit, asked_given, asked_performed}
+use Rattle.session_lang.proofs.Placing.{is_placed, placed_after, placed_has, placed_keeps, placed_same, placed_sound}
+use Rattle.session_lang.proofs.Values.{kept_as_many, place_bound}
 use Rattle.session_lang.proofs.session.Session.ask.Goals as goal
 
 pub unreachable-requires-in_default-place_of : goal.unreachable-requires-in_default-place_of
 unreachable-requires-in_default-place_of g c =
-    let none : place_named c.self.inside.names.items c.args.name.now ≡ None = search rules in
-    place_given c.args.self.now c.self.inside.ring c.self.inside.names.items c.self.inside.stored.items c.self.view_is c.args.name.now c.requires.given none
+    let none : place_named c.self.inside.names.items c.as_bytes.result.now ≡ None = search rules in
+    place_given c.args.self.now c.self.inside.ring c.self.inside.names.items c.self.inside.stored.items c.self.view_is c.as_bytes.result.now
+    (subst (IsGiven c.args.self.now) (sym c.as_bytes.ensures.value) (asked_given c.args.self.now c.args.name.now (asked_of c.args.question) c.requires)) none
 
 pub index-requires : goal.index-requires
 index-requires g c =
-    let found : place_named c.self.inside.names.items c.args.name.now ≡ Some c.in-Some-place_of.i = search rules in
-    let below = place_bound c.self.inside.names.items c.args.name.now c.in-Some-place_of.i found in
+    let found : place_named c.self.inside.names.items c.as_bytes.result.now ≡ Some c.in-Some-place_of.i = search rules in
+    let below = place_bound c.self.inside.names.items c.as_bytes.result.now c.in-Some-place_of.i found in
     search rules
 
 pub index_mut-requires : goal.index_mut-requires
 index_mut-requires g c =
     let infos = c.self.inside.names.items in
     let stored = c.self.inside.stored.items in
-    let before = c.args.self.now in
     let same = kept_as_many c.self.inside.ring infos stored c.self.invariant in
-    let found : place_named c.self.inside.names.items c.args.name.now ≡ Some c.in-Some-place_of.i = search rules in
-    let below : c.in-Some-place_of.i < length stored = omega (arith, place_bound infos c.args.name.now c.in-Some-place_of.i found, same) in
+    let found : place_named infos c.as_bytes.result.now ≡ Some c.in-Some-place_of.i = search rules in
+    let below : c.in-Some-place_of.i < length stored = omega (arith, place_bound infos c.as_bytes.result.now c.in-Some-place_of.i found, same) in
     search rules
 
 pub answer_value-requires-clause-sound : goal.answer_value-requires-clause-sound
 answer_value-requires-clause-sound g c κs within =
     let infos = c.self.inside.names.items in
-    let stored = c.self.inside.stored.items in
-    let before = c.args.self.now in
-    let same = kept_as_many c.self.inside.ring infos stored c.self.invariant in
-    let found : place_named c.self.inside.names.items c.args.name.now ≡ Some c.in-Some-place_of.i = search rules in
-    subst₂ (λ i s. IsSound c.in-Some.ring i.rank s) (sym c.index.ensures) (sym c.index_mut.ensures.value)
-    (sound_at c.in-Some.ring infos stored c.in-Some-place_of.i c.index_mut.result.now c.index.result.now (sound_over before c.self.inside.ring infos stored c.self.view_is c.in-Some.ring c.self.invariant c.in-Some.is)
-    (place_bound infos c.args.name.now c.in-Some-place_of.i found))
+    let found : place_named infos c.as_bytes.result.now ≡ Some c.in-Some-place_of.i = search rules in
+    let placed = is_placed infos c.self.inside.stored.items c.self.view_is c.self.invariant c.in-Some.is found c.index.ensures c.index_mut.ensures.value in
+    placed_sound placed
+
+pub answer_value-requires-clause-over : goal.answer_value-requires-clause-over
+answer_value-requires-clause-over g c κs within =
+    let asked = asked_of c.args.question in
+    asked_over c.args.self.now c.self.inside.ring c.self.inside.names.items c.self.inside.stored.items c.self.view_is asked c.in-Some.ring
+    (asked_fit c.args.self.now c.args.name.now asked c.requires) c.in-Some.is
 
 pub invariant_of-self : goal.invariant_of-self
 invariant_of-self g c =
     let infos = c.self.inside.names.items in
-    let stored = c.self.inside.stored.items in
-    let before = c.args.self.now in
-    let same = kept_as_many c.self.inside.ring infos stored c.self.invariant in
-    let item = c.answer_value.new.stored in
-    subst (λ o. AreKept o infos (slice_set stored c.in-Some-place_of.i item)) (sym c.in-Some.is)
-    (kept_sound c.in-Some.ring infos stored c.in-Some-place_of.i item c.index_mut.result.now c.index.result.now
-    (sound_over before c.self.inside.ring infos stored c.self.view_is c.in-Some.ring c.self.invariant c.in-Some.is)
-    (subst (λ i. IsSound c.in-Some.ring i.rank item) c.index.ensures c.answer_value.ensures.sound)
-    (c.answer_value.ensures.list ∙ ap (λ s. s.list) c.index_mut.ensures.value))
+    let found : place_named infos c.as_bytes.result.now ≡ Some c.in-Some-place_of.i = search rules in
+    let placed = is_placed infos c.self.inside.stored.items c.self.view_is c.self.invariant c.in-Some.is found c.index.ensures c.index_mut.ensures.value in
+    placed_keeps placed c.answer_value.new.stored c.answer_value.ensures.list c.answer_value.ensures.sound
 
-pub returns-clause-done : goal.returns-clause-done
-returns-clause-done g c =
+pub returns-clause-performed : goal.returns-clause-performed
+returns-clause-performed g c =
     let infos = c.self.inside.names.items in
-    let stored = c.self.inside.stored.items in
-    let before = c.args.self.now in
-    let same = kept_as_many c.self.inside.ring infos stored c.self.invariant in
-    let found : place_named c.self.inside.names.items c.args.name.now ≡ Some c.in-Some-place_of.i = search rules in
-    let below : c.in-Some-place_of.i < length stored = omega (arith, place_bound infos c.args.name.now c.in-Some-place_of.i found, same) in
-    let item = c.answer_value.new.stored in
-    on_ok_weaker c.answer_value.result
-    (λ some.
-    let keeps : Keeps stored c.in-Some-place_of.i (slice_set stored c.in-Some-place_of.i item) = record {
-      item = item;
-      written = refl;
-      some = some;
-      list = λ e. c.answer_value.ensures.list ∙ ap (λ s. s.list) (at_place stored c.in-Some-place_of.i c.index_mut.result.now e below c.index_mut.ensures.value);
-    } in
-    kept_after before c.self.inside.ring infos stored c.self.view_is c.args.name.now c.in-Some-place_of.i (slice_set stored c.in-Some-place_of.i item) no_stored same found keeps)
-    c.answer_value.ensures.kept
-
-pub returns-clause-text : goal.returns-clause-text
-returns-clause-text g c =
-    let infos = c.self.inside.names.items in
-    let stored = c.self.inside.stored.items in
-    let before = c.args.self.now in
-    let same = kept_as_many c.self.inside.ring infos stored c.self.invariant in
-    let found : place_named c.self.inside.names.items c.args.name.now ≡ Some c.in-Some-place_of.i = search rules in
-    let has : HasValue before c.args.name.now c.in-Some.ring (value_of c.index.result.now c.index_mut.result.now) =
-    subst₂ (λ i s. HasValue before c.args.name.now c.in-Some.ring (value_of i s)) (sym c.index.ensures) (sym c.index_mut.ensures.value)
-    (has_value before c.self.inside.ring infos stored c.self.view_is c.in-Some.ring c.args.name.now c.in-Some-place_of.i c.index.result.now c.index_mut.result.now same c.in-Some.is found) in
-    on_ok_weaker c.answer_value.result
-    (λ t. (t.0, (c.in-Some.ring, value_of c.index.result.now c.index_mut.result.now, has, t.1), t.2))
-    c.answer_value.ensures.text
-
-pub returns-clause-stop : goal.returns-clause-stop
-returns-clause-stop g c =
-    let infos = c.self.inside.names.items in
-    let stored = c.self.inside.stored.items in
-    let before = c.args.self.now in
-    let same = kept_as_many c.self.inside.ring infos stored c.self.invariant in
-    let found : place_named c.self.inside.names.items c.args.name.now ≡ Some c.in-Some-place_of.i = search rules in
-    let has : HasValue before c.args.name.now c.in-Some.ring (value_of c.index.result.now c.index_mut.result.now) =
-    subst₂ (λ i s. HasValue before c.args.name.now c.in-Some.ring (value_of i s)) (sym c.index.ensures) (sym c.index_mut.ensures.value)
-    (has_value before c.self.inside.ring infos stored c.self.view_is c.in-Some.ring c.args.name.now c.in-Some-place_of.i c.index.result.now c.index_mut.result.now same c.in-Some.is found) in
-    let value = value_of c.index.result.now c.index_mut.result.now in
-    IfErr-weaker c.answer_value.result _ _
-    (call_stops _ _ _ _ (run_for before c.args.name.now c.in-Some.ring value has)
-    (trail_for before c.args.name.now c.in-Some.ring value (asked_of c.args.question) has))
-    c.answer_value.ensures.stop
+    let found : place_named infos c.as_bytes.result.now ≡ Some c.in-Some-place_of.i = search rules in
+    let placed = is_placed infos c.self.inside.stored.items c.self.view_is c.self.invariant c.in-Some.is found c.index.ensures c.index_mut.ensures.value in
+    let called = c.answer_value.result in
+    let e = c.answer_value.ensures in
+    asked_performed called c.done.result c.done.ensures.ok c.done.ensures.err
+    (on_err_weaker called (placed_same placed c.answer_value.new.stored) e.as_before) e.unwritten e.same
+    c.args.name.now (asked_of c.args.question) c.as_bytes.result.now c.in-Some.ring (value_of c.index.result.now c.index_mut.result.now)
+    c.as_bytes.ensures.value (placed_has placed)
+    (on_ok_weaker called (placed_after placed c.answer_value.new.stored e.list) e.kept) e.text e.stop

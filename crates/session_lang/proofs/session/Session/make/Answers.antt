@@ -1,9 +1,12 @@
-use Rattle.std.proofs.Common.{ap, subst, sym, ◌∙◌, ◌≡◌}
+use Rattle.std.proofs.Common.{[], ap, refl, subst, sym, ◌∙◌, ◌≡◌}
 use Rattle.std.specs.Prelude.{is_some, string_bytes}
+use Rattle.groebner_iface.specs.declared.stop.OpStop.TheVariants as causes
+use Rattle.script_parse.specs.declared.stated.Statement.TheVariants as statements
 use Rattle.session_lang.specs.Kept.{IsSound}
 use Rattle.session_lang.specs.Names.{after_giving}
 use Rattle.session_lang.specs.Tasks.{work_of}
 use Rattle.session_lang.proofs.Making.{sound_result}
+use Rattle.session_lang.proofs.Performing.{nothing_behind, was_done, was_stopped}
 use Rattle.session_lang.proofs.Stopping.{call_stops}
 use Rattle.session_lang.proofs.session.Session.make.Goals as goal
 
@@ -12,12 +15,13 @@ operate-requires-after_bounds g c κs within =
     let stated = ap (λ s. s.ring) (sym c.self.view_is) ∙ c.in-Some.is in
     (c.task-task.ensures c.in-Some.ring stated).1.0
 
-pub returns-in-Err-clause-stop : goal.returns-in-Err-clause-stop
-returns-in-Err-clause-stop g c =
+pub returns-in-Err-clause-performed : goal.returns-in-Err-clause-performed
+returns-in-Err-clause-performed g c text =
     let stated = ap (λ s. s.ring) (sym c.self.view_is) ∙ c.in-Some.is in
     let works = (c.task-task.ensures c.in-Some.ring stated).0 in
     let work = work_of c.task-task.result in
-    call_stops _ _ _ _ (λ r m l h. (c.in-Some.ring, work, works, h)) (λ t h. (c.in-Some.ring, work, works, h)) c.in-Err.stop c.in-Err.ensures.stop
+    was_stopped c.args.self.now (statements.Let c.args.name c.args.operation.now) _ text text _ _ _ _ c.in-Err.stop c.self.view_is refl
+    (call_stops _ _ _ _ (λ r m l h. (c.in-Some.ring, work, works, h)) (λ t h. (c.in-Some.ring, work, works, h)) c.in-Err.stop c.in-Err.ensures.stop)
 
 pub give-requires : goal.give-requires
 give-requires g c =
@@ -30,17 +34,21 @@ give-requires g c =
           (sound_result c.in-Some.ring (work_of c.task-task.result) rank.result c.in-Ok.list rank.ensures ready.1 c.in-Ok.ensures.result),
     )
 
-pub returns-in-Ok-give-clause-done : goal.returns-in-Ok-give-clause-done
-returns-in-Ok-give-clause-done g c =
+pub returns-in-Ok-give-clause-performed : goal.returns-in-Ok-give-clause-performed
+returns-in-Ok-give-clause-performed g c text =
     let stated = ap (λ s. s.ring) (sym c.self.view_is) ∙ c.in-Some.is in
     let works = (c.task-task.ensures c.in-Some.ring stated).0 in
-    let rank = c.rank_of_result-rank in (
-      c.in-Some.ring,
-      rank.result,
-      c.in-Ok.list,
-      (work_of c.task-task.result, works, rank.ensures, c.in-Ok.ensures.result),
-      subst
-          (λ v. c.give.new.self
-          ≡ after_giving (record { name = string_bytes c.args.name; rank = rank.result; list = v.list; kept = is_some v.basis }) c.args.self.now)
-          c.of_basis.ensures c.in-Ok-give.ensures.named,
-    )
+    let rank = c.rank_of_result-rank in
+    let given =
+    subst
+    (λ v. c.give.new.self
+    ≡ after_giving (record { name = string_bytes c.args.name; rank = rank.result; list = v.list; kept = is_some v.basis }) c.args.self.now)
+    c.of_basis.ensures c.in-Ok-give.ensures.named in
+    was_done c.args.self.now (statements.Let c.args.name c.args.operation.now) c.give.new.self text text _ _ _ _
+    [] ((c.in-Some.ring, rank.result, c.in-Ok.list, (work_of c.task-task.result, works, rank.ensures, c.in-Ok.ensures.result), given), refl)
+    (nothing_behind text) c.in-Ok.ensures.same.0 c.in-Ok.ensures.same.1
+
+pub returns-clause-performed : goal.returns-clause-performed
+returns-clause-performed g c text =
+    was_stopped c.args.self.now (statements.Let c.args.name c.args.operation.now) c.give.new.self text text _ _ _ _ causes.Memory
+    c.in-Err-give.ensures.same refl c.in-Ok.ensures.same

@@ -2,7 +2,7 @@ use Rattle.std.proofs.Common.{refl, subst, sym}
 use Rattle.std.specs.Prelude.{option_copied}
 use Rattle.session_lang.proofs.Reported.{fits, refuses, states}
 use Rattle.std.proofs.lemmas.Result.{IfErr-weaker}
-use Rattle.session_lang.proofs.Counted.{performed}
+use Rattle.session_lang.proofs.Performing.{performed_line}
 use Rattle.session_lang.proofs.Stopping.{call_stops}
 use Rattle.session_lang.specs.Lines.{Refuses}
 use Rattle.session_lang.proofs.session.Session.step.Goals as goal
@@ -17,7 +17,8 @@ returns-in-Ok-clause-steps g c =
     let stated =
     states c.args.self.now c.self.inside.ring c.self.inside.names.items c.self.inside.stored.items c.self.view_is c.self.invariant
     (option_copied c.as_ref.result) c.deref.result.now c.as_ref.ensures.value c.deref.ensures.value c.args.line.now c.in-Ok.stated c.in-Ok.ensures in
-    performed c.args.self.now c.args.line.now c.in-Ok.stated c.perform.new.self c.args.out.now.items c.perform.new.out.items c.perform.result stated c.perform.ensures.done
+    performed_line c.args.self.now c.args.line.now c.in-Ok.stated c.perform.new.self c.args.out.now.items c.perform.new.out.items c.perform.result stated
+    c.perform.ensures.performed.done
 
 pub returns-in-Ok-clause-stop : goal.returns-in-Ok-clause-stop
 returns-in-Ok-clause-stop g c =
@@ -26,6 +27,15 @@ returns-in-Ok-clause-stop g c =
     (option_copied c.as_ref.result) c.deref.result.now c.as_ref.ensures.value c.deref.ensures.value c.args.line.now c.in-Ok.stated c.in-Ok.ensures in
     IfErr-weaker c.perform.result _ _
     (call_stops _ _ _ _ (λ r m l h. (c.in-Ok.stated, stated, h)) (λ t h. (c.in-Ok.stated, stated, h))) c.perform.ensures.stop
+
+pub returns-in-Ok-clause-same : goal.returns-in-Ok-clause-same
+returns-in-Ok-clause-same g c = c.perform.ensures.performed.same
+
+pub returns-in-Ok-clause-unwritten : goal.returns-in-Ok-clause-unwritten
+returns-in-Ok-clause-unwritten g c = c.perform.ensures.performed.unwritten
+
+pub returns-in-Ok-clause-engine : goal.returns-in-Ok-clause-engine
+returns-in-Ok-clause-engine g c = c.perform.ensures.performed.engine
 
 pub returns-in-Err-Refused-clause-steps : goal.returns-in-Err-Refused-clause-steps
 returns-in-Err-Refused-clause-steps g c = (

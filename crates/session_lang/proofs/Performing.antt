@@ -1,0 +1,229 @@
+-- Statements that were done, from what the calls for them say
+use Rattle.std.proofs.Common.{Err, List, Ok, Option, Result, Some, [], inr, refl, subst, subst₂, sym, ℕ, ◌++◌, ◌∙◌, ◌≡◌}
+use Rattle.std.proofs.lemmas.List.{append-nil}
+use Rattle.std.proofs.lemmas.Option.{same_Some}
+use Rattle.std.proofs.lemmas.Result.{on_ok_weaker}
+use Rattle.std.specs.Global.{Global}
+use Rattle.std.specs.Prelude.{IfErr, IfOk, IsSome, OnErr, OnOk, String, string_bytes}
+use Rattle.groebner_iface.specs.Calls.{CallStops, NoTrail}
+use Rattle.groebner_iface.specs.Runs.{StoppedRun}
+use Rattle.groebner_iface.specs.declared.stop.OpStop.{OpStop}
+use Rattle.groebner_iface.specs.declared.stop.OpStop.TheVariants as causes
+use Rattle.module_vectors.specs.Rings.{ring_comparison}
+use Rattle.module_vectors.specs.Vectors.{IsVectorOver}
+use Rattle.module_vectors.specs.declared.key.Key.{Key}
+use Rattle.module_vectors.specs.declared.ring.Ring.{Ring}
+use Rattle.module_vectors.specs.declared.trail.KeptTrail.{KeptTrail}
+use Rattle.script_parse.specs.declared.stated.Statement.{Statement}
+use Rattle.script_parse.specs.declared.stated.Statement.TheVariants as statements
+use Rattle.session_lang.proofs.Stopping.{call_stops, no_trail, run_for, trail_for}
+use Rattle.session_lang.specs.Answers.{Asked, Decides, IsAnswer, IsOneModule, basis, member, normal_form, sizes_of_basis}
+use Rattle.session_lang.specs.Asking.{IsAskedOver}
+use Rattle.session_lang.specs.Counting.{CountsAs, KeepsAs}
+use Rattle.session_lang.specs.Held.{Held}
+use Rattle.session_lang.specs.Kept.{IsFit, IsGiven}
+use Rattle.session_lang.specs.Lines.{Answers, Does, IsLiftRun, IsRunFor, IsRunForEither, Lifts, Needs, States}
+use Rattle.session_lang.specs.Names.{HasValue, State, Value, after_run}
+use Rattle.session_lang.specs.Parts.{IsRunOf}
+use Rattle.session_lang.specs.Performing.{Performed, Performs, asking}
+use Rattle.session_lang.specs.Stops.{IsTrailFor, IsTrailOf, IsTrailOfLift, Meets, Steps}
+use Rattle.session_lang.specs.declared.step.Step.{Step}
+use Rattle.session_lang.specs.declared.step.Step.TheVariants as steps
+
+abbrev Terms : Type 0
+Terms = List (List (Key × ℕ))
+
+on_ok_both : {T E P Q : Type 0} (r : Result T E) → OnOk r P → OnOk r Q → OnOk r (P × Q)
+on_ok_both (Ok t) p q = (p, q)
+on_ok_both (Err e) p q = tt
+
+module _ (before : State) (statement : Statement) (after : State) (out out' : List ℕ) (old new : ℕ) (kept kept' : Option StoppedRun) where
+  -- the statement was done, with this text
+  pub was_done :
+      (text : List ℕ) → Does before statement after text → out' ≡ out ++ text → new ≡ old → kept' ≡ kept
+      → Performed before statement after out out' old new kept kept' (Ok steps.Done)
+  was_done text does written count run = record { done = (text, does, written); same = tt; unwritten = tt; engine = (count, run); stop = tt }
+
+  -- it was not done, for a cause that stops the statement
+  pub was_stopped :
+      (stop : OpStop) → after ≡ before → out' ≡ out → CallStops (Needs before statement) (Meets before statement) old new kept kept' stop
+      → Performed before statement after out out' old new kept kept' (Err stop)
+  was_stopped stop same unwritten why = record { done = tt; same = same; unwritten = unwritten; engine = tt; stop = why }
+
+  -- what a call that was made for the statement answered, as the answer to it
+  pub was_called :
+      {U : Type 0} {Runs : Ring → ℕ → Terms → Type 0} {Trails : KeptTrail → Type 0} (called : Result U OpStop) (answer : Result Step OpStop)
+      → OnOk called (answer ≡ Ok steps.Done) → IfErr called (λ stop. answer ≡ Err stop)
+      → OnOk called ((text : List ℕ) × Does before statement after text × (out' ≡ out ++ text))
+      → OnErr called (after ≡ before) → OnErr called (out' ≡ out) → OnOk called ((new ≡ old) × (kept' ≡ kept))
+      → ((ring : Ring) (rank : ℕ) (list : Terms) → Runs ring rank list → Needs before statement ring rank list)
+      → ((t : KeptTrail) → Trails t → Meets before statement t)
+      → IfErr called (CallStops Runs Trails old new kept kept')
+      → Performed before statement after out out' old new kept kept' answer
+  was_called (Ok u) answer ok err text same unwritten engine needs meets stop =
+      subst (Performed before statement after out out' old new kept kept') (sym ok) (was_done text.0 text.1 text.2 engine.0 engine.1)
+  was_called (Err e) answer ok err text same unwritten engine needs meets stop =
+      subst (Performed before statement after out out' old new kept kept') (sym err)
+      (was_stopped e same unwritten (call_stops old new kept kept' needs meets e stop))
+
+-- nothing is written behind a text
+pub nothing_behind : (text : List ℕ) → text ≡ text ++ []
+nothing_behind text = sym (append-nil text)
+
+-- a typed ideal is given as a module of rank 1 is
+pub ideal_given :
+    (before : State) (name : String Global) (list : Terms) (after : State) (out out' : List ℕ) (old new : ℕ) (kept kept' : Option StoppedRun) (answer : Result Step OpStop)
+    → Performed before (statements.Module name 1 list) after out out' old new kept kept' answer
+    → Performed before (statements.Ideal name list) after out out' old new kept kept' answer
+ideal_given before name list after out out' old new kept kept' (Ok steps.Done) p =
+    record { done = p.done; same = tt; unwritten = tt; engine = p.engine; stop = tt }
+ideal_given before name list after out out' old new kept kept' (Ok (steps.Refused kind)) p = absurd p.done.0
+ideal_given before name list after out out' old new kept kept' (Err causes.Memory) p =
+    record { done = tt; same = p.same; unwritten = p.unwritten; engine = tt; stop = p.stop }
+ideal_given before name list after out out' old new kept kept' (Err causes.Pairs) p = absurd p.stop.1.3
+ideal_given before name list after out out' old new kept kept' (Err causes.Degree) p = absurd p.stop.1.3
+ideal_given before name list after out out' old new kept kept' (Err (causes.Trail t)) p = absurd p.stop.2
+
+-- ---- questions
+module _ (before : State) (name : String Global) where
+  -- the value is there
+  pub asked_given : (asked : Asked) → IsFit before (asking name asked) → IsGiven before (string_bytes name)
+  asked_given basis f = f
+  asked_given sizes_of_basis f = f
+  asked_given (normal_form v) f = (f.0, f.1, f.2)
+  asked_given (member v) f = (f.0, f.1, f.2)
+
+  -- a vector that is asked about is one over the ring
+  pub asked_fit : (asked : Asked) → IsFit before (asking name asked) → (ring : Ring) → before.ring ≡ Some ring → IsAskedOver ring asked
+  asked_fit basis f ring is = tt
+  asked_fit sizes_of_basis f ring is = tt
+  asked_fit (normal_form v) f ring is = subst (λ r. IsVectorOver r (ring_comparison r) v) (same_Some _ _ (sym f.2.stated ∙ is)) f.3
+  asked_fit (member v) f ring is = subst (λ r. IsVectorOver r (ring_comparison r) v) (same_Some _ _ (sym f.2.stated ∙ is)) f.3
+
+  asked_does :
+      (asked : Asked) (after : State) (text : List ℕ)
+      → after ≡ after_run (string_bytes name) before → Answers before (string_bytes name) asked text → Does before (asking name asked) after text
+  asked_does basis after text d a = (d, a)
+  asked_does sizes_of_basis after text d a = (d, a)
+  asked_does (normal_form v) after text d a = (d, a)
+  asked_does (member v) after text d a = (d, a)
+
+  asked_needs : (asked : Asked) (ring : Ring) (rank : ℕ) (list : Terms) → IsRunFor before (string_bytes name) ring rank list → Needs before (asking name asked) ring rank list
+  asked_needs basis ring rank list h = h
+  asked_needs sizes_of_basis ring rank list h = h
+  asked_needs (normal_form v) ring rank list h = h
+  asked_needs (member v) ring rank list h = h
+
+  asked_meets : (asked : Asked) (t : KeptTrail) → IsTrailFor before (string_bytes name) asked t → Meets before (asking name asked) t
+  asked_meets basis t h = absurd h.3.2
+  asked_meets sizes_of_basis t h = absurd h.3.2
+  asked_meets (normal_form v) t h = h
+  asked_meets (member v) t h = h
+
+module _ {before after : State} {out out' : List ℕ} {old new : ℕ} {kept kept' : Option StoppedRun} {U : Type 0} (called : Result U OpStop) (answer : Result Step OpStop)
+    (ok : OnOk called (answer ≡ Ok steps.Done)) (err : IfErr called (λ stop. answer ≡ Err stop))
+    (same : OnErr called (after ≡ before)) (unwritten : OnErr called (out' ≡ out)) (engine : OnOk called ((new ≡ old) × (kept' ≡ kept))) where
+  -- what is asked of a value
+  pub asked_performed :
+      (name : String Global) (asked : Asked) (n : List ℕ) (over : Ring) (value : Value) → n ≡ string_bytes name → HasValue before n over value
+      → OnOk called (after ≡ after_run n before)
+      → OnOk called ((text : List ℕ) × IsAnswer over value asked text × (out' ≡ out ++ text))
+      → IfErr called (CallStops (IsRunOf over value) (IsTrailOf over value asked) old new kept kept')
+      → Performed before (asking name asked) after out out' old new kept kept' answer
+  asked_performed name asked n over value named has done text stop =
+      let has' = subst (λ m. HasValue before m over value) named has in
+      was_called before (asking name asked) after out out' old new kept kept' called answer ok err
+      (on_ok_weaker called
+      (λ b. (b.1.0, asked_does before name asked after b.1.0 (subst (λ m. after ≡ after_run m before) named b.0) (over, value, has', b.1.1), b.1.2))
+      (on_ok_both called done text))
+      same unwritten engine
+      (λ ring rank list h. asked_needs before name asked ring rank list (run_for before (string_bytes name) over value has' ring rank list h))
+      (λ t h. asked_meets before name asked t (trail_for before (string_bytes name) over value asked has' t h))
+      stop
+
+  -- whether two values generate one module
+  pub compared_performed :
+      (first second : String Global) (n m : List ℕ) (over : Ring) (left right : Value) → n ≡ string_bytes first → m ≡ string_bytes second
+      → HasValue before n over left → HasValue before m over right
+      → OnOk called (after ≡ after_run m (after_run n before))
+      → OnOk called ((text : List ℕ) × Decides (IsOneModule over left.list right.list) text × (out' ≡ out ++ text))
+      → IfErr called (CallStops (IsRunForEither before n m) NoTrail old new kept kept')
+      → Performed before (statements.Equal first second) after out out' old new kept kept' answer
+  compared_performed first second n m over left right named named' has has' done text stop =
+      was_called before (statements.Equal first second) after out out' old new kept kept' called answer ok err
+      (on_ok_weaker called
+      (λ b. (
+        b.1.0,
+        (
+          subst₂ (λ k l. after ≡ after_run l (after_run k before)) named named' b.0,
+          (
+            over,
+            left,
+            right,
+            subst (λ k. HasValue before k over left) named has,
+            subst (λ k. HasValue before k over right) named' has',
+            b.1.1,
+          ),
+        ),
+        b.1.2,
+      ))
+      (on_ok_both called done text))
+      same unwritten engine
+      (λ ring rank list h. subst₂ (λ k l. IsRunForEither before k l ring rank list) named named' h)
+      (no_trail (Meets before (statements.Equal first second)))
+      stop
+
+-- a lift to the list of a value
+pub lifted_performed :
+    {before : State} {out out' : List ℕ} {old new : ℕ} {kept kept' : Option StoppedRun} {U : Type 0} (called : Result U OpStop) (answer : Result Step OpStop)
+    (name : String Global) (v : List (Key × ℕ)) (n : List ℕ) → n ≡ string_bytes name
+    → OnOk called (answer ≡ Ok steps.Done) → IfErr called (λ stop. answer ≡ Err stop)
+    → OnOk called ((text : List ℕ) × Lifts before n v text × (out' ≡ out ++ text)) → OnErr called (out' ≡ out)
+    → OnOk called ((new ≡ old) × (kept' ≡ kept))
+    → IfErr called (CallStops (IsLiftRun before n) (IsTrailOfLift before n v) old new kept kept')
+    → Performed before (statements.Lift name v) before out out' old new kept kept' answer
+lifted_performed {before} {out} {out'} {old} {new} {kept} {kept'} called answer name v n named ok err text unwritten engine stop =
+    was_called before (statements.Lift name v) before out out' old new kept kept' called answer ok err
+    (on_ok_weaker called (λ t. (t.0, (refl, subst (λ m. Lifts before m v t.0) named t.1), t.2)) text)
+    (unchanged called) unwritten engine
+    (λ ring rank list h. subst (λ m. IsLiftRun before m ring rank list) named h)
+    (λ t h. subst (λ m. IsTrailOfLift before m v t) named h)
+    stop
+  where
+    unchanged : {U : Type 0} (r : Result U OpStop) → OnErr r (before ≡ before)
+    unchanged (Ok u) = tt
+    unchanged (Err e) = refl
+
+-- the numbers of a value
+pub counted_performed :
+    {before after : State} {out out' : List ℕ} {old new : ℕ} {kept kept' : Option StoppedRun} (answer : Result Step OpStop)
+    (name : String Global) (n : List ℕ) (over : Ring) (value : Value) (s item : Held) → n ≡ string_bytes name → HasValue before n over value
+    → (IsSome item.basis → after ≡ after_run n before) → (item ≡ s → after ≡ before)
+    → IfOk answer (KeepsAs s item) → OnErr answer (item ≡ s)
+    → IfOk answer (CountsAs over value out out') → OnErr answer (out' ≡ out) → OnOk answer ((new ≡ old) × (kept' ≡ kept))
+    → IfErr answer (CallStops (IsRunOf over value) NoTrail old new kept kept')
+    → Performed before (statements.Hilbert name) after out out' old new kept kept' answer
+counted_performed {before} {after} {out} {out'} {old} {new} {kept} {kept'} (Ok steps.Done) name n over value s item named has done same keeps undone counts unwritten engine stop =
+    was_done before (statements.Hilbert name) after out out' old new kept kept' counts.0
+    (subst (λ m. after ≡ after_run m before) named (done keeps), (over, value, subst (λ m. HasValue before m over value) named has, counts.1)) counts.2 engine.0 engine.1
+counted_performed {before} {after} {out} {out'} {old} {new} {kept} {kept'} (Ok (steps.Refused kind)) name n over value s item named has done same keeps undone counts unwritten engine stop =
+    record {
+      done = ((over, value, subst (λ m. HasValue before m over value) named has, counts.0), same keeps, counts.1);
+      same = tt;
+      unwritten = tt;
+      engine = engine;
+      stop = tt;
+    }
+counted_performed {before} {after} {out} {out'} {old} {new} {kept} {kept'} (Err e) name n over value s item named has done same keeps undone counts unwritten engine stop =
+    was_stopped before (statements.Hilbert name) after out out' old new kept kept' e (same undone) unwritten
+    (call_stops old new kept kept'
+    (λ ring rank list h. run_for before (string_bytes name) over value (subst (λ m. HasValue before m over value) named has) ring rank list h)
+    (no_trail (Meets before (statements.Hilbert name))) e stop)
+
+-- a statement that was performed, as its line
+pub performed_line :
+    (before : State) (line : List ℕ) (statement : Statement) (after : State) (out out' : List ℕ) (answer : Result Step OpStop)
+    → States before line statement → IfOk answer (Performs before statement after out out') → IfOk answer (Steps before line after out out')
+performed_line before line statement after out out' (Ok steps.Done) stated p = (p.0, (statement, stated, p.1), p.2)
+performed_line before line statement after out out' (Ok (steps.Refused kind)) stated p = (inr (statement, stated, p.0), p.1, p.2)
+performed_line before line statement after out out' (Err stop) stated p = tt

@@ -1,0 +1,40 @@
+-- What doing a statement says
+use Rattle.std.specs.Global.{Global}
+use Rattle.std.specs.Prelude.{IfErr, IfOk, List, OnErr, OnOk, Option, Result, String, ℕ, ◌++◌, ◌≡◌}
+use Rattle.groebner_iface.specs.Calls.{CallStops}
+use Rattle.groebner_iface.specs.Runs.{StoppedRun}
+use Rattle.groebner_iface.specs.declared.stop.OpStop.{OpStop}
+use Rattle.script_parse.specs.declared.stated.Statement.{Statement}
+use Rattle.script_parse.specs.declared.stated.Statement.TheVariants as statements
+use Rattle.session_lang.specs.Answers.{Asked, basis, member, normal_form, sizes_of_basis}
+use Rattle.session_lang.specs.Lines.{Does, Needs, RefusesStated}
+use Rattle.session_lang.specs.Names.{State}
+use Rattle.session_lang.specs.Stops.{Meets}
+use Rattle.session_lang.specs.declared.step.Step.{Step}
+use Rattle.session_lang.specs.declared.step.Step.TheVariants as steps
+
+-- the statement that asks this of the value with this name
+abbrev pub asking : String Global → Asked → Statement
+asking name basis = statements.Gb name
+asking name sizes_of_basis = statements.Size name
+asking name (normal_form v) = statements.NormalForm name v
+asking name (member v) = statements.Member name v
+
+-- the statement is done and its text appended, or it is refused and all is as before
+abbrev pub Performs : State → Statement → State → (out out' : List ℕ) → Step → Type 0
+Performs before statement after out out' steps.Done = (text : List ℕ) × Does before statement after text × (out' ≡ out ++ text)
+Performs before statement after out out' (steps.Refused kind) = RefusesStated before statement kind × (after ≡ before) × (out' ≡ out)
+
+-- what holds of session, text, and the engine's count and kept run where a call did the statement with this answer
+pub record Performed (before : State) (statement : Statement) (after : State) (out out' : List ℕ) (old new : ℕ) (kept kept' : Option StoppedRun)
+    (answer : Result Step OpStop) : Type 0 where
+  pub done : IfOk answer (Performs before statement after out out')
+  pub same : OnErr answer (after ≡ before)
+  pub unwritten : OnErr answer (out' ≡ out)
+  pub engine : OnOk answer ((new ≡ old) × (kept' ≡ kept))
+  pub stop : IfErr answer (CallStops (Needs before statement) (Meets before statement) old new kept kept')
+
+-- the same of a call that takes no engine
+abbrev pub PerformedAlone : State → Statement → State → (out out' : List ℕ) → Result Step OpStop → Type 0
+PerformedAlone before statement after out out' answer =
+    (count : ℕ) (kept : Option StoppedRun) → Performed before statement after out out' count count kept kept answer
