@@ -33,9 +33,9 @@ use Rattle.session_lang.specs.declared.step.Step.TheVariants as steps
 abbrev Terms : Type 0
 Terms = List (List (Key × ℕ))
 
-on_ok_both : {T E P Q : Type 0} (r : Result T E) → OnOk r P → OnOk r Q → OnOk r (P × Q)
-on_ok_both (Ok t) p q = (p, q)
-on_ok_both (Err e) p q = tt
+on_ok_both : {T E P Q S : Type 0} (r : Result T E) → (P → Q → S) → OnOk r P → OnOk r Q → OnOk r S
+on_ok_both (Ok t) f p q = f p q
+on_ok_both (Err e) f p q = tt
 
 module _ (before : State) (statement : Statement) (after : State) (out out' : List ℕ) (old new : ℕ) (kept kept' : Option StoppedRun) where
   -- the statement was done, with this text
@@ -70,19 +70,24 @@ module _ (before : State) (statement : Statement) (after : State) (out out' : Li
 pub nothing_behind : (text : List ℕ) → text ≡ text ++ []
 nothing_behind text = sym (append-nil text)
 
--- a typed ideal is given as a module of rank 1 is
-pub ideal_given :
-    (before : State) (name : String Global) (list : Terms) (after : State) (out out' : List ℕ) (old new : ℕ) (kept kept' : Option StoppedRun) (answer : Result Step OpStop)
-    → Performed before (statements.Module name 1 list) after out out' old new kept kept' answer
-    → Performed before (statements.Ideal name list) after out out' old new kept kept' answer
-ideal_given before name list after out out' old new kept kept' (Ok steps.Done) p =
-    record { done = p.done; same = tt; unwritten = tt; engine = p.engine; stop = tt }
-ideal_given before name list after out out' old new kept kept' (Ok (steps.Refused kind)) p = absurd p.done.0
-ideal_given before name list after out out' old new kept kept' (Err causes.Memory) p =
-    record { done = tt; same = p.same; unwritten = p.unwritten; engine = tt; stop = p.stop }
-ideal_given before name list after out out' old new kept kept' (Err causes.Pairs) p = absurd p.stop.1.3
-ideal_given before name list after out out' old new kept kept' (Err causes.Degree) p = absurd p.stop.1.3
-ideal_given before name list after out out' old new kept kept' (Err (causes.Trail t)) p = absurd p.stop.2
+module _ {before after : State} {out out' : List ℕ} {old new : ℕ} {kept kept' : Option StoppedRun} where
+  -- the statement that was done, as the one that was stated
+  pub performed_as :
+      {s t : Statement} {answer : Result Step OpStop} → t ≡ s → Performed before s after out out' old new kept kept' answer
+      → Performed before t after out out' old new kept kept' answer
+  performed_as {answer = answer} e p = subst (λ t. Performed before t after out out' old new kept kept' answer) (sym e) p
+
+  -- a typed ideal is given as a module of rank 1 is
+  pub ideal_given :
+      {name : String Global} {list : Terms} (answer : Result Step OpStop)
+      → Performed before (statements.Module name 1 list) after out out' old new kept kept' answer
+      → Performed before (statements.Ideal name list) after out out' old new kept kept' answer
+  ideal_given (Ok steps.Done) p = record { done = p.done; same = tt; unwritten = tt; engine = p.engine; stop = tt }
+  ideal_given (Ok (steps.Refused kind)) p = absurd p.done.0
+  ideal_given (Err causes.Memory) p = record { done = tt; same = p.same; unwritten = p.unwritten; engine = tt; stop = p.stop }
+  ideal_given (Err causes.Pairs) p = absurd p.stop.1.3
+  ideal_given (Err causes.Degree) p = absurd p.stop.1.3
+  ideal_given (Err (causes.Trail t)) p = absurd p.stop.2
 
 -- ---- questions
 module _ (before : State) (name : String Global) where
@@ -133,9 +138,8 @@ module _ {before after : State} {out out' : List ℕ} {old new : ℕ} {kept kept
   asked_performed name asked n over value named has done text stop =
       let has' = subst (λ m. HasValue before m over value) named has in
       was_called before (asking name asked) after out out' old new kept kept' called answer ok err
-      (on_ok_weaker called
-      (λ b. (b.1.0, asked_does before name asked after b.1.0 (subst (λ m. after ≡ after_run m before) named b.0) (over, value, has', b.1.1), b.1.2))
-      (on_ok_both called done text))
+      (on_ok_both called
+      (λ d t. (t.0, asked_does before name asked after t.0 (subst (λ m. after ≡ after_run m before) named d) (over, value, has', t.1), t.2)) done text)
       same unwritten engine
       (λ ring rank list h. asked_needs before name asked ring rank list (run_for before (string_bytes name) over value has' ring rank list h))
       (λ t h. asked_meets before name asked t (trail_for before (string_bytes name) over value asked has' t h))
@@ -151,23 +155,23 @@ module _ {before after : State} {out out' : List ℕ} {old new : ℕ} {kept kept
       → Performed before (statements.Equal first second) after out out' old new kept kept' answer
   compared_performed first second n m over left right named named' has has' done text stop =
       was_called before (statements.Equal first second) after out out' old new kept kept' called answer ok err
-      (on_ok_weaker called
-      (λ b. (
-        b.1.0,
+      (on_ok_both called
+      (λ d t. (
+        t.0,
         (
-          subst₂ (λ k l. after ≡ after_run l (after_run k before)) named named' b.0,
+          subst₂ (λ k l. after ≡ after_run l (after_run k before)) named named' d,
           (
             over,
             left,
             right,
             subst (λ k. HasValue before k over left) named has,
             subst (λ k. HasValue before k over right) named' has',
-            b.1.1,
+            t.1,
           ),
         ),
-        b.1.2,
+        t.2,
       ))
-      (on_ok_both called done text))
+      done text)
       same unwritten engine
       (λ ring rank list h. subst₂ (λ k l. IsRunForEither before k l ring rank list) named named' h)
       (no_trail (Meets before (statements.Equal first second)))

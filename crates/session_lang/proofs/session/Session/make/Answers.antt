@@ -20,7 +20,7 @@ returns-in-Err-clause-performed g c text =
     let stated = ap (λ s. s.ring) (sym c.self.view_is) ∙ c.in-Some.is in
     let works = (c.task-task.ensures c.in-Some.ring stated).0 in
     let work = work_of c.task-task.result in
-    was_stopped c.args.self.now (statements.Let c.args.name c.args.operation.now) _ text text _ _ _ _ c.in-Err.stop c.self.view_is refl
+    was_stopped c.args.self.now (statements.Let c.args.name c.args.operation.now) c.args.self.now text text _ _ _ _ c.in-Err.stop refl refl
     (call_stops _ _ _ _ (λ r m l h. (c.in-Some.ring, work, works, h)) (λ t h. (c.in-Some.ring, work, works, h)) c.in-Err.stop c.in-Err.ensures.stop)
 
 pub give-requires : goal.give-requires
@@ -48,7 +48,7 @@ returns-in-Ok-give-clause-performed g c text =
     [] ((c.in-Some.ring, rank.result, c.in-Ok.list, (work_of c.task-task.result, works, rank.ensures, c.in-Ok.ensures.result), given), refl)
     (nothing_behind text) c.in-Ok.ensures.same.0 c.in-Ok.ensures.same.1
 
-pub returns-clause-performed : goal.returns-clause-performed
-returns-clause-performed g c text =
+pub returns-in-Err-give-clause-performed : goal.returns-in-Err-give-clause-performed
+returns-in-Err-give-clause-performed g c text =
     was_stopped c.args.self.now (statements.Let c.args.name c.args.operation.now) c.give.new.self text text _ _ _ _ causes.Memory
     c.in-Err-give.ensures.same refl c.in-Ok.ensures.same

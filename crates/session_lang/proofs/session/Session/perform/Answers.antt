@@ -1,8 +1,7 @@
 use Rattle.std.proofs.Common.{[], arith, refl, subst, sym}
 use Rattle.session_lang.specs.Kept.{IsFit}
 use Rattle.session_lang.specs.Lines.{Does}
-use Rattle.session_lang.specs.Performing.{Performed}
-use Rattle.session_lang.proofs.Performing.{ideal_given, nothing_behind, was_done}
+use Rattle.session_lang.proofs.Performing.{ideal_given, nothing_behind, performed_as, was_done}
 use Rattle.session_lang.proofs.session.Session.perform.Goals as goal
 
 pub returns-in-Nothing-clause-performed : goal.returns-in-Nothing-clause-performed
@@ -21,9 +20,7 @@ pub show-requires : goal.show-requires
 show-requires g c = subst (IsFit c.args.self.now) c.in-Show.is c.requires.fit
 
 pub returns-in-Show-clause-performed : goal.returns-in-Show-clause-performed
-returns-in-Show-clause-performed g c =
-    subst (λ s. Performed c.args.self.now s c.args.self.now c.args.out.now.items c.show.new.out.items _ _ _ _ c.show.result) (sym c.in-Show.is)
-    (c.show.ensures _ _)
+returns-in-Show-clause-performed g c = performed_as c.in-Show.is (c.show.ensures _ _)
 
 pub define-requires : goal.define-requires
 define-requires g c =
@@ -31,86 +28,64 @@ define-requires g c =
 
 pub returns-in-Ideal-clause-performed : goal.returns-in-Ideal-clause-performed
 returns-in-Ideal-clause-performed g c =
-    let text = c.args.out.now.items in
-    subst (λ s. Performed c.args.self.now s c.define.new.self text text _ _ _ _ c.define.result) (sym c.in-Ideal.is)
-    (ideal_given c.args.self.now c.in-Ideal.name c.in-Ideal.list c.define.new.self text text _ _ _ _ c.define.result (c.define.ensures text _ _))
+    performed_as c.in-Ideal.is (ideal_given c.define.result (c.define.ensures c.args.out.now.items _ _))
 
 pub define-requires-in-Module : goal.define-requires-in-Module
 define-requires-in-Module g c = subst (IsFit c.args.self.now) c.in-Module.is c.requires.fit
 
 pub returns-in-Module-clause-performed : goal.returns-in-Module-clause-performed
-returns-in-Module-clause-performed g c =
-    subst (λ s. Performed c.args.self.now s c.define-in-Module.new.self c.args.out.now.items c.args.out.now.items _ _ _ _ c.define-in-Module.result) (sym c.in-Module.is)
-    (c.define-in-Module.ensures c.args.out.now.items _ _)
+returns-in-Module-clause-performed g c = performed_as c.in-Module.is (c.define-in-Module.ensures c.args.out.now.items _ _)
 
 pub make-requires-after_bounds : goal.make-requires-after_bounds
 make-requires-after_bounds g c κs within = subst (IsFit c.args.self.now) c.in-Let.is c.requires.fit
 
 pub returns-in-Let-clause-performed : goal.returns-in-Let-clause-performed
-returns-in-Let-clause-performed g c =
-    subst (λ s. Performed c.args.self.now s c.make.new.self c.args.out.now.items c.args.out.now.items _ _ _ _ c.make.result) (sym c.in-Let.is)
-    (c.make.ensures.performed c.args.out.now.items)
+returns-in-Let-clause-performed g c = performed_as c.in-Let.is (c.make.ensures.performed c.args.out.now.items)
 
 pub list-requires : goal.list-requires
 list-requires g c = subst (IsFit c.args.self.now) c.in-Gens.is c.requires.fit
 
 pub returns-in-Gens-clause-performed : goal.returns-in-Gens-clause-performed
-returns-in-Gens-clause-performed g c =
-    subst (λ s. Performed c.args.self.now s c.args.self.now c.args.out.now.items c.list.new.out.items _ _ _ _ c.list.result) (sym c.in-Gens.is)
-    (c.list.ensures _ _)
+returns-in-Gens-clause-performed g c = performed_as c.in-Gens.is (c.list.ensures _ _)
 
 pub ask-requires-after_bounds : goal.ask-requires-after_bounds
 ask-requires-after_bounds g c κs within = subst (IsFit c.args.self.now) c.in-Gb.is c.requires.fit
 
 pub returns-in-Gb-clause-performed : goal.returns-in-Gb-clause-performed
-returns-in-Gb-clause-performed g c =
-    subst (λ s. Performed c.args.self.now s c.ask.new.self c.args.out.now.items c.ask.new.out.items _ _ _ _ c.ask.result) (sym c.in-Gb.is)
-    (c.ask.ensures.performed)
+returns-in-Gb-clause-performed g c = performed_as c.in-Gb.is c.ask.ensures.performed
 
 pub ask-requires-in-Size-after_bounds : goal.ask-requires-in-Size-after_bounds
 ask-requires-in-Size-after_bounds g c κs within = subst (IsFit c.args.self.now) c.in-Size.is c.requires.fit
 
 pub returns-in-Size-clause-performed : goal.returns-in-Size-clause-performed
-returns-in-Size-clause-performed g c =
-    subst (λ s. Performed c.args.self.now s c.ask-in-Size.new.self c.args.out.now.items c.ask-in-Size.new.out.items _ _ _ _ c.ask-in-Size.result) (sym c.in-Size.is)
-    (c.ask-in-Size.ensures.performed)
+returns-in-Size-clause-performed g c = performed_as c.in-Size.is c.ask-in-Size.ensures.performed
 
 pub ask-requires-in-NormalForm-after_bounds : goal.ask-requires-in-NormalForm-after_bounds
 ask-requires-in-NormalForm-after_bounds g c κs within = subst (IsFit c.args.self.now) c.in-NormalForm.is c.requires.fit
 
 pub returns-in-NormalForm-clause-performed : goal.returns-in-NormalForm-clause-performed
-returns-in-NormalForm-clause-performed g c =
-    subst (λ s. Performed c.args.self.now s c.ask-in-NormalForm.new.self c.args.out.now.items c.ask-in-NormalForm.new.out.items _ _ _ _ c.ask-in-NormalForm.result) (sym c.in-NormalForm.is)
-    (c.ask-in-NormalForm.ensures.performed)
+returns-in-NormalForm-clause-performed g c = performed_as c.in-NormalForm.is c.ask-in-NormalForm.ensures.performed
 
 pub ask-requires-in-Member-after_bounds : goal.ask-requires-in-Member-after_bounds
 ask-requires-in-Member-after_bounds g c κs within = subst (IsFit c.args.self.now) c.in-Member.is c.requires.fit
 
 pub returns-in-Member-clause-performed : goal.returns-in-Member-clause-performed
-returns-in-Member-clause-performed g c =
-    subst (λ s. Performed c.args.self.now s c.ask-in-Member.new.self c.args.out.now.items c.ask-in-Member.new.out.items _ _ _ _ c.ask-in-Member.result) (sym c.in-Member.is)
-    (c.ask-in-Member.ensures.performed)
+returns-in-Member-clause-performed g c = performed_as c.in-Member.is c.ask-in-Member.ensures.performed
 
 pub lift-requires-after_bounds : goal.lift-requires-after_bounds
 lift-requires-after_bounds g c κs within = subst (IsFit c.args.self.now) c.in-Lift.is c.requires.fit
 
 pub returns-in-Lift-clause-performed : goal.returns-in-Lift-clause-performed
-returns-in-Lift-clause-performed g c =
-    subst (λ s. Performed c.args.self.now s c.args.self.now c.args.out.now.items c.lift.new.out.items _ _ _ _ c.lift.result) (sym c.in-Lift.is)
-    (c.lift.ensures.performed)
+returns-in-Lift-clause-performed g c = performed_as c.in-Lift.is c.lift.ensures.performed
 
 pub count-requires-after_bounds : goal.count-requires-after_bounds
 count-requires-after_bounds g c κs within = subst (IsFit c.args.self.now) c.in-Hilbert.is c.requires.fit
 
 pub returns-in-Hilbert-clause-performed : goal.returns-in-Hilbert-clause-performed
-returns-in-Hilbert-clause-performed g c =
-    subst (λ s. Performed c.args.self.now s c.count.new.self c.args.out.now.items c.count.new.out.items _ _ _ _ c.count.result) (sym c.in-Hilbert.is)
-    (c.count.ensures.performed)
+returns-in-Hilbert-clause-performed g c = performed_as c.in-Hilbert.is c.count.ensures.performed
 
 pub compare-requires-after_bounds : goal.compare-requires-after_bounds
 compare-requires-after_bounds g c κs within = subst (IsFit c.args.self.now) c.in-Equal.is c.requires.fit
 
-pub returns-clause-performed : goal.returns-clause-performed
-returns-clause-performed g c =
-    subst (λ s. Performed c.args.self.now s c.compare.new.self c.args.out.now.items c.compare.new.out.items _ _ _ _ c.compare.result) (sym c.in-Equal.is)
-    (c.compare.ensures.performed)
+pub returns-in-Equal-clause-performed : goal.returns-in-Equal-clause-performed
+returns-in-Equal-clause-performed g c = performed_as c.in-Equal.is c.compare.ensures.performed
