@@ -4,7 +4,7 @@ use Rattle.std.proofs.Common.{true, vec_capacity, zero, ℕ, ◌*◌, ◌++◌, 
 use Rattle.std.proofs.lemmas.List.{length-map, take-map}
 use Rattle.formal_sums.specs.FormalSums.{Each, FormalSum}
 use Rattle.module_vectors.specs.Rings.{variables}
-use Rattle.module_vectors.specs.Trails.{Step, last_step, no_step}
+use Rattle.module_vectors.specs.Trails.{KeptProduct, last_product, no_product}
 use Rattle.module_vectors.specs.Vectors.{sum_of}
 use Rattle.module_vectors.specs.declared.trail.KeptTrail.{KeptTrail}
 use Rattle.member_products.specs.Generators.{IsVectorOf}
@@ -24,7 +24,7 @@ use Rattle.basis_core.specs.declared.event.Event.TheVariants.{Put}
 use Rattle.basis_core.specs.declared.row_division.RowStop.{RowStop}
 use Rattle.basis_core.specs.declared.row_division.RowTrail.{RowTrail}
 use Rattle.basis_core.specs.declared.row_division.RowStop.TheVariants as row_stops
-use Rattle.basis_core.specs.Stops.{IsTrailBy, earlier_steps, trail_of}
+use Rattle.basis_core.specs.Stops.{IsTrailBy, earlier_products, trail_of}
 use Rattle.std.specs.Prelude.{Contains}
 use Rattle.basis_core.specs.declared.state.BasisState.TheInside.{Inside}
 use Rattle.module_vectors.specs.declared.trail.WorkStop.{WorkStop}
@@ -224,10 +224,10 @@ front_rows n before later row =
 all_of : {X : Type 0} (xs : List X) → take (length xs) xs ≡ xs
 all_of xs = ap (take (length xs)) (sym (append-nil xs)) ∙ take_front xs []
 
--- the last of steps; a step of nothing where there is none
-abbrev last_of : List Step → Step
-last_of [] = no_step
-last_of (s ∷ ss) = last_step s ss
+-- the last of products; a step of nothing where there is none
+abbrev last_of : List KeptProduct → KeptProduct
+last_of [] = no_product
+last_of (s ∷ ss) = last_product s ss
 
 -- a Put that stops by the degree
 module _ (s : Shown) (o : OutcomeShown) (after : List Tracked) (row : RowTrail) (t : KeptTrail)
@@ -236,9 +236,9 @@ module _ (s : Shown) (o : OutcomeShown) (after : List Tracked) (row : RowTrail) 
     (rows_of (variables_of s) o.rows) (products_of (variables_of s) o.products))
     (r : StopsRow (variables_of s) s.shared s.members o.rows after (row_stops.Degree row))
     (reached : AreReached s.shared.ring.modulus.value (vectors (members_of (variables_of s) after)) (sum_of (variables_of s) (r.row).vector) []
-    (terms_of (variables_of s) (earlier_steps (r.stops).first (r.stops).later) ++
-    ((product_of (variables_of s) (last_step (r.stops).first (r.stops).later), 1) ∷ []))) (h : IsTrailBy s.shared after (pairs_of o.job.pairs) t)
-    (ends : EndsAs (variables_of s) row.steps.items t) where
+    (terms_of (variables_of s) (earlier_products (r.stops).first (r.stops).later) ++
+    ((product_of (variables_of s) (last_product (r.stops).first (r.stops).later), 1) ∷ []))) (h : IsTrailBy s.shared after (pairs_of o.job.pairs) t)
+    (ends : EndsAs (variables_of s) row.products.items t) where
   abbrev n : ℕ
   n = variables_of s
 
@@ -266,10 +266,10 @@ module _ (s : Shown) (o : OutcomeShown) (after : List Tracked) (row : RowTrail) 
   failed : row_at (rows_of n o.rows) number ≡ row_of n r.row
   failed = ap (λ l. row_at (rows_of n l) number) r.split ∙ row_behind n r.before r.later r.row
 
-  same_last : product_of n (last_step (r.stops).first (r.stops).later) ≡ (trail_of n t).last
-  same_last = same_end (ends).first (ends).later (r.stops).first (r.stops).later (sym (ends).steps_are ∙ (r.stops).steps) ∙ sym (ends).last
+  same_last : product_of n (last_product (r.stops).first (r.stops).later) ≡ (trail_of n t).last
+  same_last = same_end (ends).first (ends).later (r.stops).first (r.stops).later (sym (ends).products_are ∙ (r.stops).products) ∙ sym (ends).last
     where
-      same_end : (x : Step) (xs : List Step) (y : Step) (ys : List Step) → x ∷ xs ≡ y ∷ ys → product_of n (last_step y ys) ≡ product_of n (last_step x xs)
+      same_end : (x : KeptProduct) (xs : List KeptProduct) (y : KeptProduct) (ys : List KeptProduct) → x ∷ xs ≡ y ∷ ys → product_of n (last_product y ys) ≡ product_of n (last_product x xs)
       same_end x xs y ys e = ap (λ l. product_of n (last_of l)) (sym e)
 
   given : HasGiven (state_of n s).history (pairs_of o.job.pairs)
@@ -299,7 +299,7 @@ module _ (s : Shown) (o : OutcomeShown) (after : List Tracked) (row : RowTrail) 
             made = made;
             makes = subst (λ l. Makes (setting_of n s.shared) l (take number (rows_of n o.rows)) made) (sym (all_of G)) makes;
             members = members ∙ ap (λ l. l ++ vectors made) (sym (all_of G));
-            division = terms_of n (earlier_steps (r.stops).first (r.stops).later);
+            division = terms_of n (earlier_products (r.stops).first (r.stops).later);
             reached = reached_here;
           });
           pair = subst (λ l. IsPair l (trail_of n t).start) (sym h.members) h.real;
@@ -318,14 +318,14 @@ module _ (s : Shown) (o : OutcomeShown) (after : List Tracked) (row : RowTrail) 
     makes = makes;
     members = members;
     given = given;
-    division = terms_of n (earlier_steps (r.stops).first (r.stops).later);
+    division = terms_of n (earlier_products (r.stops).first (r.stops).later);
     reached = reached_here;
   }
     where
       reached_here : AreReached s.shared.ring.modulus.value (trail_of n t).members (row_at (rows_of n o.rows) number).vector []
-          (terms_of n (earlier_steps (r.stops).first (r.stops).later) ++ (((trail_of n t).last, 1) ∷ []))
+          (terms_of n (earlier_products (r.stops).first (r.stops).later) ++ (((trail_of n t).last, 1) ∷ []))
       reached_here = subst (λ (z : List (FormalSum n) × FormalSum n × plain.Product n). AreReached s.shared.ring.modulus.value z.0 z.1 []
-          (terms_of n (earlier_steps (r.stops).first (r.stops).later) ++ ((z.2, 1) ∷ [])))
+          (terms_of n (earlier_products (r.stops).first (r.stops).later) ++ ((z.2, 1) ∷ [])))
           (λ i. (sym h.members i, (sym failed i).vector, same_last i)) reached
 
       long : length G ≡ length s.members
@@ -341,7 +341,7 @@ put_stops s o (Degree t) replays job outcome r =
     put_trail_at s o r.after r.row t replays job (outcome_of s o job.shared outcome) rows
     (row_reached s.shared r.after r.tracked (rows.row).vector
     (contained_row o.rows rows.row outcome.rows (subst (λ l. Contains l rows.row) (sym rows.split) (stands rows.before rows.later rows.row)))
-    r.row.steps.items r.row.last rows.stops)
+    r.row.products.items r.row.last rows.stops)
     r.trail r.ends
   where
     contained_row : (rows : List CodeRow) (x : CodeRow) → Each (IsRunRow o.job.shared (length o.job.members)) rows → Contains rows x
@@ -364,5 +364,5 @@ stops_outcome n shared ms after o (row_stops.Degree row) (Degree t) e r tracked 
   row = row;
   stops = r;
   trail = h.0;
-  ends = subst (λ k. EndsAs k row.steps.items t) (sym e) h.1;
+  ends = subst (λ k. EndsAs k row.products.items t) (sym e) h.1;
 }

@@ -6,7 +6,7 @@ use Rattle.formal_sums.specs.FormalSums.{Each, Key, shift}
 use Rattle.bases.proofs.Meeting.{met_behind}
 use Rattle.bases.specs.Leads.{head_key}
 use Rattle.module_vectors.specs.Rings.{variables}
-use Rattle.module_vectors.specs.Trails.{HasKey, IsInProduct, IsStep, Step, product_lead, step_at}
+use Rattle.module_vectors.specs.Trails.{HasKey, IsInProduct, IsKeptProduct, KeptProduct, product_lead, kept_at}
 use Rattle.module_vectors.specs.Vectors.{IsTerm, key_of, sum_of}
 use Rattle.module_vectors.specs.declared.key.Key.{Key as CodeKey}
 use Rattle.basis_core.specs.Chains.{IsChainTo}
@@ -74,7 +74,7 @@ variables_at shared ms i v k t h e l is =
 
 -- the lead of a product is that of the first term
 pub lead_is :
-    (n : ℕ) (vs : List (List (CodeKey × ℕ))) (s : Step) (v : List (CodeKey × ℕ)) (t : CodeKey × ℕ)
+    (n : ℕ) (vs : List (List (CodeKey × ℕ))) (s : KeptProduct) (v : List (CodeKey × ℕ)) (t : CodeKey × ℕ)
     → v ≡ get_or vs s.0 [] → 0 < length v → t ≡ get_or v 0 t → product_lead n vs s ≡ shift (exponents_of n s.1.exponents) (key_of n t.0)
 lead_is n vs s v t e l is = ap (λ w. shift (exponents_of n s.1.exponents) (head_key (sum_of n w))) (sym e) ∙ go v l is
   where
@@ -135,30 +135,30 @@ each_item P (y ∷ xs) zero x h l e = subst P (sym e) h.0
 each_item P (y ∷ xs) (suc i) x h l e = each_item P xs i x h.1 (omega arith) e
 
 -- the step that stands there
-pub step_is : (all : List Step) (i : ℕ) (s : Step) → i < length all → s ≡ get_or all i s → s ≡ step_at all i
+pub step_is : (all : List KeptProduct) (i : ℕ) (s : KeptProduct) → i < length all → s ≡ get_or all i s → s ≡ kept_at all i
 step_is [] i s l e = absurd (omega arith)
 step_is (t ∷ all) zero s l e = e
 step_is (t ∷ all) (suc i) s l e = step_is all i s (omega arith) e
 
 pub none_below :
-    (P : Step → Type 0) (all : List Step) (i : ℕ)
-    → ((j : ℕ) → j < i → P (step_at all j) → ⊥) → (P (step_at all i) → ⊥)
-    → (j : ℕ) → j < i + 1 → P (step_at all j) → ⊥
+    (P : KeptProduct → Type 0) (all : List KeptProduct) (i : ℕ)
+    → ((j : ℕ) → j < i → P (kept_at all j) → ⊥) → (P (kept_at all i) → ⊥)
+    → (j : ℕ) → j < i + 1 → P (kept_at all j) → ⊥
 none_below P all i before here j l = go (cases_lt j i)
   where
-    go : (j < i) ⊎ (i ≤ j) → P (step_at all j) → ⊥
+    go : (j < i) ⊎ (i ≤ j) → P (kept_at all j) → ⊥
     go (inl q) = before j q
     go (inr q) =
         let same : j ≡ i = omega arith in
-        λ p. here (subst (λ k. P (step_at all k)) same p)
+        λ p. here (subst (λ k. P (kept_at all k)) same p)
 
 -- a chain, and a product before it that has the lead of its first one as a key
 pub chain_before :
-    (n : ℕ) (ws : List ℕ) (vs : List (List (CodeKey × ℕ))) (all : List Step) (first s : Step) (chain : List Step)
-    → IsChainTo n ws vs all first chain → IsStep n ws vs s → IsInProduct n vs (product_lead n vs first) s → IsChainTo n ws vs all s (s ∷ chain)
+    (n : ℕ) (ws : List ℕ) (vs : List (List (CodeKey × ℕ))) (all : List KeptProduct) (first s : KeptProduct) (chain : List KeptProduct)
+    → IsChainTo n ws vs all first chain → IsKeptProduct n ws vs s → IsInProduct n vs (product_lead n vs first) s → IsChainTo n ws vs all s (s ∷ chain)
 chain_before n ws vs all first s chain c known there = record {
   later = first ∷ c.later;
-  steps = ap (λ l. s ∷ l) c.steps;
+  products = ap (λ l. s ∷ l) c.products;
   known = (known, c.known);
   met = (
     inr (s, (0, omega arith, refl), there),

@@ -28,8 +28,8 @@ use Rattle.module_vectors.specs.declared.ring.Ring.{Ring}
 use Rattle.zp_field.specs.Moduli.{IsInverse}
 use Rattle.vector_division.proofs.Freeing.{not_covered}
 use Rattle.vector_division.specs.Divisions.{HasReducedLead}
-use Rattle.vector_division.specs.Reductions.{HaveLeadsUpTo, IsQuotient, cofactors_of}
-use Rattle.vector_division.specs.declared.reduction.Quotient.{Quotient}
+use Rattle.vector_division.specs.Reductions.{HaveLeadsUpTo, IsScaledProduct, cofactors_of}
+use Rattle.vector_division.specs.declared.reduction.ScaledProduct.{ScaledProduct}
 use Rattle.member_products.proofs.Ranks as ranks
 use Rattle.member_products.proofs.Ranks.{of_rank, rank_of_positions, ranked_by}
 use Rattle.member_products.specs.Generators.{IsRanked, IsVectorOf}
@@ -76,8 +76,8 @@ module _ {n : ℕ} (S : Setting n) (lawful : IsLawful S) where
 
   -- the products of the quotients stand at most at k
   quotients_at_most :
-      (ws : List ℕ) (p : ℕ) (list : List (List (CodeKey × ℕ))) (k : Key n) (qs : List Quotient)
-      → Each (IsQuotient n ws p list) qs → HaveLeadsUpTo n S.compare list k qs
+      (ws : List ℕ) (p : ℕ) (list : List (List (CodeKey × ℕ))) (k : Key n) (qs : List ScaledProduct)
+      → Each (IsScaledProduct n ws p list) qs → HaveLeadsUpTo n S.compare list k qs
       → AreQuotients S (sums_of n list) k (cofactors_of n qs)
   quotients_at_most ws p list k [] h b = tt
   quotients_at_most ws p list k (q ∷ qs) h b = (
@@ -138,7 +138,7 @@ module _ {n : ℕ} (S : Setting n) (lawful : IsLawful S) where
   rest_free V t w h covered = not_covered S V t.0 h covered
 
 -- ---- what is left of a vector
-module _ (shared : Shared) (ms : List Tracked) (u : List (CodeKey × ℕ)) (qs : List Quotient) (members : Each (IsTracked shared) ms)
+module _ (shared : Shared) (ms : List Tracked) (u : List (CodeKey × ℕ)) (qs : List ScaledProduct) (members : Each (IsTracked shared) ms)
     (over : IsRanked shared.ring shared.rank u) (hq : AreRowQuotients shared ms u qs) where
   abbrev n : ℕ
   n = variables shared.ring
@@ -202,14 +202,14 @@ module _ (shared : Shared) (ms : List Tracked) (u : List (CodeKey × ℕ)) (qs :
 -- ---- the row's products
 -- the positions of quotients are indices of members
 quotient_positions :
-    (n : ℕ) (ws : List ℕ) (p : ℕ) (list : List (List (CodeKey × ℕ))) (qs : List Quotient)
-    → Each (IsQuotient n ws p list) qs → HasRank (length list) (cofactors_of n qs)
+    (n : ℕ) (ws : List ℕ) (p : ℕ) (list : List (List (CodeKey × ℕ))) (qs : List ScaledProduct)
+    → Each (IsScaledProduct n ws p list) qs → HasRank (length list) (cofactors_of n qs)
 quotient_positions n ws p list [] h = tt
 quotient_positions n ws p list (q ∷ qs) h = (h.0.index, quotient_positions n ws p list qs h.1)
 
 -- they are of the first members, as the row's are
 pub products_ranked :
-    (shared : Shared) (ms : List Tracked) (u products left : List (CodeKey × ℕ)) (qs : List Quotient)
+    (shared : Shared) (ms : List Tracked) (u products left : List (CodeKey × ℕ)) (qs : List ScaledProduct)
     → HasPositions (length ms) products → AreRowQuotients shared ms u qs → AreRowProducts shared products qs left
     → IsOfRank shared.ring.modulus.value (length ms) (sum_of (variables shared.ring) left)
 products_ranked shared ms u products left qs h hq hp =
@@ -224,7 +224,7 @@ products_ranked shared ms u products left qs h hq hp =
 
 -- the row's products, copied, less the quotients, times the modulus less 1
 pub row_products :
-    (shared : Shared) (r : Ring) (products copy less scaled left : List (CodeKey × ℕ)) (value : ℕ) (qs : List Quotient)
+    (shared : Shared) (r : Ring) (products copy less scaled left : List (CodeKey × ℕ)) (value : ℕ) (qs : List ScaledProduct)
     → r ≡ shared.ring → copy ≡ products → value ≡ r.modulus.value → StandsFor r less (cofactors_of (variables r) qs)
     → StandsFor r scaled (scale (value - 1) (unit (variables r)) (sum_of (variables r) less))
     → IsVectorOf r left → StandsFor r left (sum_of (variables r) copy ++ sum_of (variables r) scaled)
@@ -252,7 +252,7 @@ row_products shared r products copy less scaled left value qs e ec ev hl hs iv s
         (IsSame_append (IsSame_refl r.modulus.value (sum_of (variables r) products)) taken)
 
 -- ---- the member that is left
-module _ (shared : Shared) (ms : List Tracked) (row : CodeRow) (multiple : List (CodeKey × ℕ)) (qs : List Quotient)
+module _ (shared : Shared) (ms : List Tracked) (row : CodeRow) (multiple : List (CodeKey × ℕ)) (qs : List ScaledProduct)
     (members : Each (IsTracked shared) ms) (over : IsRunMember shared (length ms) (with_multiple row multiple))
     (hq : AreRowQuotients shared ms row.vector qs) where
   abbrev N : ℕ
@@ -341,7 +341,7 @@ module _ (shared : Shared) (ms : List Tracked) (row : CodeRow) (multiple : List 
 
 -- the member that the calls of `monic_member` make
 pub left_member :
-    (shared : Shared) (r : Ring) (ms : List Tracked) (row : CodeRow) (multiple copy : List (CodeKey × ℕ)) (qs : List Quotient)
+    (shared : Shared) (r : Ring) (ms : List Tracked) (row : CodeRow) (multiple copy : List (CodeKey × ℕ)) (qs : List ScaledProduct)
     (rest left v b c : List (CodeKey × ℕ)) (d : ℕ)
     → r ≡ shared.ring → copy ≡ multiple → Each (IsTracked shared) ms → IsRunMember shared (length ms) (with_multiple row multiple)
     → Each (IsMonicMember (setting_of (variables shared.ring) shared)) (vectors (members_of (variables shared.ring) ms))

@@ -8,7 +8,7 @@ use Rattle.bases.specs.Leads.{head_key}
 use Rattle.bases.specs.Settings.{IsLawful, Setting}
 use Rattle.module_vectors.proofs.NormalVectors.{residues_of}
 use Rattle.module_vectors.specs.Rings.{ring_comparison}
-use Rattle.module_vectors.specs.Trails.{HasKey, IsInProduct, Step, product_lead}
+use Rattle.module_vectors.specs.Trails.{HasKey, IsInProduct, KeptProduct, product_lead}
 use Rattle.module_vectors.specs.Vectors.{IsVector, IsVectorOver, sum_of, sums_of}
 use Rattle.module_vectors.specs.declared.key.Key.{Key as CodeKey}
 use Rattle.vector_division.proofs.Members.{sums_at}
@@ -37,12 +37,12 @@ member_vector shared (m ∷ ms) (suc k) h = member_vector shared ms k h.1
 
 -- ---- keys of products
 -- the lead of a product, by the vectors of a list
-pub lead_same : (n : ℕ) (list : List (List (CodeKey × ℕ))) (s : Step) → plain.product_lead (sums_of n list) (product_of n s) ≡ product_lead n list s
+pub lead_same : (n : ℕ) (list : List (List (CodeKey × ℕ))) (s : KeptProduct) → plain.product_lead (sums_of n list) (product_of n s) ≡ product_lead n list s
 lead_same n list s = ap (λ v. shift (exponents_of n s.1.exponents) (head_key v)) (sums_at n list s.0)
 
 -- what occurs in a product is a key of it
 pub occurs_in :
-    (n p : ℕ) (vs : List (List (CodeKey × ℕ))) (G : List (FormalSum n)) (s : Step) (k : Key n)
+    (n p : ℕ) (vs : List (List (CodeKey × ℕ))) (G : List (FormalSum n)) (s : KeptProduct) (k : Key n)
     → get_or G s.0 [] ≡ sum_of n (get_or vs s.0 []) → Occurs p (product_vector G (product_of n s)) k → IsInProduct n vs k s
 occurs_in n p vs G s k e o = go (occurs (scale 1 (exponents_of n s.1.exponents) (get_or G s.0 [])) k)
   where
@@ -72,7 +72,7 @@ module _ {n : ℕ} (S : Setting n) (lawful : IsLawful S) where
 
   -- a key of a product of a vector occurs in it
   pub in_occurs :
-      (vs : List (List (CodeKey × ℕ))) (G : List (FormalSum n)) (s : Step) (k : Key n)
+      (vs : List (List (CodeKey × ℕ))) (G : List (FormalSum n)) (s : KeptProduct) (k : Key n)
       → get_or G s.0 [] ≡ sum_of n (get_or vs s.0 []) → IsVector n S.weights S.modulus S.compare (get_or vs s.0 [])
       → IsInProduct n vs k s → Occurs S.modulus (product_vector G (product_of n s)) k
   in_occurs vs G s k e v (l, there, is) z =

@@ -10,20 +10,20 @@ use Rattle.module_vectors.specs.Vectors.{AreTermsOver, IsMonomialOver, sum_of}
 use Rattle.module_vectors.specs.declared.key.Key.{Key as CodeKey}
 use Rattle.module_vectors.specs.declared.ring.Ring.{Ring}
 use Rattle.vector_division.specs.Reductions.{cofactors_of, term_of}
-use Rattle.vector_division.specs.declared.reduction.Quotient.{Quotient}
+use Rattle.vector_division.specs.declared.reduction.ScaledProduct.{ScaledProduct}
 
-pub terms_sum : (n : ℕ) (qs : List Quotient) → sum_of n (map term_of qs) ≡ cofactors_of n qs
+pub terms_sum : (n : ℕ) (qs : List ScaledProduct) → sum_of n (map term_of qs) ≡ cofactors_of n qs
 terms_sum n [] = refl
 terms_sum n (q ∷ qs) = ap (λ l. ((q.index, exponents_of n q.monomial.exponents), q.residue) ∷ l) (terms_sum n qs)
 
 pub terms_over :
-    (ring : Ring) (qs : List Quotient) → Each (λ q. IsMonomialOver ring q.monomial × (q.residue < ring.modulus.value)) qs → AreTermsOver ring (map term_of qs)
+    (ring : Ring) (qs : List ScaledProduct) → Each (λ q. IsMonomialOver ring q.monomial × (q.residue < ring.modulus.value)) qs → AreTermsOver ring (map term_of qs)
 terms_over ring [] h = tt
 terms_over ring (q ∷ qs) h = (h.0, terms_over ring qs h.1)
 
 -- one quotient more
 pub terms_more :
-    (qs : List Quotient) (i : ℕ) (q : Quotient) (monomial : Monomial) (terms more : List (CodeKey × ℕ))
+    (qs : List ScaledProduct) (i : ℕ) (q : ScaledProduct) (monomial : Monomial) (terms more : List (CodeKey × ℕ))
     → i < length qs → q ≡ get_or qs i q → monomial ≡ q.monomial → terms ≡ map term_of (take i qs)
     → more ≡ terms ++ ((record { position = q.index; monomial = monomial }, q.residue) ∷ [])
     → more ≡ map term_of (take (i + 1) qs)

@@ -7,27 +7,27 @@ use Rattle.monomials.specs.Exponents.{exponents_of}
 use Rattle.formal_sums.specs.FormalSums.{Each, FormalSum, Key, shift}
 use Rattle.bases.specs.Leads.{head_key}
 use Rattle.module_vectors.specs.Rings.{variables}
-use Rattle.module_vectors.specs.Trails.{AreMet, IsMet, Step, last_step, product_lead}
+use Rattle.module_vectors.specs.Trails.{AreMet, IsMet, KeptProduct, last_product, product_lead}
 use Rattle.module_vectors.specs.Vectors.{sum_of}
 use Rattle.module_vectors.specs.declared.key.Key.{Key as CodeKey}
 use Rattle.member_products.specs.Generators.{IsVectorOf}
 use Rattle.vector_division.proofs.Occurring.{Contains_here, Contains_later}
-use Rattle.vector_division.specs.Reductions.{AreMetFrom, cofactors_of, step_of}
-use Rattle.vector_division.specs.declared.reduction.Quotient.{Quotient}
+use Rattle.vector_division.specs.Reductions.{AreMetFrom, cofactors_of, unscaled}
+use Rattle.vector_division.specs.declared.reduction.ScaledProduct.{ScaledProduct}
 use Rattle.basis_steps.specs.Divisions.{AreReached, IsReached, Occurs}
 use Rattle.basis_steps.specs.Outcomes.{product_vector}
 use Rattle.basis_steps.specs.States.{Product, vectors}
 use Rattle.basis_core.specs.Members.{IsTracked, Shared, Tracked, members_of, setting_of}
 use Rattle.basis_core.specs.Outcomes.{product_of}
 use Rattle.basis_core.specs.Rows.{IsRowTrail, vectors_in}
-use Rattle.basis_core.specs.Stops.{earlier_steps}
+use Rattle.basis_core.specs.Stops.{earlier_products}
 use Rattle.basis_core.proofs.MemberKeys.{in_occurs, key_occurs, member_vector, vector_at}
 use Rattle.basis_core.proofs.Tracking.{ring_lawful}
 
 -- the step of a quotient is the key of its cofactor's term
 step_there :
-    (n : ℕ) (qs : List Quotient) (s : Step)
-    → Contains (map step_of qs) s → (t : Key n × ℕ) × Contains (cofactors_of n qs) t × (t.0 ≡ product_of n s)
+    (n : ℕ) (qs : List ScaledProduct) (s : KeptProduct)
+    → Contains (map unscaled qs) s → (t : Key n × ℕ) × Contains (cofactors_of n qs) t × (t.0 ≡ product_of n s)
 step_there n [] s (k, l, e) = absurd (omega arith)
 step_there n (q ∷ qs) s (zero, l, e) =
     let t : Key n × ℕ = ((q.index, exponents_of n q.monomial.exponents), q.residue) in
@@ -36,18 +36,18 @@ step_there n (q ∷ qs) s (suc k, l, e) =
     let r = step_there n qs s (k, omega arith, e) in
     (r.0, Contains_later ((q.index, exponents_of n q.monomial.exponents), q.residue) r.0 (cofactors_of n qs) r.1, r.2)
 
--- the products of steps, each once
-abbrev pub terms_of : (n : ℕ) → List Step → FormalSum n
-terms_of n steps = map (λ s. (product_of n s, 1)) steps
+-- the products of products, each once
+abbrev pub terms_of : (n : ℕ) → List KeptProduct → FormalSum n
+terms_of n products = map (λ s. (product_of n s, 1)) products
 
-term_there : (n : ℕ) (steps : List Step) (s : Step) → Contains steps s → Contains (terms_of n steps) (product_of n s, 1)
+term_there : (n : ℕ) (products : List KeptProduct) (s : KeptProduct) → Contains products s → Contains (terms_of n products) (product_of n s, 1)
 term_there n [] s (k, l, e) = absurd (omega arith)
-term_there n (x ∷ steps) s (zero, l, e) = (zero, omega arith, ap (λ (z : Step). (product_of n z, 1)) e)
-term_there n (x ∷ steps) s (suc k, l, e) =
-    let r = term_there n steps s (k, omega arith, e) in
+term_there n (x ∷ products) s (zero, l, e) = (zero, omega arith, ap (λ (z : KeptProduct). (product_of n z, 1)) e)
+term_there n (x ∷ products) s (suc k, l, e) =
+    let r = term_there n products s (k, omega arith, e) in
     (suc r.0, omega (arith, r.1), r.2)
 
-terms_apart : (n : ℕ) (s : Step) (ss : List Step) → terms_of n (s ∷ ss) ≡ terms_of n (earlier_steps s ss) ++ ((product_of n (last_step s ss), 1) ∷ [])
+terms_apart : (n : ℕ) (s : KeptProduct) (ss : List KeptProduct) → terms_of n (s ∷ ss) ≡ terms_of n (earlier_products s ss) ++ ((product_of n (last_product s ss), 1) ∷ [])
 terms_apart n s [] = refl
 terms_apart n s (t ∷ ss) = ap (λ l. (product_of n s, 1) ∷ l) (terms_apart n t ss)
 
@@ -66,8 +66,8 @@ module _ (shared : Shared) (ms : List Tracked) (members : Each (IsTracked shared
 
   -- what is met as a key is reached as a monomial
   met_reached :
-      (earlier : List Quotient) (k : Key n)
-      → IsMet n (sum_of n v) vs (map step_of earlier) k → IsReached p G (sum_of n v) (cofactors_of n earlier) k
+      (earlier : List ScaledProduct) (k : Key n)
+      → IsMet n (sum_of n v) vs (map unscaled earlier) k → IsReached p G (sum_of n v) (cofactors_of n earlier) k
   met_reached earlier k (inl there) = inl (key_occurs (setting_of n shared) (ring_lawful shared) v k iv there)
   met_reached earlier k (inr (s, there, h)) =
       let t = step_there n earlier s there in
@@ -79,25 +79,25 @@ module _ (shared : Shared) (ms : List Tracked) (members : Each (IsTracked shared
       )
 
   reached_from :
-      (earlier qs : List Quotient)
-      → AreMetFrom n (sum_of n v) vs (map step_of earlier) qs → AreReached p G (sum_of n v) (cofactors_of n earlier) (cofactors_of n qs)
+      (earlier qs : List ScaledProduct)
+      → AreMetFrom n (sum_of n v) vs (map unscaled earlier) qs → AreReached p G (sum_of n v) (cofactors_of n earlier) (cofactors_of n qs)
   reached_from earlier [] h = tt
   reached_from earlier (q ∷ qs) h = (
     subst (λ (g : FormalSum n). IsReached p G (sum_of n v) (cofactors_of n earlier) (shift (exponents_of n q.monomial.exponents) (head_key g)))
         (sym (vector_at n ms q.index))
-        (met_reached earlier (product_lead n vs (step_of q)) h.0),
+        (met_reached earlier (product_lead n vs (unscaled q)) h.0),
     subst (λ (b : FormalSum n). AreReached p G (sum_of n v) b (cofactors_of n qs))
-        (map-append (λ (r : Quotient). ((r.index, exponents_of n r.monomial.exponents), r.residue)) earlier (q ∷ []))
-        (reached_from (earlier ++ (q ∷ [])) qs (subst (λ (steps : List Step). AreMetFrom n (sum_of n v) vs steps qs) (sym (map-append step_of earlier (q ∷ []))) h.1)),
+        (map-append (λ (r : ScaledProduct). ((r.index, exponents_of n r.monomial.exponents), r.residue)) earlier (q ∷ []))
+        (reached_from (earlier ++ (q ∷ [])) qs (subst (λ (products : List KeptProduct). AreMetFrom n (sum_of n v) vs products qs) (sym (map-append unscaled earlier (q ∷ []))) h.1)),
   )
 
   -- one after another, from the first
-  pub quotients_reached : (qs : List Quotient) → AreMetFrom n (sum_of n v) vs [] qs → AreReached p G (sum_of n v) [] (cofactors_of n qs)
+  pub quotients_reached : (qs : List ScaledProduct) → AreMetFrom n (sum_of n v) vs [] qs → AreReached p G (sum_of n v) [] (cofactors_of n qs)
   quotients_reached qs h = reached_from [] qs h
 
-  -- ---- the same of steps
+  -- ---- the same of products
   step_reached :
-      (earlier : List Step) (k : Key n)
+      (earlier : List KeptProduct) (k : Key n)
       → IsMet n (sum_of n v) vs earlier k → IsReached p G (sum_of n v) (terms_of n earlier) k
   step_reached earlier k (inl there) = inl (key_occurs (setting_of n shared) (ring_lawful shared) v k iv there)
   step_reached earlier k (inr (s, there, h)) =
@@ -108,22 +108,22 @@ module _ (shared : Shared) (ms : List Tracked) (members : Each (IsTracked shared
             (member_vector shared ms s.0 members) h,
       )
 
-  -- steps that are met are reached, one after another
+  -- products that are met are reached, one after another
   pub steps_reached :
-      (earlier steps : List Step)
-      → AreMet n (sum_of n v) vs earlier steps → AreReached p G (sum_of n v) (terms_of n earlier) (terms_of n steps)
+      (earlier products : List KeptProduct)
+      → AreMet n (sum_of n v) vs earlier products → AreReached p G (sum_of n v) (terms_of n earlier) (terms_of n products)
   steps_reached earlier [] h = tt
-  steps_reached earlier (s ∷ steps) h = (
+  steps_reached earlier (s ∷ products) h = (
     subst (λ (g : FormalSum n). IsReached p G (sum_of n v) (terms_of n earlier) (shift (exponents_of n s.1.exponents) (head_key g))) (sym (vector_at n ms s.0))
         (step_reached earlier (product_lead n vs s) h.0),
-    subst (λ (b : FormalSum n). AreReached p G (sum_of n v) b (terms_of n steps)) (map-append (λ (r : Step). (product_of n r, 1)) earlier (s ∷ []))
-        (steps_reached (earlier ++ s ∷ []) steps h.1),
+    subst (λ (b : FormalSum n). AreReached p G (sum_of n v) b (terms_of n products)) (map-append (λ (r : KeptProduct). (product_of n r, 1)) earlier (s ∷ []))
+        (steps_reached (earlier ++ s ∷ []) products h.1),
   )
 
-  -- the steps of a row's trail, the last of them apart
+  -- the products of a row's trail, the last of them apart
   pub row_reached :
-      (steps : List Step) (last : Monomial) (h : IsRowTrail n shared.ring.weights ms v steps last)
-      → AreReached p G (sum_of n v) [] (terms_of n (earlier_steps h.first h.later) ++ ((product_of n (last_step h.first h.later), 1) ∷ []))
-  row_reached steps last h =
+      (products : List KeptProduct) (last : Monomial) (h : IsRowTrail n shared.ring.weights ms v products last)
+      → AreReached p G (sum_of n v) [] (terms_of n (earlier_products h.first h.later) ++ ((product_of n (last_product h.first h.later), 1) ∷ []))
+  row_reached products last h =
       subst (AreReached p G (sum_of n v) []) (terms_apart n h.first h.later)
       (steps_reached [] (h.first ∷ h.later) (inl h.begins, h.met))

@@ -9,7 +9,7 @@ use Rattle.bases.proofs.NormalForms.{normal_unique}
 use Rattle.monomial_orders.specs.Kept.{IsWeighed, Monomial}
 use Rattle.module_vectors.proofs.NormalVectors.{residues_of}
 use Rattle.module_vectors.specs.Rings.{ring_comparison, variables}
-use Rattle.module_vectors.specs.Trails.{IsChain, Step, last_step}
+use Rattle.module_vectors.specs.Trails.{IsChain, KeptProduct, last_product}
 use Rattle.module_vectors.specs.Vectors.{AreVectorsOver, sum_of, sums_of}
 use Rattle.module_vectors.specs.declared.key.Key.{Key as CodeKey}
 use Rattle.module_vectors.specs.declared.ring.Ring.{Ring}
@@ -148,25 +148,25 @@ module _ (shared : Shared) where
 
 -- ---- the trail of a generator that is not divided
 pub beginning_kept :
-    (shared : Shared) (ms : List Tracked) (v : List (CodeKey × ℕ)) (number : ℕ) (steps : List Step) (last : Monomial) (t : KeptTrail)
+    (shared : Shared) (ms : List Tracked) (v : List (CodeKey × ℕ)) (number : ℕ) (products : List KeptProduct) (last : Monomial) (t : KeptTrail)
     → number < length shared.generators → v ≡ get_or shared.generators number [] → HaveMade shared number ms
-    → Each (IsTracked shared) ms → IsRowTrail (variables shared.ring) shared.ring.weights ms v steps last → t.ring ≡ shared.ring → t.rank ≡ shared.rank
+    → Each (IsTracked shared) ms → IsRowTrail (variables shared.ring) shared.ring.weights ms v products last → t.ring ≡ shared.ring → t.rank ≡ shared.rank
     → t.generators ≡ shared.generators → t.below.items ≡ [] → t.start ≡ starts.Term → t.vector ≡ v
-    → t.members ≡ vectors_in ms → t.steps.items ≡ steps → t.last ≡ last
+    → t.members ≡ vectors_in ms → t.products.items ≡ products → t.last ≡ last
     → IsBeginningTrail (variables shared.ring) shared t
-beginning_kept shared ms v number steps last t lt e made tracked h e_ring e_rank e_generators e_below e_start e_vector e_members e_steps e_last = record {
+beginning_kept shared ms v number products last t lt e made tracked h e_ring e_rank e_generators e_below e_start e_vector e_members e_steps e_last = record {
   over = record {
     trail = (
       h.first,
       h.later,
       subst (λ (r : Ring). IsChain (variables r) t h.first h.later) (sym e_ring) (record {
-        steps = e_steps ∙ h.steps;
+        products = e_steps ∙ h.products;
         known = subst (λ (k : ℕ). Each (λ s. s.0 < k) (h.first ∷ h.later)) (sym (ap length e_members ∙ length-map ms (λ m. m.vector))) h.known;
         variables = subst (λ (r : Ring). Each (λ s. IsWeighed (variables shared.ring) r.weights s.1) (h.first ∷ h.later)) (sym e_ring) h.weighed;
         begins = rw (e_start, e_vector, e_members) h.begins;
         met = rw (e_vector, e_members) h.met;
         last = rw (e_members, e_last) h.monomial;
-        last_variables = rw (e_ring, e_last) (last_weighed shared ms (last_step h.first h.later) last tracked h.monomial);
+        last_variables = rw (e_ring, e_last) (last_weighed shared ms (last_product h.first h.later) last tracked h.monomial);
         too_great = rw e_last h.too_great;
       }),
     );

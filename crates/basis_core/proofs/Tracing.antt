@@ -9,7 +9,7 @@ use Rattle.bases.proofs.Meeting.{met_at, turn_from}
 use Rattle.bases.specs.Leads.{head_key}
 use Rattle.monomial_orders.specs.Kept.{Monomial}
 use Rattle.module_vectors.specs.Rings.{variables}
-use Rattle.module_vectors.specs.Trails.{AreMet, HasKey, IsInProduct, IsMet, IsStep, Step, no_step, product_lead, step_at}
+use Rattle.module_vectors.specs.Trails.{AreMet, HasKey, IsInProduct, IsMet, IsKeptProduct, KeptProduct, no_product, product_lead, kept_at}
 use Rattle.module_vectors.specs.Vectors.{IsMonomialOver, sum_of}
 use Rattle.module_vectors.specs.declared.key.Key.{Key as CodeKey}
 use Rattle.pair_criteria.specs.declared.pair.Pair.{Pair as CodePair}
@@ -34,17 +34,17 @@ use Rattle.basis_core.proofs.Tracking.{ring_lawful}
 use Rattle.pair_criteria.specs.Pairs.{IsLcmOf}
 
 -- ---- lists
-pub step_front : (xs ys : List Step) (i : ℕ) → i < length xs → step_at (xs ++ ys) i ≡ step_at xs i
+pub step_front : (xs ys : List KeptProduct) (i : ℕ) → i < length xs → kept_at (xs ++ ys) i ≡ kept_at xs i
 step_front [] ys i l = absurd (omega arith)
 step_front (x ∷ xs) ys zero l = refl
 step_front (x ∷ xs) ys (suc i) l = step_front xs ys i (omega arith)
 
-pub step_behind : (xs ys : List Step) (i : ℕ) → step_at (xs ++ ys) (length xs + i) ≡ step_at ys i
-step_behind [] ys i = ap (step_at ys) zeros
+pub step_behind : (xs ys : List KeptProduct) (i : ℕ) → kept_at (xs ++ ys) (length xs + i) ≡ kept_at ys i
+step_behind [] ys i = ap (kept_at ys) zeros
   where
     zeros : 0 + i ≡ i
     zeros = omega arith
-step_behind (x ∷ xs) ys i = ap (step_at (x ∷ (xs ++ ys))) sucs ∙ step_behind xs ys i
+step_behind (x ∷ xs) ys i = ap (kept_at (x ∷ (xs ++ ys))) sucs ∙ step_behind xs ys i
   where
     sucs : suc (length xs) + i ≡ suc (length xs + i)
     sucs = omega arith
@@ -96,19 +96,19 @@ listed_length (m ∷ ms) = ap suc (listed_length ms)
 -- ---- what is met
 -- each lead that is met is a key of the row, or of a step before it
 pub met_index :
-    (n : ℕ) (v : FormalSum n) (vs : List (List (CodeKey × ℕ))) (earlier later : List Step)
+    (n : ℕ) (v : FormalSum n) (vs : List (List (CodeKey × ℕ))) (earlier later : List KeptProduct)
     → AreMet n v vs earlier later → (i : ℕ) → i < length later
-    → HasKey v (product_lead n vs (step_at later i))
-    ⊎ ((j : ℕ) × (j < length earlier + i) × IsInProduct n vs (product_lead n vs (step_at later i)) (step_at (earlier ++ later) j))
-met_index n v vs earlier later met i l = met_at (HasKey v) (IsInProduct n vs) (product_lead n vs) no_step earlier later met i l
+    → HasKey v (product_lead n vs (kept_at later i))
+    ⊎ ((j : ℕ) × (j < length earlier + i) × IsInProduct n vs (product_lead n vs (kept_at later i)) (kept_at (earlier ++ later) j))
+met_index n v vs earlier later met i l = met_at (HasKey v) (IsInProduct n vs) (product_lead n vs) no_product earlier later met i l
 
 -- ---- a row that stops, of an outcome
-pub product_is : (n : ℕ) (products : List Step) (i : ℕ) → i < length products → product_at (products_of n products) i ≡ product_of n (step_at products i)
+pub product_is : (n : ℕ) (products : List KeptProduct) (i : ℕ) → i < length products → product_at (products_of n products) i ≡ product_of n (kept_at products i)
 product_is n [] i l = absurd (omega arith)
 product_is n (s ∷ products) zero l = refl
 product_is n (s ∷ products) (suc i) l = product_is n products i (omega arith)
 
-products_length : (n : ℕ) (products : List Step) → length (products_of n products) ≡ length products
+products_length : (n : ℕ) (products : List KeptProduct) → length (products_of n products) ≡ length products
 products_length n [] = refl
 products_length n (s ∷ products) = ap suc (products_length n products)
 
@@ -119,8 +119,8 @@ each_row P (r ∷ rows) row h (suc k, l, e) = each_row P rows row h.1 (k, omega 
 
 -- an outcome over the first members, and one of its rows that stops
 pub record HasStoppedRow
-    (shared : Shared) (ms base : List Tracked) (rows : List CodeRow) (pairs : List CodePair) (products : List Step)
-    (row : CodeRow) (steps : List Step) (last : Monomial) : Type 0 where
+    (shared : Shared) (ms base : List Tracked) (rows : List CodeRow) (pairs : List CodePair) (products : List KeptProduct)
+    (row : CodeRow) (chain : List KeptProduct) (last : Monomial) : Type 0 where
   pub tracked : Each (IsTracked shared) ms
   pub rows_over : Each (IsRunRow shared (length base)) rows
   pub front : base ≡ take (length base) ms
@@ -129,11 +129,11 @@ pub record HasStoppedRow
   pub known : Each (λ t. IsMonomialOver shared.ring t.1) products
   pub outcome : IsOutcome (setting_of (variables shared.ring) shared) (vectors (members_of (variables shared.ring) base)) (pairs_of pairs) (rows_of (variables shared.ring) rows) (products_of (variables shared.ring) products)
   pub there : Contains rows row
-  pub trail : IsRowTrail (variables shared.ring) shared.ring.weights ms row.vector steps last
+  pub trail : IsRowTrail (variables shared.ring) shared.ring.weights ms row.vector chain last
 
 module _
-    (shared : Shared) (ms base : List Tracked) (rows : List CodeRow) (pairs : List CodePair) (products : List Step)
-    (row : CodeRow) (steps : List Step) (last : Monomial) (h : HasStoppedRow shared ms base rows pairs products row steps last) where
+    (shared : Shared) (ms base : List Tracked) (rows : List CodeRow) (pairs : List CodePair) (products : List KeptProduct)
+    (row : CodeRow) (chain : List KeptProduct) (last : Monomial) (h : HasStoppedRow shared ms base rows pairs products row chain last) where
   abbrev n : ℕ
   n = variables shared.ring
 
@@ -152,50 +152,50 @@ module _
       vector_at n base k
       ∙ ap (sum_of n) (ap (λ b. get_or (vectors_in b) k []) h.front ∙ base_at ms (length base) k (subst (λ b. k < length b) h.front l))
 
-  product_known : (i : ℕ) → i < length products → (step_at products i).0 < length base
+  product_known : (i : ℕ) → i < length products → (kept_at products i).0 < length base
   product_known i l =
       let r = (job_product_at p G (pairs_of pairs) (products_of n products) (h.outcome).job_products i (omega (arith, l, products_length n products))).0 in
-      let e : (product_at (products_of n products) i).0 ≡ (step_at products i).0 = ap (λ (t : Product n). t.0) (product_is n products i l) in
+      let e : (product_at (products_of n products) i).0 ≡ (kept_at products i).0 = ap (λ (t : Product n). t.0) (product_is n products i l) in
       omega (arith, r, e, members_length n base)
 
   product_met :
       (m : ℕ) (k : Key n) → OccursBefore p G (products_of n products) m k
-      → (j : ℕ) × (j < m) × (j < length products) × IsInProduct n vs k (step_at products j)
+      → (j : ℕ) × (j < m) × (j < length products) × IsInProduct n vs k (kept_at products j)
   product_met m k (j, lm, ll, o) =
       let l : j < length products = omega (arith, ll, products_length n products) in (
         j,
         lm,
         l,
-        occurs_in n p vs G (step_at products j) k (at_base (step_at products j).0 (product_known j l))
+        occurs_in n p vs G (kept_at products j) k (at_base (kept_at products j).0 (product_known j l))
             (subst (λ t. Occurs p (product_vector G t) k) (product_is n products j l) o),
       )
 
-  lead_same : (i : ℕ) → i < length products → plain.product_lead G (product_at (products_of n products) i) ≡ product_lead n vs (step_at products i)
+  lead_same : (i : ℕ) → i < length products → plain.product_lead G (product_at (products_of n products) i) ≡ product_lead n vs (kept_at products i)
   lead_same i l =
       ap (plain.product_lead G) (product_is n products i l)
-      ∙ ap (λ v. shift (exponents_of n (step_at products i).1.exponents) (head_key v)) (at_base (step_at products i).0 (product_known i l))
+      ∙ ap (λ v. shift (exponents_of n (kept_at products i).1.exponents) (head_key v)) (at_base (kept_at products i).0 (product_known i l))
 
   -- a product's lead
   product_traced :
       (i : ℕ) → i < length products
-      → ((x : CodePair) × IsLcmOf n pairs (product_lead n vs (step_at products i)) x)
-      ⊎ ((j : ℕ) × (j < i) × IsInProduct n vs (product_lead n vs (step_at products i)) (step_at products j))
+      → ((x : CodePair) × IsLcmOf n pairs (product_lead n vs (kept_at products i)) x)
+      ⊎ ((j : ℕ) × (j < i) × IsInProduct n vs (product_lead n vs (kept_at products i)) (kept_at products j))
   product_traced i l = go (job_product_at p G (pairs_of pairs) (products_of n products) (h.outcome).job_products i (omega (arith, l, products_length n products))).1
     where
       go : ((x : Pair) × (0 < count x (pairs_of pairs)) × (plain.product_lead G (product_at (products_of n products) i) ≡ lcm_of G x))
           ⊎ OccursBefore p G (products_of n products) i (plain.product_lead G (product_at (products_of n products) i))
-          → ((x : CodePair) × IsLcmOf n pairs (product_lead n vs (step_at products i)) x)
-          ⊎ ((j : ℕ) × (j < i) × IsInProduct n vs (product_lead n vs (step_at products i)) (step_at products j))
+          → ((x : CodePair) × IsLcmOf n pairs (product_lead n vs (kept_at products i)) x)
+          ⊎ ((j : ℕ) × (j < i) × IsInProduct n vs (product_lead n vs (kept_at products i)) (kept_at products j))
       go (inl (x, some, e)) =
           let y = counted_pair x pairs some in
           let lcm = (contained_each (HasLcm n shared.ring.weights base) pairs y.0 h.lcms y.1).lcm in
           inl (y.0, (y.1, sym (lead_same i l) ∙ e ∙ ap (lcm_of G) (sym y.2) ∙ sym lcm))
       go (inr o) =
           let r = product_met i (plain.product_lead G (product_at (products_of n products) i)) o in
-          inr (r.0, r.1, subst (λ k. IsInProduct n vs k (step_at products r.0)) (lead_same i l) r.3)
+          inr (r.0, r.1, subst (λ k. IsInProduct n vs k (kept_at products r.0)) (lead_same i l) r.3)
 
   -- a key of the row
-  row_key : (k : Key n) → HasKey (sum_of n row.vector) k → (j : ℕ) × (j < length products) × IsInProduct n vs k (step_at products j)
+  row_key : (k : Key n) → HasKey (sum_of n row.vector) k → (j : ℕ) × (j < length products) × IsInProduct n vs k (kept_at products j)
   row_key k there =
       let v = (contained_each (IsRunRow shared (length base)) rows row h.rows_over h.there).vector.vector in
       let made = row_made p G (products_of n products) (row_of n row) (each_row (IsRow p G (products_of n products)) rows row (h.outcome).sums h.there) in
@@ -204,91 +204,91 @@ module _
 
   -- a step's lead
   step_traced :
-      (i : ℕ) → i < length steps
-      → (j : ℕ) × (j < length products + i) × IsInProduct n vs (product_lead n vs (step_at steps i)) (step_at (products ++ steps) j)
-  step_traced i l = subst (λ (s : List Step). i < length s → (j : ℕ) × (j < length products + i) × IsInProduct n vs (product_lead n vs (step_at s i))
-      (step_at (products ++ s) j)) (sym (h.trail).steps) (go i) l
+      (i : ℕ) → i < length chain
+      → (j : ℕ) × (j < length products + i) × IsInProduct n vs (product_lead n vs (kept_at chain i)) (kept_at (products ++ chain) j)
+  step_traced i l = subst (λ (s : List KeptProduct). i < length s → (j : ℕ) × (j < length products + i) × IsInProduct n vs (product_lead n vs (kept_at s i))
+      (kept_at (products ++ s) j)) (sym (h.trail).products) (go i) l
     where
-      first : Step
+      first : KeptProduct
       first = (h.trail).first
 
-      later : List Step
+      later : List KeptProduct
       later = (h.trail).later
 
-      by_row : (i : ℕ) → HasKey (sum_of n row.vector) (product_lead n vs (step_at ((h.trail).first ∷ (h.trail).later) i))
-          → (j : ℕ) × (j < length products + i) × IsInProduct n vs (product_lead n vs (step_at ((h.trail).first ∷ (h.trail).later) i))
-          (step_at (products ++ (h.trail).first ∷ (h.trail).later) j)
+      by_row : (i : ℕ) → HasKey (sum_of n row.vector) (product_lead n vs (kept_at ((h.trail).first ∷ (h.trail).later) i))
+          → (j : ℕ) × (j < length products + i) × IsInProduct n vs (product_lead n vs (kept_at ((h.trail).first ∷ (h.trail).later) i))
+          (kept_at (products ++ (h.trail).first ∷ (h.trail).later) j)
       by_row i there =
-          let r = row_key (product_lead n vs (step_at ((h.trail).first ∷ (h.trail).later) i)) there in (
+          let r = row_key (product_lead n vs (kept_at ((h.trail).first ∷ (h.trail).later) i)) there in (
             r.0,
             omega (arith, r.1),
-            subst (IsInProduct n vs (product_lead n vs (step_at ((h.trail).first ∷ (h.trail).later) i)))
+            subst (IsInProduct n vs (product_lead n vs (kept_at ((h.trail).first ∷ (h.trail).later) i)))
                 (sym (step_front products ((h.trail).first ∷ (h.trail).later) r.0 r.1)) r.2,
           )
 
       go : (i : ℕ) → i < length ((h.trail).first ∷ (h.trail).later)
-          → (j : ℕ) × (j < length products + i) × IsInProduct n vs (product_lead n vs (step_at ((h.trail).first ∷ (h.trail).later) i))
-          (step_at (products ++ (h.trail).first ∷ (h.trail).later) j)
+          → (j : ℕ) × (j < length products + i) × IsInProduct n vs (product_lead n vs (kept_at ((h.trail).first ∷ (h.trail).later) i))
+          (kept_at (products ++ (h.trail).first ∷ (h.trail).later) j)
       go zero l = by_row zero (h.trail).begins
       go (suc i) l = by (met_index n (sum_of n row.vector) vs ((h.trail).first ∷ []) (h.trail).later (h.trail).met i (omega arith))
         where
-          by : HasKey (sum_of n row.vector) (product_lead n vs (step_at (h.trail).later i))
-              ⊎ ((j : ℕ) × (j < 1 + i) × IsInProduct n vs (product_lead n vs (step_at (h.trail).later i)) (step_at ((h.trail).first ∷ (h.trail).later) j))
-              → (j : ℕ) × (j < length products + suc i) × IsInProduct n vs (product_lead n vs (step_at (h.trail).later i))
-              (step_at (products ++ (h.trail).first ∷ (h.trail).later) j)
+          by : HasKey (sum_of n row.vector) (product_lead n vs (kept_at (h.trail).later i))
+              ⊎ ((j : ℕ) × (j < 1 + i) × IsInProduct n vs (product_lead n vs (kept_at (h.trail).later i)) (kept_at ((h.trail).first ∷ (h.trail).later) j))
+              → (j : ℕ) × (j < length products + suc i) × IsInProduct n vs (product_lead n vs (kept_at (h.trail).later i))
+              (kept_at (products ++ (h.trail).first ∷ (h.trail).later) j)
           by (inl there) = by_row (suc i) there
           by (inr (j, lt, r)) = (
             length products + j,
             omega (arith, lt),
-            subst (IsInProduct n vs (product_lead n vs (step_at (h.trail).later i))) (sym (step_behind products ((h.trail).first ∷ (h.trail).later) j)) r,
+            subst (IsInProduct n vs (product_lead n vs (kept_at (h.trail).later i))) (sym (step_behind products ((h.trail).first ∷ (h.trail).later) j)) r,
           )
 
   -- all together
-  pub all_traced : AreTraced n vs pairs (products ++ steps)
+  pub all_traced : AreTraced n vs pairs (products ++ chain)
   all_traced =
-      turn_from (λ (k : Key n). (x : CodePair) × IsLcmOf n pairs k x) (IsInProduct n vs) (product_lead n vs) no_step (products ++ steps)
+      turn_from (λ (k : Key n). (x : CodePair) × IsLcmOf n pairs k x) (IsInProduct n vs) (product_lead n vs) no_product (products ++ chain)
       (λ i l. go i l (cases_lt i (length products)))
     where
-      go : (i : ℕ) → i < length (products ++ steps) → (i < length products) ⊎ (length products ≤ i)
-          → ((x : CodePair) × IsLcmOf n pairs (product_lead n vs (step_at (products ++ steps) i)) x)
-          ⊎ ((j : ℕ) × (j < i) × IsInProduct n vs (product_lead n vs (step_at (products ++ steps) i)) (step_at (products ++ steps) j))
+      go : (i : ℕ) → i < length (products ++ chain) → (i < length products) ⊎ (length products ≤ i)
+          → ((x : CodePair) × IsLcmOf n pairs (product_lead n vs (kept_at (products ++ chain) i)) x)
+          ⊎ ((j : ℕ) × (j < i) × IsInProduct n vs (product_lead n vs (kept_at (products ++ chain) i)) (kept_at (products ++ chain) j))
       go i l (inl q) = by (product_traced i q)
         where
-          by : ((x : CodePair) × IsLcmOf n pairs (product_lead n vs (step_at products i)) x)
-              ⊎ ((j : ℕ) × (j < i) × IsInProduct n vs (product_lead n vs (step_at products i)) (step_at products j))
-              → ((x : CodePair) × IsLcmOf n pairs (product_lead n vs (step_at (products ++ steps) i)) x)
-              ⊎ ((j : ℕ) × (j < i) × IsInProduct n vs (product_lead n vs (step_at (products ++ steps) i)) (step_at (products ++ steps) j))
-          by (inl (x, r)) = inl (x, subst (λ s. IsLcmOf n pairs (product_lead n vs s) x) (sym (step_front products steps i q)) r)
+          by : ((x : CodePair) × IsLcmOf n pairs (product_lead n vs (kept_at products i)) x)
+              ⊎ ((j : ℕ) × (j < i) × IsInProduct n vs (product_lead n vs (kept_at products i)) (kept_at products j))
+              → ((x : CodePair) × IsLcmOf n pairs (product_lead n vs (kept_at (products ++ chain) i)) x)
+              ⊎ ((j : ℕ) × (j < i) × IsInProduct n vs (product_lead n vs (kept_at (products ++ chain) i)) (kept_at (products ++ chain) j))
+          by (inl (x, r)) = inl (x, subst (λ s. IsLcmOf n pairs (product_lead n vs s) x) (sym (step_front products chain i q)) r)
           by (inr (j, lt, r)) = inr (
             j,
             lt,
-            subst (λ (z : Step × Step). IsInProduct n vs (product_lead n vs z.0) z.1)
-                (λ t. (sym (step_front products steps i q) t, sym (step_front products steps j (omega (arith, lt, q))) t)) r,
+            subst (λ (z : KeptProduct × KeptProduct). IsInProduct n vs (product_lead n vs z.0) z.1)
+                (λ t. (sym (step_front products chain i q) t, sym (step_front products chain j (omega (arith, lt, q))) t)) r,
           )
       go i l (inr q) =
           let k : i ≡ length products + (i - length products) = omega (arith, q) in
-          let r = step_traced (i - length products) (omega (arith, l, q, length-append products steps)) in
-          let there : step_at steps (i - length products) ≡ step_at (products ++ steps) i = sym (step_behind products steps (i - length products))
-          ∙ ap (step_at (products ++ steps)) (sym k) in
-          inr (r.0, omega (arith, r.1, q), subst (λ s. IsInProduct n vs (product_lead n vs s) (step_at (products ++ steps) r.0)) there r.2)
+          let r = step_traced (i - length products) (omega (arith, l, q, length-append products chain)) in
+          let there : kept_at chain (i - length products) ≡ kept_at (products ++ chain) i = sym (step_behind products chain (i - length products))
+          ∙ ap (kept_at (products ++ chain)) (sym k) in
+          inr (r.0, omega (arith, r.1, q), subst (λ s. IsInProduct n vs (product_lead n vs s) (kept_at (products ++ chain) r.0)) there r.2)
 
-  pub all_known : Each (IsStep n shared.ring.weights vs) (products ++ steps)
+  pub all_known : Each (IsKeptProduct n shared.ring.weights vs) (products ++ chain)
   all_known =
       both products (products_in products h.known (λ i l. product_known i l))
-      (subst (Each (IsStep n shared.ring.weights vs)) (sym (h.trail).steps) (steps_in ((h.trail).first ∷ (h.trail).later) (h.trail).known (h.trail).weighed))
+      (subst (Each (IsKeptProduct n shared.ring.weights vs)) (sym (h.trail).products) (steps_in ((h.trail).first ∷ (h.trail).later) (h.trail).known (h.trail).weighed))
     where
       both :
-          (xs : List Step) → Each (IsStep n shared.ring.weights vs) xs → Each (IsStep n shared.ring.weights vs) steps
-          → Each (IsStep n shared.ring.weights vs) (xs ++ steps)
+          (xs : List KeptProduct) → Each (IsKeptProduct n shared.ring.weights vs) xs → Each (IsKeptProduct n shared.ring.weights vs) chain
+          → Each (IsKeptProduct n shared.ring.weights vs) (xs ++ chain)
       both [] a b = b
       both (x ∷ xs) a b = (a.0, both xs a.1 b)
 
       products_in :
-          (xs : List Step) → Each (λ t. IsMonomialOver shared.ring t.1) xs → ((i : ℕ) → i < length xs → (step_at xs i).0 < length base)
-          → Each (IsStep n shared.ring.weights vs) xs
+          (xs : List KeptProduct) → Each (λ t. IsMonomialOver shared.ring t.1) xs → ((i : ℕ) → i < length xs → (kept_at xs i).0 < length base)
+          → Each (IsKeptProduct n shared.ring.weights vs) xs
       products_in [] v k = tt
       products_in (x ∷ xs) v k = ((omega (arith, k 0 (omega arith), h.fewer, listed_length ms), v.0), products_in xs v.1 (λ i l. k (suc i) (omega arith)))
 
-      steps_in : (xs : List Step) → Each (λ s. s.0 < length ms) xs → Each (λ s. IsMonomialOver shared.ring s.1) xs → Each (IsStep n shared.ring.weights vs) xs
+      steps_in : (xs : List KeptProduct) → Each (λ s. s.0 < length ms) xs → Each (λ s. IsMonomialOver shared.ring s.1) xs → Each (IsKeptProduct n shared.ring.weights vs) xs
       steps_in [] k v = tt
       steps_in (x ∷ xs) k v = ((omega (arith, k.0, listed_length ms), v.0), steps_in xs k.1 v.1)

@@ -6,7 +6,7 @@ use Rattle.bases.specs.Settings.{IsLawful}
 use Rattle.monomial_orders.specs.Kept.{Monomial}
 use Rattle.module_vectors.proofs.Monomials.{monomial_at}
 use Rattle.module_vectors.specs.Rings.{ring_comparison, variables}
-use Rattle.module_vectors.specs.Trails.{IsOfStep, Step}
+use Rattle.module_vectors.specs.Trails.{IsOfProduct, KeptProduct}
 use Rattle.module_vectors.specs.Vectors.{AreVectorsOver, HasPositions, IsMonomialOver, sum_of, sums_of}
 use Rattle.module_vectors.specs.declared.key.Key.{Key as CodeKey}
 use Rattle.module_vectors.specs.declared.ring.Ring.{Ring}
@@ -89,8 +89,8 @@ vectors_over shared ms h = ranks.ranked_vectors shared.ring shared.rank (vectors
 
 -- a monomial of a member is one of the ring
 pub last_weighed :
-    (shared : Shared) (ms : List Tracked) (s : Step) (last : Monomial)
-    → Each (IsTracked shared) ms → IsOfStep (vectors_in ms) s last → IsMonomialOver shared.ring last
+    (shared : Shared) (ms : List Tracked) (s : KeptProduct) (last : Monomial)
+    → Each (IsTracked shared) ms → IsOfProduct (vectors_in ms) s last → IsMonomialOver shared.ring last
 last_weighed shared ms s last h m =
     monomial_at (variables shared.ring) shared.ring.weights shared.ring.modulus.value (ring_comparison shared.ring (variables shared.ring))
     (vectors_in ms) s.0 last (vectors_over shared ms h) m

@@ -11,7 +11,7 @@ use Rattle.bases.specs.Leads.{head_key}
 use Rattle.bases.specs.Representations.{key_lcm}
 use Rattle.module_vectors.specs.Rings.{ring_comparison, variables}
 use Rattle.module_vectors.specs.Stops.{HasMonomial}
-use Rattle.module_vectors.specs.Trails.{AreMet, HasKey, IsChain, IsInProduct, IsOfStep, IsStep, Step, last_step, no_step, product_lead, step_at}
+use Rattle.module_vectors.specs.Trails.{AreMet, HasKey, IsChain, IsInProduct, IsOfProduct, IsKeptProduct, KeptProduct, last_product, no_product, product_lead, kept_at}
 use Rattle.module_vectors.specs.Vectors.{IsMonomialOver, IsVectorOver, key_of, sum_of}
 use Rattle.module_vectors.specs.declared.key.Key.{Key as CodeKey}
 use Rattle.module_vectors.specs.declared.trail.KeptTrail.{KeptTrail}
@@ -32,7 +32,7 @@ use Rattle.basis_core.specs.Makings.{EndsAs}
 use Rattle.basis_core.specs.Members.{IsRunRow, IsTracked, Shared, Tracked, members_of, rows_of, setting_of}
 use Rattle.basis_core.specs.Outcomes.{IsOutcomeOver, OutcomeShown, product_of, products_of}
 use Rattle.basis_core.specs.Rows.{IsRowTrail, vectors_in}
-use Rattle.basis_core.specs.Stops.{IsTrailBy, earlier_steps, trail_by, trail_of, trail_over}
+use Rattle.basis_core.specs.Stops.{IsTrailBy, earlier_products, trail_by, trail_of, trail_over}
 use Rattle.basis_core.proofs.Chaining.{nonzero_at}
 use Rattle.basis_core.proofs.MemberKeys.{in_occurs, key_occurs, member_vector, vector_at}
 use Rattle.basis_core.proofs.Tracing.{HasStoppedRow, at_base, contained_each, listed_length, met_index, pair_counted, product_is, step_behind}
@@ -42,18 +42,18 @@ use Rattle.basis_steps.specs.Divisions.{IsMonicMember, Occurs}
 use Rattle.member_products.specs.declared.member.Row.{Row as CodeRow}
 use Rattle.basis_core.proofs.Tracking.{last_weighed, ring_lawful, vectors_of_members, vectors_over}
 
--- ---- lists of steps
-last_at : (s : Step) (ss : List Step) → step_at (s ∷ ss) (length ss) ≡ last_step s ss
+-- ---- lists of products
+last_at : (s : KeptProduct) (ss : List KeptProduct) → kept_at (s ∷ ss) (length ss) ≡ last_product s ss
 last_at s [] = refl
 last_at s (t ∷ ss) = last_at t ss
 
--- the last of all is the last step of the row
-pub last_of_all : (products : List Step) (s : Step) (ss : List Step) → step_at (products ++ s ∷ ss) (length (products ++ s ∷ ss) - 1) ≡ last_step s ss
+-- the last of all is the last product of the row
+pub last_of_all : (products : List KeptProduct) (s : KeptProduct) (ss : List KeptProduct) → kept_at (products ++ s ∷ ss) (length (products ++ s ∷ ss) - 1) ≡ last_product s ss
 last_of_all products s ss =
     let e : length (products ++ s ∷ ss) - 1 ≡ length products + length ss = omega (arith, length-append products (s ∷ ss)) in
-    ap (step_at (products ++ s ∷ ss)) e ∙ step_behind products (s ∷ ss) (length ss) ∙ last_at s ss
+    ap (kept_at (products ++ s ∷ ss)) e ∙ step_behind products (s ∷ ss) (length ss) ∙ last_at s ss
 
-products_whole : (n : ℕ) (s : Step) (ss : List Step) → products_of n (earlier_steps s ss) ++ (product_of n (last_step s ss) ∷ []) ≡ products_of n (s ∷ ss)
+products_whole : (n : ℕ) (s : KeptProduct) (ss : List KeptProduct) → products_of n (earlier_products s ss) ++ (product_of n (last_product s ss) ∷ []) ≡ products_of n (s ∷ ss)
 products_whole n s [] = refl
 products_whole n s (t ∷ ss) = ap (λ l. product_of n s ∷ l) (products_whole n t ss)
 
@@ -76,7 +76,7 @@ monomial_occurs shared v m h (t, there, e) =
           (key_occurs (setting_of n shared) (ring_lawful shared) v (key_of n t.0) h (term_key n v t there)),
     )
 
-each_last : (P : Step → Type 0) (s : Step) (ss : List Step) → Each P (s ∷ ss) → P (last_step s ss)
+each_last : (P : KeptProduct → Type 0) (s : KeptProduct) (ss : List KeptProduct) → Each P (s ∷ ss) → P (last_product s ss)
 each_last P s [] h = h.0
 each_last P s (t ∷ ss) h = each_last P t ss h.1
 
@@ -90,9 +90,9 @@ record HoldsTrail (shared : Shared) (ms : List Tracked) (o : OutcomeShown) (w : 
   above : 65535 < weighted_degree shared.ring.weights w.last.1 + weighted_degree shared.ring.weights w.monomial
 
 module _
-    (shared : Shared) (ms : List Tracked) (o : OutcomeShown) (row : CodeRow) (steps : List Step) (last : Monomial)
-    (h : HasStoppedRow shared ms o.job.members o.rows o.job.pairs o.products row steps last) (chain : List Step) (i j : ℕ)
-    (c : IsTracedTo (variables shared.ring) shared.ring.weights (vectors_in ms) o.job.pairs (o.products ++ steps) chain i j) where
+    (shared : Shared) (ms : List Tracked) (o : OutcomeShown) (row : CodeRow) (taken : List KeptProduct) (last : Monomial)
+    (h : HasStoppedRow shared ms o.job.members o.rows o.job.pairs o.products row taken last) (chain : List KeptProduct) (i j : ℕ)
+    (c : IsTracedTo (variables shared.ring) shared.ring.weights (vectors_in ms) o.job.pairs (o.products ++ taken) chain i j) where
   abbrev n : ℕ
   n = variables shared.ring
 
@@ -108,14 +108,14 @@ module _
   abbrev base : List (FormalSum (variables shared.ring))
   base = vectors (members_of (variables shared.ring) o.job.members)
 
-  abbrev first : Step
+  abbrev first : KeptProduct
   first = c.first
 
-  abbrev later : List Step
+  abbrev later : List KeptProduct
   later = (c.chain_is).later
 
-  same_last : last_step first later ≡ last_step (h.trail).first (h.trail).later
-  same_last = (c.chain_is).last ∙ ap (λ l. step_at (o.products ++ l) (length (o.products ++ l) - 1)) (h.trail).steps
+  same_last : last_product first later ≡ last_product (h.trail).first (h.trail).later
+  same_last = (c.chain_is).last ∙ ap (λ l. kept_at (o.products ++ l) (length (o.products ++ l) - 1)) (h.trail).products
       ∙ last_of_all o.products (h.trail).first (h.trail).later
 
   counted : 0 < count (i, j) (pairs_of o.job.pairs)
@@ -131,7 +131,7 @@ module _
   right = omega (arith, base_pair.within, members_length n o.job.members)
 
   from_base : (k : ℕ) → k < length o.job.members → get_or base k [] ≡ sum_of n (get_or vs k [])
-  from_base k l = at_base shared ms o.job.members o.rows o.job.pairs o.products row steps last h k l
+  from_base k l = at_base shared ms o.job.members o.rows o.job.pairs o.products row taken last h k l
 
   same_vector : (k : ℕ) → k < length o.job.members → get_or G k [] ≡ get_or base k []
   same_vector k l = vector_at n ms k ∙ sym (from_base k l)
@@ -146,10 +146,10 @@ module _
   lcm_key : product_lead n vs first ≡ lcm_of base (i, j)
   lcm_key = (c.lcm).1 ∙ (contained_each (HasLcm n shared.ring.weights o.job.members) o.job.pairs c.pair h.lcms (c.lcm).0).lcm ∙ ap (lcm_of base) c.indices
 
-  known : Each (IsStep n shared.ring.weights vs) (first ∷ later)
+  known : Each (IsKeptProduct n shared.ring.weights vs) (first ∷ later)
   known = (c.chain_is).known
 
-  lead_here : (s : Step) → plain.product_lead G (product_of n s) ≡ product_lead n vs s
+  lead_here : (s : KeptProduct) → plain.product_lead G (product_of n s) ≡ product_lead n vs s
   lead_here s = ap (λ v. shift (exponents_of n s.1.exponents) (head_key v)) (vector_at n ms s.0)
 
   numbered : (k : ℕ) → k < length (products_of n (first ∷ later)) → IsJobProductAt p G ((i, j) ∷ []) (products_of n (first ∷ later)) k
@@ -167,7 +167,7 @@ module _
       short : k < length later
       short = omega (arith, l, length-map later (λ t. product_of n t))
 
-      is : product_at (products_of n (first ∷ later)) (suc k) ≡ product_of n (step_at later k)
+      is : product_at (products_of n (first ∷ later)) (suc k) ≡ product_of n (kept_at later k)
       is = product_is n (first ∷ later) (suc k) (omega (arith, short))
 
       here : (product_at (products_of n (first ∷ later)) (suc k)).0 < length G
@@ -175,21 +175,21 @@ module _
           omega (
             arith,
             ap (λ (t : Product n). t.0) is,
-            (each_at (IsStep n shared.ring.weights vs) later k no_step known.1 short).0,
+            (each_at (IsKeptProduct n shared.ring.weights vs) later k no_product known.1 short).0,
             listed_length ms,
             members_length n ms,
           )
 
-      occurs : (m : ℕ) → m < suc k → IsInProduct n vs (product_lead n vs (step_at later k)) (step_at (first ∷ later) m)
+      occurs : (m : ℕ) → m < suc k → IsInProduct n vs (product_lead n vs (kept_at later k)) (kept_at (first ∷ later) m)
           → Occurs p (product_vector G (product_at (products_of n (first ∷ later)) m))
           (plain.product_lead G (product_at (products_of n (first ∷ later)) (suc k)))
       occurs m low there = subst (λ (z : Product n × Key n). Occurs p (product_vector G z.0) z.1)
-          (λ t. (sym (product_is n (first ∷ later) m (omega (arith, short, low))) t, sym (ap (plain.product_lead G) is ∙ lead_here (step_at later k)) t))
-          (in_occurs (setting_of n shared) (ring_lawful shared) vs G (step_at (first ∷ later) m) (product_lead n vs (step_at later k))
-          (vector_at n ms (step_at (first ∷ later) m).0) (member_vector shared ms (step_at (first ∷ later) m).0 (h.tracked)) there)
+          (λ t. (sym (product_is n (first ∷ later) m (omega (arith, short, low))) t, sym (ap (plain.product_lead G) is ∙ lead_here (kept_at later k)) t))
+          (in_occurs (setting_of n shared) (ring_lawful shared) vs G (kept_at (first ∷ later) m) (product_lead n vs (kept_at later k))
+          (vector_at n ms (kept_at (first ∷ later) m).0) (member_vector shared ms (kept_at (first ∷ later) m).0 (h.tracked)) there)
 
-      go : HasKey {n = n} [] (product_lead n vs (step_at later k))
-          ⊎ ((m : ℕ) × (m < length (first ∷ []) + k) × IsInProduct n vs (product_lead n vs (step_at later k)) (step_at ((first ∷ []) ++ later) m))
+      go : HasKey {n = n} [] (product_lead n vs (kept_at later k))
+          ⊎ ((m : ℕ) × (m < length (first ∷ []) + k) × IsInProduct n vs (product_lead n vs (kept_at later k)) (kept_at ((first ∷ []) ++ later) m))
           → plain.IsJobLcm G ((i, j) ∷ []) (plain.product_lead G (product_at (products_of n (first ∷ later)) (suc k)))
           ⊎ plain.OccursBefore p G (products_of n (first ∷ later)) (suc k) (plain.product_lead G (product_at (products_of n (first ∷ later)) (suc k)))
       go (inl (m, low, e)) = absurd (let z : m < 0 = low in omega arith)
@@ -198,25 +198,25 @@ module _
   products : AreJobProducts p G ((i, j) ∷ []) (products_of n (first ∷ later))
   products = job_products_from p G ((i, j) ∷ []) (products_of n (first ∷ later)) numbered
 
-  of_last : IsOfStep vs (last_step first later) last
-  of_last = subst (λ s. IsOfStep vs s last) (sym same_last) (h.trail).monomial
+  of_last : IsOfProduct vs (last_product first later) last
+  of_last = subst (λ s. IsOfProduct vs s last) (sym same_last) (h.trail).monomial
 
-  monomial : (k : ℕ) × Occurs p (get_or G (last_step first later).0 []) (k, exponents_of n last.exponents)
+  monomial : (k : ℕ) × Occurs p (get_or G (last_product first later).0 []) (k, exponents_of n last.exponents)
   monomial =
-      let r = monomial_occurs shared (get_or vs (last_step first later).0 []) last (member_vector shared ms (last_step first later).0 h.tracked) of_last in
-      (r.0, subst (λ v. Occurs p v (r.0, exponents_of n last.exponents)) (sym (vector_at n ms (last_step first later).0)) r.1)
+      let r = monomial_occurs shared (get_or vs (last_product first later).0 []) last (member_vector shared ms (last_product first later).0 h.tracked) of_last in
+      (r.0, subst (λ v. Occurs p v (r.0, exponents_of n last.exponents)) (sym (vector_at n ms (last_product first later).0)) r.1)
 
   last_here : IsMonomialOver shared.ring last
-  last_here = last_weighed shared ms (last_step first later) last h.tracked of_last
+  last_here = last_weighed shared ms (last_product first later) last h.tracked of_last
 
-  too_great : 65535 < (last_step first later).1.degree + last.degree
-  too_great = subst (λ (s : Step). 65535 < s.1.degree + last.degree) (sym same_last) (h.trail).too_great
+  too_great : 65535 < (last_product first later).1.degree + last.degree
+  too_great = subst (λ (s : KeptProduct). 65535 < s.1.degree + last.degree) (sym same_last) (h.trail).too_great
 
   above :
       65535
-      < weighted_degree shared.ring.weights (exponents_of n (last_step first later).1.exponents)
+      < weighted_degree shared.ring.weights (exponents_of n (last_product first later).1.exponents)
       + weighted_degree shared.ring.weights (exponents_of n last.exponents)
-  above = omega (arith, too_great, (each_last (IsStep n shared.ring.weights vs) first later known).1.degree, last_here.degree)
+  above = omega (arith, too_great, (each_last (IsKeptProduct n shared.ring.weights vs) first later known).1.degree, last_here.degree)
 
   -- the trail with these fields
   abbrev whole : KeptTrail → KeptTrail
@@ -240,18 +240,18 @@ module _
     above = above;
   }
 
-  steps_known : (ss : List Step) → Each (IsStep n shared.ring.weights vs) ss → Each (λ s. s.0 < length vs) ss
+  steps_known : (ss : List KeptProduct) → Each (IsKeptProduct n shared.ring.weights vs) ss → Each (λ s. s.0 < length vs) ss
   steps_known [] k = tt
   steps_known (s ∷ ss) k = ((k.0).0, steps_known ss k.1)
 
-  steps_weighed : (ss : List Step) → Each (IsStep n shared.ring.weights vs) ss → Each (λ s. IsMonomialOver shared.ring s.1) ss
+  steps_weighed : (ss : List KeptProduct) → Each (IsKeptProduct n shared.ring.weights vs) ss → Each (λ s. IsMonomialOver shared.ring s.1) ss
   steps_weighed [] k = tt
   steps_weighed (s ∷ ss) k = ((k.0).1, steps_weighed ss k.1)
 
   kept_chain :
-      Each (λ m. 0 < length m.vector) ms → (t : KeptTrail) → t.steps.items ≡ chain → IsChain n (whole t) first later
+      Each (λ m. 0 < length m.vector) ms → (t : KeptTrail) → t.products.items ≡ chain → IsChain n (whole t) first later
   kept_chain some t e = record {
-    steps = e ∙ (c.chain_is).steps;
+    products = e ∙ (c.chain_is).products;
     known = steps_known (first ∷ later) known;
     variables = steps_weighed (first ∷ later) known;
     begins = (
@@ -273,10 +273,10 @@ module _
   }
 
   pub trail_at :
-      Each (λ m. 0 < length m.vector) ms → (t : KeptTrail) → t.steps.items ≡ chain → t.below.items ≡ [] → t ≡ whole t
+      Each (λ m. 0 < length m.vector) ms → (t : KeptTrail) → t.products.items ≡ chain → t.below.items ≡ [] → t ≡ whole t
       → IsTrailBy shared ms (pairs_of o.job.pairs) t
   trail_at some t e b w =
-      let at : trail_of n (whole t) ≡ trail_by n (whole t) first later = ap (trail_over n (whole t)) (e ∙ (c.chain_is).steps) in
+      let at : trail_of n (whole t) ≡ trail_by n (whole t) first later = ap (trail_over n (whole t)) (e ∙ (c.chain_is).products) in
       let all : HoldsTrail shared ms o (trail_of n (whole t)) = subst (HoldsTrail shared ms o) (sym at) (holds t) in
       subst (IsTrailBy shared ms (pairs_of o.job.pairs)) (sym w)
       (record {
@@ -300,24 +300,24 @@ module _
         above = all.above;
       })
 
-  pub ends_as : (t : KeptTrail) → t.steps.items ≡ chain → t ≡ whole t → EndsAs n steps t
+  pub ends_as : (t : KeptTrail) → t.products.items ≡ chain → t ≡ whole t → EndsAs n taken t
   ends_as t e w =
-      let at : trail_of n (whole t) ≡ trail_by n (whole t) first later = ap (trail_over n (whole t)) (e ∙ (c.chain_is).steps) in
+      let at : trail_of n (whole t) ≡ trail_by n (whole t) first later = ap (trail_over n (whole t)) (e ∙ (c.chain_is).products) in
       record {
         first = (h.trail).first;
         later = (h.trail).later;
-        steps_are = (h.trail).steps;
+        products_are = (h.trail).products;
         last = ap (λ z. (trail_of n z).last) w ∙ ap (λ (z : Trail n). z.last) at ∙ ap (product_of n) same_last;
       }
 
 -- ---- what the calls of a Put that stops have
 pub has_stopped_row :
-    (shared : Shared) (ms : List Tracked) (o : OutcomeShown) (steps : List Step) (last : Monomial)
+    (shared : Shared) (ms : List Tracked) (o : OutcomeShown) (taken : List KeptProduct) (last : Monomial)
     → Each (IsTracked shared) ms → o.job.shared ≡ shared → IsOutcomeOver o → IsJobOver o.job
     → o.job.members ≡ take (length o.job.members) ms
-    → (r : (row : CodeRow) × Contains o.rows row × IsRowTrail (variables shared.ring) shared.ring.weights ms row.vector steps last)
-    → HasStoppedRow shared ms o.job.members o.rows o.job.pairs o.products r.0 steps last
-has_stopped_row shared ms o steps last tracked same outcome job front r = record {
+    → (r : (row : CodeRow) × Contains o.rows row × IsRowTrail (variables shared.ring) shared.ring.weights ms row.vector taken last)
+    → HasStoppedRow shared ms o.job.members o.rows o.job.pairs o.products r.0 taken last
+has_stopped_row shared ms o taken last tracked same outcome job front r = record {
   tracked = tracked;
   rows_over = subst (λ (sh : Shared). Each (IsRunRow sh (length o.job.members)) o.rows) same outcome.rows;
   front = front;

@@ -1,7 +1,7 @@
 -- The members that rows make, and where a row is not divided
 use Rattle.std.specs.Prelude.{Contains, List, ⊤, ◌++◌, ◌∷◌, ◌≡◌, ℕ}
 use Rattle.module_vectors.specs.Rings.{variables}
-use Rattle.module_vectors.specs.Trails.{Step, last_step}
+use Rattle.module_vectors.specs.Trails.{KeptProduct, last_product}
 use Rattle.module_vectors.specs.declared.trail.KeptTrail.{KeptTrail}
 use Rattle.module_vectors.specs.declared.trail.WorkStop.{WorkStop}
 use Rattle.module_vectors.specs.declared.trail.WorkStop.TheVariants.{Memory, Degree}
@@ -36,20 +36,20 @@ pub record StopsRow (n : ℕ) (shared : Shared) (ms : List Tracked) (rows : List
 -- one of the rows stops with these members
 abbrev pub StopsOne : (n : ℕ) (ws : List ℕ) → List Tracked → List CodeRow → RowStop → Type 0
 StopsOne n ws ms rows reasons.Memory = ⊤
-StopsOne n ws ms rows (reasons.Degree t) = (row : CodeRow) × Contains rows row × IsRowTrail n ws ms row.vector t.steps.items t.last
+StopsOne n ws ms rows (reasons.Degree t) = (row : CodeRow) × Contains rows row × IsRowTrail n ws ms row.vector t.products.items t.last
 
--- the trail ends as these steps do
-pub record EndsAs (n : ℕ) (steps : List Step) (t : KeptTrail) : Type 0 where
-  pub first : Step
-  pub later : List Step
-  pub steps_are : steps ≡ first ∷ later
-  pub last : (trail_of n t).last ≡ product_of n (last_step first later)
+-- the trail ends as these products do
+pub record EndsAs (n : ℕ) (products : List KeptProduct) (t : KeptTrail) : Type 0 where
+  pub first : KeptProduct
+  pub later : List KeptProduct
+  pub products_are : products ≡ first ∷ later
+  pub last : (trail_of n t).last ≡ product_of n (last_product first later)
 
 -- Degree comes where the row has stopped by the degree, with a trail by these members that starts with a pair of the job and ends as the row's does
 abbrev pub StopsAt : Shared → List Tracked → OutcomeShown → RowStop → WorkStop → Type 0
 StopsAt shared ms o row Memory = ⊤
 StopsAt shared ms o reasons.Memory (Degree t) = ⊥
-StopsAt shared ms o (reasons.Degree r) (Degree t) = IsTrailBy shared ms (pairs_of o.job.pairs) t × EndsAs (variables shared.ring) r.steps.items t
+StopsAt shared ms o (reasons.Degree r) (Degree t) = IsTrailBy shared ms (pairs_of o.job.pairs) t × EndsAs (variables shared.ring) r.products.items t
 
 -- the outcome is stopped by the degree: at the members that the rows before one of them make, with a trail by these that starts
 -- with a pair of the job and ends as that row's does
@@ -59,7 +59,7 @@ pub record StopsOutcome (n : ℕ) (shared : Shared) (ms : List Tracked) (o : Out
   pub row : RowTrail
   pub stops : StopsRow n shared ms o.rows after (reasons.Degree row)
   pub trail : IsTrailBy shared after (pairs_of o.job.pairs) t
-  pub ends : EndsAs n row.steps.items t
+  pub ends : EndsAs n row.products.items t
 
 -- Degree comes with such a trail alone
 abbrev pub StopsWork : (n : ℕ) → Shared → List Tracked → OutcomeShown → WorkStop → Type 0

@@ -7,8 +7,8 @@ use Rattle.module_vectors.specs.Rings.{ring_comparison, variables}
 use Rattle.module_vectors.specs.Vectors.{IsVector, StandsFor, sum_of, sums_of}
 use Rattle.module_vectors.specs.declared.key.Key.{Key as CodeKey}
 use Rattle.vector_division.specs.Divisions.{HasReducedLead}
-use Rattle.vector_division.specs.Reductions.{AreMetFrom, HaveLeadsUpTo, IsQuotient, cofactors_of}
-use Rattle.vector_division.specs.declared.reduction.Quotient.{Quotient}
+use Rattle.vector_division.specs.Reductions.{AreMetFrom, HaveLeadsUpTo, IsScaledProduct, cofactors_of}
+use Rattle.vector_division.specs.declared.reduction.ScaledProduct.{ScaledProduct}
 use Rattle.member_products.specs.Generators.{IsVectorOf}
 use Rattle.member_products.specs.declared.member.Row.{Row as CodeRow}
 use Rattle.basis_steps.specs.Divisions.{LeavesMember, LeavesNothing, difference}
@@ -21,20 +21,20 @@ abbrev pub with_multiple : CodeRow → List (CodeKey × ℕ) → Tracked
 with_multiple row multiple = record { vector = row.vector; multiple = multiple; products = row.products }
 
 -- the quotients of the vector by the members: products that fit, with leads at most the vector's; each lead is a key of the vector or of an earlier product
-pub record AreRowQuotients (shared : Shared) (ms : List Tracked) (v : List (CodeKey × ℕ)) (qs : List Quotient) : Type 0 where
-  pub each : Each (IsQuotient (variables shared.ring) shared.ring.weights shared.ring.modulus.value (vectors_in ms)) qs
+pub record AreRowQuotients (shared : Shared) (ms : List Tracked) (v : List (CodeKey × ℕ)) (qs : List ScaledProduct) : Type 0 where
+  pub each : Each (IsScaledProduct (variables shared.ring) shared.ring.weights shared.ring.modulus.value (vectors_in ms)) qs
   pub met : AreMetFrom (variables shared.ring) (sum_of (variables shared.ring) v) (vectors_in ms) [] qs
   pub bounded : HaveLeadsUpTo (variables shared.ring) (ring_comparison shared.ring (variables shared.ring)) (vectors_in ms)
       (head_key (sum_of (variables shared.ring) v)) qs
 
 -- the products and the rest are the vector, and no lead divides the rest's lead
-pub record IsRowRest (shared : Shared) (ms : List Tracked) (v : List (CodeKey × ℕ)) (qs : List Quotient) (rest : List (CodeKey × ℕ)) : Type 0 where
+pub record IsRowRest (shared : Shared) (ms : List Tracked) (v : List (CodeKey × ℕ)) (qs : List ScaledProduct) (rest : List (CodeKey × ℕ)) : Type 0 where
   pub sum : IsSame shared.ring.modulus.value (sum_of (variables shared.ring) v) (combination (sums_of (variables shared.ring) (vectors_in ms)) (cofactors_of (variables shared.ring) qs) ++ sum_of (variables shared.ring) rest)
   pub vector : IsVector (variables shared.ring) shared.ring.weights shared.ring.modulus.value (ring_comparison shared.ring (variables shared.ring)) rest
   pub reduced : HasReducedLead (sums_of (variables shared.ring) (vectors_in ms)) (sum_of (variables shared.ring) rest)
 
 -- the row's products less those that division takes away
-pub record AreRowProducts (shared : Shared) (products : List (CodeKey × ℕ)) (qs : List Quotient) (left : List (CodeKey × ℕ)) : Type 0 where
+pub record AreRowProducts (shared : Shared) (products : List (CodeKey × ℕ)) (qs : List ScaledProduct) (left : List (CodeKey × ℕ)) : Type 0 where
   pub vector : IsVectorOf shared.ring left
   pub sum : StandsFor shared.ring left
       (difference shared.ring.modulus.value (sum_of (variables shared.ring) products) (cofactors_of (variables shared.ring) qs))

@@ -4,7 +4,7 @@ use Rattle.monomials.specs.Exponents.{exponents_of}
 use Rattle.monomials.specs.Weights.{weighted_degree}
 use Rattle.formal_sums.specs.FormalSums.{FormalSum}
 use Rattle.module_vectors.specs.Rings.{ring_comparison, variables}
-use Rattle.module_vectors.specs.Trails.{IsTrail as IsKeptTrail, Step, last_step, no_step}
+use Rattle.module_vectors.specs.Trails.{IsTrail as IsKeptTrail, KeptProduct, last_product, no_product}
 use Rattle.module_vectors.specs.Vectors.{AreVectorsOver, sums_of}
 use Rattle.module_vectors.specs.declared.trail.KeptTrail.{KeptTrail}
 use Rattle.module_vectors.specs.declared.trail.TrailStart.{TrailStart}
@@ -30,29 +30,29 @@ start_pair (starts.Pair i j) = (i, j)
 start_pair starts.Term = (0, 0)
 start_pair starts.Product = (0, 0)
 
--- the steps but for the last
-abbrev pub earlier_steps : Step → List Step → List Step
-earlier_steps s [] = []
-earlier_steps s (t ∷ ts) = s ∷ earlier_steps t ts
+-- the products but for the last
+abbrev pub earlier_products : KeptProduct → List KeptProduct → List KeptProduct
+earlier_products s [] = []
+earlier_products s (t ∷ ts) = s ∷ earlier_products t ts
 
--- the trail of these steps, the first of them apart
-abbrev pub trail_by : (n : ℕ) → KeptTrail → Step → List Step → Trail n
+-- the trail of these products, the first of them apart
+abbrev pub trail_by : (n : ℕ) → KeptTrail → KeptProduct → List KeptProduct → Trail n
 trail_by n t first later = record {
   members = trail_members n t;
   start = start_pair t.start;
-  earlier = products_of n (earlier_steps first later);
-  last = product_of n (last_step first later);
+  earlier = products_of n (earlier_products first later);
+  last = product_of n (last_product first later);
   monomial = exponents_of n t.last.exponents;
 }
 
--- the same of all its steps
-abbrev pub trail_over : (n : ℕ) → KeptTrail → List Step → Trail n
-trail_over n t [] = trail_by n t no_step []
+-- the same of all its products
+abbrev pub trail_over : (n : ℕ) → KeptTrail → List KeptProduct → Trail n
+trail_over n t [] = trail_by n t no_product []
 trail_over n t (first ∷ later) = trail_by n t first later
 
 -- what a kept trail stands for
 abbrev pub trail_of : (n : ℕ) → KeptTrail → Trail n
-trail_of n t = trail_over n t t.steps.items
+trail_of n t = trail_over n t t.products.items
 
 -- a kept reason
 abbrev pub reason_of : (n : ℕ) → StopReason → plain.StopReason n

@@ -38,7 +38,7 @@ fn beginning_trail(
     requires vector { row.now.vector ≡ get_or members.now.shared.generators number [] }
     requires makes { HaveMade members.now.shared number members.now.list }
     requires trail { IsRowTrail (variables members.now.shared.ring) members.now.shared.ring.weights members.now.list
-        row.now.vector trail.steps.items trail.last }
+        row.now.vector trail.products.items trail.last }
     ensures { IfOk result (IsBeginningTrail (variables members.now.shared.ring) members.now.shared) }
 {
     let _number = number;
@@ -49,7 +49,7 @@ fn beginning_trail(
         members,
         TrailStart::Term,
         vector,
-        trail.steps,
+        trail.products,
         trail.last,
     )?;
     Ok(kept)

@@ -24,10 +24,10 @@ pub(crate) fn trail_over(
     members: &Members,
     start: TrailStart,
     vector: Vect,
-    steps: Vec<(u64, Mono)>,
+    products: Vec<(u64, Mono)>,
     last: Mono,
 ) -> Result<KeptTrail, NoMemory>
-    ensures { IfOk result (IsOverMembers members.now start vector steps.items last) }
+    ensures { IfOk result (IsOverMembers members.now start vector products.items last) }
 {
     let (ring, generators) = copy_shared(alloc, members)?;
     let vectors = VectList::copy_of(alloc, members)?;
@@ -39,7 +39,7 @@ pub(crate) fn trail_over(
         start,
         vector,
         members: vectors,
-        steps,
+        products,
         last,
     })
 }

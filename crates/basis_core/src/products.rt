@@ -8,10 +8,10 @@ ghost use Rattle.member_products.specs.Generators.{IsVectorOf};
 
 use module_vectors::{Key, NoMemory, Ring, Vect};
 use std::alloc::Global;
-use vector_division::Quotient;
+use vector_division::ScaledProduct;
 
 // Each quotient as a term.
-fn quotient_terms(alloc: Global, quotients: &[Quotient]) -> Result<Vec<(Key, u32)>, NoMemory>
+fn quotient_terms(alloc: Global, quotients: &[ScaledProduct]) -> Result<Vec<(Key, u32)>, NoMemory>
     ensures { IfOk result (λ terms. terms.items ≡ map term_of quotients.now) }
 {
     let mut terms = Vec::new(alloc);
@@ -31,7 +31,7 @@ fn quotient_terms(alloc: Global, quotients: &[Quotient]) -> Result<Vec<(Key, u32
 pub fn quotient_products(
     alloc: Global,
     ring: &Ring,
-    quotients: &[Quotient],
+    quotients: &[ScaledProduct],
 ) -> Result<Vect, NoMemory>
     requires { Each (λ q. IsMonomialOver ring.now q.monomial × (q.residue < ring.now.modulus.value)) quotients.now }
     ensures vector { IfOk result (IsVectorOf ring.now) }

@@ -16,13 +16,13 @@ use member_products::{Member, Row};
 use module_vectors::{NoMemory, Vect, WorkStop};
 use monomial_orders::Mono;
 use std::alloc::{AllocError, Global};
-use vector_division::{Quotient, Reduction, reduce_lead};
+use vector_division::{Reduction, ScaledProduct, reduce_lead};
 use zp_field::Modulus;
 
-/// The steps of a division of a row, and a monomial of the last one's member that is too great for it.
+/// The products of a division of a row, and a monomial of the last one's member that is too great for it.
 #[derive(Drop)]
 pub(crate) struct RowTrail {
-    pub(crate) steps: Vec<(u64, Mono)>,
+    pub(crate) products: Vec<(u64, Mono)>,
     pub(crate) last: Mono,
 }
 
@@ -61,7 +61,7 @@ fn divide_vector(alloc: Global, members: &Members, v: &Vect) -> Result<Reduction
         Ok(reduction) => Ok(reduction),
         Err(WorkStop::Memory) => Err(RowStop::Memory),
         Err(WorkStop::Degree(trail)) => Err(RowStop::Degree(RowTrail {
-            steps: trail.steps,
+            products: trail.products,
             last: trail.last,
         })),
     }
@@ -72,7 +72,7 @@ fn divide_products(
     alloc: Global,
     members: &Members,
     row: &Row,
-    quotients: &[Quotient],
+    quotients: &[ScaledProduct],
 ) -> Result<Vect, NoMemory>
     requires over { IsRunRow members.now.shared (length members.now.list) row.now }
     requires quotients { AreRowQuotients members.now.shared members.now.list row.now.vector quotients.now }

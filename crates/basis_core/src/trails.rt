@@ -3,7 +3,7 @@ ghost use Rattle.std.specs.Prelude.{ℕ, ◌≡◌, ◌<◌, ◌++◌, ◌∷◌
 ghost use Rattle.monomials.specs.Exponents.{exponents_of, unit};
 ghost use Rattle.formal_sums.specs.FormalSums.{Each, shift};
 ghost use Rattle.module_vectors.specs.Rings.{variables};
-ghost use Rattle.module_vectors.specs.Trails.{IsInProduct, IsStep, product_lead, step_at};
+ghost use Rattle.module_vectors.specs.Trails.{IsInProduct, IsKeptProduct, product_lead, kept_at};
 ghost use Rattle.module_vectors.specs.Vectors.{IsMonomialOver, key_of};
 ghost use Rattle.pair_criteria.specs.declared.pair.Pair.{Pair as PairValue};
 ghost use Rattle.pair_criteria.specs.Traces.{AreTraced};
@@ -49,18 +49,18 @@ fn same_product(t: &Mono, key: &Key, u: &Mono, other: &Key) -> bool
     true
 }
 
-// Is the lead of the product `of` a key of the product `step`?
-fn is_in_product(members: &Members, of: &(u64, Mono), step: &(u64, Mono)) -> bool
+// Is the lead of the product `of` a key of the product `product`?
+fn is_in_product(members: &Members, of: &(u64, Mono), product: &(u64, Mono)) -> bool
     requires nonzero { Each (λ m. 0 < length m.vector) members.now.list }
-    requires of { IsStep (variables members.now.shared.ring) members.now.shared.ring.weights (vectors_in members.now.list) of.now }
-    requires step { IsStep (variables members.now.shared.ring) members.now.shared.ring.weights (vectors_in members.now.list) step.now }
-    ensures met { let n = variables members.now.shared.ring in result ≡ true → IsInProduct n (vectors_in members.now.list) (product_lead n (vectors_in members.now.list) of.now) step.now }
-    ensures apart { let n = variables members.now.shared.ring in result ≡ false → IsInProduct n (vectors_in members.now.list) (product_lead n (vectors_in members.now.list) of.now) step.now → ⊥ }
+    requires of { IsKeptProduct (variables members.now.shared.ring) members.now.shared.ring.weights (vectors_in members.now.list) of.now }
+    requires product { IsKeptProduct (variables members.now.shared.ring) members.now.shared.ring.weights (vectors_in members.now.list) product.now }
+    ensures met { let n = variables members.now.shared.ring in result ≡ true → IsInProduct n (vectors_in members.now.list) (product_lead n (vectors_in members.now.list) of.now) product.now }
+    ensures apart { let n = variables members.now.shared.ring in result ≡ false → IsInProduct n (vectors_in members.now.list) (product_lead n (vectors_in members.now.list) of.now) product.now → ⊥ }
 {
     members.kept();
     let lead = &members.at(of.0 as usize).terms()[0].0;
-    for term in members.at(step.0 as usize).terms() {
-        if same_product(&of.1, lead, &step.1, &term.0) {
+    for term in members.at(product.0 as usize).terms() {
+        if same_product(&of.1, lead, &product.1, &term.0) {
             return true;
         }
     }
@@ -72,20 +72,20 @@ fn find_pair<'a>(
     members: &Members,
     pairs: &'a [Pair],
     one: &Mono,
-    step: &(u64, Mono),
+    product: &(u64, Mono),
 ) -> Option<&'a Pair>
     requires nonzero { Each (λ m. 0 < length m.vector) members.now.list }
-    requires step { IsStep (variables members.now.shared.ring) members.now.shared.ring.weights (vectors_in members.now.list) step.now }
+    requires product { IsKeptProduct (variables members.now.shared.ring) members.now.shared.ring.weights (vectors_in members.now.list) product.now }
     requires variables { length one.now.exponents ≡ variables members.now.shared.ring }
     requires unit { let n = variables members.now.shared.ring in exponents_of n one.now.exponents ≡ unit n }
     requires pairs { Each (λ x. IsMonomialOver members.now.shared.ring x.lcm.monomial) pairs.now }
-    ensures some { let n = variables members.now.shared.ring in IfSome result (λ x. IsLcmOf n pairs.now (product_lead n (vectors_in members.now.list) step.now) x.now) }
-    ensures none { let n = variables members.now.shared.ring in IfNone result ((x : PairValue) → IsLcmOf n pairs.now (product_lead n (vectors_in members.now.list) step.now) x → ⊥) }
+    ensures some { let n = variables members.now.shared.ring in IfSome result (λ x. IsLcmOf n pairs.now (product_lead n (vectors_in members.now.list) product.now) x.now) }
+    ensures none { let n = variables members.now.shared.ring in IfNone result ((x : PairValue) → IsLcmOf n pairs.now (product_lead n (vectors_in members.now.list) product.now) x → ⊥) }
 {
     members.kept();
-    let lead = &members.at(step.0 as usize).terms()[0].0;
+    let lead = &members.at(product.0 as usize).terms()[0].0;
     for pair in pairs {
-        if same_product(&step.1, lead, one, &pair.lcm) {
+        if same_product(&product.1, lead, one, &pair.lcm) {
             return Some(pair);
         }
     }
@@ -95,13 +95,13 @@ fn find_pair<'a>(
 // The first product that has the lead of the one with this index, which there must be.
 fn find_earlier(members: &Members, all: &[(u64, Mono)], at: usize) -> usize
     requires nonzero { Each (λ m. 0 < length m.vector) members.now.list }
-    requires all { Each (IsStep (variables members.now.shared.ring) members.now.shared.ring.weights (vectors_in members.now.list)) all.now }
+    requires all { Each (IsKeptProduct (variables members.now.shared.ring) members.now.shared.ring.weights (vectors_in members.now.list)) all.now }
     requires within { at < length all.now }
     requires some { let n = variables members.now.shared.ring in (j : ℕ) × (j < at)
-        × IsInProduct n (vectors_in members.now.list) (product_lead n (vectors_in members.now.list) (step_at all.now at)) (step_at all.now j) }
+        × IsInProduct n (vectors_in members.now.list) (product_lead n (vectors_in members.now.list) (kept_at all.now at)) (kept_at all.now j) }
     ensures earlier { result < at }
     ensures met { let n = variables members.now.shared.ring in IsInProduct n (vectors_in members.now.list)
-        (product_lead n (vectors_in members.now.list) (step_at all.now at)) (step_at all.now result) }
+        (product_lead n (vectors_in members.now.list) (kept_at all.now at)) (kept_at all.now result) }
 {
     let of = &all[at];
     for j in 0..at {
@@ -113,22 +113,22 @@ fn find_earlier(members: &Members, all: &[(u64, Mono)], at: usize) -> usize
 }
 
 // A product again.
-fn copy_step(alloc: Global, step: &(u64, Mono)) -> Result<(u64, Mono), NoMemory>
-    ensures { IfOk result (λ s. s ≡ step.now) }
+fn copy_product(alloc: Global, product: &(u64, Mono)) -> Result<(u64, Mono), NoMemory>
+    ensures { IfOk result (λ s. s ≡ product.now) }
 {
-    Ok((step.0, step.1.try_copy(alloc)?))
+    Ok((product.0, product.1.try_copy(alloc)?))
 }
 
 // Appends a copy of the product.
-fn push_step(
+fn push_product(
     alloc: Global,
-    steps: &mut Vec<(u64, Mono)>,
-    step: &(u64, Mono),
+    products: &mut Vec<(u64, Mono)>,
+    product: &(u64, Mono),
 ) -> Result<(), NoMemory>
-    ensures { OnOk result (steps.new.items ≡ steps.old.items ++ (step.now ∷ [])) }
+    ensures { OnOk result (products.new.items ≡ products.old.items ++ (product.now ∷ [])) }
 {
-    let copy = copy_step(alloc, step)?;
-    steps.push(copy)?;
+    let copy = copy_product(alloc, product)?;
+    products.push(copy)?;
     Ok(())
 }
 
@@ -141,7 +141,7 @@ fn trace_back(
 ) -> Result<(Vec<(u64, Mono)>, u64, u64), NoMemory>
     requires nonzero { Each (λ m. 0 < length m.vector) members.now.list }
     requires pairs { Each (λ x. IsMonomialOver members.now.shared.ring x.lcm.monomial) pairs.now }
-    requires all { Each (IsStep (variables members.now.shared.ring) members.now.shared.ring.weights (vectors_in members.now.list)) all.now }
+    requires all { Each (IsKeptProduct (variables members.now.shared.ring) members.now.shared.ring.weights (vectors_in members.now.list)) all.now }
     requires some { 0 < length all.now }
     requires traced { AreTraced (variables members.now.shared.ring) (vectors_in members.now.list) pairs.now all.now }
     ensures { let n = variables members.now.shared.ring in IfOk result (λ r.
@@ -150,31 +150,31 @@ fn trace_back(
     let one = Mono::unit(alloc, all[0].1.variables())?;
     let mut at = all.len() - 1;
     let mut chain = Vec::new(alloc);
-    push_step(alloc, &mut chain, &all[at])?;
+    push_product(alloc, &mut chain, &all[at])?;
     loop {
         if let Some(pair) = find_pair(members, pairs, &one, &all[at]) {
             chain.reverse();
             return Ok((chain, pair.i, pair.j));
         }
         at = find_earlier(members, all, at);
-        push_step(alloc, &mut chain, &all[at])?;
+        push_product(alloc, &mut chain, &all[at])?;
     }
 }
 
-// The products of the outcome and the steps behind them.
-fn gather_steps(
+// The products of the outcome and those of a division behind them.
+fn gather_products(
     alloc: Global,
     products: &[(u64, Mono)],
-    steps: &[(u64, Mono)],
+    taken: &[(u64, Mono)],
 ) -> Result<Vec<(u64, Mono)>, NoMemory>
-    ensures { IfOk result (λ all. all.items ≡ products.now ++ steps.now) }
+    ensures { IfOk result (λ all. all.items ≡ products.now ++ taken.now) }
 {
     let mut all = Vec::new(alloc);
     for product in products {
-        push_step(alloc, &mut all, product)?;
+        push_product(alloc, &mut all, product)?;
     }
-    for step in steps {
-        push_step(alloc, &mut all, step)?;
+    for later in taken {
+        push_product(alloc, &mut all, later)?;
     }
     Ok(all)
 }
@@ -191,17 +191,24 @@ fn put_trail(
     requires base { outcome.now.job.members ≡ take (length outcome.now.job.members) members.now.list }
     requires row { StopsOne (variables members.now.shared.ring) members.now.shared.ring.weights members.now.list outcome.now.rows (RowStop.Degree trail) }
     ensures trail { IfOk result (IsTrailBy members.now.shared members.now.list (pairs_of outcome.now.job.pairs)) }
-    ensures ends { IfOk result (EndsAs (variables members.now.shared.ring) trail.steps.items) }
+    ensures ends { IfOk result (EndsAs (variables members.now.shared.ring) trail.products.items) }
 {
     // What holds of members, outcome, job and rows: by it each product has its lead from a pair or an earlier product.
     members.kept();
     outcome.kept();
     let job = outcome.job();
     job.kept();
-    let all = gather_steps(alloc, outcome.products(), &trail.steps)?;
-    let (steps, i, j) = trace_back(alloc, members, job.pairs(), &all)?;
+    let all = gather_products(alloc, outcome.products(), &trail.products)?;
+    let (products, i, j) = trace_back(alloc, members, job.pairs(), &all)?;
     let start = TrailStart::Pair(i, j);
-    let kept = trail_over(alloc, members, start, Vect::zero(alloc), steps, trail.last)?;
+    let kept = trail_over(
+        alloc,
+        members,
+        start,
+        Vect::zero(alloc),
+        products,
+        trail.last,
+    )?;
     Ok(kept)
 }
 

@@ -134,15 +134,15 @@ fn degree_of(monomial: &Mono) -> u64 {
     u64::try_from(monomial.degree()).unwrap_or(u64::MAX)
 }
 
-/// Writes why work stopped: of a trail, how many members and steps it has, and the two degrees whose sum is too great.
+/// Writes why work stopped: of a trail, how many members and products it has, and the two degrees whose sum is too great.
 pub fn write_stop(sheet: &mut Sheet, stop: &WorkStop) {
     let WorkStop::Degree(trail) = stop else {
         return sheet.text("memory");
     };
     sheet.count("degree by ", trail.members.len() as u64);
-    sheet.count(" members in ", trail.steps.len() as u64);
-    sheet.text(" steps");
-    if let Some((index, monomial)) = trail.steps.last() {
+    sheet.count(" members in ", trail.products.len() as u64);
+    sheet.text(" products");
+    if let Some((index, monomial)) = trail.products.last() {
         sheet.count(", the last by member ", *index);
         sheet.count(" with degrees ", degree_of(monomial));
         sheet.count(" and ", degree_of(&trail.last));

@@ -12,7 +12,7 @@ use Rattle.orders.specs.KeyOrders.{Descends}
 use Rattle.bases.proofs.Leading.{one_not_zero}
 use Rattle.bases.specs.Leads.{head_key, leads}
 use Rattle.bases.specs.Settings.{IsLawful, Setting}
-use Rattle.module_vectors.specs.Trails.{HasKey, Step, no_step, product_lead, step_at}
+use Rattle.module_vectors.specs.Trails.{HasKey, KeptProduct, no_product, product_lead, kept_at}
 use Rattle.module_vectors.specs.Vectors.{IsVector, key_of, sum_of}
 use Rattle.module_vectors.specs.declared.key.Key.{Key as CodeKey}
 use Rattle.pair_criteria.specs.declared.pair.Pair.{Pair as CodePair}
@@ -52,12 +52,12 @@ module _ {n : ℕ} (S : Setting n) (lawful : IsLawful S) where
   below_trans k l m a (inr e) = subst (λ z. S.compare k z ≡ Less) e a
   below_trans k l m a (inl b) = lawful.order.total.trans k l m a b
 
-  module _ (list : List (List (CodeKey × ℕ))) (vectors : Each (IsVector n S.weights S.modulus S.compare) list) (pairs : List CodePair) (steps : List Step) where
+  module _ (list : List (List (CodeKey × ℕ))) (vectors : Each (IsVector n S.weights S.modulus S.compare) list) (pairs : List CodePair) (products : List KeptProduct) where
     -- the key is at most the lcm of a pair
     abbrev IsWithin : Key n → Type 0
     IsWithin k = (x : CodePair) × Contains pairs x × IsKeyAtMost S k (key_of n x.lcm)
 
-    in_product : (k l : Key n) (s : Step) → HasKey (sum_of n (get_or list s.0 [])) l → k ≡ shift (exponents_of n s.1.exponents) l
+    in_product : (k l : Key n) (s : KeptProduct) → HasKey (sum_of n (get_or list s.0 [])) l → k ≡ shift (exponents_of n s.1.exponents) l
         → IsKeyAtMost S k (product_lead n list s)
     in_product k l s has e =
         let d : Descends S.compare (sum_of n (get_or list s.0 [])) =
@@ -70,25 +70,25 @@ module _ {n : ℕ} (S : Setting n) (lawful : IsLawful S) where
         ])
 
     step_within :
-        ((i : ℕ) → i < length steps → IsOfPair n list pairs (step_at steps i) ⊎ IsOfEarlier n list steps i (step_at steps i))
-        → (fuel i : ℕ) → i < fuel → i < length steps → IsWithin (product_lead n list (step_at steps i))
+        ((i : ℕ) → i < length products → IsOfPair n list pairs (kept_at products i) ⊎ IsOfEarlier n list products i (kept_at products i))
+        → (fuel i : ℕ) → i < fuel → i < length products → IsWithin (product_lead n list (kept_at products i))
     step_within traced zero i low lt = absurd (omega arith)
     step_within traced (suc fuel) i low lt = go (λ j l. step_within traced fuel j (omega arith) (omega arith)) (traced i lt)
       where
-        go : ((j : ℕ) → j < i → IsWithin (product_lead n list (step_at steps j)))
-            → IsOfPair n list pairs (step_at steps i) ⊎ IsOfEarlier n list steps i (step_at steps i)
-            → IsWithin (product_lead n list (step_at steps i))
+        go : ((j : ℕ) → j < i → IsWithin (product_lead n list (kept_at products j)))
+            → IsOfPair n list pairs (kept_at products i) ⊎ IsOfEarlier n list products i (kept_at products i)
+            → IsWithin (product_lead n list (kept_at products i))
         go ih (inl o) = (o.0, o.1.0, inr o.1.1)
         go ih (inr (j, l, has)) =
             let w = ih j l in (
               w.0,
               w.1,
-              at_most_trans (product_lead n list (step_at steps i)) (product_lead n list (step_at steps j)) (key_of n w.0.lcm)
-                  (in_product (product_lead n list (step_at steps i)) has.0 (step_at steps j) has.1 has.2) w.2,
+              at_most_trans (product_lead n list (kept_at products i)) (product_lead n list (kept_at products j)) (key_of n w.0.lcm)
+                  (in_product (product_lead n list (kept_at products i)) has.0 (kept_at products j) has.1 has.2) w.2,
             )
 
 -- the first key of a product that is not zero
-product_first : (n : ℕ) (list : List (List (CodeKey × ℕ))) (s : Step) → 0 < length (get_or list s.0 [])
+product_first : (n : ℕ) (list : List (List (CodeKey × ℕ))) (s : KeptProduct) → 0 < length (get_or list s.0 [])
     → head_key (product_sum n list s) ≡ product_lead n list s
 product_first n list s some = go (get_or list s.0 []) some
   where
@@ -98,8 +98,8 @@ product_first n list s some = go (get_or list s.0 []) some
     go (t ∷ v) lt = refl
 
 module _ (n : ℕ) (S : Setting n) (lawful : IsLawful S) (list : List (List (CodeKey × ℕ))) (vectors : Each (IsVector n S.weights S.modulus S.compare) list)
-    (pairs : List CodePair) (m : MatrixShown) (steps : List Step)
-    (h : IsPrepared n S list pairs m steps) (E : List RowShown) (form : IsEchelonOf S.modulus (length m.columns) m.inputs m.rows E)
+    (pairs : List CodePair) (m : MatrixShown) (products : List KeptProduct)
+    (h : IsPrepared n S list pairs m products) (E : List RowShown) (form : IsEchelonOf S.modulus (length m.columns) m.inputs m.rows E)
     (flags : List Bool) (flagged : AreFlags m.rows flags)
     (new : IsNewRows (vectors_of n m.columns m.rows) (vectors_of n m.columns E) (vectors_of n m.columns (unflagged flags E))) where
   at : (rows : List RowShown) (i : ℕ) → i < length rows → get_or (vectors_of n m.columns rows) i [] ≡ vector_of n m.columns (row_at rows i)
@@ -118,12 +118,12 @@ module _ (n : ℕ) (S : Setting n) (lawful : IsLawful S) (list : List (List (Cod
       let r = vector_of n m.columns (row_at m.rows i) in
       let d : Descends S.compare (vector_of n m.columns (row_at m.rows i)) =
       (row_normal n S lawful m.columns h.matrix.descend m.inputs (row_at m.rows i) (good i lt)).descends in
-      let l : i < length steps = omega (arith, size m.rows, ap length h.vectors, length-map steps (λ (s : Step). product_sum n list s)) in
-      let is : vector_of n m.columns (row_at m.rows i) ≡ product_sum n list (step_at steps i) =
-      sym (at m.rows i lt) ∙ ap (λ xs. get_or xs i []) h.vectors ∙ get_or-map (λ (s : Step). product_sum n list s) steps i no_step [] l in
-      let first : head_key (vector_of n m.columns (row_at m.rows i)) ≡ product_lead n list (step_at steps i) =
-      ap head_key is ∙ product_first n list (step_at steps i) (h.steps_of i l).some in
-      let w = step_within S lawful list vectors pairs steps (traced_at n list pairs steps h.traced) (suc i) i (omega arith) l in
+      let l : i < length products = omega (arith, size m.rows, ap length h.vectors, length-map products (λ (s : KeptProduct). product_sum n list s)) in
+      let is : vector_of n m.columns (row_at m.rows i) ≡ product_sum n list (kept_at products i) =
+      sym (at m.rows i lt) ∙ ap (λ xs. get_or xs i []) h.vectors ∙ get_or-map (λ (s : KeptProduct). product_sum n list s) products i no_product [] l in
+      let first : head_key (vector_of n m.columns (row_at m.rows i)) ≡ product_lead n list (kept_at products i) =
+      ap head_key is ∙ product_first n list (kept_at products i) (h.each_product i l).some in
+      let w = step_within S lawful list vectors pairs products (traced_at n list pairs products h.traced) (suc i) i (omega arith) l in
       elim (occurs r k) [
         | inr z ↦ absurd (nz (IsCongruent_of S.modulus _ 0 z))
         | inl has ↦ elim (key_at_most S lawful r k d has) [
@@ -131,7 +131,7 @@ module _ (n : ℕ) (S : Setting n) (lawful : IsLawful S) (list : List (List (Cod
           | inl less ↦ (
             w.0,
             w.1,
-            below_trans S lawful k (product_lead n list (step_at steps i)) (key_of n w.0.lcm)
+            below_trans S lawful k (product_lead n list (kept_at products i)) (key_of n w.0.lcm)
                 (subst (λ z. S.compare k z ≡ Less) first less) w.2,
           )
         ]

@@ -6,7 +6,7 @@ use Rattle.member_products.proofs.Ranks.{ring_lawful}
 use Rattle.module_vectors.proofs.NormalVectors.{residues_of}
 use Rattle.module_vectors.proofs.SumsOfProducts.{Each_member}
 use Rattle.module_vectors.specs.Rings.{ring_comparison, setting, variables}
-use Rattle.module_vectors.specs.Trails.{Step, no_step}
+use Rattle.module_vectors.specs.Trails.{KeptProduct, no_product}
 use Rattle.module_vectors.specs.Vectors.{AreTermsOver, IsMonomialOver, IsVectorOver, StandsFor, sum_of}
 use Rattle.module_vectors.specs.declared.key.Key.{Key as CodeKey}
 use Rattle.module_vectors.specs.declared.ring.Ring.{Ring}
@@ -16,8 +16,8 @@ use Rattle.row_matrix.specs.Hashes.{no_key}
 use Rattle.row_matrix.specs.Rows.{AreEntries, AreKeys, Descend, Entry, IsRow, RowShown, column_key, row_sum, vector_of}
 use Rattle.row_reduce.proofs.Entries.{entries_within}
 use Rattle.row_reduce.proofs.Forms.{row_normal}
-use Rattle.vector_division.specs.declared.reduction.Quotient.{Quotient}
-use Rattle.f4_job.specs.Made.{AreMadeRows, AreWeighedSteps, IsMadeRow, entry_term, source_parts}
+use Rattle.vector_division.specs.declared.reduction.ScaledProduct.{ScaledProduct}
+use Rattle.f4_job.specs.Made.{AreMadeRows, AreWeighedProducts, IsMadeRow, entry_term, source_parts}
 
 -- the terms stand for the row's vector
 pub terms_sum : (n : ℕ) (columns : List CodeKey) (es : List Entry) → sum_of n (map (λ e. entry_term columns e) es) ≡ row_sum (column_key n columns) es
@@ -42,13 +42,13 @@ terms_over ring columns low (e ∷ es) k h =
           (e.0 + 1) es k h.3,
     )
 
-pub parts_over : (ring : Ring) (steps : List Step) (low : ℕ) (es : List Entry)
-    → AreWeighedSteps (variables ring) ring.weights steps → AreEntries ring.modulus.value low (length steps) es
-    → Each (λ (q : Quotient). IsMonomialOver ring q.monomial × (q.residue < ring.modulus.value)) (source_parts steps es)
-parts_over ring steps low [] k h = tt
-parts_over ring steps low (e ∷ es) k h =
-    let w = entries_within ring.modulus.value low (length steps) (e ∷ es) h in
-    ((Each_member (λ (s : Step). IsWeighed (variables ring) ring.weights s.1) steps e.0 no_step k w.0.0, w.0.1), parts_over ring steps (e.0 + 1) es k h.3)
+pub parts_over : (ring : Ring) (products : List KeptProduct) (low : ℕ) (es : List Entry)
+    → AreWeighedProducts (variables ring) ring.weights products → AreEntries ring.modulus.value low (length products) es
+    → Each (λ (q : ScaledProduct). IsMonomialOver ring q.monomial × (q.residue < ring.modulus.value)) (source_parts products es)
+parts_over ring products low [] k h = tt
+parts_over ring products low (e ∷ es) k h =
+    let w = entries_within ring.modulus.value low (length products) (e ∷ es) h in
+    ((Each_member (λ (s : KeptProduct). IsWeighed (variables ring) ring.weights s.1) products e.0 no_product k w.0.0, w.0.1), parts_over ring products (e.0 + 1) es k h.3)
 
 -- the vector of these terms is the row's
 pub vector_same : (ring : Ring) (columns : List CodeKey) (inputs : ℕ) (r : RowShown) (v : List (CodeKey × ℕ))
@@ -62,9 +62,9 @@ vector_same ring columns inputs r v descend good over sum =
     (residues_of n ring.weights ring.modulus.value v over.each) normal.residues sum
 
 -- one row more
-pub made_more : (ring : Ring) (columns : List CodeKey) (steps : List Step) (rs : List RowShown) (ms : List CodeRow) (r : RowShown) (m : CodeRow)
-    → AreMadeRows ring columns steps rs ms → IsMadeRow ring columns steps r m → AreMadeRows ring columns steps (rs ++ r ∷ []) (ms ++ m ∷ [])
-made_more ring columns steps [] [] r m h g = (g, tt)
-made_more ring columns steps [] (x ∷ ms) r m h g = absurd h
-made_more ring columns steps (x ∷ rs) [] r m h g = absurd h
-made_more ring columns steps (x ∷ rs) (y ∷ ms) r m h g = (h.0, made_more ring columns steps rs ms r m h.1 g)
+pub made_more : (ring : Ring) (columns : List CodeKey) (products : List KeptProduct) (rs : List RowShown) (ms : List CodeRow) (r : RowShown) (m : CodeRow)
+    → AreMadeRows ring columns products rs ms → IsMadeRow ring columns products r m → AreMadeRows ring columns products (rs ++ r ∷ []) (ms ++ m ∷ [])
+made_more ring columns products [] [] r m h g = (g, tt)
+made_more ring columns products [] (x ∷ ms) r m h g = absurd h
+made_more ring columns products (x ∷ rs) [] r m h g = absurd h
+made_more ring columns products (x ∷ rs) (y ∷ ms) r m h g = (h.0, made_more ring columns products rs ms r m h.1 g)

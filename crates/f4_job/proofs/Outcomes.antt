@@ -14,12 +14,12 @@ use Rattle.bases.specs.Settings.{IsLawful, Setting}
 use Rattle.monomial_orders.specs.Kept.{IsWeighed}
 use Rattle.module_vectors.proofs.Scaling.{Each_at}
 use Rattle.module_vectors.specs.Rings.{ring_comparison, variables}
-use Rattle.module_vectors.specs.Trails.{Step, no_step, product_lead, step_at}
+use Rattle.module_vectors.specs.Trails.{KeptProduct, no_product, product_lead, kept_at}
 use Rattle.module_vectors.specs.Vectors.{IsVector, sum_of, sums_of}
 use Rattle.module_vectors.specs.declared.key.Key.{Key as CodeKey}
 use Rattle.pair_criteria.specs.declared.pair.Pair.{Pair as CodePair}
 use Rattle.vector_division.proofs.Members.{sums_at}
-use Rattle.vector_division.specs.Reductions.{cofactors_of, step_of}
+use Rattle.vector_division.specs.Reductions.{cofactors_of, unscaled}
 use Rattle.member_products.proofs.Ranks.{ranked_by}
 use Rattle.member_products.specs.declared.member.Row.{Row as CodeRow}
 use Rattle.basis_steps.proofs.JobProducts.{IsJobProductAt, job_products_from}
@@ -49,8 +49,8 @@ use Rattle.symbolic_prep.specs.Plans.{product_sum}
 use Rattle.f4_job.specs.Made.{AreMadeRows, IsMadeRow, source_parts}
 use Rattle.f4_job.specs.Solved.{AreNewRows, IsBelowPairs}
 
-module _ (j : JobShown) (job : IsJobOver j) (tracked : Each (IsTracked j.shared) j.members) (columns : List CodeKey) (steps : List Step) (rows : List RowShown)
-    (new : AreNewRows (variables j.shared.ring) (setting_of (variables j.shared.ring) j.shared) (vectors_in j.members) j.pairs steps columns rows) where
+module _ (j : JobShown) (job : IsJobOver j) (tracked : Each (IsTracked j.shared) j.members) (columns : List CodeKey) (products : List KeptProduct) (rows : List RowShown)
+    (new : AreNewRows (variables j.shared.ring) (setting_of (variables j.shared.ring) j.shared) (vectors_in j.members) j.pairs products columns rows) where
   abbrev n : ℕ
   n = variables j.shared.ring
 
@@ -67,7 +67,7 @@ module _ (j : JobShown) (job : IsJobOver j) (tracked : Each (IsTracked j.shared)
   H = vectors (members_of (variables j.shared.ring) j.members)
 
   abbrev F : List (FormalSum (variables j.shared.ring))
-  F = map (λ (s : Step). product_sum (variables j.shared.ring) (vectors_in j.members) s) steps
+  F = map (λ (s : KeptProduct). product_sum (variables j.shared.ring) (vectors_in j.members) s) products
 
   same : H ≡ G
   same = vectors_are n j.members
@@ -76,14 +76,14 @@ module _ (j : JobShown) (job : IsJobOver j) (tracked : Each (IsTracked j.shared)
   lawful = shared_lawful n j.shared
 
   -- ---- the products of a row
-  sources_combined : (es : List Entry) → Each (λ (x : Entry). (x.0 < length steps) × (x.1 < j.shared.ring.modulus.value)) es
-      → combination F (row_sum (source_key n) es) ≡ combination G (cofactors_of n (source_parts steps es))
+  sources_combined : (es : List Entry) → Each (λ (x : Entry). (x.0 < length products) × (x.1 < j.shared.ring.modulus.value)) es
+      → combination F (row_sum (source_key n) es) ≡ combination G (cofactors_of n (source_parts products es))
   sources_combined [] w = refl
   sources_combined (e ∷ es) w =
-      let s = step_at steps e.0 in
+      let s = kept_at products e.0 in
       let t = exponents_of n s.1.exponents in
       let one : scale e.1 (unit n) (get_or F e.0 []) ≡ scale e.1 t (get_or G s.0 []) =
-      ap (scale e.1 (unit n)) (get_or-map (λ (z : Step). product_sum n list z) steps e.0 no_step [] w.0.0)
+      ap (scale e.1 (unit n)) (get_or-map (λ (z : KeptProduct). product_sum n list z) products e.0 no_product [] w.0.0)
       ∙ ap (λ v. scale e.1 (unit n) (scale 1 t v)) (sym (sums_at n list s.0)) ∙ scaled_once e.1 t (get_or G s.0 []) in
       ap₂ (λ a b. a ++ b) one (sources_combined es w.1)
     where
@@ -91,51 +91,51 @@ module _ (j : JobShown) (job : IsJobOver j) (tracked : Each (IsTracked j.shared)
           → scale c (unit (variables j.shared.ring)) (scale 1 t v) ≡ scale c t v
       scaled_once c t v = scale-scale c 1 (unit n) t v ∙ ap₂ (λ a b. scale a b v) (let q : c * 1 ≡ c = omega arith in q) (times-unit t)
 
-  parts_are : (low : ℕ) (es : List Entry) → AreEntries j.shared.ring.modulus.value low (length steps) es
-      → Each (IsPart n j.shared.ring.weights j.shared.ring.modulus.value (length j.members)) (source_parts steps es)
+  parts_are : (low : ℕ) (es : List Entry) → AreEntries j.shared.ring.modulus.value low (length products) es
+      → Each (IsPart n j.shared.ring.weights j.shared.ring.modulus.value (length j.members)) (source_parts products es)
   parts_are low [] h = tt
   parts_are low (e ∷ es) h =
-      let w = entries_within j.shared.ring.modulus.value low (length steps) (e ∷ es) h in
-      let p = new.steps_of e.0 w.0.0 in (
-        record { index = subst (λ k. (step_at steps e.0).0 < k) (length-vectors_in j.members) p.member; weighed = p.weighed; reduced = h.2 },
+      let w = entries_within j.shared.ring.modulus.value low (length products) (e ∷ es) h in
+      let p = new.each_product e.0 w.0.0 in (
+        record { index = subst (λ k. (kept_at products e.0).0 < k) (length-vectors_in j.members) p.member; weighed = p.weighed; reduced = h.2 },
         parts_are
             (e.0 + 1) es h.3,
       )
 
-  listed_in : (es : List Entry) → Each (λ (x : Entry). (x.0 < length steps) × (x.1 < j.shared.ring.modulus.value)) es
-      → (k : ℕ × Exponents (variables j.shared.ring)) → Contains (products_of n (map step_of (source_parts steps es))) k → Contains (products_of n steps) k
+  listed_in : (es : List Entry) → Each (λ (x : Entry). (x.0 < length products) × (x.1 < j.shared.ring.modulus.value)) es
+      → (k : ℕ × Exponents (variables j.shared.ring)) → Contains (products_of n (map unscaled (source_parts products es))) k → Contains (products_of n products) k
   listed_in [] w k (i, lt, is) = absurd (omega arith)
   listed_in (e ∷ es) w k (zero, lt, is) = (
     e.0,
-    (let a = w.0.0 in let l = length-map steps (λ (t : Step). product_of n t) in omega arith),
+    (let a = w.0.0 in let l = length-map products (λ (t : KeptProduct). product_of n t) in omega arith),
     get_or-map
-        (λ (t : Step). product_of n t) steps e.0 no_step k w.0.0 ∙ is,
+        (λ (t : KeptProduct). product_of n t) products e.0 no_product k w.0.0 ∙ is,
   )
   listed_in (e ∷ es) w k (suc i, lt, is) = listed_in es w.1 k (i, omega arith, is)
 
   -- ---- a row
-  module _ (r : RowShown) (row : CodeRow) (good : IsRow j.shared.ring.modulus.value (length columns) (length steps) r)
-      (combined : IsFromSources (variables j.shared.ring) j.shared.ring.modulus.value F columns r) (made : IsMadeRow j.shared.ring columns steps r row) where
-    within : Each (λ (x : Entry). (x.0 < length steps) × (x.1 < j.shared.ring.modulus.value)) r.sources
-    within = entries_within j.shared.ring.modulus.value 0 (length steps) r.sources good.sources
+  module _ (r : RowShown) (row : CodeRow) (good : IsRow j.shared.ring.modulus.value (length columns) (length products) r)
+      (combined : IsFromSources (variables j.shared.ring) j.shared.ring.modulus.value F columns r) (made : IsMadeRow j.shared.ring columns products r row) where
+    within : Each (λ (x : Entry). (x.0 < length products) × (x.1 < j.shared.ring.modulus.value)) r.sources
+    within = entries_within j.shared.ring.modulus.value 0 (length products) r.sources good.sources
 
-    sum_is : IsSame j.shared.ring.modulus.value (sum_of n row.vector) (combination G (cofactors_of n (source_parts steps r.sources)))
+    sum_is : IsSame j.shared.ring.modulus.value (sum_of n row.vector) (combination G (cofactors_of n (source_parts products r.sources)))
     sum_is = IsSame_trans (IsSame_of j.shared.ring.modulus.value _ _ made.sum)
         (IsSame_trans (IsSame_sym combined) (IsSame_of j.shared.ring.modulus.value _ _ (sources_combined r.sources within)))
 
     run_row : IsRunRow j.shared (length j.members) row
     run_row = record {
       vector = ranked_by j.shared.ring j.shared.rank row.vector _ made.vector sum_is
-          (vectors_rank j.shared j.members tracked (cofactors_of n (source_parts steps r.sources)));
-      products = row_ranked j.shared (source_parts steps r.sources) row.products made.products made.made (length j.members)
+          (vectors_rank j.shared j.members tracked (cofactors_of n (source_parts products r.sources)));
+      products = row_ranked j.shared (source_parts products r.sources) row.products made.products made.made (length j.members)
           (parts_are 0 r.sources good.sources);
     }
 
-    sum_row : IsSumRow j.shared.ring.modulus.value H (products_of n steps) (row_of n row)
+    sum_row : IsSumRow j.shared.ring.modulus.value H (products_of n products) (row_of n row)
     sum_row = record {
       alone = refl;
       listed = Each_map _ _ (sum_of n row.products) (λ t h. listed_in r.sources within t.0 h)
-          (row_listed j.shared (source_parts steps r.sources) row.products made.products made.made);
+          (row_listed j.shared (source_parts products r.sources) row.products made.products made.made);
       sums = subst (λ g. IsSame j.shared.ring.modulus.value (combination g (sum_of n row.products)) (sum_of n row.vector)) (sym same)
           (IsSame_trans (IsSame_combination (positive S lawful) G _ _ made.made) (IsSame_sym sum_is));
     }
@@ -144,36 +144,36 @@ module _ (j : JobShown) (job : IsJobOver j) (tracked : Each (IsTracked j.shared)
     low_row (x, (i, lt, is), less) k lead =
         let e : k ≡ head_key (vector_of n columns r) =
         lead_unique S lawful (vector_of n columns r) k (head_key (vector_of n columns r)) (subst (λ v. IsLead S v k) made.sum lead)
-        (IsLead_of_monic S lawful (row_monic n S lawful columns new.descend (length steps) r good)) in
+        (IsLead_of_monic S lawful (row_monic n S lawful columns new.descend (length products) r good)) in
         let l = Each_at (HasLcm n j.shared.ring.weights j.members) j.pairs i x job.lcms lt (sym is) in
         (pair_of x, pair_counted x j.pairs (i, lt, is), subst₂ (λ a b. S.compare a b ≡ Less) (sym e) l.lcm less)
 
   -- ---- all rows
-  made_vectors : (rs : List RowShown) (ms : List CodeRow) → AreMadeRows j.shared.ring columns steps rs ms → vectors (rows_of n ms) ≡ vectors_of n columns rs
+  made_vectors : (rs : List RowShown) (ms : List CodeRow) → AreMadeRows j.shared.ring columns products rs ms → vectors (rows_of n ms) ≡ vectors_of n columns rs
   made_vectors [] [] h = refl
   made_vectors [] (m ∷ ms) h = absurd h
   made_vectors (r ∷ rs) [] h = absurd h
   made_vectors (r ∷ rs) (m ∷ ms) h = ap₂ (λ a b. a ∷ b) h.0.sum (made_vectors rs ms h.1)
 
-  made_length : (rs : List RowShown) (ms : List CodeRow) → AreMadeRows j.shared.ring columns steps rs ms → length (rows_of n ms) ≡ length rs
+  made_length : (rs : List RowShown) (ms : List CodeRow) → AreMadeRows j.shared.ring columns products rs ms → length (rows_of n ms) ≡ length rs
   made_length [] [] h = refl
   made_length [] (m ∷ ms) h = absurd h
   made_length (r ∷ rs) [] h = absurd h
   made_length (r ∷ rs) (m ∷ ms) h = let e = made_length rs ms h.1 in omega arith
 
   abbrev Good : RowShown → Type 0
-  Good r = IsRow j.shared.ring.modulus.value (length columns) (length steps) r
+  Good r = IsRow j.shared.ring.modulus.value (length columns) (length products) r
       × IsFromSources (variables j.shared.ring) j.shared.ring.modulus.value F columns r
       × IsBelowPairs S j.pairs (head_key (vector_of (variables j.shared.ring) columns r))
 
-  good_rows : (rs : List RowShown) → Each (IsRow j.shared.ring.modulus.value (length columns) (length steps)) rs
+  good_rows : (rs : List RowShown) → Each (IsRow j.shared.ring.modulus.value (length columns) (length products)) rs
       → Each (IsFromSources (variables j.shared.ring) j.shared.ring.modulus.value F columns) rs
       → Each (λ r. IsBelowPairs S j.pairs (head_key (vector_of (variables j.shared.ring) columns r))) rs → Each Good rs
   good_rows [] a b c = tt
   good_rows (r ∷ rs) a b c = ((a.0, b.0, c.0), good_rows rs a.1 b.1 c.1)
 
-  made_each : (Q : CodeRow → Type 0) → ((r : RowShown) (m : CodeRow) → Good r → IsMadeRow j.shared.ring columns steps r m → Q m)
-      → (rs : List RowShown) (ms : List CodeRow) → Each Good rs → AreMadeRows j.shared.ring columns steps rs ms → Each Q ms
+  made_each : (Q : CodeRow → Type 0) → ((r : RowShown) (m : CodeRow) → Good r → IsMadeRow j.shared.ring columns products r m → Q m)
+      → (rs : List RowShown) (ms : List CodeRow) → Each Good rs → AreMadeRows j.shared.ring columns products rs ms → Each Q ms
   made_each Q f [] [] g h = tt
   made_each Q f [] (m ∷ ms) g h = absurd h
   made_each Q f (r ∷ rs) [] g h = absurd h
@@ -189,40 +189,40 @@ module _ (j : JobShown) (job : IsJobOver j) (tracked : Each (IsTracked j.shared)
   over_pairs Q (x ∷ xs) h = (h.0, over_pairs Q xs h.1)
 
   -- ---- the products
-  step_is : (i : ℕ) → i < length steps → product_at (products_of n steps) i ≡ product_of n (step_at steps i)
-  step_is i lt = get_or-map (λ (t : Step). product_of n t) steps i no_step (0, unit n) lt
+  step_is : (i : ℕ) → i < length products → product_at (products_of n products) i ≡ product_of n (kept_at products i)
+  step_is i lt = get_or-map (λ (t : KeptProduct). product_of n t) products i no_product (0, unit n) lt
 
-  numbered : (i : ℕ) → i < length (products_of n steps) → IsJobProductAt j.shared.ring.modulus.value G (pairs_of j.pairs) (products_of n steps) i
+  numbered : (i : ℕ) → i < length (products_of n products) → IsJobProductAt j.shared.ring.modulus.value G (pairs_of j.pairs) (products_of n products) i
   numbered i lt =
-      let li : i < length steps = omega (arith, length-map steps (λ (t : Step). product_of n t)) in
-      let s = step_at steps i in
-      let lead : plain.product_lead G (product_at (products_of n steps) i) ≡ product_lead n list (step_at steps i) =
-      ap (plain.product_lead G) (step_is i li) ∙ lead_same n list (step_at steps i) in (
-        subst (λ z. (product_at (products_of n steps) i).0 < z) (sym (length-map list (λ (v : List (CodeKey × ℕ)). sum_of n v)))
-            (subst (λ (t : ℕ × Exponents (variables j.shared.ring)). t.0 < length list) (sym (step_is i li)) (new.steps_of i li).member),
-        elim (traced_at n list j.pairs steps new.traced i li) [
+      let li : i < length products = omega (arith, length-map products (λ (t : KeptProduct). product_of n t)) in
+      let s = kept_at products i in
+      let lead : plain.product_lead G (product_at (products_of n products) i) ≡ product_lead n list (kept_at products i) =
+      ap (plain.product_lead G) (step_is i li) ∙ lead_same n list (kept_at products i) in (
+        subst (λ z. (product_at (products_of n products) i).0 < z) (sym (length-map list (λ (v : List (CodeKey × ℕ)). sum_of n v)))
+            (subst (λ (t : ℕ × Exponents (variables j.shared.ring)). t.0 < length list) (sym (step_is i li)) (new.each_product i li).member),
+        elim (traced_at n list j.pairs products new.traced i li) [
           | inl (x, q) ↦
               let l = Each_at (HasLcm n j.shared.ring.weights j.members) j.pairs q.0.0 x job.lcms q.0.1 (sym q.0.2) in
               inl (pair_of x, pair_counted x j.pairs q.0, lead ∙ q.1 ∙ l.lcm ∙ ap (λ g. lcm_of g (pair_of x)) same)
           | inr (k, lk, has) ↦
-              let lk' : k < length steps = omega arith in
+              let lk' : k < length products = omega arith in
               inr (
                 k,
                 lk,
-                omega (arith, length-map steps (λ (t : Step). product_of n t)),
+                omega (arith, length-map products (λ (t : KeptProduct). product_of n t)),
                 subst₂ (λ t z. Occurs j.shared.ring.modulus.value (plain.product_vector G t) z) (sym (step_is k lk')) (sym lead)
-                    (in_occurs S lawful list G (step_at steps k) (product_lead n list (step_at steps i)) (sums_at n list (step_at steps k).0)
-                    (item_of (IsVector n j.shared.ring.weights j.shared.ring.modulus.value (ring_comparison j.shared.ring n)) list (step_at steps k).0
+                    (in_occurs S lawful list G (kept_at products k) (product_lead n list (kept_at products i)) (sums_at n list (kept_at products k).0)
+                    (item_of (IsVector n j.shared.ring.weights j.shared.ring.modulus.value (ring_comparison j.shared.ring n)) list (kept_at products k).0
                     (record { each = tt; descends = tt }) (vectors_over j.shared j.members tracked)) has),
               )
         ],
       )
 
-  of_job : AreJobProducts j.shared.ring.modulus.value G (pairs_of j.pairs) (products_of n steps)
-  of_job = job_products_from j.shared.ring.modulus.value G (pairs_of j.pairs) (products_of n steps) numbered
+  of_job : AreJobProducts j.shared.ring.modulus.value G (pairs_of j.pairs) (products_of n products)
+  of_job = job_products_from j.shared.ring.modulus.value G (pairs_of j.pairs) (products_of n products) numbered
 
-  pub weighed_steps : Each (λ (t : Step). IsWeighed (variables j.shared.ring) j.shared.ring.weights t.1) steps
-  weighed_steps = Each_index (λ (t : Step). IsWeighed n j.shared.ring.weights t.1) steps no_step (λ i lt. (new.steps_of i lt).weighed)
+  pub weighed_steps : Each (λ (t : KeptProduct). IsWeighed (variables j.shared.ring) j.shared.ring.weights t.1) products
+  weighed_steps = Each_index (λ (t : KeptProduct). IsWeighed n j.shared.ring.weights t.1) products no_product (λ i lt. (new.each_product i lt).weighed)
 
   -- ---- the pairs
   ranks : (i : ℕ) → i < length G → IsOfRank j.shared.ring.modulus.value j.shared.rank (get_or G i [])
@@ -230,7 +230,7 @@ module _ (j : JobShown) (job : IsJobOver j) (tracked : Each (IsTracked j.shared)
       subst (IsOfRank j.shared.ring.modulus.value j.shared.rank) (append-nil (scale 1 (unit n) (get_or G i [])) ∙ scale-one (get_or G i []))
       (vectors_rank j.shared j.members tracked (((i, unit n), 1) ∷ []))
 
-  pub outcome : (ms : List CodeRow) → AreMadeRows j.shared.ring columns steps rows ms → IsOutcomeOver (record { job = j; rows = ms; products = steps })
+  pub outcome : (ms : List CodeRow) → AreMadeRows j.shared.ring columns products rows ms → IsOutcomeOver (record { job = j; rows = ms; products = products })
   outcome ms made =
       let p = j.shared.ring.modulus.value in
       let good = good_rows rows new.rows_good new.combined new.low in
@@ -241,9 +241,9 @@ module _ (j : JobShown) (job : IsJobOver j) (tracked : Each (IsTracked j.shared)
         outcome = record {
           some = subst (λ c. 0 < c) (sym count_pairs) job.some;
           pairs = job.real;
-          job_products = subst (λ g. AreJobProducts p g (pairs_of j.pairs) (products_of n steps)) (sym same) of_job;
-          sums = over_rows (IsSumRow p H (products_of n steps)) ms
-              (made_each (λ m. IsSumRow p H (products_of n steps) (row_of n m)) (λ r m g h. sum_row r m g.0 g.1 h) rows ms good made);
+          job_products = subst (λ g. AreJobProducts p g (pairs_of j.pairs) (products_of n products)) (sym same) of_job;
+          sums = over_rows (IsSumRow p H (products_of n products)) ms
+              (made_each (λ m. IsSumRow p H (products_of n products) (row_of n m)) (λ r m g h. sum_row r m g.0 g.1 h) rows ms good made);
           represented = subst₂ (λ a b. Each (IsRepresented S (a ++ b)) (pairs_of j.pairs)) (sym same) (sym (made_vectors rows ms made))
               (over_pairs (IsRepresented S (G ++ vectors_of n columns rows)) j.pairs (new.represented ranks));
           few = subst₂ (λ a b. a < 2 * b) (sym (made_length rows ms made)) (sym count_pairs) (new.few job.some);

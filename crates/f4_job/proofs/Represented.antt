@@ -14,7 +14,7 @@ use Rattle.bases.specs.Leads.{IsMonicLead, IsMonicList, IsNormal, head_key, lead
 use Rattle.bases.specs.Representations.{HasLcmRepresentation}
 use Rattle.bases.specs.Settings.{IsLawful, Setting}
 use Rattle.module_vectors.proofs.Scaling.{Each_at}
-use Rattle.module_vectors.specs.Trails.{Step}
+use Rattle.module_vectors.specs.Trails.{KeptProduct}
 use Rattle.module_vectors.specs.Vectors.{IsVector, sum_of, sums_of}
 use Rattle.module_vectors.specs.declared.key.Key.{Key as CodeKey}
 use Rattle.pair_criteria.specs.declared.pair.Pair.{Pair as CodePair}
@@ -62,16 +62,16 @@ module _ (n : ℕ) (S : Setting n) (lawful : IsLawful S) (list : List (List (Cod
   }
 
 -- ---- all of it
-module _ (n : ℕ) (S : Setting n) (lawful : IsLawful S) (list : List (List (CodeKey × ℕ))) (pairs : List CodePair) (m : MatrixShown) (steps : List Step)
+module _ (n : ℕ) (S : Setting n) (lawful : IsLawful S) (list : List (List (CodeKey × ℕ))) (pairs : List CodePair) (m : MatrixShown) (products : List KeptProduct)
     (flags : List Bool) (E : List RowShown)
     (vectors : Each (IsVector n S.weights S.modulus S.compare) list) (monic : Each (IsMonicVector n) list) (of_pairs : Each (IsPairOf n S.weights list) pairs)
-    (h : IsPrepared n S list pairs m steps) (form : IsEchelonOf S.modulus (length m.columns) m.inputs m.rows E) (flagged : AreFlags m.rows flags) where
+    (h : IsPrepared n S list pairs m products) (form : IsEchelonOf S.modulus (length m.columns) m.inputs m.rows E) (flagged : AreFlags m.rows flags) where
   abbrev F : List (FormalSum n)
-  F = map (λ (s : Step). product_sum n list s) steps
+  F = map (λ (s : KeptProduct). product_sum n list s) products
 
-  count : m.inputs ≡ length steps
+  count : m.inputs ≡ length products
   count = h.inputs ∙ sym (length-map m.rows (λ (r : RowShown). vector_of n m.columns r)) ∙ ap length h.vectors
-      ∙ length-map steps (λ (s : Step). product_sum n list s)
+      ∙ length-map products (λ (s : KeptProduct). product_sum n list s)
 
   itself : (i : ℕ) → i < length m.rows → IsFromSources n S.modulus F m.columns (row_at m.rows i)
   itself i lt = IsSame_of S.modulus _ _ (
@@ -107,17 +107,17 @@ module _ (n : ℕ) (S : Setting n) (lawful : IsLawful S) (list : List (List (Cod
     each ranks ps a.1 b.1,
   )
 
-  pub solved : AreNewRows n S list pairs steps m.columns (unflagged flags E)
+  pub solved : AreNewRows n S list pairs products m.columns (unflagged flags E)
   solved = record {
     monomials = h.matrix.monomials;
     descend = h.matrix.descend;
-    steps_of = h.steps_of;
+    each_product = h.each_product;
     traced = h.traced;
     rows_good = subst (λ c. Each (IsRow S.modulus (length m.columns) c) (unflagged flags E)) count
         (unflagged_each (IsRow S.modulus (length m.columns) m.inputs) flags E form.rows);
     combined = unflagged_each (IsFromSources n S.modulus F m.columns) flags E (form.combined n F (column_key n m.columns) from);
     few = λ some. new_few n S lawful m.columns h.matrix.descend m.inputs m.rows E flags h.matrix.rows form flagged (length pairs) (h.few some);
-    low = new_low n S lawful list vectors pairs m steps h E form flags flagged new;
+    low = new_low n S lawful list vectors pairs m products h E form flags flagged new;
     represented = λ ranks. each ranks pairs of_pairs h.pair_rows;
   }
 

@@ -5,7 +5,7 @@ use Rattle.formal_sums.specs.FormalSums.{Each, IsOfRank, Key}
 use Rattle.bases.specs.Leads.{head_key}
 use Rattle.bases.specs.Representations.{HasLcmRepresentation}
 use Rattle.bases.specs.Settings.{Setting}
-use Rattle.module_vectors.specs.Trails.{Step, step_at}
+use Rattle.module_vectors.specs.Trails.{KeptProduct, kept_at}
 use Rattle.module_vectors.specs.Vectors.{key_of, sums_of}
 use Rattle.module_vectors.specs.declared.key.Key.{Key as CodeKey}
 use Rattle.pair_criteria.specs.declared.pair.Pair.{Pair as CodePair}
@@ -19,14 +19,14 @@ IsBelowPairs {n} S pairs k = (x : CodePair) × Contains pairs x × (S.compare k 
 
 -- monic rows over descending columns, fewer than twice the pairs and with leads below an lcm of these, each a combination of these products
 -- of members; over the members and the rows each pair has an lcm representation (Faugère 1999, section 2)
-pub record AreNewRows (n : ℕ) (S : Setting n) (list : List (List (CodeKey × ℕ))) (pairs : List CodePair) (steps : List Step) (columns : List CodeKey)
+pub record AreNewRows (n : ℕ) (S : Setting n) (list : List (List (CodeKey × ℕ))) (pairs : List CodePair) (products : List KeptProduct) (columns : List CodeKey)
     (rows : List RowShown) : Type 0 where
   pub monomials : AreKeys n S.weights columns
   pub descend : Descend n S.compare columns
-  pub steps_of : (i : ℕ) → i < length steps → IsProductOf n S.weights list (step_at steps i)
-  pub traced : AreTraced n list pairs steps
-  pub rows_good : Each (IsRow S.modulus (length columns) (length steps)) rows
-  pub combined : Each (IsFromSources n S.modulus (map (λ s. product_sum n list s) steps) columns) rows
+  pub each_product : (i : ℕ) → i < length products → IsProductOf n S.weights list (kept_at products i)
+  pub traced : AreTraced n list pairs products
+  pub rows_good : Each (IsRow S.modulus (length columns) (length products)) rows
+  pub combined : Each (IsFromSources n S.modulus (map (λ s. product_sum n list s) products) columns) rows
   pub few : 0 < length pairs → length rows < 2 * length pairs
   pub low : Each (λ r. IsBelowPairs S pairs (head_key (vector_of n columns r))) rows
   pub represented :

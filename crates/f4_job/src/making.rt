@@ -3,7 +3,7 @@ ghost use Rattle.std.specs.Prelude.{◌≡◌, ◌<◌, IfOk, length, map};
 ghost use Rattle.formal_sums.specs.FormalSums.{Each};
 ghost use Rattle.module_vectors.specs.Rings.{ring_comparison, variables};
 ghost use Rattle.row_matrix.specs.Rows.{AreKeys, Descend, IsRow};
-ghost use Rattle.f4_job.specs.Made.{AreMadeRows, AreWeighedSteps, IsMadeRow, entry_term, source_parts};
+ghost use Rattle.f4_job.specs.Made.{AreMadeRows, AreWeighedProducts, IsMadeRow, entry_term, source_parts};
 
 use basis_core::quotient_products;
 use member_products::Row;
@@ -11,7 +11,7 @@ use module_vectors::{Key, NoMemory, Ring, Vect};
 use monomial_orders::Mono;
 use row_matrix::Row as MatrixRow;
 use std::alloc::Global;
-use vector_division::Quotient;
+use vector_division::ScaledProduct;
 
 // The terms of a row.
 fn row_terms(
@@ -35,7 +35,7 @@ fn row_parts(
     alloc: Global,
     products: &[(u64, Mono)],
     sources: &[(usize, u32)],
-) -> Result<Vec<Quotient>, NoMemory>
+) -> Result<Vec<ScaledProduct>, NoMemory>
     requires { Each (λ e. e.0 < length products.now) sources.now }
     ensures { IfOk result (λ parts. parts.items ≡ source_parts products.now sources.now) }
 {
@@ -43,7 +43,7 @@ fn row_parts(
     for source in sources {
         let product = &products[source.0];
         let monomial = product.1.try_copy(alloc)?;
-        parts.push(Quotient {
+        parts.push(ScaledProduct {
             index: product.0,
             residue: source.1,
             monomial,
@@ -62,7 +62,7 @@ fn make_row(
 ) -> Result<Row, NoMemory>
     requires columns { AreKeys (variables ring.now) ring.now.weights columns.now }
     requires descend { Descend (variables ring.now) (ring_comparison ring.now (variables ring.now)) columns.now }
-    requires products { AreWeighedSteps (variables ring.now) ring.now.weights products.now }
+    requires products { AreWeighedProducts (variables ring.now) ring.now.weights products.now }
     requires row { IsRow ring.now.modulus.value (length columns.now) (length products.now) row.now }
     ensures { IfOk result (IsMadeRow ring.now columns.now products.now row.now) }
 {
@@ -83,7 +83,7 @@ pub(crate) fn make_rows(
 ) -> Result<Vec<Row>, NoMemory>
     requires columns { AreKeys (variables ring.now) ring.now.weights columns.now }
     requires descend { Descend (variables ring.now) (ring_comparison ring.now (variables ring.now)) columns.now }
-    requires products { AreWeighedSteps (variables ring.now) ring.now.weights products.now }
+    requires products { AreWeighedProducts (variables ring.now) ring.now.weights products.now }
     requires rows { Each (IsRow ring.now.modulus.value (length columns.now) (length products.now)) rows.now }
     ensures { IfOk result (λ made. AreMadeRows ring.now columns.now products.now rows.now made.items) }
 {

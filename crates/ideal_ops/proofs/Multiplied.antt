@@ -14,7 +14,7 @@ use Rattle.operation_laws.specs.Operations.{products_of}
 use Rattle.monomial_orders.specs.Kept.{IsWeighed, Monomial}
 use Rattle.module_vectors.specs.Rings.{ring_comparison, setting, variables}
 use Rattle.module_vectors.specs.Stops.{CombinationStops, HasMonomial}
-use Rattle.module_vectors.specs.Trails.{IsOfStep, IsStart}
+use Rattle.module_vectors.specs.Trails.{IsOfProduct, IsStart}
 use Rattle.module_vectors.specs.Vectors.{HasPositions, IsTerm, sum_of, sums_of}
 use Rattle.module_vectors.specs.declared.ring.Ring.{Ring}
 use Rattle.module_vectors.specs.declared.stop.VectStop.TheVariants.{Degree}
@@ -55,18 +55,18 @@ pub product_trail :
     → Each (IsTerm (variables ring) ring.weights ring.modulus.value) b → HasPositions 1 b → Each (IsTerm (variables ring) ring.weights ring.modulus.value) c
     → CombinationStops b (c ∷ []) (Degree s m)
     → t.ring ≡ ring → t.rank ≡ 0 → t.generators ≡ [] → t.below.items ≡ [] → t.start ≡ Product → t.vector ≡ b → t.members ≡ c ∷ []
-    → t.steps.items ≡ (0, s) ∷ [] → t.last ≡ m → IsProductTrail ring b c t
+    → t.products.items ≡ (0, s) ∷ [] → t.last ≡ m → IsProductTrail ring b c t
 product_trail ring b c s m t hb low hc stops ering erank egen ebelow estart evector emembers esteps elast = record {
   trail = (
     (0, s),
     [],
     record {
-      steps = esteps;
+      products = esteps;
       known = (subst (λ l. 0 < length l) (sym emembers) (omega arith), tt);
       variables = (subst (λ r. IsWeighed (variables r) r.weights s) (sym ering) (weighed ring b s hb of_b), tt);
       begins = subst (λ st. IsStart (variables t.ring) st t.vector t.members (0, s) []) (sym estart) (subst (λ v. HasMonomial v s) (sym evector) of_b, refl);
       met = tt;
-      last = subst (λ l. IsOfStep l (0, s) t.last) (sym emembers) (subst (HasMonomial c) (sym elast) of_c);
+      last = subst (λ l. IsOfProduct l (0, s) t.last) (sym emembers) (subst (HasMonomial c) (sym elast) of_c);
       last_variables = subst (λ r. IsWeighed (variables r) r.weights t.last) (sym ering) (subst (IsWeighed (variables ring) ring.weights) (sym elast) (weighed ring c m hc of_c));
       too_great = subst (λ z. 65535 < s.degree + z.degree) (sym elast) stops.4;
     },

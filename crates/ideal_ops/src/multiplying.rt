@@ -32,7 +32,7 @@ fn trail_of(
 ) -> Result<KeptTrail, NoMemory>
     ensures of { IfOk result (λ r. (r.ring ≡ ring.now) × (r.rank ≡ 0) × (r.generators ≡ []) × (r.below.items ≡ [])
         × (r.start ≡ Product) × (r.vector ≡ b.now) × (r.members ≡ member)) }
-    ensures step { IfOk result (λ r. (r.steps.items ≡ (0, s) ∷ []) × (r.last ≡ t)) }
+    ensures step { IfOk result (λ r. (r.products.items ≡ (0, s) ∷ []) × (r.last ≡ t)) }
 {
     Ok(KeptTrail {
         ring: ring.try_copy(alloc)?,
@@ -42,7 +42,7 @@ fn trail_of(
         start: TrailStart::Product,
         vector: b.try_copy(alloc)?,
         members: member,
-        steps: vec![in alloc; (0, s)]?,
+        products: vec![in alloc; (0, s)]?,
         last: t,
     })
 }

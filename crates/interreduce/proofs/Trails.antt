@@ -2,7 +2,7 @@
 use Rattle.std.proofs.Common.{List, [], drop, inl, inr, subst, sym, ℕ, ◌++◌, ◌∷◌, ◌≡◌}
 use Rattle.formal_sums.specs.FormalSums.{FormalSum, Key}
 use Rattle.module_vectors.specs.Rings.{variables}
-use Rattle.module_vectors.specs.Trails.{AreMet, IsStart, HasKey, IsMet, IsTrail, Step, product_lead}
+use Rattle.module_vectors.specs.Trails.{AreMet, IsStart, HasKey, IsMet, IsTrail, KeptProduct, product_lead}
 use Rattle.module_vectors.specs.Vectors.{sum_of}
 use Rattle.module_vectors.specs.declared.ring.Ring.{Ring}
 use Rattle.module_vectors.specs.declared.trail.KeptTrail.{KeptTrail}
@@ -17,16 +17,16 @@ tail_key n [] k h = h
 tail_key n (t ∷ v) k h = Contains_later _ k _ h
 
 module _ (n : ℕ) (v w : FormalSum n) (list : List Terms) (more : (k : Key n) → HasKey v k → HasKey w k) where
-  met_more : (earlier : List Step) (k : Key n) → IsMet n v list earlier k → IsMet n w list earlier k
+  met_more : (earlier : List KeptProduct) (k : Key n) → IsMet n v list earlier k → IsMet n w list earlier k
   met_more earlier k (inl h) = inl (more k h)
   met_more earlier k (inr s) = inr s
 
-  steps_met_more : (earlier steps : List Step) → AreMet n v list earlier steps → AreMet n w list earlier steps
+  steps_met_more : (earlier products : List KeptProduct) → AreMet n v list earlier products → AreMet n w list earlier products
   steps_met_more earlier [] h = tt
-  steps_met_more earlier (s ∷ steps) h = (met_more earlier (product_lead n list s) h.0, steps_met_more (earlier ++ s ∷ []) steps h.1)
+  steps_met_more earlier (s ∷ products) h = (met_more earlier (product_lead n list s) h.0, steps_met_more (earlier ++ s ∷ []) products h.1)
 
 begins_more :
-    (n : ℕ) (start : TrailStart) (u v x : Terms) (list : List Terms) (first : Step) (later : List Step)
+    (n : ℕ) (start : TrailStart) (u v x : Terms) (list : List Terms) (first : KeptProduct) (later : List KeptProduct)
     → start ≡ starts.Term → u ≡ drop 1 v → x ≡ v → IsStart n start u list first later → IsStart n start x list first later
 begins_more n start u v x list first later s e f h =
     let b : HasKey (sum_of n u) (product_lead n list first) = subst (λ z. IsStart n z u list first later) s h in
@@ -52,7 +52,7 @@ widened ring list v x t h e = record {
       first,
       later,
       record {
-        steps = c.steps;
+        products = c.products;
         known = c.known;
         variables = c.variables;
         begins = begins_more (variables t.ring) t.start t.vector v x t.members first later h.start h.vector e c.begins;

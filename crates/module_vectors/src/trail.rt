@@ -32,8 +32,8 @@ pub struct KeptTrail {
     pub vector: Vect,
     pub members: VectList,
     /// Each (k, t) stands for the product of the monomial t and member k.
-    pub steps: Vec<(u64, Mono)>,
-    /// A monomial of the last step's member, too great for the last t.
+    pub products: Vec<(u64, Mono)>,
+    /// A monomial of the last product's member, too great for the last t.
     pub last: Mono,
 }
 

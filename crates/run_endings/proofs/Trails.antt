@@ -1,7 +1,7 @@
 -- Copies of trails are trails of the same run
 use Rattle.std.proofs.Common.{List, Some, [], ap, subst, sym, ℕ, ◌∙◌, ◌∷◌, ◌≡◌}
 use Rattle.module_vectors.specs.Rings.{ring_comparison}
-use Rattle.module_vectors.specs.Trails.{IsTrail as IsKeptTrail, Step, last_step, no_step}
+use Rattle.module_vectors.specs.Trails.{IsTrail as IsKeptTrail, KeptProduct, last_product, no_product}
 use Rattle.module_vectors.specs.Vectors.{AreVectorsOver, sums_of}
 use Rattle.module_vectors.specs.declared.trail.KeptTrail.{KeptTrail}
 use Rattle.basis_steps.specs.States.{vectors}
@@ -12,34 +12,34 @@ use Rattle.basis_core.specs.Answers.{IsRunTrail}
 use Rattle.basis_core.specs.Inside.{IsStopOver}
 use Rattle.basis_core.specs.Outcomes.{product_of, products_of}
 use Rattle.basis_core.specs.Shown.{Shown}
-use Rattle.basis_core.specs.Stops.{earlier_steps, start_pair, stop_of, trail_of, trail_over}
+use Rattle.basis_core.specs.Stops.{earlier_products, start_pair, stop_of, trail_of, trail_over}
 use Rattle.basis_core.specs.Views.{run_of, state_of, variables_of}
 use Rattle.monomials.specs.Exponents.{exponents_of}
 use Rattle.run_endings.specs.Copies.{IsSameTrail}
 use Rattle.run_endings.specs.Endings.{IsDegreeStop}
 
 module _ (t u : KeptTrail) (same : IsSameTrail t u) where
-  trail_over_same : (n : ℕ) (steps : List Step) → trail_over n u steps ≡ trail_over n t steps
+  trail_over_same : (n : ℕ) (products : List KeptProduct) → trail_over n u products ≡ trail_over n t products
   trail_over_same n [] = λ i. record {
     members = sums_of n (same.members i);
     start = start_pair (same.start i);
     earlier = [];
-    last = product_of n no_step;
+    last = product_of n no_product;
     monomial = exponents_of n (same.last i).exponents;
   }
   trail_over_same n (first ∷ later) = λ i. record {
     members = sums_of n (same.members i);
     start = start_pair (same.start i);
-    earlier = products_of n (earlier_steps first later);
-    last = product_of n (last_step first later);
+    earlier = products_of n (earlier_products first later);
+    last = product_of n (last_product first later);
     monomial = exponents_of n (same.last i).exponents;
   }
 
   trail_of_same : (n : ℕ) → trail_of n u ≡ trail_of n t
-  trail_of_same n = ap (trail_over n u) same.steps ∙ trail_over_same n t.steps.items
+  trail_of_same n = ap (trail_over n u) same.products ∙ trail_over_same n t.products.items
 
   -- all but the memory of the lists
-  same_but_lists : t ≡ record u { below = t.below; steps = t.steps }
+  same_but_lists : t ≡ record u { below = t.below; products = t.products }
   same_but_lists = sym (λ i. record {
     ring = same.ring i;
     rank = same.rank i;
@@ -48,19 +48,19 @@ module _ (t u : KeptTrail) (same : IsSameTrail t u) where
     start = same.start i;
     vector = same.vector i;
     members = same.members i;
-    steps = t.steps;
+    products = t.products;
     last = same.last i;
   })
 
   kept_same : IsKeptTrail t → IsKeptTrail u
   kept_same h = go (subst IsKeptTrail same_but_lists h)
     where
-      go : IsKeptTrail (record u { below = t.below; steps = t.steps }) → IsKeptTrail u
+      go : IsKeptTrail (record u { below = t.below; products = t.products }) → IsKeptTrail u
       go (first, later, c) = (
         first,
         later,
         record {
-          steps = same.steps ∙ c.steps;
+          products = same.products ∙ c.products;
           known = c.known;
           variables = c.variables;
           begins = c.begins;

@@ -11,5 +11,5 @@ pub record IsSameTrail (t u : KeptTrail) : Type 0 where
   pub start : u.start ≡ t.start
   pub vector : u.vector ≡ t.vector
   pub members : u.members ≡ t.members
-  pub steps : u.steps.items ≡ t.steps.items
+  pub products : u.products.items ≡ t.products.items
   pub last : u.last ≡ t.last

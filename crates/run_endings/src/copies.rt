@@ -17,13 +17,13 @@ fn copy_lists(alloc: Global, lists: &[VectList]) -> Result<Vec<VectList>, NoMemo
     Ok(copy)
 }
 
-// The same steps again.
-fn copy_steps(alloc: Global, steps: &[(u64, Mono)]) -> Result<Vec<(u64, Mono)>, NoMemory>
-    ensures { IfOk result (λ copy. copy.items ≡ steps.now) }
+// The same products again.
+fn copy_products(alloc: Global, products: &[(u64, Mono)]) -> Result<Vec<(u64, Mono)>, NoMemory>
+    ensures { IfOk result (λ copy. copy.items ≡ products.now) }
 {
     let mut copy = Vec::new(alloc);
-    for step in steps {
-        copy.push((step.0, step.1.try_copy(alloc)?))?;
+    for product in products {
+        copy.push((product.0, product.1.try_copy(alloc)?))?;
     }
     Ok(copy)
 }
@@ -40,7 +40,7 @@ pub fn copy_trail(alloc: Global, trail: &KeptTrail) -> Result<KeptTrail, NoMemor
         start: trail.start,
         vector: trail.vector.try_copy(alloc)?,
         members: VectList::copy_of(alloc, &trail.members)?,
-        steps: copy_steps(alloc, &trail.steps)?,
+        products: copy_products(alloc, &trail.products)?,
         last: trail.last.try_copy(alloc)?,
     })
 }

@@ -10,7 +10,7 @@ use Rattle.module_vectors.proofs.Scaling.{Each_at}
 use Rattle.module_vectors.proofs.SumsOfProducts.{Each_split}
 use Rattle.module_vectors.specs.Rings.{ring_comparison, variables}
 use Rattle.module_vectors.specs.Stops.{HasMonomial}
-use Rattle.module_vectors.specs.Trails.{AreMet, IsStart, HasKey, IsChain, IsOfStep, IsTrail as IsKeptTrail, Step, last_step, lead_at}
+use Rattle.module_vectors.specs.Trails.{AreMet, IsStart, HasKey, IsChain, IsOfProduct, IsTrail as IsKeptTrail, KeptProduct, last_product, lead_at}
 use Rattle.module_vectors.specs.Vectors.{AreVectorsOver, key_of, sum_of, sums_of}
 use Rattle.module_vectors.specs.declared.key.Key.{Key as CodeKey}
 use Rattle.module_vectors.specs.declared.ring.Ring.{Ring}
@@ -27,16 +27,16 @@ use Rattle.basis_core.specs.Jobs.{HasLcm, IsJob, JobShown, pair_of, pairs_of}
 use Rattle.basis_core.specs.Members.{IsTracked, MembersShown, members_of, setting_of}
 use Rattle.basis_core.specs.Outcomes.{product_of, products_of}
 use Rattle.basis_core.specs.Rows.{vectors_in}
-use Rattle.basis_core.specs.Stops.{IsPairTrail, IsTrailBy, earlier_steps, start_pair, trail_by, trail_members, trail_over}
+use Rattle.basis_core.specs.Stops.{IsPairTrail, IsTrailBy, earlier_products, start_pair, trail_by, trail_members, trail_over}
 use Rattle.s_vectors.proofs.Lists.{vectors_are}
 use Rattle.s_vectors.proofs.Making.{job_steps, vector_occurs}
 use Rattle.s_vectors.proofs.TopParts.{lead_is, left_within, member_some, right_within, same_position, shared_lawful}
 use Rattle.s_vectors.specs.Divided.{AreOfPair}
-use Rattle.s_vectors.specs.Steps.{ArePairSteps, IsPairChain}
+use Rattle.s_vectors.specs.PairProducts.{ArePairProducts, IsPairChain}
 use Rattle.basis_core.proofs.Tracing.{pair_counted}
 
--- all steps, the last one apart
-steps_apart : (n : ℕ) (first : Step) (later : List Step) → products_of n (earlier_steps first later) ++ product_of n (last_step first later) ∷ [] ≡ products_of n (first ∷ later)
+-- all products, the last one apart
+steps_apart : (n : ℕ) (first : KeptProduct) (later : List KeptProduct) → products_of n (earlier_products first later) ++ product_of n (last_product first later) ∷ [] ≡ products_of n (first ∷ later)
 steps_apart n first [] = refl
 steps_apart n first (s ∷ later) = ap (λ l. product_of n first ∷ l) (steps_apart n s later)
 
@@ -48,16 +48,16 @@ monomial_key n (w ∷ v) t (u, (suc i, lt, e), is) =
     let r = monomial_key n v t (u, (i, omega arith, e), is) in
     (r.0, (suc r.1.0, (let l = r.1.1 in omega arith), r.1.2))
 
--- what a list of steps ends with
-ends_with : (front : List Step) (s : Step) (first : Step) (later : List Step) → first ∷ later ≡ front ++ s ∷ [] → last_step first later ≡ s
+-- what a list of products ends with
+ends_with : (front : List KeptProduct) (s : KeptProduct) (first : KeptProduct) (later : List KeptProduct) → first ∷ later ≡ front ++ s ∷ [] → last_product first later ≡ s
 ends_with [] s first [] e = cc
 ends_with [] s first (t ∷ later) e = absurd (cc)
 ends_with (f ∷ front) s first [] e = absurd (let l = ap length e in omega (arith, length-append front (s ∷ [])))
 ends_with (f ∷ front) s first (t ∷ later) e = let d : t ∷ later ≡ front ++ s ∷ [] = cc in ends_with front s t later d
 
-some_steps : (front : List Step) (s : Step) (steps : List Step) → steps ≡ front ++ s ∷ [] → (first : Step) × (later : List Step) × (steps ≡ first ∷ later)
-some_steps [] s steps e = (s, [], e)
-some_steps (f ∷ front) s steps e = (f, front ++ s ∷ [], e)
+some_products : (front : List KeptProduct) (s : KeptProduct) (products : List KeptProduct) → products ≡ front ++ s ∷ [] → (first : KeptProduct) × (later : List KeptProduct) × (products ≡ first ∷ later)
+some_products [] s products e = (s, [], e)
+some_products (f ∷ front) s products e = (f, front ++ s ∷ [], e)
 
 -- what a trail has to hold
 record HoldsTrail (n : ℕ) (ws : List ℕ) (p : ℕ) (G : List (FormalSum n)) (pairs : List Pair) (w : Trail n) : Type 0 where
@@ -69,7 +69,7 @@ record HoldsTrail (n : ℕ) (ws : List ℕ) (p : ℕ) (G : List (FormalSum n)) (
   above : 65535 < weighted_degree ws w.last.1 + weighted_degree ws w.monomial
 
 module _ (m : MembersShown) (x : CodePair) (of : AreOfPair m x) (tracked : Each (IsTracked m.shared) m.list) (t : KeptTrail) (pairs : List Pair)
-    (chain : IsPairChain (variables m.shared.ring) m.shared.ring.weights m.list (key_of (variables m.shared.ring) x.lcm) t.steps.items t.last)
+    (chain : IsPairChain (variables m.shared.ring) m.shared.ring.weights m.list (key_of (variables m.shared.ring) x.lcm) t.products.items t.last)
     (ring_is : t.ring ≡ m.shared.ring) (rank_is : t.rank ≡ m.shared.rank) (generators_are : t.generators ≡ m.shared.generators)
     (below_none : t.below.items ≡ []) (start_is : t.start ≡ starts.Pair x.i x.j) (vector_is : t.vector ≡ [])
     (members_are : t.members ≡ vectors_in m.list) (taken : 0 < count (pair_of x) pairs)
@@ -77,15 +77,15 @@ module _ (m : MembersShown) (x : CodePair) (of : AreOfPair m x) (tracked : Each 
     -- the monomial that is too great is one of the ring
     last_weighed : IsWeighed (variables m.shared.ring) m.shared.ring.weights t.last
     last_weighed =
-        monomial_at (variables m.shared.ring) m.shared.ring.weights m.shared.ring.modulus.value (ring_comparison m.shared.ring (variables m.shared.ring)) (vectors_in m.list) chain.step.0 t.last (vectors_over m.shared m.list tracked) chain.monomial
+        monomial_at (variables m.shared.ring) m.shared.ring.weights m.shared.ring.modulus.value (ring_comparison m.shared.ring (variables m.shared.ring)) (vectors_in m.list) chain.at_end.0 t.last (vectors_over m.shared m.list tracked) chain.monomial
 
-    -- the steps as the trail has them
-    kept_trail : (first : Step) (later : List Step) → t.steps.items ≡ first ∷ later → IsKeptTrail t
+    -- the products as the trail has them
+    kept_trail : (first : KeptProduct) (later : List KeptProduct) → t.products.items ≡ first ∷ later → IsKeptTrail t
     kept_trail first later e =
         let n = variables m.shared.ring in
         let list = vectors_in m.list in
-        let pair : ArePairSteps n m.shared.ring.weights list (key_of n x.lcm) (first ∷ later) = subst (ArePairSteps n m.shared.ring.weights list (key_of n x.lcm)) e chain.pair in
-        let last : last_step first later ≡ chain.step = ends_with chain.front chain.step first later (sym e ∙ chain.split) in
+        let pair : ArePairProducts n m.shared.ring.weights list (key_of n x.lcm) (first ∷ later) = subst (ArePairProducts n m.shared.ring.weights list (key_of n x.lcm)) e chain.pair in
+        let last : last_product first later ≡ chain.at_end = ends_with chain.front chain.at_end first later (sym e ∙ chain.split) in
         let lw = left_within n m.shared m.list x of.monic of.real of.lcm in
         let rw' = right_within n m.shared m.list x of.monic of.real of.lcm in
         let some = member_some n m.shared m.list x of.monic of.real of.lcm in
@@ -93,7 +93,7 @@ module _ (m : MembersShown) (x : CodePair) (of : AreOfPair m x) (tracked : Each 
           first,
           later,
           subst (λ (r : Ring). IsChain (variables r) (record t { ring = r }) first later) (sym ring_is) (record {
-            steps = e;
+            products = e;
             known = subst (λ l. Each (λ z. z.0 < length l) (first ∷ later)) (sym members_are) pair.known;
             variables = pair.weighed;
             begins = subst₂ (λ s l. IsStart n s t.vector l first later) (sym start_is) (sym members_are) (
@@ -101,9 +101,9 @@ module _ (m : MembersShown) (x : CodePair) (of : AreOfPair m x) (tracked : Each 
               vector_is,
             );
             met = subst₂ (λ v l. AreMet n (sum_of n v) l (first ∷ []) later) (sym vector_is) (sym members_are) pair.linked.1;
-            last = subst (λ s. IsOfStep t.members s t.last) (sym last) (subst (λ l. IsOfStep l chain.step t.last) (sym members_are) chain.monomial);
+            last = subst (λ s. IsOfProduct t.members s t.last) (sym last) (subst (λ l. IsOfProduct l chain.at_end t.last) (sym members_are) chain.monomial);
             last_variables = last_weighed;
-            too_great = subst (λ (s : Step). 65535 < s.1.degree + t.last.degree) (sym last) chain.too_great;
+            too_great = subst (λ (s : KeptProduct). 65535 < s.1.degree + t.last.degree) (sym last) chain.too_great;
           }),
         )
       where
@@ -112,7 +112,7 @@ module _ (m : MembersShown) (x : CodePair) (of : AreOfPair m x) (tracked : Each 
 
     pub pair_trail : IsPairTrail m.shared t
     pair_trail =
-        let s = some_steps chain.front chain.step t.steps.items chain.split in
+        let s = some_products chain.front chain.at_end t.products.items chain.split in
         record {
           over = record {
             trail = kept_trail s.0 s.1 s.2;
@@ -130,29 +130,29 @@ module _ (m : MembersShown) (x : CodePair) (of : AreOfPair m x) (tracked : Each 
     members_same : trail_members (variables m.shared.ring) t ≡ vectors (members_of (variables m.shared.ring) m.list)
     members_same = ap (sums_of (variables m.shared.ring)) members_are ∙ sym (vectors_are (variables m.shared.ring) m.list)
 
-    -- a monomial of the last step's member
-    last_occurs : (i : ℕ) × Occurs m.shared.ring.modulus.value (get_or (vectors (members_of (variables m.shared.ring) m.list)) chain.step.0 []) (i, exponents_of (variables m.shared.ring) t.last.exponents)
+    -- a monomial of the last product's member
+    last_occurs : (i : ℕ) × Occurs m.shared.ring.modulus.value (get_or (vectors (members_of (variables m.shared.ring) m.list)) chain.at_end.0 []) (i, exponents_of (variables m.shared.ring) t.last.exponents)
     last_occurs =
         let n = variables m.shared.ring in
-        let k = monomial_key n (get_or (vectors_in m.list) chain.step.0 []) t.last chain.monomial in (
+        let k = monomial_key n (get_or (vectors_in m.list) chain.at_end.0 []) t.last chain.monomial in (
           k.0,
-          subst (λ G. Occurs m.shared.ring.modulus.value (get_or G chain.step.0 []) (k.0, exponents_of n t.last.exponents)) (sym (vectors_are n m.list))
-              (vector_occurs (setting_of n m.shared) (shared_lawful n m.shared) (vectors_in m.list) (vectors_over m.shared m.list tracked) chain.step.0 (k.0, exponents_of n t.last.exponents) k.1),
+          subst (λ G. Occurs m.shared.ring.modulus.value (get_or G chain.at_end.0 []) (k.0, exponents_of n t.last.exponents)) (sym (vectors_are n m.list))
+              (vector_occurs (setting_of n m.shared) (shared_lawful n m.shared) (vectors_in m.list) (vectors_over m.shared m.list tracked) chain.at_end.0 (k.0, exponents_of n t.last.exponents) k.1),
         )
 
-    step_weighed : IsWeighed (variables m.shared.ring) m.shared.ring.weights chain.step.1
-    step_weighed = (Each_split (λ s. IsWeighed (variables m.shared.ring) m.shared.ring.weights s.1) chain.front (chain.step ∷ []) (subst (Each (λ s. IsWeighed (variables m.shared.ring) m.shared.ring.weights s.1)) chain.split chain.pair.weighed)).1.0
+    end_weighed : IsWeighed (variables m.shared.ring) m.shared.ring.weights chain.at_end.1
+    end_weighed = (Each_split (λ s. IsWeighed (variables m.shared.ring) m.shared.ring.weights s.1) chain.front (chain.at_end ∷ []) (subst (Each (λ s. IsWeighed (variables m.shared.ring) m.shared.ring.weights s.1)) chain.split chain.pair.weighed)).1.0
 
-    -- what the trail holds, by its steps
+    -- what the trail holds, by its products
     plain_trail :
-        (first : Step) (later : List Step)
-        → t.steps.items ≡ first ∷ later
+        (first : KeptProduct) (later : List KeptProduct)
+        → t.products.items ≡ first ∷ later
         → HoldsTrail (variables m.shared.ring) m.shared.ring.weights m.shared.ring.modulus.value (vectors (members_of (variables m.shared.ring) m.list)) pairs (trail_by (variables m.shared.ring) t first later)
     plain_trail first later e =
         let n = variables m.shared.ring in
         let p = m.shared.ring.modulus.value in
-        let pair : ArePairSteps n m.shared.ring.weights (vectors_in m.list) (key_of n x.lcm) (first ∷ later) = subst (ArePairSteps n m.shared.ring.weights (vectors_in m.list) (key_of n x.lcm)) e chain.pair in
-        let last : last_step first later ≡ chain.step = ends_with chain.front chain.step first later (sym e ∙ chain.split) in
+        let pair : ArePairProducts n m.shared.ring.weights (vectors_in m.list) (key_of n x.lcm) (first ∷ later) = subst (ArePairProducts n m.shared.ring.weights (vectors_in m.list) (key_of n x.lcm)) e chain.pair in
+        let last : last_product first later ≡ chain.at_end = ends_with chain.front chain.at_end first later (sym e ∙ chain.split) in
         let lcm_is : key_of n x.lcm ≡ lcm_of (sums_of n (vectors_in m.list)) (pair_of x) = subst (λ G. key_of n x.lcm ≡ lcm_of G (pair_of x)) (vectors_are n m.list) of.lcm.lcm in
         let high = chain.too_great in
         let start : start_pair t.start ≡ pair_of x = ap start_pair start_is in
@@ -165,16 +165,16 @@ module _ (m : MembersShown) (x : CodePair) (of : AreOfPair m x) (tracked : Each 
               (subst₂ (λ G y. AreJobProducts p G (y ∷ []) (products_of n (first ∷ later))) (sym (vectors_are n m.list)) (sym start)
               (job_steps (setting_of n m.shared) (shared_lawful n m.shared) (vectors_in m.list) (vectors_over m.shared m.list tracked) (pair_of x) (key_of n x.lcm) (first ∷ later) lcm_is pair));
           monomial =
-              subst (λ (s : Step). (i : ℕ) × Occurs p (get_or (vectors (members_of n m.list)) s.0 []) (i, exponents_of n t.last.exponents)) (sym last) last_occurs;
+              subst (λ (s : KeptProduct). (i : ℕ) × Occurs p (get_or (vectors (members_of n m.list)) s.0 []) (i, exponents_of n t.last.exponents)) (sym last) last_occurs;
           above =
-              subst (λ (s : Step). 65535 < weighted_degree m.shared.ring.weights (exponents_of n s.1.exponents) + weighted_degree m.shared.ring.weights (exponents_of n t.last.exponents)) (sym last)
-              (omega (arith, step_weighed.degree, last_weighed.degree));
+              subst (λ (s : KeptProduct). 65535 < weighted_degree m.shared.ring.weights (exponents_of n s.1.exponents) + weighted_degree m.shared.ring.weights (exponents_of n t.last.exponents)) (sym last)
+              (omega (arith, end_weighed.degree, last_weighed.degree));
         }
 
     pub trail_by_members : IsTrailBy m.shared m.list pairs t
     trail_by_members =
         let n = variables m.shared.ring in
-        let s = some_steps chain.front chain.step t.steps.items chain.split in
+        let s = some_products chain.front chain.at_end t.products.items chain.split in
         let h = subst (λ l. HoldsTrail n m.shared.ring.weights m.shared.ring.modulus.value (vectors (members_of n m.list)) pairs (trail_over n t l)) (sym s.2) (plain_trail s.0 s.1 s.2) in
         record { pair = pair_trail; members = h.members; start = h.start; real = h.real; products = h.products; monomial = h.monomial; above = h.above }
 
@@ -201,7 +201,7 @@ job_pair j i x h lt e = record {
 pub job_trail :
     (j : JobShown) (i : ℕ) (x : CodePair) (t : KeptTrail)
     → IsJob (variables j.shared.ring) j → Each (IsTracked j.shared) j.members → i < length j.pairs → x ≡ get_or j.pairs i x
-    → IsPairChain (variables j.shared.ring) j.shared.ring.weights j.members (key_of (variables j.shared.ring) x.lcm) t.steps.items t.last
+    → IsPairChain (variables j.shared.ring) j.shared.ring.weights j.members (key_of (variables j.shared.ring) x.lcm) t.products.items t.last
     → t.ring ≡ j.shared.ring → t.rank ≡ j.shared.rank → t.generators ≡ j.shared.generators → t.below.items ≡ []
     → t.start ≡ starts.Pair x.i x.j → t.vector ≡ [] → t.members ≡ vectors_in j.members
     → IsTrailBy j.shared j.members (pairs_of j.pairs) t

@@ -26,8 +26,8 @@ use Rattle.module_vectors.specs.declared.ring.Ring.{Ring}
 use Rattle.pair_criteria.specs.declared.pair.Pair.{Pair as CodePair}
 use Rattle.vector_division.proofs.Members.{sums_at}
 use Rattle.vector_division.proofs.Occurring.{at_key, occurring}
-use Rattle.vector_division.specs.Reductions.{AreMetFrom, HaveLeadsUpTo, IsQuotient, cofactors_of, step_of}
-use Rattle.vector_division.specs.declared.reduction.Quotient.{Quotient}
+use Rattle.vector_division.specs.Reductions.{AreMetFrom, HaveLeadsUpTo, IsScaledProduct, cofactors_of, unscaled}
+use Rattle.vector_division.specs.declared.reduction.ScaledProduct.{ScaledProduct}
 use Rattle.basis_steps.proofs.Sparing.{monic_list}
 use Rattle.basis_steps.specs.Criteria.{lcm_of}
 use Rattle.basis_steps.specs.Divisions.{IsMonicMember}
@@ -37,12 +37,12 @@ use Rattle.basis_core.specs.Rows.{vectors_in}
 use Rattle.s_vectors.proofs.Linking.{key_of_parts, pair_more, quotients_met, steps_through}
 use Rattle.s_vectors.proofs.Lists.{length-vectors_in, vectors_are}
 use Rattle.s_vectors.proofs.Remainders.{negated_steps, rest_sum}
-use Rattle.s_vectors.proofs.Stopping.{steps-append}
+use Rattle.s_vectors.proofs.Stopping.{products-append}
 use Rattle.s_vectors.proofs.TopParts.{lcm_exponents, lcm_position, left_within, member_some, right_within, same_position, shared_lawful}
-use Rattle.s_vectors.proofs.TopSteps.{top_each, top_steps, top_sum}
+use Rattle.s_vectors.proofs.TopProducts.{top_each, top_steps, top_sum}
 use Rattle.s_vectors.specs.Divided.{AreOfPair, HasKeysMet, IsDivided, IsTopVector, negated}
 use Rattle.s_vectors.specs.Parts.{ArePairParts, IsPart}
-use Rattle.s_vectors.specs.Steps.{ArePairSteps}
+use Rattle.s_vectors.specs.PairProducts.{ArePairProducts}
 
 -- ---- sums of lower products
 module _ {n : ℕ} (S : Setting n) (lawful : IsLawful S) (G : List (FormalSum n)) (monic : IsMonicList S G) where
@@ -98,11 +98,11 @@ module _ (m : MembersShown) (x : CodePair) (of : AreOfPair m x) where
       monic_list (setting_of n m.shared) (shared_lawful n m.shared) (sums_of n (vectors_in m.list))
       (subst (Each (IsMonicMember (setting_of n m.shared))) (vectors_are n m.list) of.monic)
 
-  -- the steps of the two parts
+  -- the products of the two parts
   pub first_steps :
-      (parts : List Quotient)
+      (parts : List ScaledProduct)
       → ArePairParts (variables m.shared.ring) m.shared.ring.weights m.shared.ring.modulus.value (vectors_in m.list) x parts
-      → ArePairSteps (variables m.shared.ring) m.shared.ring.weights (vectors_in m.list) (key_of (variables m.shared.ring) x.lcm) (map step_of parts)
+      → ArePairProducts (variables m.shared.ring) m.shared.ring.weights (vectors_in m.list) (key_of (variables m.shared.ring) x.lcm) (map unscaled parts)
   first_steps parts two =
       let n = variables m.shared.ring in
       let li = left_within n m.shared m.list x of.monic of.real of.lcm in
@@ -113,7 +113,7 @@ module _ (m : MembersShown) (x : CodePair) (of : AreOfPair m x) where
 
   -- the two parts
   pub first_each :
-      (parts : List Quotient)
+      (parts : List ScaledProduct)
       → ArePairParts (variables m.shared.ring) m.shared.ring.weights m.shared.ring.modulus.value (vectors_in m.list) x parts
       → Each (IsPart (variables m.shared.ring) m.shared.ring.weights m.shared.ring.modulus.value (length (vectors_in m.list))) parts
   first_each parts two =
@@ -121,7 +121,7 @@ module _ (m : MembersShown) (x : CodePair) (of : AreOfPair m x) where
       top_each n m.shared.ring.weights m.shared.ring.modulus.value (vectors_in m.list) x parts two (shared_lawful n m.shared).domain.above_one
       (left_within n m.shared m.list x of.monic of.real of.lcm) (right_within n m.shared m.list x of.monic of.real of.lcm)
 
-  module _ (parts : List Quotient) (v : List (CodeKey × ℕ)) (top : IsTopVector m x parts v) where
+  module _ (parts : List ScaledProduct) (v : List (CodeKey × ℕ)) (top : IsTopVector m x parts v) where
     -- the vector stands for the S-vector
     is_s_vector :
         IsSame m.shared.ring.modulus.value (sum_of (variables m.shared.ring) v)
@@ -131,7 +131,7 @@ module _ (m : MembersShown) (x : CodePair) (of : AreOfPair m x) where
         IsSame_trans top.sum (IsSame_of m.shared.ring.modulus.value _ _ (top_sum n m.shared.ring.weights m.shared.ring.modulus.value (vectors_in m.list) x parts top.two (lcm_exponents n m.shared m.list x of.monic of.real of.lcm)))
 
     -- each of its keys is one of the two products
-    pub keys_met : HasKeysMet (variables m.shared.ring) v (vectors_in m.list) (map step_of parts)
+    pub keys_met : HasKeysMet (variables m.shared.ring) v (vectors_in m.list) (map unscaled parts)
     keys_met =
         let n = variables m.shared.ring in
         Each_map _ _ (sum_of n v) (λ u h. inr (key_of_parts n (vectors_in m.list) parts u.0 h))
@@ -143,7 +143,7 @@ module _ (m : MembersShown) (x : CodePair) (of : AreOfPair m x) where
         let n = variables m.shared.ring in
         let p = m.shared.ring.modulus.value in
         record {
-          steps = first_steps parts top.two;
+          products = first_steps parts top.two;
           each = subst (λ z. Each (IsPart n m.shared.ring.weights p z) parts) (length-vectors_in m.list) (first_each parts top.two);
           vector = subst (IsVectorOver m.shared.ring (ring_comparison m.shared.ring)) e top.vector;
           sum = subst (λ z. IsSame p (sum_of n z) (combination (sums_of n (vectors_in m.list)) (cofactors_of n parts))) e top.sum;
@@ -182,9 +182,9 @@ module _ (m : MembersShown) (x : CodePair) (of : AreOfPair m x) where
 
     -- what a division leaves of it
     pub divided :
-        (qs all : List Quotient) (rest : List (CodeKey × ℕ))
+        (qs all : List ScaledProduct) (rest : List (CodeKey × ℕ))
         → 0 < length v → all ≡ parts ++ map (negated m.shared.ring.modulus.value) qs
-        → Each (IsQuotient (variables m.shared.ring) m.shared.ring.weights m.shared.ring.modulus.value (vectors_in m.list)) qs
+        → Each (IsScaledProduct (variables m.shared.ring) m.shared.ring.weights m.shared.ring.modulus.value (vectors_in m.list)) qs
         → AreMetFrom (variables m.shared.ring) (sum_of (variables m.shared.ring) v) (vectors_in m.list) [] qs
         → HaveLeadsUpTo (variables m.shared.ring) (ring_comparison m.shared.ring (variables m.shared.ring)) (vectors_in m.list) (head_key (sum_of (variables m.shared.ring) v)) qs
         → StandsFor m.shared.ring v (combination (sums_of (variables m.shared.ring) (vectors_in m.list)) (cofactors_of (variables m.shared.ring) qs) ++ sum_of (variables m.shared.ring) rest)
@@ -198,7 +198,7 @@ module _ (m : MembersShown) (x : CodePair) (of : AreOfPair m x) where
         let lawful = shared_lawful n m.shared in
         let lower : Each (IsLower (setting_of (variables m.shared.ring) m.shared) (sums_of (variables m.shared.ring) (vectors_in m.list)) (key_of (variables m.shared.ring) x.lcm)) (cofactors_of (variables m.shared.ring) qs) = quotients_low qs hq up in
         subst (λ z. IsDivided m x z rest) (sym e) (record {
-          steps = all_steps;
+          products = all_steps;
           each = Each_append (IsPart n m.shared.ring.weights p (length m.list)) parts (map (negated p) qs) (subst (λ z. Each (IsPart n m.shared.ring.weights p z) parts) (length-vectors_in m.list) (first_each parts top.two)) (negated_parts qs hq);
           vector = vector;
           sum = rest_sum n p (sums_of n list) parts qs (sum_of n v) (sum_of n rest) (Each_map _ _ qs (λ q i. i.reduced) hq) top.sum same;
@@ -211,8 +211,8 @@ module _ (m : MembersShown) (x : CodePair) (of : AreOfPair m x) where
         })
       where
         negated_parts :
-            (ys : List Quotient)
-            → Each (IsQuotient (variables m.shared.ring) m.shared.ring.weights m.shared.ring.modulus.value (vectors_in m.list)) ys
+            (ys : List ScaledProduct)
+            → Each (IsScaledProduct (variables m.shared.ring) m.shared.ring.weights m.shared.ring.modulus.value (vectors_in m.list)) ys
             → Each (IsPart (variables m.shared.ring) m.shared.ring.weights m.shared.ring.modulus.value (length m.list)) (map (negated m.shared.ring.modulus.value) ys)
         negated_parts [] h = tt
         negated_parts (q ∷ ys) h = (
@@ -221,52 +221,52 @@ module _ (m : MembersShown) (x : CodePair) (of : AreOfPair m x) where
         )
 
         quotients_low :
-            (ys : List Quotient)
-            → Each (IsQuotient (variables m.shared.ring) m.shared.ring.weights m.shared.ring.modulus.value (vectors_in m.list)) ys
+            (ys : List ScaledProduct)
+            → Each (IsScaledProduct (variables m.shared.ring) m.shared.ring.weights m.shared.ring.modulus.value (vectors_in m.list)) ys
             → HaveLeadsUpTo (variables m.shared.ring) (ring_comparison m.shared.ring (variables m.shared.ring)) (vectors_in m.list) (head_key (sum_of (variables m.shared.ring) v)) ys
             → Each (IsLower (setting_of (variables m.shared.ring) m.shared) (sums_of (variables m.shared.ring) (vectors_in m.list)) (key_of (variables m.shared.ring) x.lcm)) (cofactors_of (variables m.shared.ring) ys)
         quotients_low [] h u = tt
         quotients_low (q ∷ ys) h u =
             let n = variables m.shared.ring in
-            let lead : place (sums_of n (vectors_in m.list)) ((q.index, exponents_of n q.monomial.exponents), q.residue) ≡ product_lead n (vectors_in m.list) (step_of q) =
+            let lead : place (sums_of n (vectors_in m.list)) ((q.index, exponents_of n q.monomial.exponents), q.residue) ≡ product_lead n (vectors_in m.list) (unscaled q) =
             ap (λ z. shift (exponents_of n q.monomial.exponents) (head_key z)) (sums_at n (vectors_in m.list) q.index) in (
               (
                 subst (λ z. q.index < z) (sym (length-map (vectors_in m.list) (λ w. sum_of (variables m.shared.ring) w))) h.0.index,
                 subst (λ z. ring_comparison m.shared.ring n z (key_of n x.lcm) ≡ Less) (sym lead)
-                    (lower_through (setting_of n m.shared) (shared_lawful n m.shared) (sums_of n (vectors_in m.list)) monic_sums (product_lead n (vectors_in m.list) (step_of q)) (head_key (sum_of n v)) (key_of n x.lcm) u.0 (head_low some)),
+                    (lower_through (setting_of n m.shared) (shared_lawful n m.shared) (sums_of n (vectors_in m.list)) monic_sums (product_lead n (vectors_in m.list) (unscaled q)) (head_key (sum_of n v)) (key_of n x.lcm) u.0 (head_low some)),
               ),
               quotients_low ys h.1 u.1,
             )
 
-        known_steps : (ys : List Quotient) → Each (IsQuotient (variables m.shared.ring) m.shared.ring.weights m.shared.ring.modulus.value (vectors_in m.list)) ys → Each (λ s. s.0 < length (vectors_in m.list)) (map step_of ys)
-        known_steps [] h = tt
-        known_steps (q ∷ ys) h = (h.0.index, known_steps ys h.1)
+        known_products : (ys : List ScaledProduct) → Each (IsScaledProduct (variables m.shared.ring) m.shared.ring.weights m.shared.ring.modulus.value (vectors_in m.list)) ys → Each (λ s. s.0 < length (vectors_in m.list)) (map unscaled ys)
+        known_products [] h = tt
+        known_products (q ∷ ys) h = (h.0.index, known_products ys h.1)
 
-        steps_weighed : (ys : List Quotient) → Each (IsQuotient (variables m.shared.ring) m.shared.ring.weights m.shared.ring.modulus.value (vectors_in m.list)) ys → Each (λ s. IsWeighed (variables m.shared.ring) m.shared.ring.weights s.1) (map step_of ys)
+        steps_weighed : (ys : List ScaledProduct) → Each (IsScaledProduct (variables m.shared.ring) m.shared.ring.weights m.shared.ring.modulus.value (vectors_in m.list)) ys → Each (λ s. IsWeighed (variables m.shared.ring) m.shared.ring.weights s.1) (map unscaled ys)
         steps_weighed [] h = tt
         steps_weighed (q ∷ ys) h = (h.0.variables, steps_weighed ys h.1)
 
-        all_steps : ArePairSteps (variables m.shared.ring) m.shared.ring.weights (vectors_in m.list) (key_of (variables m.shared.ring) x.lcm) (map step_of (parts ++ map (negated m.shared.ring.modulus.value) qs))
+        all_steps : ArePairProducts (variables m.shared.ring) m.shared.ring.weights (vectors_in m.list) (key_of (variables m.shared.ring) x.lcm) (map unscaled (parts ++ map (negated m.shared.ring.modulus.value) qs))
         all_steps =
             let n = variables m.shared.ring in
             let p = m.shared.ring.modulus.value in
             let list = vectors_in m.list in
-            let is : map step_of parts ≡ step_of top.two.left ∷ step_of top.two.right ∷ [] = ap (map step_of) top.two.two in
-            let met' : (l : Key (variables m.shared.ring)) → HasKey (sum_of (variables m.shared.ring) v) l → IsMet (variables m.shared.ring) [] (vectors_in m.list) (map step_of parts) l =
-            λ l h. at_key (λ z. IsMet (variables m.shared.ring) [] (vectors_in m.list) (map step_of parts) z) (sum_of (variables m.shared.ring) v) l keys_met h in
-            let behind : AreMet n [] list (map step_of parts) (map step_of qs) =
-            subst (λ l. AreMet n [] list l (map step_of qs)) (append-nil (map step_of parts)) (steps_through n list (sum_of n v) (map step_of parts) [] (map step_of qs) met' (quotients_met n list (sum_of n v) [] qs met)) in
-            subst (ArePairSteps n m.shared.ring.weights list (key_of n x.lcm)) (sym (steps-append parts (map (negated p) qs) ∙ ap (λ l. map step_of parts ++ l) (negated_steps p qs)))
-            (subst (λ l. ArePairSteps n m.shared.ring.weights list (key_of n x.lcm) (l ++ map step_of qs)) (sym is)
-            (pair_more n list m.shared.ring.weights (key_of n x.lcm) (step_of top.two.left) (step_of top.two.right ∷ []) (map step_of qs)
-            (subst (ArePairSteps n m.shared.ring.weights list (key_of n x.lcm)) is (first_steps parts top.two)) (known_steps qs hq) (steps_weighed qs hq)
-            (subst (λ l. AreMet n [] list l (map step_of qs)) is behind)))
+            let is : map unscaled parts ≡ unscaled top.two.left ∷ unscaled top.two.right ∷ [] = ap (map unscaled) top.two.two in
+            let met' : (l : Key (variables m.shared.ring)) → HasKey (sum_of (variables m.shared.ring) v) l → IsMet (variables m.shared.ring) [] (vectors_in m.list) (map unscaled parts) l =
+            λ l h. at_key (λ z. IsMet (variables m.shared.ring) [] (vectors_in m.list) (map unscaled parts) z) (sum_of (variables m.shared.ring) v) l keys_met h in
+            let behind : AreMet n [] list (map unscaled parts) (map unscaled qs) =
+            subst (λ l. AreMet n [] list l (map unscaled qs)) (append-nil (map unscaled parts)) (steps_through n list (sum_of n v) (map unscaled parts) [] (map unscaled qs) met' (quotients_met n list (sum_of n v) [] qs met)) in
+            subst (ArePairProducts n m.shared.ring.weights list (key_of n x.lcm)) (sym (products-append parts (map (negated p) qs) ∙ ap (λ l. map unscaled parts ++ l) (negated_steps p qs)))
+            (subst (λ l. ArePairProducts n m.shared.ring.weights list (key_of n x.lcm) (l ++ map unscaled qs)) (sym is)
+            (pair_more n list m.shared.ring.weights (key_of n x.lcm) (unscaled top.two.left) (unscaled top.two.right ∷ []) (map unscaled qs)
+            (subst (ArePairProducts n m.shared.ring.weights list (key_of n x.lcm)) is (first_steps parts top.two)) (known_products qs hq) (steps_weighed qs hq)
+            (subst (λ l. AreMet n [] list l (map unscaled qs)) is behind)))
 
     -- the same, of a ring that is the members'
     pub divided_over :
-        (r : Ring) (qs all : List Quotient) (rest : List (CodeKey × ℕ))
+        (r : Ring) (qs all : List ScaledProduct) (rest : List (CodeKey × ℕ))
         → r ≡ m.shared.ring → 0 < length v → all ≡ parts ++ map (negated r.modulus.value) qs
-        → Each (IsQuotient (variables r) r.weights r.modulus.value (vectors_in m.list)) qs
+        → Each (IsScaledProduct (variables r) r.weights r.modulus.value (vectors_in m.list)) qs
         → AreMetFrom (variables r) (sum_of (variables r) v) (vectors_in m.list) [] qs
         → HaveLeadsUpTo (variables r) (ring_comparison r (variables r)) (vectors_in m.list) (head_key (sum_of (variables r) v)) qs
         → StandsFor r v (combination (sums_of (variables r) (vectors_in m.list)) (cofactors_of (variables r) qs) ++ sum_of (variables r) rest)
@@ -274,7 +274,7 @@ module _ (m : MembersShown) (x : CodePair) (of : AreOfPair m x) where
         → IsDivided m x all rest
     divided_over r qs all rest e some is hq met up same vector =
         divided qs all rest some (subst (λ (z : Ring). all ≡ parts ++ map (negated z.modulus.value) qs) e is)
-        (subst (λ (z : Ring). Each (IsQuotient (variables z) z.weights z.modulus.value (vectors_in m.list)) qs) e hq)
+        (subst (λ (z : Ring). Each (IsScaledProduct (variables z) z.weights z.modulus.value (vectors_in m.list)) qs) e hq)
         (subst (λ (z : Ring). AreMetFrom (variables z) (sum_of (variables z) v) (vectors_in m.list) [] qs) e met)
         (subst (λ (z : Ring). HaveLeadsUpTo (variables z) (ring_comparison z (variables z)) (vectors_in m.list) (head_key (sum_of (variables z) v)) qs) e up)
         (subst (λ (z : Ring). StandsFor z v (combination (sums_of (variables z) (vectors_in m.list)) (cofactors_of (variables z) qs) ++ sum_of (variables z) rest)) e same)

@@ -3,7 +3,7 @@ pub mod Parts
 pub mod Linking
 pub mod Stopping
 pub mod TopParts
-pub mod TopSteps
+pub mod TopProducts
 pub mod Remainders
 pub mod Leaving
 pub mod Listed

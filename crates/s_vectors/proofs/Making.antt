@@ -1,11 +1,11 @@
--- Keys that occur in the products of steps
+-- Keys that occur in the products of products
 use Rattle.std.proofs.Common.{List, [], ap, append_assoc, arith, get_or, inl, inr, length, length-append, refl, subst, subst₂, suc, sym, zero, ℕ, ◌++◌, ◌+◌, ◌<◌, ◌∙◌, ◌∷◌, ◌≡◌, ◌⊎◌}
 use Rattle.std.proofs.lemmas.List.{get_or-map, get_or_append_left, length-map}
 use Rattle.monomials.specs.Exponents.{unit}
 use Rattle.formal_sums.proofs.Items.{item_of}
 use Rattle.formal_sums.specs.FormalSums.{Each, Key, coefficient}
 use Rattle.bases.specs.Settings.{IsLawful, Setting}
-use Rattle.module_vectors.specs.Trails.{AreMet, HasKey, IsInProduct, IsMet, Step, no_step, product_lead}
+use Rattle.module_vectors.specs.Trails.{AreMet, HasKey, IsInProduct, IsMet, KeptProduct, no_product, product_lead}
 use Rattle.module_vectors.specs.Vectors.{IsVector, sum_of, sums_of}
 use Rattle.module_vectors.specs.declared.key.Key.{Key as CodeKey}
 use Rattle.vector_division.proofs.Members.{sums_at}
@@ -19,13 +19,13 @@ use Rattle.basis_steps.specs.Outcomes.{AreJobProducts, OccursBefore, product_at,
 use Rattle.basis_steps.specs.Pairs.{Pair, count}
 use Rattle.basis_core.proofs.MemberKeys.{in_occurs, key_occurs, lead_same}
 use Rattle.basis_core.specs.Outcomes.{product_of, products_of}
-use Rattle.s_vectors.specs.Steps.{ArePairSteps}
+use Rattle.s_vectors.specs.PairProducts.{ArePairProducts}
 
 pub count_here : (x : Pair) → 0 < count x (x ∷ [])
 count_here x = rw (is_same_pair-refl x) (omega arith)
 
-pub product_is : (n : ℕ) (steps : List Step) (i : ℕ) (s : Step) → i < length steps → get_or steps i s ≡ s → product_at (products_of n steps) i ≡ product_of n s
-product_is n steps i s lt e = get_or-map (λ t. product_of n t) steps i s (0, unit n) lt ∙ ap (λ t. product_of n t) e
+pub product_is : (n : ℕ) (products : List KeptProduct) (i : ℕ) (s : KeptProduct) → i < length products → get_or products i s ≡ s → product_at (products_of n products) i ≡ product_of n s
+product_is n products i s lt e = get_or-map (λ t. product_of n t) products i s (0, unit n) lt ∙ ap (λ t. product_of n t) e
 
 module _ {n : ℕ} (S : Setting n) (lawful : IsLawful S) (list : List (List (CodeKey × ℕ))) (over : Each (IsVector n S.weights S.modulus S.compare) list) where
   vector_here : (i : ℕ) → IsVector n S.weights S.modulus S.compare (get_or list i [])
@@ -36,19 +36,19 @@ module _ {n : ℕ} (S : Setting n) (lawful : IsLawful S) (list : List (List (Cod
   vector_occurs i l h = subst (λ w. Occurs S.modulus w l) (sym (sums_at n list i)) (key_occurs S lawful (get_or list i []) l (vector_here i) h)
 
   occurs_before :
-      (steps : List Step) (count : ℕ) (s : Step) (i : ℕ) (k : Key n)
-      → i < count → i < length steps → get_or steps i s ≡ s → IsInProduct n list k s
-      → OccursBefore S.modulus (sums_of n list) (products_of n steps) count k
-  occurs_before steps count s i k low lt e h = (
+      (products : List KeptProduct) (count : ℕ) (s : KeptProduct) (i : ℕ) (k : Key n)
+      → i < count → i < length products → get_or products i s ≡ s → IsInProduct n list k s
+      → OccursBefore S.modulus (sums_of n list) (products_of n products) count k
+  occurs_before products count s i k low lt e h = (
     i,
     low,
-    subst (λ z. i < z) (sym (length-map steps (λ t. product_of n t))) lt,
-    subst (λ t. Occurs S.modulus (product_vector (sums_of n list) t) k) (sym (product_is n steps i s lt e)) (in_occurs S lawful list (sums_of n list) s k (sums_at n list s.0) (vector_here s.0) h),
+    subst (λ z. i < z) (sym (length-map products (λ t. product_of n t))) lt,
+    subst (λ t. Occurs S.modulus (product_vector (sums_of n list) t) k) (sym (product_is n products i s lt e)) (in_occurs S lawful list (sums_of n list) s k (sums_at n list s.0) (vector_here s.0) h),
   )
 
   -- what is met occurs in an earlier product
   met_before :
-      (e later : List Step) (i : ℕ) (s : Step)
+      (e later : List KeptProduct) (i : ℕ) (s : KeptProduct)
       → AreMet n [] list e later → i < length later → s ≡ get_or later i s
       → OccursBefore S.modulus (sums_of n list) (products_of n (e ++ later)) (length e + i) (product_lead n list s)
   met_before e [] i s h lt is = absurd (omega arith)
@@ -63,18 +63,18 @@ module _ {n : ℕ} (S : Setting n) (lawful : IsLawful S) (list : List (List (Cod
       subst₂ (λ z c. OccursBefore S.modulus (sums_of n list) (products_of n z) c (product_lead n list s)) (append_assoc e (t ∷ []) later) (omega (arith, length-append e (t ∷ [])))
       (met_before (e ++ t ∷ []) later i s h.1 (omega arith) is)
 
-  -- the products of a pair's steps are products of a job of that pair
+  -- the products of a pair's products are products of a job of that pair
   pub job_steps :
-      (x : Pair) (k : Key n) (steps : List Step)
-      → k ≡ lcm_of (sums_of n list) x → ArePairSteps n S.weights list k steps
-      → AreJobProducts S.modulus (sums_of n list) (x ∷ []) (products_of n steps)
+      (x : Pair) (k : Key n) (products : List KeptProduct)
+      → k ≡ lcm_of (sums_of n list) x → ArePairProducts n S.weights list k products
+      → AreJobProducts S.modulus (sums_of n list) (x ∷ []) (products_of n products)
   job_steps x k [] e h = (tt, tt)
   job_steps x k (first ∷ later) e h = job_products_from S.modulus (sums_of n list) (x ∷ []) (products_of n (first ∷ later)) (λ i lt. at i lt)
     where
-      steps : List Step
-      steps = first ∷ later
+      products : List KeptProduct
+      products = first ∷ later
 
-      known_at : (xs : List Step) (i : ℕ) (d : Step) → Each (λ s. s.0 < length list) xs → i < length xs → (get_or xs i d).0 < length list
+      known_at : (xs : List KeptProduct) (i : ℕ) (d : KeptProduct) → Each (λ s. s.0 < length list) xs → i < length xs → (get_or xs i d).0 < length list
       known_at [] i d g lt = absurd (omega arith)
       known_at (s ∷ xs) zero d g lt = g.0
       known_at (s ∷ xs) (suc i) d g lt = known_at xs i d g.1 (omega arith)
@@ -89,17 +89,17 @@ module _ {n : ℕ} (S : Setting n) (lawful : IsLawful S) (list : List (List (Cod
         inl (x, count_here x, lead_same n list first ∙ h.linked.0 ∙ e),
       )
       at (suc i) lt =
-          let s = get_or later i no_step in
+          let s = get_or later i no_product in
           let short : i < length later = (let q = length-map (first ∷ later) (λ t. product_of n t) in omega arith) in
           let is : s ≡ get_or later i s = default_free later i short in
           let pr : product_at (products_of n (first ∷ later)) (suc i) ≡ product_of n s = product_is n later i s short (sym is) in (
-            subst (λ t. t.0 < length (sums_of n list)) (sym pr) (subst (λ z. s.0 < z) (sym (length-map list (λ v. sum_of n v))) (known_at later i no_step h.known.1 short)),
+            subst (λ t. t.0 < length (sums_of n list)) (sym pr) (subst (λ z. s.0 < z) (sym (length-map list (λ v. sum_of n v))) (known_at later i no_product h.known.1 short)),
             inr (subst (λ t. OccursBefore S.modulus (sums_of n list) (products_of n (first ∷ later)) (suc i) (plain.product_lead (sums_of n list) t)) (sym pr)
                 (subst₂ (λ z c. OccursBefore S.modulus (sums_of n list) (products_of n (first ∷ later)) c z) (sym (lead_same n list s)) (omega arith)
                 (met_before (first ∷ []) later i s h.linked.1 short is))),
           )
         where
-          default_free : (xs : List Step) (i : ℕ) → i < length xs → get_or xs i no_step ≡ get_or xs i (get_or xs i no_step)
+          default_free : (xs : List KeptProduct) (i : ℕ) → i < length xs → get_or xs i no_product ≡ get_or xs i (get_or xs i no_product)
           default_free [] i l = absurd (omega arith)
           default_free (y ∷ xs) zero l = refl
           default_free (y ∷ xs) (suc i) l = default_free xs i (omega arith)

@@ -14,10 +14,10 @@ use Rattle.module_vectors.specs.declared.key.Key.{Key as CodeKey}
 use Rattle.module_vectors.specs.declared.product.Product.{Product}
 use Rattle.module_vectors.specs.declared.stop.VectStop.TheVariants.{Degree}
 use Rattle.vector_division.specs.Reductions.{cofactors_of, term_of}
-use Rattle.vector_division.specs.declared.reduction.Quotient.{Quotient}
+use Rattle.vector_division.specs.declared.reduction.ScaledProduct.{ScaledProduct}
 use Rattle.s_vectors.specs.Parts.{IsGreatPart, IsGreatProduct, IsPart}
 
-terms_sum : (n : ℕ) (qs : List Quotient) → sum_of n (map term_of qs) ≡ cofactors_of n qs
+terms_sum : (n : ℕ) (qs : List ScaledProduct) → sum_of n (map term_of qs) ≡ cofactors_of n qs
 terms_sum n [] = refl
 terms_sum n (q ∷ qs) = ap (λ r. ((q.index, exponents_of n q.monomial.exponents), q.residue) ∷ r) (terms_sum n qs)
 
@@ -37,18 +37,18 @@ none_great (y ∷ xs) a b f (x, (suc i, lt, e), pos, ea, m, g) = none_great xs a
 module _ (list : List (List (CodeKey × ℕ))) where
   -- the products of the parts stand for their combination
   pub parts_combination :
-      (n : ℕ) (ws : List ℕ) (p : ℕ) (parts : List Quotient) (xs : List Product)
+      (n : ℕ) (ws : List ℕ) (p : ℕ) (parts : List ScaledProduct) (xs : List Product)
       → Each (IsPart n ws p (length list)) parts → AreProducts list (map term_of parts) xs
       → sum_of_products n xs ≡ combination (sums_of n list) (cofactors_of n parts)
   parts_combination n ws p parts xs h a = products_combination list n (map term_of parts) xs (positions parts h) a ∙ ap (combination (sums_of n list)) (terms_sum n parts)
     where
-      positions : (qs : List Quotient) → Each (IsPart n ws p (length list)) qs → Each (λ t. t.0.position < length list) (map term_of qs)
+      positions : (qs : List ScaledProduct) → Each (IsPart n ws p (length list)) qs → Each (λ t. t.0.position < length list) (map term_of qs)
       positions [] h = tt
       positions (q ∷ qs) h = (h.0.index, positions qs h.1)
 
   -- what holds of the parts' products
   pub parts_products :
-      (n : ℕ) (ws : List ℕ) (p : ℕ) (P : List (CodeKey × ℕ) → Type 0) (parts : List Quotient) (xs : List Product)
+      (n : ℕ) (ws : List ℕ) (p : ℕ) (P : List (CodeKey × ℕ) → Type 0) (parts : List ScaledProduct) (xs : List Product)
       → ((i : ℕ) → i < length list → P (get_or list i [])) → Each (IsPart n ws p (length list)) parts → AreProducts list (map term_of parts) xs
       → Each (λ x. ((x.residue < p) × (IsWeighed n ws x.monomial.now)) × P x.vector.now) xs
   parts_products n ws p P [] [] f h a = tt
@@ -60,7 +60,7 @@ module _ (list : List (List (CodeKey × ℕ))) where
   )
 
   pub parts_factors :
-      (n : ℕ) (ws : List ℕ) (p : ℕ) (parts : List Quotient) (xs ys : List Product)
+      (n : ℕ) (ws : List ℕ) (p : ℕ) (parts : List ScaledProduct) (xs ys : List Product)
       → Each (IsPart n ws p (length list)) parts → AreProducts list (map term_of parts) xs → ys ≡ xs
       → Each (λ x. (x.residue < p) × (IsWeighed n ws x.monomial.now)) ys
   parts_factors n ws p parts xs ys h a e =
@@ -68,7 +68,7 @@ module _ (list : List (List (CodeKey × ℕ))) where
       (Each_map (λ x. ((x.residue < p) × (IsWeighed n ws x.monomial.now)) × ⊤) _ xs (λ x q. q.0) (parts_products n ws p (λ v. ⊤) parts xs (λ i lt. tt) h a))
 
   pub parts_vectors :
-      (n : ℕ) (ws : List ℕ) (p : ℕ) (P : List (CodeKey × ℕ) → Type 0) (parts : List Quotient) (xs ys : List Product)
+      (n : ℕ) (ws : List ℕ) (p : ℕ) (P : List (CodeKey × ℕ) → Type 0) (parts : List ScaledProduct) (xs ys : List Product)
       → Each P list → Each (IsPart n ws p (length list)) parts → AreProducts list (map term_of parts) xs → ys ≡ xs
       → Each (λ x. P x.vector.now) ys
   parts_vectors n ws p P parts xs ys l h a e =
@@ -77,12 +77,12 @@ module _ (list : List (List (CodeKey × ℕ))) where
 
   -- a product that is too great is of a part
   pub great_part :
-      (parts : List Quotient) (xs : List Product) (number : ℕ) (m : Monomial)
+      (parts : List ScaledProduct) (xs : List Product) (number : ℕ) (m : Monomial)
       → AreProducts list (map term_of parts) xs → IsGreatProduct xs number m → IsGreatPart list parts number m
   great_part parts xs number m a g = go parts g.front number (subst (AreProducts list (map term_of parts)) g.split a) g.place
     where
       go :
-          (qs : List Quotient) (front : List Product) (k : ℕ)
+          (qs : List ScaledProduct) (front : List Product) (k : ℕ)
           → AreProducts list (map term_of qs) (front ++ g.product ∷ g.back) → k ≡ length front → IsGreatPart list qs k m
       go [] [] k a e = absurd a
       go [] (x ∷ front) k a e = absurd a

@@ -9,8 +9,8 @@ use Rattle.formal_sums.proofs.Sameness.{IsSame_append, IsSame_of, IsSame_refl, I
 use Rattle.formal_sums.proofs.WeightedSums.{coefficient-append, weighted_sum-scale}
 use Rattle.formal_sums.specs.Combinations.{combination}
 use Rattle.formal_sums.specs.FormalSums.{Each, FormalSum, IsSame, Key, coefficient, indicator, scale, shift, weighted_sum}
-use Rattle.vector_division.specs.Reductions.{cofactors_of, step_of}
-use Rattle.vector_division.specs.declared.reduction.Quotient.{Quotient}
+use Rattle.vector_division.specs.Reductions.{cofactors_of, unscaled}
+use Rattle.vector_division.specs.declared.reduction.ScaledProduct.{ScaledProduct}
 use Rattle.s_vectors.specs.Divided.{negated}
 
 -- c and -c
@@ -19,18 +19,18 @@ opposite p c h =
     IsCongruent_trans (IsCongruent_add (IsCongruent_mod p (p - c)) (IsCongruent_refl p c))
     (IsCongruent_trans (IsCongruent_of p ((p - c) + c) p (omega arith)) (record { same = mod_self p ∙ sym (zero-mod p) }))
 
-pub negated_steps : (p : ℕ) (qs : List Quotient) → map step_of (map (negated p) qs) ≡ map step_of qs
+pub negated_steps : (p : ℕ) (qs : List ScaledProduct) → map unscaled (map (negated p) qs) ≡ map unscaled qs
 negated_steps p [] = refl
-negated_steps p (q ∷ qs) = ap (λ l. step_of q ∷ l) (negated_steps p qs)
+negated_steps p (q ∷ qs) = ap (λ l. unscaled q ∷ l) (negated_steps p qs)
 
-pub cofactors-append : (n : ℕ) (xs ys : List Quotient) → cofactors_of n (xs ++ ys) ≡ cofactors_of n xs ++ cofactors_of n ys
+pub cofactors-append : (n : ℕ) (xs ys : List ScaledProduct) → cofactors_of n (xs ++ ys) ≡ cofactors_of n xs ++ cofactors_of n ys
 cofactors-append n [] ys = refl
 cofactors-append n (x ∷ xs) ys = ap (λ l. ((x.index, exponents_of n x.monomial.exponents), x.residue) ∷ l) (cofactors-append n xs ys)
 
 module _ (n p : ℕ) (G : List (FormalSum n)) where
   -- the products of -c for c are the opposite
   negated_cancels :
-      (qs : List Quotient) (k : Key n)
+      (qs : List ScaledProduct) (k : Key n)
       → Each (λ q. q.residue < p) qs
       → IsCongruent p (coefficient (combination G (cofactors_of n (map (negated p) qs))) k + coefficient (combination G (cofactors_of n qs)) k) 0
   negated_cancels [] k h = IsCongruent_refl p 0
@@ -50,7 +50,7 @@ module _ (n p : ℕ) (G : List (FormalSum n)) where
 
   -- the rest is the vector and those
   pub rest_sum :
-      (parts qs : List Quotient) (v rest : FormalSum n)
+      (parts qs : List ScaledProduct) (v rest : FormalSum n)
       → Each (λ q. q.residue < p) qs
       → IsSame p v (combination G (cofactors_of n parts)) → IsSame p v (combination G (cofactors_of n qs) ++ rest)
       → IsSame p rest (combination G (cofactors_of n (parts ++ map (negated p) qs)))

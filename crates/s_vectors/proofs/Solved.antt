@@ -13,8 +13,8 @@ use Rattle.module_vectors.specs.Rings.{ring_comparison, variables}
 use Rattle.module_vectors.specs.Vectors.{StandsFor, key_of, sum_of, sums_of}
 use Rattle.module_vectors.specs.declared.key.Key.{Key as CodeKey}
 use Rattle.pair_criteria.specs.declared.pair.Pair.{Pair as CodePair}
-use Rattle.vector_division.specs.Reductions.{cofactors_of, step_of}
-use Rattle.vector_division.specs.declared.reduction.Quotient.{Quotient}
+use Rattle.vector_division.specs.Reductions.{cofactors_of, unscaled}
+use Rattle.vector_division.specs.declared.reduction.ScaledProduct.{ScaledProduct}
 use Rattle.basis_steps.proofs.Answering.{rest_represents}
 use Rattle.basis_steps.specs.Criteria.{IsPair, IsRepresented, lcm_of}
 use Rattle.basis_steps.specs.Outcomes.{AreJobProducts}
@@ -32,7 +32,7 @@ use Rattle.s_vectors.proofs.TopParts.{shared_lawful}
 use Rattle.s_vectors.specs.Divided.{AreOfPair, IsDivided}
 use Rattle.s_vectors.specs.Solutions.{IsSolved}
 
-module _ (m : MembersShown) (x : CodePair) (of : AreOfPair m x) (tracked : Each (IsTracked m.shared) m.list) (parts : List Quotient) where
+module _ (m : MembersShown) (x : CodePair) (of : AreOfPair m x) (tracked : Each (IsTracked m.shared) m.list) (parts : List ScaledProduct) where
   -- the pair is one of the sums' list
   real_sums : IsPair (sums_of (variables m.shared.ring) (vectors_in m.list)) (pair_of x)
   real_sums = subst (λ G. IsPair G (pair_of x)) (vectors_are (variables m.shared.ring) m.list) of.real
@@ -42,16 +42,16 @@ module _ (m : MembersShown) (x : CodePair) (of : AreOfPair m x) (tracked : Each 
 
   pair_products :
       (v : List (CodeKey × ℕ)) → IsDivided m x parts v
-      → AreJobProducts m.shared.ring.modulus.value (vectors (members_of (variables m.shared.ring) m.list)) (pair_of x ∷ []) (products_of (variables m.shared.ring) (map step_of parts))
+      → AreJobProducts m.shared.ring.modulus.value (vectors (members_of (variables m.shared.ring) m.list)) (pair_of x ∷ []) (products_of (variables m.shared.ring) (map unscaled parts))
   pair_products v d =
       let n = variables m.shared.ring in
-      subst (λ G. AreJobProducts m.shared.ring.modulus.value G (pair_of x ∷ []) (products_of n (map step_of parts))) (sym (vectors_are n m.list))
-      (job_steps (setting_of n m.shared) (shared_lawful n m.shared) (vectors_in m.list) (vectors_over m.shared m.list tracked) (pair_of x) (key_of n x.lcm) (map step_of parts) lcm_is d.steps)
+      subst (λ G. AreJobProducts m.shared.ring.modulus.value G (pair_of x ∷ []) (products_of n (map unscaled parts))) (sym (vectors_are n m.list))
+      (job_steps (setting_of n m.shared) (shared_lawful n m.shared) (vectors_in m.list) (vectors_over m.shared m.list tracked) (pair_of x) (key_of n x.lcm) (map unscaled parts) lcm_is d.products)
 
   -- nothing is left
   pub solved_zero :
       IsDivided m x parts []
-      → IsSolved (setting_of (variables m.shared.ring) m.shared) (vectors (members_of (variables m.shared.ring) m.list)) (pair_of x ∷ []) [] (products_of (variables m.shared.ring) (map step_of parts))
+      → IsSolved (setting_of (variables m.shared.ring) m.shared) (vectors (members_of (variables m.shared.ring) m.list)) (pair_of x ∷ []) [] (products_of (variables m.shared.ring) (map unscaled parts))
   solved_zero d =
       let n = variables m.shared.ring in
       let S : Setting (variables m.shared.ring) = setting_of (variables m.shared.ring) m.shared in
@@ -86,7 +86,7 @@ module _ (m : MembersShown) (x : CodePair) (of : AreOfPair m x) (tracked : Each 
       → IsDivided m x parts v → 0 < length v → IsVectorOf m.shared.ring products
       → StandsFor m.shared.ring products (cofactors_of (variables m.shared.ring) parts)
       → IsSolved (setting_of (variables m.shared.ring) m.shared) (vectors (members_of (variables m.shared.ring) m.list)) (pair_of x ∷ [])
-      (row_of (variables m.shared.ring) (record { vector = v; products = products }) ∷ []) (products_of (variables m.shared.ring) (map step_of parts))
+      (row_of (variables m.shared.ring) (record { vector = v; products = products }) ∷ []) (products_of (variables m.shared.ring) (map unscaled parts))
   solved_row v products d some iv same =
       let n = variables m.shared.ring in
       let S : Setting (variables m.shared.ring) = setting_of (variables m.shared.ring) m.shared in

@@ -16,7 +16,7 @@ use Rattle.module_vectors.specs.Vectors.{sum_of, sums_of}
 use Rattle.module_vectors.specs.declared.key.Key.{Key as CodeKey}
 use Rattle.pair_criteria.specs.declared.pair.Pair.{Pair as CodePair}
 use Rattle.vector_division.proofs.Members.{sums_at}
-use Rattle.vector_division.specs.declared.reduction.Quotient.{Quotient}
+use Rattle.vector_division.specs.declared.reduction.ScaledProduct.{ScaledProduct}
 use Rattle.basis_steps.specs.Criteria.{IsPair}
 use Rattle.basis_steps.specs.Divisions.{IsMonicMember}
 use Rattle.basis_steps.specs.States.{vectors}
@@ -48,7 +48,7 @@ length_sums n list = length-map list (λ v. sum_of n v)
 
 -- what takes a lead to the lcm is a part of the S-vector
 pub top_part :
-    (n : ℕ) (ws : List ℕ) (list : List (List (CodeKey × ℕ))) (k : CodeKey) (index residue : ℕ) (v : List (CodeKey × ℕ)) (q : Quotient)
+    (n : ℕ) (ws : List ℕ) (list : List (List (CodeKey × ℕ))) (k : CodeKey) (index residue : ℕ) (v : List (CodeKey × ℕ)) (q : ScaledProduct)
     → v ≡ get_or list index [] → IsFactorOf n ws k v q.monomial → q.index ≡ index → q.residue ≡ residue
     → IsTopPart n ws list k index residue q
 top_part n ws list k index residue v q is f at c =

@@ -6,12 +6,12 @@ use Rattle.formal_sums.specs.FormalSums.{Each, FormalSum, IsSame, Key}
 use Rattle.bases.specs.Leads.{IsLead}
 use Rattle.bases.specs.Representations.{IsLower, s_vector}
 use Rattle.module_vectors.specs.Rings.{ring_comparison, variables}
-use Rattle.module_vectors.specs.Trails.{IsMet, Step}
+use Rattle.module_vectors.specs.Trails.{IsMet, KeptProduct}
 use Rattle.module_vectors.specs.Vectors.{IsVectorOver, StandsFor, key_of, sum_of, sums_of}
 use Rattle.module_vectors.specs.declared.key.Key.{Key as CodeKey}
 use Rattle.pair_criteria.specs.declared.pair.Pair.{Pair as CodePair}
-use Rattle.vector_division.specs.Reductions.{cofactors_of, step_of}
-use Rattle.vector_division.specs.declared.reduction.Quotient.{Quotient}
+use Rattle.vector_division.specs.Reductions.{cofactors_of, unscaled}
+use Rattle.vector_division.specs.declared.reduction.ScaledProduct.{ScaledProduct}
 use Rattle.basis_steps.specs.Criteria.{IsPair}
 use Rattle.basis_steps.specs.Divisions.{IsMonicMember}
 use Rattle.basis_steps.specs.States.{vectors}
@@ -19,7 +19,7 @@ use Rattle.basis_core.specs.Jobs.{HasLcm, pair_of}
 use Rattle.basis_core.specs.Members.{MembersShown, members_of, setting_of}
 use Rattle.basis_core.specs.Rows.{vectors_in}
 use Rattle.s_vectors.specs.Parts.{ArePairParts, IsPart}
-use Rattle.s_vectors.specs.Steps.{ArePairSteps}
+use Rattle.s_vectors.specs.PairProducts.{ArePairProducts}
 
 -- the members are monic, and the pair is one of them and has its lcm
 pub record AreOfPair (m : MembersShown) (x : CodePair) : Type 0 where
@@ -28,15 +28,15 @@ pub record AreOfPair (m : MembersShown) (x : CodePair) : Type 0 where
   pub lcm : HasLcm (variables m.shared.ring) m.shared.ring.weights m.list x
 
 -- the same product with the residue of -c for c
-abbrev pub negated : ℕ → Quotient → Quotient
+abbrev pub negated : ℕ → ScaledProduct → ScaledProduct
 negated p q = record { index = q.index; residue = (p - q.residue) % p; monomial = q.monomial }
 
 -- each key of v is one of these products
-abbrev pub HasKeysMet : (n : ℕ) → List (CodeKey × ℕ) → List (List (CodeKey × ℕ)) → List Step → Type 0
-HasKeysMet n v list steps = Each (λ t. IsMet n [] list steps t.0) (sum_of n v)
+abbrev pub HasKeysMet : (n : ℕ) → List (CodeKey × ℕ) → List (List (CodeKey × ℕ)) → List KeptProduct → Type 0
+HasKeysMet n v list products = Each (λ t. IsMet n [] list products t.0) (sum_of n v)
 
 -- v is the S-vector, the sum of these two parts
-pub record IsTopVector (m : MembersShown) (x : CodePair) (parts : List Quotient) (v : List (CodeKey × ℕ)) : Type 0 where
+pub record IsTopVector (m : MembersShown) (x : CodePair) (parts : List ScaledProduct) (v : List (CodeKey × ℕ)) : Type 0 where
   pub two : ArePairParts (variables m.shared.ring) m.shared.ring.weights m.shared.ring.modulus.value (vectors_in m.list) x parts
   pub vector : IsVectorOver m.shared.ring (ring_comparison m.shared.ring) v
   pub sum : StandsFor m.shared.ring v (combination (sums_of (variables m.shared.ring) (vectors_in m.list)) (cofactors_of (variables m.shared.ring) parts))
@@ -51,8 +51,8 @@ pub record IsRestOf {n : ℕ} (m : MembersShown) (x : CodePair) (rest : FormalSu
   pub low : (k : Key n) → IsLead (setting_of n m.shared) rest k → ring_comparison m.shared.ring n k (key_of n x.lcm) ≡ Less
 
 -- the parts, which come of the pair, make up what is left of its S-vector
-pub record IsDivided (m : MembersShown) (x : CodePair) (parts : List Quotient) (rest : List (CodeKey × ℕ)) : Type 0 where
-  pub steps : ArePairSteps (variables m.shared.ring) m.shared.ring.weights (vectors_in m.list) (key_of (variables m.shared.ring) x.lcm) (map step_of parts)
+pub record IsDivided (m : MembersShown) (x : CodePair) (parts : List ScaledProduct) (rest : List (CodeKey × ℕ)) : Type 0 where
+  pub products : ArePairProducts (variables m.shared.ring) m.shared.ring.weights (vectors_in m.list) (key_of (variables m.shared.ring) x.lcm) (map unscaled parts)
   pub each : Each (IsPart (variables m.shared.ring) m.shared.ring.weights m.shared.ring.modulus.value (length m.list)) parts
   pub vector : IsVectorOver m.shared.ring (ring_comparison m.shared.ring) rest
   pub sum : StandsFor m.shared.ring rest (combination (sums_of (variables m.shared.ring) (vectors_in m.list)) (cofactors_of (variables m.shared.ring) parts))

@@ -2,6 +2,6 @@
 pub mod Trails
 -- invariants of loops
 pub mod Parts
-pub mod Steps
+pub mod PairProducts
 pub mod Divided
 pub mod Solutions

@@ -6,34 +6,34 @@ use Rattle.module_vectors.specs.Stops.{HasMonomial, IsTooGreat}
 use Rattle.module_vectors.specs.Trails.{lead_at}
 use Rattle.module_vectors.specs.declared.key.Key.{Key as CodeKey}
 use Rattle.module_vectors.specs.declared.product.Product.{Product}
-use Rattle.vector_division.specs.declared.reduction.Quotient.{Quotient}
+use Rattle.vector_division.specs.declared.reduction.ScaledProduct.{ScaledProduct}
 use Rattle.s_vectors.specs.declared.sums.SumStop.{SumStop}
 use Rattle.s_vectors.specs.declared.sums.SumStop.TheVariants.{Memory, Degree}
 use Rattle.pair_criteria.specs.declared.pair.Pair.{Pair as CodePair}
 
 -- a residue times a monomial in n variables of these weights times a vector of a list of so many
-pub record IsPart (n : ℕ) (ws : List ℕ) (p count : ℕ) (q : Quotient) : Type 0 where
+pub record IsPart (n : ℕ) (ws : List ℕ) (p count : ℕ) (q : ScaledProduct) : Type 0 where
   pub index : q.index < count
   pub weighed : IsWeighed n ws q.monomial
   pub reduced : q.residue < p
 
 -- the part with this number, and a monomial of its vector that is too great for it
-pub record IsGreatPart (list : List (List (CodeKey × ℕ))) (parts : List Quotient) (number : ℕ) (m : Monomial) : Type 0 where
-  pub front : List Quotient
-  pub part : Quotient
-  pub back : List Quotient
+pub record IsGreatPart (list : List (List (CodeKey × ℕ))) (parts : List ScaledProduct) (number : ℕ) (m : Monomial) : Type 0 where
+  pub front : List ScaledProduct
+  pub part : ScaledProduct
+  pub back : List ScaledProduct
   pub split : parts ≡ front ++ part ∷ back
   pub place : number ≡ length front
   pub monomial : HasMonomial (get_or list part.index []) m
   pub too_great : IsTooGreat part.monomial m
 
 -- Degree comes with such a part alone
-abbrev pub SumStops : List (List (CodeKey × ℕ)) → List Quotient → SumStop → Type 0
+abbrev pub SumStops : List (List (CodeKey × ℕ)) → List ScaledProduct → SumStop → Type 0
 SumStops list parts Memory = ⊤
 SumStops list parts (Degree number m) = IsGreatPart list parts number m
 
 -- this residue times the monomial that takes the lead of the vector with this index to the lcm
-pub record IsTopPart (n : ℕ) (ws : List ℕ) (list : List (List (CodeKey × ℕ))) (lcm : CodeKey) (index residue : ℕ) (q : Quotient) : Type 0 where
+pub record IsTopPart (n : ℕ) (ws : List ℕ) (list : List (List (CodeKey × ℕ))) (lcm : CodeKey) (index residue : ℕ) (q : ScaledProduct) : Type 0 where
   pub at : q.index ≡ index
   pub residue_is : q.residue ≡ residue
   pub weighed : IsWeighed n ws q.monomial
@@ -41,9 +41,9 @@ pub record IsTopPart (n : ℕ) (ws : List ℕ) (list : List (List (CodeKey × �
   pub product : times (exponents_of n q.monomial.exponents) (lead_at n list index).1 ≡ exponents_of n lcm.monomial.exponents
 
 -- the two parts of the pair's S-vector (IVA chapter 2, section 6)
-pub record ArePairParts (n : ℕ) (ws : List ℕ) (p : ℕ) (list : List (List (CodeKey × ℕ))) (x : CodePair) (parts : List Quotient) : Type 0 where
-  pub left : Quotient
-  pub right : Quotient
+pub record ArePairParts (n : ℕ) (ws : List ℕ) (p : ℕ) (list : List (List (CodeKey × ℕ))) (x : CodePair) (parts : List ScaledProduct) : Type 0 where
+  pub left : ScaledProduct
+  pub right : ScaledProduct
   pub two : parts ≡ left ∷ right ∷ []
   pub first : IsTopPart n ws list x.lcm x.i 1 left
   pub second : IsTopPart n ws list x.lcm x.j (p - 1) right

@@ -31,7 +31,7 @@ row_list (Some row) = row ∷ []
 -- the rows of one pair, and their products by monomials of the ring
 pub record IsSolvedPair (m : MembersShown) (x : CodePair) (d : Division) : Type 0 where
   pub over : Each (IsRunRow m.shared (length m.list)) (row_list d.row)
-  pub weighed : Each (λ t. IsWeighed (variables m.shared.ring) m.shared.ring.weights t.1) d.steps.items
+  pub weighed : Each (λ t. IsWeighed (variables m.shared.ring) m.shared.ring.weights t.1) d.products.items
   pub solved :
       IsSolved (setting_of (variables m.shared.ring) m.shared) (vectors (members_of (variables m.shared.ring) m.list)) (pair_of x ∷ [])
-      (rows_of (variables m.shared.ring) (row_list d.row)) (products_of (variables m.shared.ring) d.steps.items)
+      (rows_of (variables m.shared.ring) (row_list d.row)) (products_of (variables m.shared.ring) d.products.items)

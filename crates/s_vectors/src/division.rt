@@ -6,16 +6,16 @@ ghost use Rattle.module_vectors.specs.Vectors.{key_of};
 ghost use Rattle.module_vectors.specs.declared.key.Key.{Key as KeyValue};
 ghost use Rattle.module_vectors.specs.declared.ring.Ring.{Ring as RingValue};
 ghost use Rattle.vector_division.specs.Divisions.{DivisionStops};
-ghost use Rattle.vector_division.specs.Reductions.{step_of};
+ghost use Rattle.vector_division.specs.Reductions.{unscaled};
 ghost use Rattle.basis_core.specs.Members.{Tracked};
 ghost use Rattle.basis_core.specs.Rows.{vectors_in};
 ghost use Rattle.s_vectors.specs.Divided.{AreOfPair, HasKeysMet, IsDivided, IsTopVector, negated};
 ghost use Rattle.s_vectors.specs.Parts.{SumStops};
 ghost use Rattle.s_vectors.specs.Solutions.{IsSolvedPair};
-ghost use Rattle.s_vectors.specs.Steps.{ArePairSteps, PairStops};
+ghost use Rattle.s_vectors.specs.PairProducts.{ArePairProducts, PairStops};
 
 use crate::pairs::pair_parts;
-use crate::stops::{Chain, PairStop, steps_of};
+use crate::stops::{Chain, PairStop, without_residues};
 use crate::sums::{SumStop, sum_of_parts};
 use basis_core::{Members, quotient_products};
 use member_products::Row;
@@ -24,71 +24,71 @@ use monomial_orders::Mono;
 use pair_criteria::Pair;
 use std::alloc::Global;
 use std::collections::VecDeque;
-use vector_division::{Quotient, reduce};
+use vector_division::{ScaledProduct, reduce};
 use zp_field::Modulus;
 
 /// What the division of an S-vector brings: the products that were made, and what is left as a row, unless it is zero.
 #[derive(Drop)]
 pub(crate) struct Division {
-    pub(crate) steps: Vec<(u64, Mono)>,
+    pub(crate) products: Vec<(u64, Mono)>,
     pub(crate) row: Option<Row>,
 }
 
-// The steps of the first parts, up to the one with this number.
-fn steps_to(
+// The products of the first parts, up to the one with this number.
+fn products_to(
     alloc: Global,
-    parts: Vec<Quotient>,
+    parts: Vec<ScaledProduct>,
     number: usize,
 ) -> Result<Vec<(u64, Mono)>, NoMemory>
-    ensures { IfOk result (λ steps. number < length parts.items → steps.items ≡ map step_of (take (number + 1) parts.items)) }
+    ensures { IfOk result (λ products. number < length parts.items → products.items ≡ map unscaled (take (number + 1) parts.items)) }
 {
     let mut parts = parts;
     if number < parts.len() {
         parts.truncate(number + 1);
     }
-    steps_of(alloc, parts)
+    without_residues(alloc, parts)
 }
 
 // The stop where the sum of the parts stopped.
-fn stop_of_sum(alloc: Global, parts: Vec<Quotient>, stop: SumStop) -> PairStop
-    ensures { (n : ℕ) (ws : List ℕ) (ms : List Tracked) (k : KeyOf n) → ArePairSteps n ws (vectors_in ms) k (map step_of parts.items)
+fn stop_of_sum(alloc: Global, parts: Vec<ScaledProduct>, stop: SumStop) -> PairStop
+    ensures { (n : ℕ) (ws : List ℕ) (ms : List Tracked) (k : KeyOf n) → ArePairProducts n ws (vectors_in ms) k (map unscaled parts.items)
         → SumStops (vectors_in ms) parts.items stop → PairStops n ws ms k result }
 {
     match stop {
         SumStop::Memory => PairStop::Memory,
-        SumStop::Degree(number, last) => match steps_to(alloc, parts, number) {
-            Ok(steps) => PairStop::Degree(Chain { steps, last }),
+        SumStop::Degree(number, last) => match products_to(alloc, parts, number) {
+            Ok(products) => PairStop::Degree(Chain { products, last }),
             Err(NoMemory) => PairStop::Memory,
         },
     }
 }
 
-// The steps of the parts and later ones.
-fn steps_before(
+// The products of the parts and later ones.
+fn products_before(
     alloc: Global,
-    parts: Vec<Quotient>,
+    parts: Vec<ScaledProduct>,
     later: Vec<(u64, Mono)>,
 ) -> Result<Vec<(u64, Mono)>, NoMemory>
-    ensures { IfOk result (λ steps. steps.items ≡ map step_of parts.items ++ later.items) }
+    ensures { IfOk result (λ products. products.items ≡ map unscaled parts.items ++ later.items) }
 {
     let mut later = later;
-    let mut steps = steps_of(alloc, parts)?;
-    steps.append(&mut later)?;
-    Ok(steps)
+    let mut products = without_residues(alloc, parts)?;
+    products.append(&mut later)?;
+    Ok(products)
 }
 
 // The stop where the division of a vector with these parts stopped.
-fn stop_of_division(alloc: Global, parts: Vec<Quotient>, stop: WorkStop) -> PairStop
+fn stop_of_division(alloc: Global, parts: Vec<ScaledProduct>, stop: WorkStop) -> PairStop
     ensures { (ring : RingValue) (ms : List Tracked) (k : KeyOf (variables ring)) (v : List (KeyValue × ℕ)) → 0 < length parts.items
-        → ArePairSteps (variables ring) ring.weights (vectors_in ms) k (map step_of parts.items)
-        → HasKeysMet (variables ring) v (vectors_in ms) (map step_of parts.items) → DivisionStops ring v (vectors_in ms) stop → PairStops (variables ring) ring.weights ms k result }
+        → ArePairProducts (variables ring) ring.weights (vectors_in ms) k (map unscaled parts.items)
+        → HasKeysMet (variables ring) v (vectors_in ms) (map unscaled parts.items) → DivisionStops ring v (vectors_in ms) stop → PairStops (variables ring) ring.weights ms k result }
 {
     match stop {
         WorkStop::Memory => PairStop::Memory,
         WorkStop::Degree(trail) => {
-            let KeptTrail { steps, last, .. } = trail;
-            match steps_before(alloc, parts, steps) {
-                Ok(steps) => PairStop::Degree(Chain { steps, last }),
+            let KeptTrail { products, last, .. } = trail;
+            match products_before(alloc, parts, products) {
+                Ok(products) => PairStop::Degree(Chain { products, last }),
                 Err(NoMemory) => PairStop::Memory,
             }
         }
@@ -98,15 +98,15 @@ fn stop_of_division(alloc: Global, parts: Vec<Quotient>, stop: WorkStop) -> Pair
 // Puts the quotients' products behind the parts, to be taken away.
 fn take_quotients(
     modulus: &Modulus,
-    parts: &mut Vec<Quotient>,
-    quotients: Vec<Quotient>,
+    parts: &mut Vec<ScaledProduct>,
+    quotients: Vec<ScaledProduct>,
 ) -> Result<(), NoMemory>
     requires { Each (λ q. q.residue < modulus.now.value) quotients.items }
     ensures { OnOk result (parts.new.items ≡ parts.old.items ++ map (negated modulus.now.value) quotients.items) }
 {
     let mut rest = VecDeque::from_vec(quotients);
     while let Some(quotient) = rest.pop_front() {
-        parts.push(Quotient {
+        parts.push(ScaledProduct {
             index: quotient.index,
             residue: modulus.neg(quotient.residue),
             monomial: quotient.monomial,
@@ -121,7 +121,7 @@ fn make_row(
     ring: &Ring,
     members: &Members,
     pair: &Pair,
-    parts: Vec<Quotient>,
+    parts: Vec<ScaledProduct>,
     vector: Vect,
 ) -> Result<Division, NoMemory>
     requires over { ring.now ≡ members.now.shared.ring }
@@ -135,7 +135,7 @@ fn make_row(
     let products = quotient_products(alloc, ring, &parts)?;
     let row = Row { vector, products };
     Ok(Division {
-        steps: steps_of(alloc, parts)?,
+        products: without_residues(alloc, parts)?,
         row: Some(row),
     })
 }
@@ -146,7 +146,7 @@ fn divide_vector(
     ring: &Ring,
     members: &Members,
     pair: &Pair,
-    parts: Vec<Quotient>,
+    parts: Vec<ScaledProduct>,
     vector: &Vect,
 ) -> Result<Division, PairStop>
     requires over { ring.now ≡ members.now.shared.ring }
@@ -165,7 +165,7 @@ fn divide_vector(
     take_quotients(&ring.modulus, &mut parts, reduction.quotients)?;
     if reduction.rest.terms().is_empty() {
         return Ok(Division {
-            steps: steps_of(alloc, parts)?,
+            products: without_residues(alloc, parts)?,
             row: None,
         });
     }
@@ -193,7 +193,7 @@ fn divide_over(
     };
     if vector.terms().is_empty() {
         return Ok(Division {
-            steps: steps_of(alloc, parts)?,
+            products: without_residues(alloc, parts)?,
             row: None,
         });
     }

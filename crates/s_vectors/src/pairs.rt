@@ -15,7 +15,7 @@ use basis_core::Members;
 use module_vectors::{NoMemory, Ring, Vectors};
 use pair_criteria::{Pair, factor_of};
 use std::alloc::Global;
-use vector_division::Quotient;
+use vector_division::ScaledProduct;
 
 /// The parts of the pair's S-vector: its members are monic, so their residues are 1 and -1.
 pub(crate) fn pair_parts(
@@ -23,7 +23,7 @@ pub(crate) fn pair_parts(
     ring: &Ring,
     members: &Members,
     pair: &Pair,
-) -> Result<Vec<Quotient>, NoMemory>
+) -> Result<Vec<ScaledProduct>, NoMemory>
     requires over { ring.now ≡ members.now.shared.ring }
     requires list { AreVectorsOver ring.now (ring_comparison ring.now) (vectors_in members.now.list) }
     requires monic { let n = variables ring.now in Each (IsMonicMember (setting_of n members.now.shared)) (vectors (members_of n members.now.list)) }
@@ -32,13 +32,13 @@ pub(crate) fn pair_parts(
     ensures { IfOk result (λ parts. ArePairParts (variables ring.now) ring.now.weights ring.now.modulus.value
         (vectors_in members.now.list) pair.now parts.items) }
 {
-    let left = Quotient {
+    let left = ScaledProduct {
         index: pair.i,
         residue: 1,
         monomial: factor_of(alloc, ring, &pair.lcm, members.at(pair.i as usize))?,
     };
     ring.modulus.domain();
-    let right = Quotient {
+    let right = ScaledProduct {
         index: pair.j,
         residue: ring.modulus.neg(1),
         monomial: factor_of(alloc, ring, &pair.lcm, members.at(pair.j as usize))?,

@@ -23,10 +23,10 @@ struct Solution {
 // Puts the row and the products of one pair behind those of others.
 fn add_division(solution: &mut Solution, division: Division) -> Result<(), NoMemory>
     ensures rows { OnOk result (solution.new.rows.items ≡ solution.old.rows.items ++ row_list division.row) }
-    ensures products { OnOk result (solution.new.products.items ≡ solution.old.products.items ++ division.steps.items) }
+    ensures products { OnOk result (solution.new.products.items ≡ solution.old.products.items ++ division.products.items) }
 {
-    let mut steps = division.steps;
-    solution.products.append(&mut steps)?;
+    let mut products = division.products;
+    solution.products.append(&mut products)?;
     if let Some(row) = division.row {
         solution.rows.push(row)?;
     }

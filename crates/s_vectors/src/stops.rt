@@ -1,18 +1,18 @@
 // Why a pair is not divided.
 ghost use Rattle.std.specs.Prelude.{◌≡◌, IfOk, map};
-ghost use Rattle.vector_division.specs.Reductions.{step_of};
+ghost use Rattle.vector_division.specs.Reductions.{unscaled};
 ghost use Rattle.s_vectors.specs.declared.stops.PairStop.TheVariants.{Memory};
 
 use module_vectors::NoMemory;
 use monomial_orders::Mono;
 use std::alloc::{AllocError, Global};
 use std::collections::VecDeque;
-use vector_division::Quotient;
+use vector_division::ScaledProduct;
 
 /// Products that come of a pair, and a monomial of the last one's member that is too great for it.
 #[derive(Drop)]
 pub(crate) struct Chain {
-    pub(crate) steps: Vec<(u64, Mono)>,
+    pub(crate) products: Vec<(u64, Mono)>,
     pub(crate) last: Mono,
 }
 
@@ -40,13 +40,16 @@ impl From<AllocError> for PairStop {
 }
 
 /// The products of the parts, without their residues.
-pub(crate) fn steps_of(alloc: Global, parts: Vec<Quotient>) -> Result<Vec<(u64, Mono)>, NoMemory>
-    ensures { IfOk result (λ steps. steps.items ≡ map step_of parts.items) }
+pub(crate) fn without_residues(
+    alloc: Global,
+    parts: Vec<ScaledProduct>,
+) -> Result<Vec<(u64, Mono)>, NoMemory>
+    ensures { IfOk result (λ products. products.items ≡ map unscaled parts.items) }
 {
-    let mut steps = Vec::with_capacity(alloc, parts.len())?;
+    let mut products = Vec::with_capacity(alloc, parts.len())?;
     let mut rest = VecDeque::from_vec(parts);
     while let Some(part) = rest.pop_front() {
-        steps.push_reserved((part.index, part.monomial));
+        products.push_reserved((part.index, part.monomial));
     }
-    Ok(steps)
+    Ok(products)
 }

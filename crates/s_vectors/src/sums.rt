@@ -13,7 +13,7 @@ ghost use Rattle.s_vectors.specs.declared.sums.SumStop.TheVariants.{Memory};
 use module_vectors::{NoMemory, Product, Ring, Vect, VectStop, Vectors};
 use monomial_orders::Mono;
 use std::alloc::Global;
-use vector_division::Quotient;
+use vector_division::ScaledProduct;
 
 // The greatest degree of a monomial.
 const MAX_DEGREE: u128 = 65535;
@@ -45,7 +45,7 @@ impl From<monomial_orders::NoMemory> for SumStop {
 // The products of the parts and their vectors.
 fn products_of<'a, L: Vectors>(
     alloc: Global,
-    parts: &'a [Quotient],
+    parts: &'a [ScaledProduct],
     list: &'a L,
 ) -> Result<Vec<Product<'a>>, NoMemory>
     requires { Each (λ q. q.index < length (L.listed list.now)) parts.now }
@@ -101,7 +101,7 @@ fn find_product<'a>(products: &[Product<'a>]) -> Option<(usize, &'a Mono)>
 pub(crate) fn sum_of_parts<L: Vectors>(
     alloc: Global,
     ring: &Ring,
-    parts: &[Quotient],
+    parts: &[ScaledProduct],
     list: &L,
 ) -> Result<Vect, SumStop>
     requires parts { Each (IsPart (variables ring.now) ring.now.weights ring.now.modulus.value (length (L.listed list.now))) parts.now }

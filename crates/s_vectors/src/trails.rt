@@ -5,7 +5,7 @@ ghost use Rattle.module_vectors.specs.Vectors.{key_of};
 ghost use Rattle.basis_core.specs.Jobs.{pairs_of};
 ghost use Rattle.basis_core.specs.Stops.{IsTrailBy};
 ghost use Rattle.pair_criteria.specs.declared.pair.Pair.{Pair as CodePair};
-ghost use Rattle.s_vectors.specs.Steps.{IsPairChain};
+ghost use Rattle.s_vectors.specs.PairProducts.{IsPairChain};
 
 use crate::stops::Chain;
 use basis_core::Job;
@@ -21,7 +21,7 @@ pub(crate) fn keep_trail(
 ) -> Result<KeptTrail, NoMemory>
     requires known { number < length job.now.pairs }
     requires chain { let n = variables job.now.shared.ring in (x : CodePair) → x ≡ get_or job.now.pairs number x
-        → IsPairChain n job.now.shared.ring.weights job.now.members (key_of n x.lcm) chain.steps.items chain.last }
+        → IsPairChain n job.now.shared.ring.weights job.now.members (key_of n x.lcm) chain.products.items chain.last }
     ensures { IfOk result (IsTrailBy job.now.shared job.now.members (pairs_of job.now.pairs)) }
 {
     job.kept();
@@ -37,7 +37,7 @@ pub(crate) fn keep_trail(
         start: TrailStart::Pair(pair.i, pair.j),
         vector: Vect::zero(alloc),
         members: VectList::copy_of(alloc, members)?,
-        steps: chain.steps,
+        products: chain.products,
         last: chain.last,
     })
 }

@@ -4,7 +4,7 @@ use Rattle.std.proofs.lemmas.List.{drop_all}
 use Rattle.monomials.specs.Weights.{first_weight}
 use Rattle.monomial_orders.specs.Kept.{Monomial}
 use Rattle.monomial_orders.proofs.Totals.{weighted_sum}
-use Rattle.module_vectors.specs.Trails.{Step, last_step}
+use Rattle.module_vectors.specs.Trails.{KeptProduct, last_product}
 use Rattle.session_top.specs.Stops.{degree_by, product_degree}
 
 drop_nil : (k : ℕ) → ◌≡◌ {A = List ℕ} [] (drop k [])
@@ -44,18 +44,18 @@ product_small w x small short =
     let b : x ≤ 65535 = omega arith in
     mul-le-mul a b
 
-last_behind : (first : Step) (rest : List Step) (step : Step) → last_step first (rest ++ step ∷ []) ≡ step
+last_behind : (first : KeptProduct) (rest : List KeptProduct) (step : KeptProduct) → last_product first (rest ++ step ∷ []) ≡ step
 last_behind first [] step = refl
 last_behind first (next ∷ rest) step = last_behind next rest step
 
 degree_behind :
-    (ws : List ℕ) (rest : List Step) (step : Step) (last : Monomial)
+    (ws : List ℕ) (rest : List KeptProduct) (step : KeptProduct) (last : Monomial)
     → product_degree ws (rest ++ step ∷ []) last ≡ degree_by ws step.1 + degree_by ws last
 degree_behind ws [] step last = refl
 degree_behind ws (first ∷ rest) step last = ap (λ s. degree_by ws s.1 + degree_by ws last) (last_behind first rest step)
 
--- the last of the steps and the last monomial
+-- the last of the products and the last monomial
 pub degree_at :
-    (ws : List ℕ) (steps rest : List Step) (step : Step) (last : Monomial) → steps ≡ rest ++ step ∷ []
-    → degree_by ws step.1 + degree_by ws last ≡ product_degree ws steps last
-degree_at ws steps rest step last parts = sym (ap (λ s. product_degree ws s last) parts ∙ degree_behind ws rest step last)
+    (ws : List ℕ) (products rest : List KeptProduct) (step : KeptProduct) (last : Monomial) → products ≡ rest ++ step ∷ []
+    → degree_by ws step.1 + degree_by ws last ≡ product_degree ws products last
+degree_at ws products rest step last parts = sym (ap (λ s. product_degree ws s last) parts ∙ degree_behind ws rest step last)

@@ -5,7 +5,7 @@ use Rattle.monomials.specs.Exponents.{exponents_of}
 use Rattle.monomials.specs.Weights.{weighted_degree}
 use Rattle.monomial_orders.specs.Kept.{Monomial}
 use Rattle.module_vectors.specs.Rings.{variables}
-use Rattle.module_vectors.specs.Trails.{Step, last_step}
+use Rattle.module_vectors.specs.Trails.{KeptProduct, last_product}
 use Rattle.module_vectors.specs.declared.trail.KeptTrail.{KeptTrail}
 use Rattle.basis_steps.specs.Steps.{Replays}
 use Rattle.budget_stops.specs.Moments.{KeepsBudgetStop}
@@ -23,14 +23,14 @@ use Rattle.session_top.specs.Limits.{Limits}
 abbrev pub degree_by : List ℕ → Monomial → ℕ
 degree_by ws m = weighted_degree ws (exponents_of (length m.exponents) m.exponents)
 
--- the degree of the product that these steps lead to, by this last monomial
-abbrev pub product_degree : (weights : List ℕ) → List Step → (last : Monomial) → ℕ
+-- the degree of the product that these products lead to, by this last monomial
+abbrev pub product_degree : (weights : List ℕ) → List KeptProduct → (last : Monomial) → ℕ
 product_degree ws [] last = 0
-product_degree ws (first ∷ later) last = degree_by ws (last_step first later).1 + degree_by ws last
+product_degree ws (first ∷ later) last = degree_by ws (last_product first later).1 + degree_by ws last
 
 -- the degree of the product that a trail leads to, by the weights of its ring
 abbrev pub trail_degree : KeptTrail → ℕ
-trail_degree t = product_degree t.ring.weights t.steps.items t.last
+trail_degree t = product_degree t.ring.weights t.products.items t.last
 
 -- the line that tells a stop by the budget: how many pairs were taken, and how many are queued
 abbrev pub pairs_line : Shown → List ℕ

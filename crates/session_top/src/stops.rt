@@ -37,12 +37,12 @@ fn degree_of(weights: &Weights, monomial: &Mono) -> u128
     degree
 }
 
-/// The degree of the product that a trail leads to, by the weights of its ring; 0 for one without steps.
+/// The degree of the product that a trail leads to, by the weights of its ring; 0 for one without products.
 fn trail_degree(trail: &KeptTrail) -> u128
     ensures { result ≡ trail_degree trail.now }
 {
     let weights = &trail.ring.weights;
-    match trail.steps.split_last() {
+    match trail.products.split_last() {
         Some((step, _)) => degree_of(weights, &step.1) + degree_of(weights, &trail.last),
         None => 0,
     }

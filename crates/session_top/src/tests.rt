@@ -9,7 +9,7 @@ use std::test::Fail;
 use std::thread::Threads;
 use worker_gate::{Gate, HeldGate, OpenGate, Point};
 
-/// What is told of a trail: its start, how many generators, members and steps it has, and the two degrees at its end.
+/// What is told of a trail: its start, how many generators, members and products it has, and the two degrees at its end.
 type TrailTold = (&'static str, usize, usize, usize, u128, u128);
 
 /// What is told of an ending: of a kept state its budget, and how many pairs are taken and queued.
@@ -162,7 +162,7 @@ fn told_of_trail(trail: &KeptTrail) -> TrailTold {
         TrailStart::Term => "term",
         TrailStart::Product => "product",
     };
-    let before = match trail.steps.last() {
+    let before = match trail.products.last() {
         Some(step) => step.1.degree(),
         None => 0,
     };
@@ -170,7 +170,7 @@ fn told_of_trail(trail: &KeptTrail) -> TrailTold {
         start,
         trail.generators.len(),
         trail.members.len(),
-        trail.steps.len(),
+        trail.products.len(),
         before,
         trail.last.degree(),
     )

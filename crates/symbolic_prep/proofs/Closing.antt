@@ -9,14 +9,14 @@ use Rattle.pair_criteria.specs.Pairs.{IsFactorOf}
 use Rattle.pair_criteria.specs.declared.pair.Pair.{Pair as CodePair}
 use Rattle.monomial_orders.specs.Kept.{IsWeighed, Monomial}
 use Rattle.module_vectors.proofs.Scaling.{Each_at}
-use Rattle.module_vectors.specs.Trails.{Step, lead_at, no_step, product_lead, step_at}
+use Rattle.module_vectors.specs.Trails.{KeptProduct, lead_at, no_product, product_lead, kept_at}
 use Rattle.module_vectors.specs.Vectors.{key_of, sums_of}
 use Rattle.module_vectors.specs.declared.key.Key.{Key as CodeKey}
 use Rattle.row_matrix.proofs.KeyPlaces.{key_exact}
 use Rattle.row_matrix.specs.Hashes.{AreApart, no_key}
 use Rattle.row_matrix.specs.Rows.{AreKeys, RowShown, column_key, first_column}
 use Rattle.symbolic_prep.proofs.Planning.{entries_some, lead_known}
-use Rattle.symbolic_prep.specs.Plans.{AreClosed, HasPairSteps, IsLaterPlan, IsMorePlanned, IsPairOf, IsPlan, IsPlannedRow, IsTopStep, no_row, row_at}
+use Rattle.symbolic_prep.specs.Plans.{AreClosed, HasPairProducts, IsLaterPlan, IsMorePlanned, IsPairOf, IsPlan, IsPlannedRow, IsTopProduct, no_row, row_at}
 use Rattle.vector_division.specs.Divisions.{IsUncovered}
 use Rattle.vector_division.specs.Progress.{IsDivisor}
 
@@ -43,16 +43,16 @@ key_stays n keys added c lt = ap (key_of n) (get_or_append_left keys added no_ke
 
 -- the key that was to be the lead of a product is the first of its row
 pub lead_is :
-    (n : ℕ) (ws : List ℕ) (list : List (List (CodeKey × ℕ))) (old new : List CodeKey) (rows rows' : List RowShown) (steps steps' : List Step) (led led' : List Bool) (s : Step) (cursor : ℕ)
-    → (h : IsMorePlanned n ws list old new rows rows' steps steps' led led' s) → AreApart new → cursor < length old
+    (n : ℕ) (ws : List ℕ) (list : List (List (CodeKey × ℕ))) (old new : List CodeKey) (rows rows' : List RowShown) (products products' : List KeptProduct) (led led' : List Bool) (s : KeptProduct) (cursor : ℕ)
+    → (h : IsMorePlanned n ws list old new rows rows' products products' led led' s) → AreApart new → cursor < length old
     → product_lead n list s ≡ column_key n old cursor → first_column h.rows_more.0.entries ≡ cursor
-lead_is n ws list old new rows rows' steps steps' led led' s cursor h apart lt e =
+lead_is n ws list old new rows rows' products products' led led' s cursor h apart lt e =
     let r = h.rows_more.0 in
     let i = length rows in
     let size : length rows' ≡ length rows + 1 = ap length h.rows_more.1 ∙ length_push rows r in
     let at : row_at rows' i ≡ r = ap (λ xs. get_or xs i no_row) h.rows_more.1 ∙ get_or_push rows r no_row i refl in
-    let row : IsPlannedRow n ws list new i (row_at rows' i) (step_at steps' i) = h.plan.each i (omega arith) in
-    let some = entries_some n list new (row_at rows' i).entries (step_at steps' i) row.named row.product.some in
+    let row : IsPlannedRow n ws list new i (row_at rows' i) (kept_at products' i) = h.plan.each i (omega arith) in
+    let some = entries_some n list new (row_at rows' i).entries (kept_at products' i) row.named row.product.some in
     let first : first_column r.entries < length new = subst (λ (x : RowShown). first_column x.entries < length new) at (lead_known (length new) (row_at rows' i).entries some row.named.known) in
     let grown : length new ≡ length old + length h.added = ap length h.grown ∙ length-append old h.added in
     let stays : column_key n new cursor ≡ column_key n old cursor = ap (λ ks. column_key n ks cursor) h.grown ∙ key_stays n old h.added cursor lt in
@@ -60,55 +60,55 @@ lead_is n ws list old new rows rows' steps steps' led led' s cursor h apart lt e
 
 -- that key is marked
 pub lead_marked :
-    (n : ℕ) (ws : List ℕ) (list : List (List (CodeKey × ℕ))) (old new : List CodeKey) (rows rows' : List RowShown) (steps steps' : List Step) (led led' : List Bool) (s : Step) (cursor : ℕ)
-    → IsMorePlanned n ws list old new rows rows' steps steps' led led' s → AreApart new → cursor < length old
+    (n : ℕ) (ws : List ℕ) (list : List (List (CodeKey × ℕ))) (old new : List CodeKey) (rows rows' : List RowShown) (products products' : List KeptProduct) (led led' : List Bool) (s : KeptProduct) (cursor : ℕ)
+    → IsMorePlanned n ws list old new rows rows' products products' led led' s → AreApart new → cursor < length old
     → product_lead n list s ≡ column_key n old cursor → get_or led' cursor false ≡ true
-lead_marked n ws list old new rows rows' steps steps' led led' s cursor h apart lt e =
-    subst (λ c. get_or led' c false ≡ true) (lead_is n ws list old new rows rows' steps steps' led led' s cursor h apart lt e) h.rows_more.3
+lead_marked n ws list old new rows rows' products products' led led' s cursor h apart lt e =
+    subst (λ c. get_or led' c false ≡ true) (lead_is n ws list old new rows rows' products products' led led' s cursor h apart lt e) h.rows_more.3
 
 pub later_itself :
-    (n : ℕ) (ws : List ℕ) (list : List (List (CodeKey × ℕ))) (keys : List CodeKey) (rows : List RowShown) (steps : List Step) (led : List Bool)
-    → IsPlan n ws list keys rows steps led → IsLaterPlan n ws list keys steps led keys rows steps led
-later_itself n ws list keys rows steps led h = record {
+    (n : ℕ) (ws : List ℕ) (list : List (List (CodeKey × ℕ))) (keys : List CodeKey) (rows : List RowShown) (products : List KeptProduct) (led : List Bool)
+    → IsPlan n ws list keys rows products led → IsLaterPlan n ws list keys products led keys rows products led
+later_itself n ws list keys rows products led h = record {
   plan = h;
   added = [];
   grown = sym (append-nil keys);
   more = [];
-  steps_more = sym (append-nil steps);
+  products_more = sym (append-nil products);
   kept = λ c e. e;
 }
 
 pub later_of_more :
-    (n : ℕ) (ws : List ℕ) (list : List (List (CodeKey × ℕ))) (old new : List CodeKey) (rows rows' : List RowShown) (steps steps' : List Step) (led led' : List Bool) (s : Step)
-    → IsMorePlanned n ws list old new rows rows' steps steps' led led' s → IsLaterPlan n ws list old steps led new rows' steps' led'
-later_of_more n ws list old new rows rows' steps steps' led led' s h = record {
+    (n : ℕ) (ws : List ℕ) (list : List (List (CodeKey × ℕ))) (old new : List CodeKey) (rows rows' : List RowShown) (products products' : List KeptProduct) (led led' : List Bool) (s : KeptProduct)
+    → IsMorePlanned n ws list old new rows rows' products products' led led' s → IsLaterPlan n ws list old products led new rows' products' led'
+later_of_more n ws list old new rows rows' products products' led led' s h = record {
   plan = h.plan;
   added = h.added;
   grown = h.grown;
   more = s ∷ [];
-  steps_more = h.steps_more;
+  products_more = h.products_more;
   kept = h.kept;
 }
 
 pub later_trans :
-    (n : ℕ) (ws : List ℕ) (list : List (List (CodeKey × ℕ))) (keys keys' keys'' : List CodeKey) (rows' rows'' : List RowShown) (steps steps' steps'' : List Step) (led led' led'' : List Bool)
-    → IsLaterPlan n ws list keys steps led keys' rows' steps' led' → IsLaterPlan n ws list keys' steps' led' keys'' rows'' steps'' led''
-    → IsLaterPlan n ws list keys steps led keys'' rows'' steps'' led''
-later_trans n ws list keys keys' keys'' rows' rows'' steps steps' steps'' led led' led'' a b = record {
+    (n : ℕ) (ws : List ℕ) (list : List (List (CodeKey × ℕ))) (keys keys' keys'' : List CodeKey) (rows' rows'' : List RowShown) (products products' steps'' : List KeptProduct) (led led' led'' : List Bool)
+    → IsLaterPlan n ws list keys products led keys' rows' products' led' → IsLaterPlan n ws list keys' products' led' keys'' rows'' steps'' led''
+    → IsLaterPlan n ws list keys products led keys'' rows'' steps'' led''
+later_trans n ws list keys keys' keys'' rows' rows'' products products' steps'' led led' led'' a b = record {
   plan = b.plan;
   added = a.added ++ b.added;
   grown = b.grown ∙ ap (λ ks. ks ++ b.added) a.grown ∙ append_assoc keys a.added b.added;
   more = a.more ++ b.more;
-  steps_more = b.steps_more ∙ ap (λ ss. ss ++ b.more) a.steps_more ∙ append_assoc steps a.more b.more;
+  products_more = b.products_more ∙ ap (λ ss. ss ++ b.more) a.products_more ∙ append_assoc products a.more b.more;
   kept = λ c e. b.kept c (a.kept c e);
 }
 
 pub closed_more :
-    (n : ℕ) (ws : List ℕ) (list : List (List (CodeKey × ℕ))) (keys keys' : List CodeKey) (rows' : List RowShown) (steps steps' : List Step) (led led' : List Bool) (cursor : ℕ)
-    → AreClosed n list keys led cursor → IsLaterPlan n ws list keys steps led keys' rows' steps' led' → cursor < length keys
+    (n : ℕ) (ws : List ℕ) (list : List (List (CodeKey × ℕ))) (keys keys' : List CodeKey) (rows' : List RowShown) (products products' : List KeptProduct) (led led' : List Bool) (cursor : ℕ)
+    → AreClosed n list keys led cursor → IsLaterPlan n ws list keys products led keys' rows' products' led' → cursor < length keys
     → (get_or led' cursor false ≡ true) ⊎ IsUncovered (sums_of n list) (column_key n keys cursor)
     → AreClosed n list keys' led' (cursor + 1)
-closed_more n ws list keys keys' rows' steps steps' led led' cursor h later lt here c l m = elim (cases_eq c cursor) [
+closed_more n ws list keys keys' rows' products products' led led' cursor h later lt here c l m = elim (cases_eq c cursor) [
   | inl e ↦ subst (λ x. (get_or led' x false ≡ true) ⊎ IsUncovered (sums_of n list) (column_key n keys' x)) (sym e) (moved cursor lt here)
   | inr ne ↦ elim (h c (omega arith) (omega arith)) [
     | inl f ↦ inl (later.kept c f)
@@ -131,27 +131,27 @@ key_read n ws keys read cursor key vars lt e is =
 
 -- a product with its lead is there
 pub now_marked :
-    (n : ℕ) (ws : List ℕ) (list : List (List (CodeKey × ℕ))) (old new read : List CodeKey) (rows rows' : List RowShown) (steps steps' : List Step) (led led' : List Bool) (s : Step) (cursor : ℕ) (key : CodeKey)
+    (n : ℕ) (ws : List ℕ) (list : List (List (CodeKey × ℕ))) (old new read : List CodeKey) (rows rows' : List RowShown) (products products' : List KeptProduct) (led led' : List Bool) (s : KeptProduct) (cursor : ℕ) (key : CodeKey)
     → key_of n key ≡ column_key n old cursor → IsDivisor n ws list (key_of n key) s
-    → IsMorePlanned n ws list old new rows rows' steps steps' led led' s → read ≡ new → AreApart read → cursor < length old
+    → IsMorePlanned n ws list old new rows rows' products products' led led' s → read ≡ new → AreApart read → cursor < length old
     → get_or led' cursor false ≡ true
-now_marked n ws list old new read rows rows' steps steps' led led' s cursor key same d h r apart lt =
-    lead_marked n ws list old new rows rows' steps steps' led led' s cursor h (subst AreApart r apart) lt (d.lead ∙ same)
+now_marked n ws list old new read rows rows' products products' led led' s cursor key same d h r apart lt =
+    lead_marked n ws list old new rows rows' products products' led led' s cursor h (subst AreApart r apart) lt (d.lead ∙ same)
 
 -- ---- the products of pairs
 pub top_step :
-    (n : ℕ) (ws : List ℕ) (list : List (List (CodeKey × ℕ))) (steps steps' : List Step) (lcm : CodeKey) (member : ℕ) (t : Monomial) (v : List (CodeKey × ℕ))
-    → v ≡ get_or list member [] → IsFactorOf n ws lcm v t → steps' ≡ steps ++ (member, t) ∷ []
-    → IsTopStep n list steps' lcm member (length steps)
-top_step n ws list steps steps' lcm member t v is h more =
-    let s : Step = (member, t) in
-    let at : step_at steps' (length steps) ≡ s = ap (λ xs. get_or xs (length steps) no_step) more ∙ get_or_push steps s no_step (length steps) refl in
-    let size : length steps' ≡ length steps + 1 = ap length more ∙ length_push steps s in
+    (n : ℕ) (ws : List ℕ) (list : List (List (CodeKey × ℕ))) (products products' : List KeptProduct) (lcm : CodeKey) (member : ℕ) (t : Monomial) (v : List (CodeKey × ℕ))
+    → v ≡ get_or list member [] → IsFactorOf n ws lcm v t → products' ≡ products ++ (member, t) ∷ []
+    → IsTopProduct n list products' lcm member (length products)
+top_step n ws list products products' lcm member t v is h more =
+    let s : KeptProduct = (member, t) in
+    let at : kept_at products' (length products) ≡ s = ap (λ xs. get_or xs (length products) no_product) more ∙ get_or_push products s no_product (length products) refl in
+    let size : length products' ≡ length products + 1 = ap length more ∙ length_push products s in
     let f : IsFactorOf n ws lcm (get_or list member []) t = subst (λ w. IsFactorOf n ws lcm w t) is h in
     record {
       there = omega arith;
-      of = ap (λ (x : Step). x.0) at;
-      exponents = ap (λ (x : Step). exponents_of n x.1.exponents) at ∙ f.exponents;
+      of = ap (λ (x : KeptProduct). x.0) at;
+      exponents = ap (λ (x : KeptProduct). exponents_of n x.1.exponents) at ∙ f.exponents;
     }
 
 pub pair_divides :
@@ -162,62 +162,62 @@ pair_divides n ws list x h =
     (subst (Divides (lead_at n list x.i).1) (sym e) (quotient (lcm (lead_at n list x.i).1 (lead_at n list x.j).1) (lead_at n list x.i).1, times-quotient (lead_at n list x.i).1 (lead_at n list x.j).1), subst (Divides (lead_at n list x.j).1) (sym e) (quotient (lcm (lead_at n list x.i).1 (lead_at n list x.j).1) (lead_at n list x.j).1, times-quotient_right (lead_at n list x.i).1 (lead_at n list x.j).1))
 
 top_more :
-    (n : ℕ) (list : List (List (CodeKey × ℕ))) (steps more steps' : List Step) (lcm : CodeKey) (member number : ℕ)
-    → steps' ≡ steps ++ more → IsTopStep n list steps lcm member number → IsTopStep n list steps' lcm member number
-top_more n list steps more steps' lcm member number e h =
-    let at : step_at steps' number ≡ step_at steps number = ap (λ xs. get_or xs number no_step) e ∙ get_or_append_left steps more no_step number h.there in
-    let size : length steps' ≡ length steps + length more = ap length e ∙ length-append steps more in
+    (n : ℕ) (list : List (List (CodeKey × ℕ))) (products more products' : List KeptProduct) (lcm : CodeKey) (member number : ℕ)
+    → products' ≡ products ++ more → IsTopProduct n list products lcm member number → IsTopProduct n list products' lcm member number
+top_more n list products more products' lcm member number e h =
+    let at : kept_at products' number ≡ kept_at products number = ap (λ xs. get_or xs number no_product) e ∙ get_or_append_left products more no_product number h.there in
+    let size : length products' ≡ length products + length more = ap length e ∙ length-append products more in
     record {
       there = omega (arith, h.there);
-      of = ap (λ (x : Step). x.0) at ∙ h.of;
-      exponents = ap (λ (x : Step). exponents_of n x.1.exponents) at ∙ h.exponents;
+      of = ap (λ (x : KeptProduct). x.0) at ∙ h.of;
+      exponents = ap (λ (x : KeptProduct). exponents_of n x.1.exponents) at ∙ h.exponents;
     }
 
 pub pairs_more :
-    (n : ℕ) (list : List (List (CodeKey × ℕ))) (steps more steps' : List Step) (pairs : List CodePair)
-    → steps' ≡ steps ++ more → Each (HasPairSteps n list steps) pairs → Each (HasPairSteps n list steps') pairs
-pairs_more n list steps more steps' [] e h = tt
-pairs_more n list steps more steps' (x ∷ pairs) e h = (
+    (n : ℕ) (list : List (List (CodeKey × ℕ))) (products more products' : List KeptProduct) (pairs : List CodePair)
+    → products' ≡ products ++ more → Each (HasPairProducts n list products) pairs → Each (HasPairProducts n list products') pairs
+pairs_more n list products more products' [] e h = tt
+pairs_more n list products more products' (x ∷ pairs) e h = (
   record {
     left = h.0.left;
     right = h.0.right;
-    first = top_more n list steps more steps' x.lcm x.i h.0.left e h.0.first;
-    second = top_more n list steps more steps' x.lcm x.j h.0.right e h.0.second;
+    first = top_more n list products more products' x.lcm x.i h.0.left e h.0.first;
+    second = top_more n list products more products' x.lcm x.j h.0.right e h.0.second;
   },
-  pairs_more n list steps more steps' pairs e h.1,
+  pairs_more n list products more products' pairs e h.1,
 )
 
 pub both_tops :
-    (n : ℕ) (list : List (List (CodeKey × ℕ))) (steps steps' more : List Step) (x : CodePair)
-    → (number : ℕ) × IsTopStep n list steps x.lcm x.i number → steps' ≡ steps ++ more
-    → (number : ℕ) × IsTopStep n list steps' x.lcm x.j number → HasPairSteps n list steps' x
-both_tops n list steps steps' more x a e b = record {
+    (n : ℕ) (list : List (List (CodeKey × ℕ))) (products products' more : List KeptProduct) (x : CodePair)
+    → (number : ℕ) × IsTopProduct n list products x.lcm x.i number → products' ≡ products ++ more
+    → (number : ℕ) × IsTopProduct n list products' x.lcm x.j number → HasPairProducts n list products' x
+both_tops n list products products' more x a e b = record {
   left = a.0;
   right = b.0;
-  first = top_more n list steps more steps' x.lcm x.i a.0 e a.1;
+  first = top_more n list products more products' x.lcm x.i a.0 e a.1;
   second = b.1;
 }
 
 -- the product was there
 pub top_found :
-    (n : ℕ) (ws : List ℕ) (list : List (List (CodeKey × ℕ))) (steps : List Step) (lcm : CodeKey) (member : ℕ) (t : Monomial) (v : List (CodeKey × ℕ))
-    → v ≡ get_or list member [] → IsFactorOf n ws lcm v t → Contains steps (member, t)
-    → (number : ℕ) × IsTopStep n list steps lcm member number
-top_found n ws list steps lcm member t v is h there =
-    let s : Step = (member, t) in
-    let at : step_at steps there.0 ≡ s = get_or_default steps there.0 no_step s there.1 ∙ there.2 in
+    (n : ℕ) (ws : List ℕ) (list : List (List (CodeKey × ℕ))) (products : List KeptProduct) (lcm : CodeKey) (member : ℕ) (t : Monomial) (v : List (CodeKey × ℕ))
+    → v ≡ get_or list member [] → IsFactorOf n ws lcm v t → Contains products (member, t)
+    → (number : ℕ) × IsTopProduct n list products lcm member number
+top_found n ws list products lcm member t v is h there =
+    let s : KeptProduct = (member, t) in
+    let at : kept_at products there.0 ≡ s = get_or_default products there.0 no_product s there.1 ∙ there.2 in
     let f : IsFactorOf n ws lcm (get_or list member []) t = subst (λ w. IsFactorOf n ws lcm w t) is h in (
       there.0,
       record {
         there = there.1;
-        of = ap (λ (x : Step). x.0) at;
-        exponents = ap (λ (x : Step). exponents_of n x.1.exponents) at ∙ f.exponents;
+        of = ap (λ (x : KeptProduct). x.0) at;
+        exponents = ap (λ (x : KeptProduct). exponents_of n x.1.exponents) at ∙ f.exponents;
       },
     )
 
 -- where there are pairs there are products
-pub some_steps :
-    (n : ℕ) (list : List (List (CodeKey × ℕ))) (steps : List Step) (pairs : List CodePair)
-    → 0 < length pairs → Each (HasPairSteps n list steps) pairs → 0 < length steps
-some_steps n list steps [] lt h = absurd (omega arith)
-some_steps n list steps (x ∷ pairs) lt h = let t = h.0.first.there in omega arith
+pub some_products :
+    (n : ℕ) (list : List (List (CodeKey × ℕ))) (products : List KeptProduct) (pairs : List CodePair)
+    → 0 < length pairs → Each (HasPairProducts n list products) pairs → 0 < length products
+some_products n list products [] lt h = absurd (omega arith)
+some_products n list products (x ∷ pairs) lt h = let t = h.0.first.there in omega arith

@@ -5,7 +5,7 @@ use Rattle.std.proofs.lemmas.List.{get_or_append_left, get_or_push, length_push}
 use Rattle.formal_sums.proofs.WeightedSums.{Each_append}
 use Rattle.formal_sums.specs.FormalSums.{Each}
 use Rattle.module_vectors.proofs.SumsOfProducts.{Each_member}
-use Rattle.module_vectors.specs.Trails.{Step}
+use Rattle.module_vectors.specs.Trails.{KeptProduct}
 use Rattle.module_vectors.specs.declared.key.Key.{Key as CodeKey}
 use Rattle.row_matrix.specs.Rows.{RowShown, first_column}
 use Rattle.symbolic_prep.specs.Plans.{IsPlan, lead_number, no_row}
@@ -72,9 +72,9 @@ sparse_start rows pairs some there size = record {
 
 -- a key that is not marked is the lead of no row
 pub not_a_lead :
-    (n : ℕ) (ws : List ℕ) (list : List (List (CodeKey × ℕ))) (keys : List CodeKey) (rows : List RowShown) (steps : List Step) (led : List Bool)
+    (n : ℕ) (ws : List ℕ) (list : List (List (CodeKey × ℕ))) (keys : List CodeKey) (rows : List RowShown) (products : List KeptProduct) (led : List Bool)
     (lead cursor : ℕ)
-    → IsPlan n ws list keys rows steps led → (get_or led cursor false ≡ true → ⊥) → lead ≡ cursor
+    → IsPlan n ws list keys rows products led → (get_or led cursor false ≡ true → ⊥) → lead ≡ cursor
     → (i : ℕ) → i < length rows → lead_number rows i ≡ lead → ⊥
-not_a_lead n ws list keys rows steps led lead cursor h free e i lt same =
+not_a_lead n ws list keys rows products led lead cursor h free e i lt same =
     free (subst (λ c. get_or led c false ≡ true) (same ∙ e) (h.leads i lt))

@@ -11,7 +11,7 @@ use Rattle.orders.specs.KeyOrders.{Descends, IsKeyOrder, KeyDivides}
 use Rattle.bases.specs.Leads.{head_coefficient, head_key, leads}
 use Rattle.module_vectors.proofs.Scaling.{Each_at, descends_scale}
 use Rattle.module_vectors.proofs.SumsOfProducts.{Each_member}
-use Rattle.module_vectors.specs.Trails.{HasKey, Step, no_step, step_at}
+use Rattle.module_vectors.specs.Trails.{HasKey, KeptProduct, no_product, kept_at}
 use Rattle.module_vectors.specs.Vectors.{IsTerm, IsVector, key_of, sum_of, sums_of}
 use Rattle.module_vectors.specs.declared.key.Key.{Key as CodeKey}
 use Rattle.pair_criteria.specs.declared.pair.Pair.{Pair as CodePair}
@@ -26,7 +26,7 @@ use Rattle.row_matrix.specs.Rows.{AreEntries, Descend, Entry, IsRow, MatrixShown
 use Rattle.symbolic_prep.proofs.Closing.{one_number}
 use Rattle.symbolic_prep.proofs.Planning.{entries_some, head_of, head_product, lead_known}
 use Rattle.symbolic_prep.specs.Counts.{HasFewRows, IsSparse}
-use Rattle.symbolic_prep.specs.Plans.{AreClosed, HasPairSteps, IsPairOf, IsPlan, IsTopStep, lead_number, no_row, product_sum, row_at}
+use Rattle.symbolic_prep.specs.Plans.{AreClosed, HasPairProducts, IsPairOf, IsPlan, IsTopProduct, lead_number, no_row, product_sum, row_at}
 use Rattle.pair_criteria.specs.Traces.{AreTraced}
 use Rattle.symbolic_prep.specs.Prepared.{IsMonicVector, IsPrepared}
 
@@ -112,10 +112,10 @@ contains_at (r ∷ rows) zero k lt e = inl e
 contains_at (r ∷ rows) (suc i) k lt e = inr (contains_at rows i k (omega arith) e)
 
 module _ (n : ℕ) (ws : List ℕ) (p : ℕ) (one : 1 < p) (compare : Key n → Key n → Ordering) (order : IsKeyOrder 0 compare) (list : List (List (CodeKey × ℕ))) (pairs : List CodePair)
-    (keys : List CodeKey) (rows : List RowShown) (steps : List Step) (led : List Bool) (m : MatrixShown)
+    (keys : List CodeKey) (rows : List RowShown) (made : List KeptProduct) (led : List Bool) (m : MatrixShown)
     (vectors : Each (IsVector n ws p compare) list) (monic : Each (IsMonicVector n) list)
-    (plan : IsPlan n ws list keys rows steps led) (closed : AreClosed n list keys led (length keys))
-    (of_pairs : Each (IsPairOf n ws list) pairs) (pair_steps : Each (HasPairSteps n list steps) pairs)
+    (plan : IsPlan n ws list keys rows made led) (closed : AreClosed n list keys led (length keys))
+    (of_pairs : Each (IsPairOf n ws list) pairs) (pair_steps : Each (HasPairProducts n list made) pairs)
     (placed : IsPlacedMatrix n ws compare keys (length rows) rows m) where
   M : List (FormalSum n)
   M = vectors_of n m.columns m.rows
@@ -126,22 +126,22 @@ module _ (n : ℕ) (ws : List ℕ) (p : ℕ) (one : 1 < p) (compare : Key n → 
   row_is : (i : ℕ) → i < length rows → row_at m.rows i ≡ placed_row placed.places (row_at rows i)
   row_is i lt = ap (λ xs. get_or xs i no_row) placed.placed ∙ get_or-map (λ (r : RowShown). placed_row placed.places r) rows i no_row no_row lt
 
-  sum_is : (i : ℕ) → i < length rows → vector_of n m.columns (row_at m.rows i) ≡ product_sum n list (step_at steps i)
+  sum_is : (i : ℕ) → i < length rows → vector_of n m.columns (row_at m.rows i) ≡ product_sum n list (kept_at made i)
   sum_is i lt =
       let h = plan.each i lt in
       ap (vector_of n m.columns) (row_is i lt) ∙ placed_sum n ws compare keys m.columns placed.places (row_at rows i).entries placed.numbering h.named.known ∙ h.named.sum
 
-  at_is : (i : ℕ) → i < length m.rows → get_or (vectors_of n m.columns m.rows) i [] ≡ product_sum n list (step_at steps i)
+  at_is : (i : ℕ) → i < length m.rows → get_or (vectors_of n m.columns m.rows) i [] ≡ product_sum n list (kept_at made i)
   at_is i lt = get_or-map (λ (r : RowShown). vector_of n m.columns r) m.rows i no_row [] lt ∙ sum_is i (omega (arith, size))
 
   M_size : length (vectors_of n m.columns m.rows) ≡ length m.rows
   M_size = length-map m.rows (λ (r : RowShown). vector_of n m.columns r)
 
-  lists : vectors_of n m.columns m.rows ≡ map (λ (s : Step). product_sum n list s) steps
+  lists : vectors_of n m.columns m.rows ≡ map (λ (s : KeptProduct). product_sum n list s) made
   lists =
-      let b : length (map (λ (s : Step). product_sum n list s) steps) ≡ length steps = length-map steps (λ (s : Step). product_sum n list s) in
-      ext_get_or [] (vectors_of n m.columns m.rows) (map (λ (s : Step). product_sum n list s) steps) (omega (arith, M_size, size, plan.count))
-      (λ i lt. at_is i (omega (arith, M_size)) ∙ (sym (get_or-map (λ (s : Step). product_sum n list s) steps i no_step [] (omega (arith, M_size, size, plan.count)))))
+      let b : length (map (λ (s : KeptProduct). product_sum n list s) made) ≡ length made = length-map made (λ (s : KeptProduct). product_sum n list s) in
+      ext_get_or [] (vectors_of n m.columns m.rows) (map (λ (s : KeptProduct). product_sum n list s) made) (omega (arith, M_size, size, plan.count))
+      (λ i lt. at_is i (omega (arith, M_size)) ∙ (sym (get_or-map (λ (s : KeptProduct). product_sum n list s) made i no_product [] (omega (arith, M_size, size, plan.count)))))
 
   member_at : (i : ℕ) → i < length list → IsVector n ws p compare (get_or list i []) × IsMonicVector n (get_or list i [])
   member_at i lt = (Each_at (IsVector n ws p compare) list i (get_or list i []) vectors lt (get_or_default list i [] (get_or list i []) lt), Each_at (IsMonicVector n) list i (get_or list i []) monic lt (get_or_default list i [] (get_or list i []) lt))
@@ -150,7 +150,7 @@ module _ (n : ℕ) (ws : List ℕ) (p : ℕ) (one : 1 < p) (compare : Key n → 
   good i lt =
       let l : i < length rows = omega (arith, size) in
       let h = plan.each i l in
-      let s = step_at steps i in
+      let s = kept_at made i in
       let g = member_at s.0 h.product.member in
       let es = (row_at rows i).entries in
       let sum : row_sum (column_key n m.columns) (placed_entries placed.places es) ≡ product_sum n list s = placed_sum n ws compare keys m.columns placed.places es placed.numbering h.named.known ∙ h.named.sum in
@@ -167,13 +167,13 @@ module _ (n : ℕ) (ws : List ℕ) (p : ℕ) (one : 1 < p) (compare : Key n → 
   lead_of i lt =
       let l : i < length rows = omega (arith, size) in
       let h = plan.each i l in
-      ap head_key (at_is i lt) ∙ ap head_key (sym h.named.sum) ∙ head_of (column_key n keys) (row_at rows i).entries (entries_some n list keys (row_at rows i).entries (step_at steps i) h.named h.product.some)
+      ap head_key (at_is i lt) ∙ ap head_key (sym h.named.sum) ∙ head_of (column_key n keys) (row_at rows i).entries (entries_some n list keys (row_at rows i).entries (kept_at made i) h.named h.product.some)
 
   products : AreProductRows p (sums_of n list) (vectors_of n m.columns m.rows)
   products i lt =
       let l : i < length m.rows = omega (arith, M_size) in
       let h = plan.each i (omega (arith, size)) in
-      let s = step_at steps i in
+      let s = kept_at made i in
       record {
         member = s.0;
         within = subst (λ x. s.0 < x) (sym (length-map list (λ (v : List (CodeKey × ℕ)). sum_of n v))) h.product.member;
@@ -183,18 +183,18 @@ module _ (n : ℕ) (ws : List ℕ) (p : ℕ) (one : 1 < p) (compare : Key n → 
       }
 
   top_row :
-      (x : CodePair) (member number : ℕ) → IsPairOf n ws list x → IsTopStep n list steps x.lcm member number
+      (x : CodePair) (member number : ℕ) → IsPairOf n ws list x → IsTopProduct n list made x.lcm member number
       → IsSame p (get_or (vectors_of n m.columns m.rows) number []) (scale 1 (quotient (lcm (leads (sums_of n list) x.i).1 (leads (sums_of n list) x.j).1) (leads (sums_of n list) member).1) (get_or (sums_of n list) member []))
   top_row x member number h t =
       let l : number < length m.rows = omega (arith, t.there, size, plan.count) in
-      let s = step_at steps number in
+      let s = kept_at made number in
       let e : exponents_of n x.lcm.monomial.exponents ≡ lcm (leads (sums_of n list) x.i).1 (leads (sums_of n list) x.j).1 =
       ap (λ (k : Key n). k.1) h.lcm ∙ ap₂ (λ (a b : FormalSum n). lcm (head_key a).1 (head_key b).1) (sym (sums_at n list x.i)) (sym (sums_at n list x.j)) in
       let q : exponents_of n s.1.exponents ≡ quotient (lcm (leads (sums_of n list) x.i).1 (leads (sums_of n list) x.j).1) (leads (sums_of n list) member).1 =
       t.exponents ∙ ap₂ (λ a (b : FormalSum n). quotient a (head_key b).1) e (sym (sums_at n list member)) in
       IsSame_of p _ _ (at_is number l ∙ ap₂ (λ a b. scale 1 a b) q (ap (λ i. sum_of n (get_or list i [])) t.of ∙ sym (sums_at n list member)))
 
-  pair_rows : (ps : List CodePair) → Each (IsPairOf n ws list) ps → Each (HasPairSteps n list steps) ps → Each (λ (x : CodePair). HasPairRows p (sums_of n list) (vectors_of n m.columns m.rows) x.i x.j) ps
+  pair_rows : (ps : List CodePair) → Each (IsPairOf n ws list) ps → Each (HasPairProducts n list made) ps → Each (λ (x : CodePair). HasPairRows p (sums_of n list) (vectors_of n m.columns m.rows) x.i x.j) ps
   pair_rows [] a b = tt
   pair_rows (x ∷ ps) a b = (
     record {
@@ -252,17 +252,17 @@ module _ (n : ℕ) (ws : List ℕ) (p : ℕ) (one : 1 < p) (compare : Key n → 
       lead_below : (i : ℕ) → i < length rows → lead_number rows i < length keys
       lead_below i l =
           let o = plan.each i l in
-          lead_known (length keys) (row_at rows i).entries (entries_some n list keys (row_at rows i).entries (step_at steps i) o.named o.product.some) o.named.known
+          lead_known (length keys) (row_at rows i).entries (entries_some n list keys (row_at rows i).entries (kept_at made i) o.named o.product.some) o.named.known
 
   pub prepared :
-      AreTraced n list pairs steps → AreApart keys
+      AreTraced n list pairs made → AreApart keys
       → (0 < length pairs → (chosen : List ℕ) × IsSparse rows chosen (2 * length pairs - 1)) → (rank : ℕ)
-      → IsPrepared n (record { modulus = p; weights = ws; rank = rank; compare = compare }) list pairs m steps
+      → IsPrepared n (record { modulus = p; weights = ws; rank = rank; compare = compare }) list pairs m made
   prepared traced apart sparse rank = record {
     matrix = record { monomials = placed.numbering.monomials; descend = placed.numbering.descend; rows = Each_index (IsRow p (length m.columns) m.inputs) m.rows no_row good };
     inputs = placed.input_rows ∙ sym size;
     sources = λ i lt. (let l : i < length rows = omega (arith, size) in ap (λ (r : RowShown). r.sources) (row_is i l) ∙ (plan.each i l).sources);
-    steps_of = λ i lt. (plan.each i (omega (arith, plan.count))).product;
+    each_product = λ i lt. (plan.each i (omega (arith, plan.count))).product;
     vectors = lists;
     products = products;
     pair_rows = pair_rows pairs of_pairs pair_steps;
@@ -282,5 +282,5 @@ plan_start n ws list = record {
   leads = λ i l. absurd (omega arith);
 }
 
-pub rows_known : (n : ℕ) (ws : List ℕ) (list : List (List (CodeKey × ℕ))) (keys : List CodeKey) (rows : List RowShown) (steps : List Step) (led : List Bool) → IsPlan n ws list keys rows steps led → Each (λ (r : RowShown). Each (λ e. e.0 < length keys) r.entries) rows
-rows_known n ws list keys rows steps led h = Each_index (λ (r : RowShown). Each (λ e. e.0 < length keys) r.entries) rows no_row (λ i lt. (h.each i lt).named.known)
+pub rows_known : (n : ℕ) (ws : List ℕ) (list : List (List (CodeKey × ℕ))) (keys : List CodeKey) (rows : List RowShown) (made : List KeptProduct) (led : List Bool) → IsPlan n ws list keys rows made led → Each (λ (r : RowShown). Each (λ e. e.0 < length keys) r.entries) rows
+rows_known n ws list keys rows made led h = Each_index (λ (r : RowShown). Each (λ e. e.0 < length keys) r.entries) rows no_row (λ i lt. (h.each i lt).named.known)

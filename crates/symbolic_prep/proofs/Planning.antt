@@ -5,7 +5,7 @@ use Rattle.std.proofs.lemmas.List.{get_or_append_left, get_or_push, length_push}
 use Rattle.monomials.specs.Exponents.{Exponents, exponents_of}
 use Rattle.formal_sums.specs.FormalSums.{Each, Key, scale, shift}
 use Rattle.bases.specs.Leads.{head_key}
-use Rattle.module_vectors.specs.Trails.{Step, no_step, product_lead, step_at}
+use Rattle.module_vectors.specs.Trails.{KeptProduct, no_product, product_lead, kept_at}
 use Rattle.formal_sums.proofs.Combining.{Each_map}
 use Rattle.monomial_orders.proofs.Over.{weighed_at}
 use Rattle.monomial_orders.specs.Kept.{IsWeighed, Monomial}
@@ -23,7 +23,7 @@ pub head_of : {n : ℕ} (key : ℕ → Key n) (es : List Entry) → 0 < length e
 head_of key [] lt = absurd (omega arith)
 head_of key (e ∷ es) lt = refl
 
-pub head_product : (n : ℕ) (list : List (List (CodeKey × ℕ))) (s : Step) → 0 < length (get_or list s.0 []) → head_key (product_sum n list s) ≡ product_lead n list s
+pub head_product : (n : ℕ) (list : List (List (CodeKey × ℕ))) (s : KeptProduct) → 0 < length (get_or list s.0 []) → head_key (product_sum n list s) ≡ product_lead n list s
 head_product n list s lt = go (get_or list s.0 []) lt
   where
     go : (v : List (CodeKey × ℕ)) → 0 < length v → head_key (scale 1 (exponents_of n s.1.exponents) (sum_of n v)) ≡ shift (exponents_of n s.1.exponents) (head_key (sum_of n v))
@@ -31,7 +31,7 @@ head_product n list s lt = go (get_or list s.0 []) lt
     go (t ∷ v) lt = refl
 
 -- as many entries as terms
-pub entries_some : (n : ℕ) (list : List (List (CodeKey × ℕ))) (keys : List CodeKey) (es : List Entry) (s : Step) → AreNamed n keys es (product_sum n list s) → 0 < length (get_or list s.0 []) → 0 < length es
+pub entries_some : (n : ℕ) (list : List (List (CodeKey × ℕ))) (keys : List CodeKey) (es : List Entry) (s : KeptProduct) → AreNamed n keys es (product_sum n list s) → 0 < length (get_or list s.0 []) → 0 < length es
 entries_some n list keys es s h lt =
     let size : length (row_sum (column_key n keys) es) ≡ length es = row_length (column_key n keys) es in
     let size' : length (product_sum n list s) ≡ length (get_or list s.0 []) = product_length n (exponents_of n s.1.exponents) (get_or list s.0 []) in
@@ -49,9 +49,9 @@ pub lead_known : (count : ℕ) (es : List Entry) → 0 < length es → Each (λ 
 lead_known count [] lt h = absurd (omega arith)
 lead_known count (e ∷ es) lt h = h.0
 
-module _ (n : ℕ) (ws : List ℕ) (list : List (List (CodeKey × ℕ))) (old new : List CodeKey) (rows rows' : List RowShown) (steps steps' : List Step) (led led' : List Bool) (s : Step) (es : List Entry) (r : RowShown)
-    (h : IsPlan n ws list old rows steps led) (product : IsProductOf n ws list s) (named : AreNamed n new es (product_sum n list s)) (grown : IsGrown old new es)
-    (monomials : AreKeys n ws new) (re : r.entries ≡ es) (rs : r.sources ≡ (length rows, 1) ∷ []) (rows_more : rows' ≡ rows ++ r ∷ []) (steps_more : steps' ≡ steps ++ s ∷ [])
+module _ (n : ℕ) (ws : List ℕ) (list : List (List (CodeKey × ℕ))) (old new : List CodeKey) (rows rows' : List RowShown) (products products' : List KeptProduct) (led led' : List Bool) (s : KeptProduct) (es : List Entry) (r : RowShown)
+    (h : IsPlan n ws list old rows products led) (product : IsProductOf n ws list s) (named : AreNamed n new es (product_sum n list s)) (grown : IsGrown old new es)
+    (monomials : AreKeys n ws new) (re : r.entries ≡ es) (rs : r.sources ≡ (length rows, 1) ∷ []) (rows_more : rows' ≡ rows ++ r ∷ []) (products_more : products' ≡ products ++ s ∷ [])
     (lead : get_or led' (first_column es) false ≡ true) (kept : (c : ℕ) → get_or led c false ≡ true → get_or led' c false ≡ true)
     (only : (c : ℕ) → get_or led' c false ≡ true → (get_or led c false ≡ true) ⊎ (c ≡ first_column es)) where
   old_row : (i : ℕ) → i < length rows → row_at rows' i ≡ row_at rows i
@@ -63,10 +63,10 @@ module _ (n : ℕ) (ws : List ℕ) (list : List (List (CodeKey × ℕ))) (old ne
   size : length rows' ≡ length rows + 1
   size = ap length rows_more ∙ length_push rows r
 
-  each : (i : ℕ) → i < length rows' → IsPlannedRow n ws list new i (row_at rows' i) (step_at steps' i)
+  each : (i : ℕ) → i < length rows' → IsPlannedRow n ws list new i (row_at rows' i) (kept_at products' i)
   each i lt = elim (cases_eq i (length rows)) [
     | inl e ↦
-        let at : step_at steps' i ≡ s = ap (λ xs. get_or xs i no_step) steps_more ∙ get_or_push steps s no_step i (sym (e ∙ h.count)) in
+        let at : kept_at products' i ≡ s = ap (λ xs. get_or xs i no_product) products_more ∙ get_or_push products s no_product i (sym (e ∙ h.count)) in
         subst₂ (IsPlannedRow n ws list new i) (sym (last_row i e)) (sym at) (record {
           product = product;
           named = subst (λ xs. AreNamed n new xs (product_sum n list s)) (sym re) named;
@@ -75,10 +75,10 @@ module _ (n : ℕ) (ws : List ℕ) (list : List (List (CodeKey × ℕ))) (old ne
     | inr ne ↦
         let l : i < length rows = omega (arith, size) in
         let o = h.each i l in
-        let at : step_at steps' i ≡ step_at steps i = ap (λ xs. get_or xs i no_step) steps_more ∙ get_or_append_left steps (s ∷ []) no_step i (omega (arith, h.count)) in
+        let at : kept_at products' i ≡ kept_at products i = ap (λ xs. get_or xs i no_product) products_more ∙ get_or_append_left products (s ∷ []) no_product i (omega (arith, h.count)) in
         subst₂ (IsPlannedRow n ws list new i) (sym (old_row i l)) (sym at) (record {
           product = o.product;
-          named = subst (λ ks. AreNamed n ks (row_at rows i).entries (product_sum n list (step_at steps i))) (sym grown.grown) (named_more n old grown.added (row_at rows i).entries (product_sum n list (step_at steps i)) o.named);
+          named = subst (λ ks. AreNamed n ks (row_at rows i).entries (product_sum n list (kept_at products i))) (sym grown.grown) (named_more n old grown.added (row_at rows i).entries (product_sum n list (kept_at products i)) o.named);
           sources = o.sources;
         })
   ]
@@ -107,10 +107,10 @@ module _ (n : ℕ) (ws : List ℕ) (list : List (List (CodeKey × ℕ))) (old ne
         ap (λ c. get_or led' c false) (ap (λ (x : RowShown). first_column x.entries) (old_row i l)) ∙ kept (lead_number rows i) (h.leads i l)
   ]
 
-  pub more_planned : IsMorePlanned n ws list old new rows rows' steps steps' led led' s
+  pub more_planned : IsMorePlanned n ws list old new rows rows' products products' led led' s
   more_planned = record {
     plan = record {
-      count = size ∙ ap (λ m. m + 1) h.count ∙ sym (ap length steps_more ∙ length_push steps s);
+      count = size ∙ ap (λ m. m + 1) h.count ∙ sym (ap length products_more ∙ length_push products s);
       monomials = monomials;
       each = each;
       met = met;
@@ -119,7 +119,7 @@ module _ (n : ℕ) (ws : List ℕ) (list : List (List (CodeKey × ℕ))) (old ne
     };
     added = grown.added;
     grown = grown.grown;
-    steps_more = steps_more;
+    products_more = products_more;
     rows_more = (
       r,
       rows_more,

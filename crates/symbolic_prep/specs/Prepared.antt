@@ -3,7 +3,7 @@ use Rattle.std.specs.Prelude.{List, [], length, map, ℕ, ◌<◌, ◌∷◌, �
 use Rattle.formal_sums.specs.FormalSums.{Each}
 use Rattle.bases.specs.Leads.{head_coefficient}
 use Rattle.bases.specs.Settings.{Setting}
-use Rattle.module_vectors.specs.Trails.{Step, step_at}
+use Rattle.module_vectors.specs.Trails.{KeptProduct, kept_at}
 use Rattle.module_vectors.specs.Vectors.{sum_of, sums_of}
 use Rattle.module_vectors.specs.declared.key.Key.{Key as CodeKey}
 use Rattle.pair_criteria.specs.declared.pair.Pair.{Pair as CodePair}
@@ -21,13 +21,13 @@ IsMonicVector n v = (0 < length v) × (head_coefficient (sum_of n v) ≡ 1)
 -- an earlier product; the rows are fewer than leads and twice the pairs; among them are both products of each pair's S-vector, and for
 -- each key of a row that a member's lead divides a row with that lead
 pub record IsPrepared (n : ℕ) (S : Setting n) (list : List (List (CodeKey × ℕ))) (pairs : List CodePair) (m : MatrixShown)
-    (steps : List Step) : Type 0 where
+    (made : List KeptProduct) : Type 0 where
   pub matrix : IsMatrix n S.weights S.modulus S.compare m
   pub inputs : m.inputs ≡ length m.rows
   pub sources : (i : ℕ) → i < length m.rows → (row_at m.rows i).sources ≡ (i, 1) ∷ []
-  pub steps_of : (i : ℕ) → i < length steps → IsProductOf n S.weights list (step_at steps i)
-  pub traced : AreTraced n list pairs steps
-  pub vectors : vectors_of n m.columns m.rows ≡ map (λ s. product_sum n list s) steps
+  pub each_product : (i : ℕ) → i < length made → IsProductOf n S.weights list (kept_at made i)
+  pub traced : AreTraced n list pairs made
+  pub vectors : vectors_of n m.columns m.rows ≡ map (λ s. product_sum n list s) made
   pub products : AreProductRows S.modulus (sums_of n list) (vectors_of n m.columns m.rows)
   pub pair_rows : Each (λ x. HasPairRows S.modulus (sums_of n list) (vectors_of n m.columns m.rows) x.i x.j) pairs
   pub few : 0 < length pairs → HasFewRows (vectors_of n m.columns m.rows) (length pairs)

@@ -3,7 +3,7 @@ use Rattle.std.specs.Prelude.{List, [], length, ⊤, ℕ, ◌++◌, ◌-◌, ◌
 use Rattle.formal_sums.specs.FormalSums.{Each}
 use Rattle.monomial_orders.specs.Kept.{IsWeighed, Monomial}
 use Rattle.module_vectors.specs.Stops.{HasMonomial, IsTooGreat}
-use Rattle.module_vectors.specs.Trails.{IsInProduct, IsOfStep, IsStep, Step, product_lead, step_at}
+use Rattle.module_vectors.specs.Trails.{IsInProduct, IsOfProduct, IsKeptProduct, KeptProduct, product_lead, kept_at}
 use Rattle.module_vectors.specs.declared.key.Key.{Key as CodeKey}
 use Rattle.pair_criteria.specs.Pairs.{IsLcmOf}
 use Rattle.pair_criteria.specs.Traces.{AreTraced}
@@ -14,21 +14,21 @@ use Rattle.symbolic_prep.specs.declared.stop.PrepareStop.{PrepareStop}
 use Rattle.symbolic_prep.specs.declared.stop.PrepareStop.TheVariants.{Memory as NoRoom, Degree as TooGreat}
 
 -- the lead of the product is the least common multiple of one of the pairs
-abbrev pub IsOfPair : (n : ℕ) → List (List (CodeKey × ℕ)) → List CodePair → Step → Type 0
+abbrev pub IsOfPair : (n : ℕ) → List (List (CodeKey × ℕ)) → List CodePair → KeptProduct → Type 0
 IsOfPair n list pairs s = (x : CodePair) × IsLcmOf n pairs (product_lead n list s) x
 
 -- the lead of the product is a key of one of the first products, so many
-abbrev pub IsOfEarlier : (n : ℕ) → List (List (CodeKey × ℕ)) → List Step → ℕ → Step → Type 0
-IsOfEarlier n list steps count s = (j : ℕ) × (j < count) × IsInProduct n list (product_lead n list s) (step_at steps j)
+abbrev pub IsOfEarlier : (n : ℕ) → List (List (CodeKey × ℕ)) → List KeptProduct → ℕ → KeptProduct → Type 0
+IsOfEarlier n list products count s = (j : ℕ) × (j < count) × IsInProduct n list (product_lead n list s) (kept_at products j)
 
 -- such products, the last of which is too great for this monomial of its vector
-pub record IsGreatEnd (n : ℕ) (ws : List ℕ) (list : List (List (CodeKey × ℕ))) (pairs : List CodePair) (steps : List Step) (last : Monomial) : Type 0 where
-  pub some : 0 < length steps
-  pub known : Each (IsStep n ws list) steps
-  pub traced : AreTraced n list pairs steps
-  pub monomial : IsOfStep list (step_at steps (length steps - 1)) last
+pub record IsGreatEnd (n : ℕ) (ws : List ℕ) (list : List (List (CodeKey × ℕ))) (pairs : List CodePair) (products : List KeptProduct) (last : Monomial) : Type 0 where
+  pub some : 0 < length products
+  pub known : Each (IsKeptProduct n ws list) products
+  pub traced : AreTraced n list pairs products
+  pub monomial : IsOfProduct list (kept_at products (length products - 1)) last
   pub weighed : IsWeighed n ws last
-  pub too_great : IsTooGreat (step_at steps (length steps - 1)).1 last
+  pub too_great : IsTooGreat (kept_at products (length products - 1)).1 last
 
 -- Degree comes with such products alone
 abbrev pub PrepareStops : (n : ℕ) → List ℕ → List (List (CodeKey × ℕ)) → List CodePair → PrepareStop → Type 0
@@ -36,11 +36,11 @@ PrepareStops n ws list pairs NoRoom = ⊤
 PrepareStops n ws list pairs (TooGreat g) = IsGreatEnd n ws list pairs g.products.items g.last
 
 -- the same of the products of a plan
-abbrev pub PlanStops : (n : ℕ) → List ℕ → List (List (CodeKey × ℕ)) → List CodePair → List Step → PlanStop → Type 0
-PlanStops n ws list pairs steps Memory = ⊤
-PlanStops n ws list pairs steps (Degree last) = IsGreatEnd n ws list pairs steps last
+abbrev pub PlanStops : (n : ℕ) → List ℕ → List (List (CodeKey × ℕ)) → List CodePair → List KeptProduct → PlanStop → Type 0
+PlanStops n ws list pairs products Memory = ⊤
+PlanStops n ws list pairs products (Degree last) = IsGreatEnd n ws list pairs products last
 
 -- Degree comes where the product is now the last one, and too great for this monomial of its vector
-abbrev pub ProductEnds : List (CodeKey × ℕ) → List Step → List Step → Step → PlanStop → Type 0
+abbrev pub ProductEnds : List (CodeKey × ℕ) → List KeptProduct → List KeptProduct → KeptProduct → PlanStop → Type 0
 ProductEnds terms old new s Memory = ⊤
 ProductEnds terms old new s (Degree last) = (new ≡ old ++ s ∷ []) × HasMonomial terms last × IsTooGreat s.1 last

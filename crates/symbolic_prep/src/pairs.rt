@@ -6,7 +6,7 @@ ghost use Rattle.module_vectors.specs.Rings.{variables};
 ghost use Rattle.module_vectors.specs.Trails.{lead_at};
 ghost use Rattle.module_vectors.specs.Vectors.{IsMonomialOver};
 ghost use Rattle.vector_division.specs.Progress.{AreWeighed};
-ghost use Rattle.symbolic_prep.specs.Plans.{HasPairSteps, IsLaterPlan, IsPairOf, IsPlan, IsTopStep};
+ghost use Rattle.symbolic_prep.specs.Plans.{HasPairProducts, IsLaterPlan, IsPairOf, IsPlan, IsTopProduct};
 ghost use Rattle.pair_criteria.specs.Traces.{AreTraced};
 ghost use Rattle.symbolic_prep.specs.Traces.{PlanStops};
 
@@ -57,7 +57,7 @@ fn add_top<L: Vectors>(
     ensures later { OnOk result (IsLaterPlan (variables ring.now) ring.now.weights (L.listed members.now)
         plan.old.keys plan.old.products.items plan.old.led.items
         plan.new.keys plan.new.rows.items plan.new.products.items plan.new.led.items) }
-    ensures top { OnOk result ((number : ℕ) × IsTopStep (variables ring.now) (L.listed members.now) plan.new.products.items
+    ensures top { OnOk result ((number : ℕ) × IsTopProduct (variables ring.now) (L.listed members.now) plan.new.products.items
         pair.now.lcm member number) }
     ensures traced { OnOk result (AreTraced (variables ring.now) (L.listed members.now) _pairs.now plan.new.products.items) }
     ensures one { OnOk result (length plan.new.rows.items ≤ length plan.old.rows.items + 1) }
@@ -100,7 +100,7 @@ pub(crate) fn add_pairs<L: Vectors>(
     ensures later { OnOk result (IsLaterPlan (variables ring.now) ring.now.weights (L.listed members.now)
         plan.old.keys plan.old.products.items plan.old.led.items
         plan.new.keys plan.new.rows.items plan.new.products.items plan.new.led.items) }
-    ensures pairs { OnOk result (Each (HasPairSteps (variables ring.now) (L.listed members.now) plan.new.products.items) pairs.now) }
+    ensures pairs { OnOk result (Each (HasPairProducts (variables ring.now) (L.listed members.now) plan.new.products.items) pairs.now) }
     ensures traced { OnOk result (AreTraced (variables ring.now) (L.listed members.now) pairs.now plan.new.products.items) }
     ensures count { OnOk result (length plan.new.rows.items ≤ length plan.old.rows.items + 2 * length pairs.now) }
     ensures stop { IfErr result (PlanStops (variables ring.now) ring.now.weights (L.listed members.now) pairs.now plan.new.products.items) }

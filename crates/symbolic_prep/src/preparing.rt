@@ -6,7 +6,7 @@ ghost use Rattle.module_vectors.specs.Vectors.{AreVectorsOver};
 ghost use Rattle.module_vectors.specs.declared.key.Key.{Key as KeyValue};
 ghost use Rattle.pair_criteria.specs.declared.pair.Pair.{Pair as PairValue};
 ghost use Rattle.symbolic_prep.specs.Counts.{IsSparse};
-ghost use Rattle.symbolic_prep.specs.Plans.{HasPairSteps, IsPairOf, IsPlan, AreClosed};
+ghost use Rattle.symbolic_prep.specs.Plans.{HasPairProducts, IsPairOf, IsPlan, AreClosed};
 ghost use Rattle.symbolic_prep.specs.Prepared.{IsMonicVector, IsPrepared};
 ghost use Rattle.pair_criteria.specs.Traces.{AreTraced};
 ghost use Rattle.symbolic_prep.specs.Traces.{PlanStops, PrepareStops};
@@ -68,7 +68,7 @@ fn matrix_of<L: Vectors>(
     requires pairs { Each (IsPairOf (variables ring.now) ring.now.weights (L.listed _members.now)) _pairs.now }
     requires plan { IsPlan (variables ring.now) ring.now.weights (L.listed _members.now) plan.keys plan.rows.items plan.products.items plan.led.items }
     requires closed { AreClosed (variables ring.now) (L.listed _members.now) plan.keys plan.led.items (length plan.keys) }
-    requires steps { Each (HasPairSteps (variables ring.now) (L.listed _members.now) plan.products.items) _pairs.now }
+    requires products { Each (HasPairProducts (variables ring.now) (L.listed _members.now) plan.products.items) _pairs.now }
     requires traced { AreTraced (variables ring.now) (L.listed _members.now) _pairs.now plan.products.items }
     requires few { 0 < length _pairs.now → (chosen : List ℕ) × IsSparse plan.rows.items chosen (2 * length _pairs.now - 1) }
     ensures { let n = variables ring.now in (rank : ℕ) → IfOk result (λ r. IsPrepared n (setting ring.now n (ring_comparison ring.now n) rank)

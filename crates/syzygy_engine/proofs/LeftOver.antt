@@ -34,8 +34,8 @@ use Rattle.module_vectors.specs.declared.trail.WorkStop.TheVariants as works
 use Rattle.vector_division.proofs.Freeing.{HasFreeTerms_of_uncovered}
 use Rattle.vector_division.proofs.Occurring.{nonzeros}
 use Rattle.vector_division.specs.Divisions.{DivisionStops, IsDivisionTrail, IsFreeOfLeads}
-use Rattle.vector_division.specs.Reductions.{IsQuotient, cofactors_of}
-use Rattle.vector_division.specs.declared.reduction.Quotient.{Quotient}
+use Rattle.vector_division.specs.Reductions.{IsScaledProduct, cofactors_of}
+use Rattle.vector_division.specs.declared.reduction.ScaledProduct.{ScaledProduct}
 use Rattle.groebner_iface.specs.Calls.{CallStops}
 use Rattle.groebner_iface.specs.Runs.{IsReducedBasisOf, StoppedRun}
 use Rattle.groebner_iface.specs.Stops.{op_stop_of_work}
@@ -47,7 +47,7 @@ use Rattle.syzygy_engine.proofs.Standing.{Terms, rank_of_positions}
 
 -- the quotients of a division are cofactors of its list
 pub cofactor_rank :
-    (n : ℕ) (ws : List ℕ) (p : ℕ) (list : List Terms) (qs : List Quotient) → Each (IsQuotient n ws p list) qs → HasRank (length list) (cofactors_of n qs)
+    (n : ℕ) (ws : List ℕ) (p : ℕ) (list : List Terms) (qs : List ScaledProduct) → Each (IsScaledProduct n ws p list) qs → HasRank (length list) (cofactors_of n qs)
 cofactor_rank n ws p list [] h = tt
 cofactor_rank n ws p list (x ∷ qs) h = (h.0.index, cofactor_rank n ws p list qs h.1)
 

@@ -9,7 +9,7 @@ use interreduce::interreduce;
 use module_vectors::{Ring, Vect, VectList, WorkStop};
 use std::alloc::Global;
 use std::thread::Threads;
-use vector_division::{Division, Quotient, Reduction, divide, reduce, reduce_lead};
+use vector_division::{Division, Reduction, ScaledProduct, divide, reduce, reduce_lead};
 
 // Writes the quotients and the rest.
 fn write_quotients(sheet: &mut Sheet, ring: &Ring, rank: u128, count: u128, division: &Division) {
@@ -21,7 +21,7 @@ fn write_quotients(sheet: &mut Sheet, ring: &Ring, rank: u128, count: u128, divi
 }
 
 // Writes what was taken away: the index of a vector, the residue and the monomial.
-fn write_products(sheet: &mut Sheet, ring: &Ring, quotients: &[Quotient]) {
+fn write_products(sheet: &mut Sheet, ring: &Ring, quotients: &[ScaledProduct]) {
     for quotient in quotients {
         sheet.count(" ", quotient.index);
         sheet.count(":", u64::from(quotient.residue));

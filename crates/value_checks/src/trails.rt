@@ -64,8 +64,8 @@ pub fn write_trail(sheet: &mut Sheet, rank: u128, trail: &KeptTrail) {
     sheet.vector(&trail.ring, rank, &trail.vector);
     sheet.text("\n  members");
     sheet.vectors(&trail.ring, rank, trail.members.as_slice());
-    sheet.text("\n  steps");
-    sheet.products(&trail.ring, &trail.steps);
+    sheet.text("\n  products");
+    sheet.products(&trail.ring, &trail.products);
     sheet.text("\n  last ");
     sheet.monomial(&trail.ring, &trail.last);
     sheet.text("\n");

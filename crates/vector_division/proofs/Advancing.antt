@@ -19,14 +19,14 @@ use Rattle.module_vectors.proofs.NormalVectors.{residues_of}
 use Rattle.module_vectors.proofs.SumsOfProducts.{Each_member}
 use Rattle.module_vectors.proofs.Monomials.{monomial_at}
 use Rattle.module_vectors.specs.Stops.{Fits, IsTooGreat}
-use Rattle.module_vectors.specs.Trails.{HasKey, IsMet, Step, product_lead}
+use Rattle.module_vectors.specs.Trails.{HasKey, IsMet, KeptProduct, product_lead}
 use Rattle.module_vectors.specs.Vectors.{IsVector, key_of, sum_of, sums_of}
 use Rattle.module_vectors.specs.declared.key.Key.{Key as CodeKey}
 use Rattle.module_vectors.specs.declared.stop.VectStop.{VectStop}
 use Rattle.module_vectors.specs.declared.stop.VectStop.TheVariants.{Degree}
-use Rattle.vector_division.specs.Progress.{HasBoundedHead, IsBelow, IsDivisor, IsFactor, IsFailingStep, IsProgress, IsSubtraction, SubtractionStops, last_position, room_of}
-use Rattle.vector_division.specs.Reductions.{AreMetFrom, IsQuotient, cofactors_of, step_of}
-use Rattle.vector_division.specs.declared.reduction.Quotient.{Quotient}
+use Rattle.vector_division.specs.Progress.{HasBoundedHead, IsBelow, IsDivisor, IsFactor, IsFailingProduct, IsProgress, IsSubtraction, SubtractionStops, last_position, room_of}
+use Rattle.vector_division.specs.Reductions.{AreMetFrom, IsScaledProduct, cofactors_of, unscaled}
+use Rattle.vector_division.specs.declared.reduction.ScaledProduct.{ScaledProduct}
 use Rattle.vector_division.proofs.Members.{sums_at}
 use Rattle.vector_division.proofs.Retaining.{Each_from}
 use Rattle.vector_division.proofs.Subtracting.{Terms, after, each_key, product_up_to, up_to_trans, with_taken}
@@ -84,20 +84,20 @@ less_room compare order t r (u ∷ x) bound h =
 
 -- ---- one quotient more
 pub met_push :
-    (n : ℕ) (v : FormalSum n) (list : List Terms) (earlier : List Step) (qs : List Quotient) (q : Quotient)
-    → AreMetFrom n v list earlier qs → IsMet n v list (earlier ++ map step_of qs) (product_lead n list (step_of q))
+    (n : ℕ) (v : FormalSum n) (list : List Terms) (earlier : List KeptProduct) (qs : List ScaledProduct) (q : ScaledProduct)
+    → AreMetFrom n v list earlier qs → IsMet n v list (earlier ++ map unscaled qs) (product_lead n list (unscaled q))
     → AreMetFrom n v list earlier (qs ++ q ∷ [])
-met_push n v list earlier [] q h m = (subst (λ e. IsMet n v list e (product_lead n list (step_of q))) (append-nil earlier) m, tt)
-met_push n v list earlier (x ∷ qs) q h m = (h.0, met_push n v list (earlier ++ step_of x ∷ []) qs q h.1 (subst (λ e. IsMet n v list e (product_lead n list (step_of q))) (sym (append_assoc earlier (step_of x ∷ []) (map step_of qs))) m))
+met_push n v list earlier [] q h m = (subst (λ e. IsMet n v list e (product_lead n list (unscaled q))) (append-nil earlier) m, tt)
+met_push n v list earlier (x ∷ qs) q h m = (h.0, met_push n v list (earlier ++ unscaled x ∷ []) qs q h.1 (subst (λ e. IsMet n v list e (product_lead n list (unscaled q))) (sym (append_assoc earlier (unscaled x ∷ []) (map unscaled qs))) m))
 
 pub met_later :
-    (n : ℕ) (v : FormalSum n) (list : List Terms) (earlier : List Step) (s : Step) (k : Key n)
+    (n : ℕ) (v : FormalSum n) (list : List Terms) (earlier : List KeptProduct) (s : KeptProduct) (k : Key n)
     → IsMet n v list earlier k → IsMet n v list (earlier ++ s ∷ []) k
 met_later n v list earlier s k (inl h) = inl h
 met_later n v list earlier s k (inr (x, c, p)) = inr (x, Contains-append_left earlier (s ∷ []) x c, p)
 
 module _
-    (n : ℕ) (weights : List ℕ) (p : ℕ) (compare : Key n → Key n → Ordering) (order : IsKeyOrder 0 compare) (domain : IsDomain p) (v : Terms) (list : List Terms) (qs : List Quotient) (old new : Terms) (at : ℕ) (s : Step) (c : ℕ)
+    (n : ℕ) (weights : List ℕ) (p : ℕ) (compare : Key n → Key n → Ordering) (order : IsKeyOrder 0 compare) (domain : IsDomain p) (v : Terms) (list : List Terms) (qs : List ScaledProduct) (old new : Terms) (at : ℕ) (s : KeptProduct) (c : ℕ)
     (lists : Each (IsVector n weights p compare) list) (d : IsDivisor n weights list (head_key (drop at (sum_of n old))) s)
     (h : IsSubtraction n weights p compare s.1 (get_or list s.0 []) at old new c) (pr : IsProgress n weights p compare v list qs old)
   where
@@ -119,7 +119,7 @@ module _
     abbrev E : Exponents n
     E = exponents_of n s.1.exponents
 
-    abbrev quotient : Quotient
+    abbrev quotient : ScaledProduct
     quotient = record { index = s.0; residue = c; monomial = s.1 }
 
     module _ (t : Term n) (r : FormalSum n) (w : CodeKey × ℕ) (ws : Terms) (here : drop at A ≡ t ∷ r) (member : get_or list s.0 [] ≡ w ∷ ws) where
@@ -155,8 +155,8 @@ module _
           → Each (λ x. P x.0) A → ((l : Key n) → HasKey (u ∷ g) l → P (shift E l)) → Each (λ x. P x.0) B
       each = each_key S lawful A B at t r u g E c pr.vector.descends h.vector.descends rA rB divisor.descends here lead h.reduced product same
 
-      met_here : IsMet n V list (map step_of qs) t.0
-      met_here = Each_from (λ x. IsMet n V list (map step_of qs) x.0) at A t r here pr.keys
+      met_here : IsMet n V list (map unscaled qs) t.0
+      met_here = Each_from (λ x. IsMet n V list (map unscaled qs) x.0) at A t r here pr.keys
 
       up_to_here : compare t.0 (head_key V) ≡ Greater → ⊥
       up_to_here = Each_from (λ x. compare x.0 (head_key V) ≡ Greater → ⊥) at A t r here pr.up_to
@@ -178,14 +178,14 @@ module _
 
       pub progress_by : IsProgress n weights p compare v list (qs ++ quotient ∷ []) new
       progress_by = record {
-        quotients = Each_append (IsQuotient n weights p list) qs (quotient ∷ []) pr.quotients (record { index = d.index; variables = d.variables; nonzero = h.nonzero; reduced = h.reduced; fits = h.fits }, tt);
-        met = met_push n V list [] qs quotient pr.met (subst (IsMet n V list (map step_of qs)) (sym lead_is) met_here);
-        bounded = Each_append (λ q. compare (product_lead n list (step_of q)) (head_key V) ≡ Greater → ⊥) qs (quotient ∷ []) pr.bounded (subst (λ k. compare k (head_key V) ≡ Greater → ⊥) (sym lead_is) up_to_here, tt);
+        quotients = Each_append (IsScaledProduct n weights p list) qs (quotient ∷ []) pr.quotients (record { index = d.index; variables = d.variables; nonzero = h.nonzero; reduced = h.reduced; fits = h.fits }, tt);
+        met = met_push n V list [] qs quotient pr.met (subst (IsMet n V list (map unscaled qs)) (sym lead_is) met_here);
+        bounded = Each_append (λ q. compare (product_lead n list (unscaled q)) (head_key V) ≡ Greater → ⊥) qs (quotient ∷ []) pr.bounded (subst (λ k. compare k (head_key V) ≡ Greater → ⊥) (sym lead_is) up_to_here, tt);
         sum = whole;
         vector = h.vector;
-        keys = subst (λ x. Each (λ y. IsMet n V list x y.0) B) (sym (map-append step_of qs (quotient ∷ [])))
-            (each (IsMet n V list (map step_of qs ++ s ∷ [])) (Each_map _ _ A (λ x m. met_later n V list (map step_of qs) s x.0 m) pr.keys)
-            (λ l k. inr (s, Contains-push (map step_of qs) s, (l, subst (λ x. HasKey (sum_of n x) l) (sym member) k, refl))));
+        keys = subst (λ x. Each (λ y. IsMet n V list x y.0) B) (sym (map-append unscaled qs (quotient ∷ [])))
+            (each (IsMet n V list (map unscaled qs ++ s ∷ [])) (Each_map _ _ A (λ x m. met_later n V list (map unscaled qs) s x.0 m) pr.keys)
+            (λ l k. inr (s, Contains-push (map unscaled qs) s, (l, subst (λ x. HasKey (sum_of n x) l) (sym member) k, refl))));
         up_to = each (λ k. compare k (head_key V) ≡ Greater → ⊥) pr.up_to
             (λ l k. up_to_trans order (shift E l) t.0 (head_key V) (product_up_to S lawful A B at t r u g E c pr.vector.descends h.vector.descends rA rB divisor.descends here lead h.reduced product same l k) up_to_here);
       }
@@ -223,19 +223,19 @@ head_from P at [] lt h = absurd (omega arith)
 head_from P zero (t ∷ v) lt h = h.0
 head_from P (suc at) (t ∷ v) lt h = head_from P at v (omega arith) h.1
 
-pub failing_step :
-    (n : ℕ) (weights : List ℕ) (p : ℕ) (compare : Key n → Key n → Ordering) (v : Terms) (list : List Terms) (qs : List Quotient) (old : Terms)
-    (at : ℕ) (s : Step) (g : Terms) (stop : VectStop) (a last : Monomial)
+pub failing_product :
+    (n : ℕ) (weights : List ℕ) (p : ℕ) (compare : Key n → Key n → Ordering) (v : Terms) (list : List Terms) (qs : List ScaledProduct) (old : Terms)
+    (at : ℕ) (s : KeptProduct) (g : Terms) (stop : VectStop) (a last : Monomial)
     → at < length old → Each (IsVector n weights p compare) list
     → IsDivisor n weights list (head_key (drop at (sum_of n old))) s → IsProgress n weights p compare v list qs old
-    → g ≡ get_or list s.0 [] → stop ≡ Degree a last → SubtractionStops s.1 g stop → IsFailingStep n weights v list qs s last
-failing_step n weights p compare v list qs old at s g stop a last lt lists d pr eg es h =
+    → g ≡ get_or list s.0 [] → stop ≡ Degree a last → SubtractionStops s.1 g stop → IsFailingProduct n weights v list qs s last
+failing_product n weights p compare v list qs old at s g stop a last lt lists d pr eg es h =
     let e : SubtractionStops s.1 (get_or list s.0 []) (Degree a last) = subst₂ (SubtractionStops s.1) eg es h in
     record {
       index = d.index;
       variables = d.variables;
-      met = subst (IsMet n (sum_of n v) list (map step_of qs)) (sym d.lead)
-          (head_from (IsMet n (sum_of n v) list (map step_of qs)) at (sum_of n old) (subst (λ z. at < z) (sym (length-map old (λ x. (key_of n x.0, x.1)))) lt) pr.keys);
+      met = subst (IsMet n (sum_of n v) list (map unscaled qs)) (sym d.lead)
+          (head_from (IsMet n (sum_of n v) list (map unscaled qs)) at (sum_of n old) (subst (λ z. at < z) (sym (length-map old (λ x. (key_of n x.0, x.1)))) lt) pr.keys);
       monomial = e.1;
       last_variables = monomial_at n weights p compare list s.0 last lists e.1;
       too_great = subst (λ z. IsTooGreat z last) e.0 e.2;

@@ -21,15 +21,15 @@ use Rattle.module_vectors.proofs.SumsOfProducts.{Each_member}
 use Rattle.module_vectors.proofs.Monomials.{monomial_at}
 use Rattle.monomial_orders.specs.Kept.{IsWeighed, Monomial}
 use Rattle.module_vectors.specs.Stops.{IsTooGreat}
-use Rattle.module_vectors.specs.Trails.{HasKey, IsMet, Step, product_lead}
+use Rattle.module_vectors.specs.Trails.{HasKey, IsMet, KeptProduct, product_lead}
 use Rattle.module_vectors.specs.Vectors.{IsVector, key_of, sum_of, sums_of}
 use Rattle.module_vectors.specs.declared.key.Key.{Key as CodeKey}
 use Rattle.module_vectors.specs.declared.stop.VectStop.{VectStop}
 use Rattle.module_vectors.specs.declared.stop.VectStop.TheVariants.{Degree}
-use Rattle.vector_division.specs.Progress.{IsDivisor, IsFailingStep, IsSubtraction, SubtractionStops}
-use Rattle.vector_division.specs.Reductions.{IsQuotient, cofactors_of, step_of}
+use Rattle.vector_division.specs.Progress.{IsDivisor, IsFailingProduct, IsSubtraction, SubtractionStops}
+use Rattle.vector_division.specs.Reductions.{IsScaledProduct, cofactors_of, unscaled}
 use Rattle.vector_division.specs.Runs.{AreBelow, IsOver, IsUnderway, StandsWith, total}
-use Rattle.vector_division.specs.declared.reduction.Quotient.{Quotient}
+use Rattle.vector_division.specs.declared.reduction.ScaledProduct.{ScaledProduct}
 use Rattle.vector_division.proofs.Advancing.{met_later, met_push}
 use Rattle.vector_division.proofs.Members.{sums_at}
 use Rattle.vector_division.proofs.Occurring.{at_key, occurs, scaled_key}
@@ -50,7 +50,7 @@ not_in_total n compare order k runs below h =
 
 module _
     (n : ℕ) (weights : List ℕ) (p : ℕ) (compare : Key n → Key n → Ordering) (order : IsKeyOrder 0 compare) (domain : IsDomain p) (v : Terms) (list : List Terms)
-    (qs : List Quotient) (k : CodeKey) (r : ℕ) (old : List Terms) (variables : IsWeighed n weights k.monomial) (pos : 0 < r) (lt : r < p)
+    (qs : List ScaledProduct) (k : CodeKey) (r : ℕ) (old : List Terms) (variables : IsWeighed n weights k.monomial) (pos : 0 < r) (lt : r < p)
     (below : AreBelow n compare (key_of n k) old)
     (pr : IsUnderway n weights p compare v list qs ((key_of n k, r) ∷ total n old))
   where
@@ -84,7 +84,7 @@ module _
             let two : coefficient ((K, r) ∷ R) K ≡ r = omega (arith, one, first, z) in
             IsCongruent_nonzero p r pos lt (IsCongruent_trans (IsCongruent_of p _ _ (sym two)) q)
 
-    met_here : IsMet n V list (map step_of qs) K
+    met_here : IsMet n V list (map unscaled qs) K
     met_here = pr.keys K here_is
 
     up_to_here : compare K (head_key V) ≡ Greater → ⊥
@@ -92,22 +92,22 @@ module _
 
     -- ---- the step that cannot be made
     pub failing_product :
-        (s : Step) (g : Terms) (stop : VectStop) (a last : Monomial)
+        (s : KeptProduct) (g : Terms) (stop : VectStop) (a last : Monomial)
         → Each (IsVector n weights p compare) list → IsDivisor n weights list K s → g ≡ get_or list s.0 [] → stop ≡ Degree a last
-        → SubtractionStops s.1 g stop → IsFailingStep n weights v list qs s last
+        → SubtractionStops s.1 g stop → IsFailingProduct n weights v list qs s last
     failing_product s g stop a last lists d eg es h =
         let e : SubtractionStops s.1 (get_or list s.0 []) (Degree a last) = subst₂ (SubtractionStops s.1) eg es h in
         record {
           index = d.index;
           variables = d.variables;
-          met = subst (IsMet n V list (map step_of qs)) (sym d.lead) met_here;
+          met = subst (IsMet n V list (map unscaled qs)) (sym d.lead) met_here;
           monomial = e.1;
           last_variables = monomial_at n weights p compare list s.0 last lists e.1;
           too_great = subst (λ z. IsTooGreat z last) e.0 e.2;
         }
 
     module _
-        (new : List Terms) (B : Terms) (s : Step) (c : ℕ) (lists : Each (IsVector n weights p compare) list) (d : IsDivisor n weights list K s)
+        (new : List Terms) (B : Terms) (s : KeptProduct) (c : ℕ) (lists : Each (IsVector n weights p compare) list) (d : IsDivisor n weights list K s)
         (h : IsSubtraction n weights p compare s.1 (get_or list s.0 []) 0 ((k, r) ∷ []) B c)
         (added : IsSame p (total n new) (total n old ++ sum_of n B))
       where
@@ -117,7 +117,7 @@ module _
         abbrev A : FormalSum n
         A = (K, r) ∷ []
 
-        abbrev quotient : Quotient
+        abbrev quotient : ScaledProduct
         quotient = record { index = s.0; residue = c; monomial = s.1 }
 
         module _ (w : CodeKey × ℕ) (ws : Terms) (member : get_or list s.0 [] ≡ w ∷ ws) where
@@ -186,12 +186,12 @@ module _
 
           pub underway_by : IsUnderway n weights p compare v list (qs ++ quotient ∷ []) (total n new)
           underway_by = record {
-            quotients = Each_append (IsQuotient n weights p list) qs (quotient ∷ []) pr.quotients (record { index = d.index; variables = d.variables; nonzero = h.nonzero; reduced = h.reduced; fits = h.fits }, tt);
-            met = met_push n V list [] qs quotient pr.met (subst (IsMet n V list (map step_of qs)) (sym lead_is) met_here);
-            bounded = Each_append (λ q. compare (product_lead n list (step_of q)) (head_key V) ≡ Greater → ⊥) qs (quotient ∷ []) pr.bounded (subst (λ l. compare l (head_key V) ≡ Greater → ⊥) (sym lead_is) up_to_here, tt);
-            keys = subst (λ x. (l : Key n) → (IsCongruent p (coefficient (total n new) l) 0 → ⊥) → IsMet n V list x l) (sym (map-append step_of qs (quotient ∷ [])))
-                (each (IsMet n V list (map step_of qs ++ s ∷ [])) (λ l nz. met_later n V list (map step_of qs) s l (pr.keys l nz))
-                (λ l i. inr (s, Contains-push (map step_of qs) s, (l, subst (λ x. HasKey (sum_of n x) l) (sym member) i, refl))));
+            quotients = Each_append (IsScaledProduct n weights p list) qs (quotient ∷ []) pr.quotients (record { index = d.index; variables = d.variables; nonzero = h.nonzero; reduced = h.reduced; fits = h.fits }, tt);
+            met = met_push n V list [] qs quotient pr.met (subst (IsMet n V list (map unscaled qs)) (sym lead_is) met_here);
+            bounded = Each_append (λ q. compare (product_lead n list (unscaled q)) (head_key V) ≡ Greater → ⊥) qs (quotient ∷ []) pr.bounded (subst (λ l. compare l (head_key V) ≡ Greater → ⊥) (sym lead_is) up_to_here, tt);
+            keys = subst (λ x. (l : Key n) → (IsCongruent p (coefficient (total n new) l) 0 → ⊥) → IsMet n V list x l) (sym (map-append unscaled qs (quotient ∷ [])))
+                (each (IsMet n V list (map unscaled qs ++ s ∷ [])) (λ l nz. met_later n V list (map unscaled qs) s l (pr.keys l nz))
+                (λ l i. inr (s, Contains-push (map unscaled qs) s, (l, subst (λ x. HasKey (sum_of n x) l) (sym member) i, refl))));
             up_to = each (λ l. compare l (head_key V) ≡ Greater → ⊥) pr.up_to
                 (λ l i. up_to_trans order (shift E l) K (head_key V) (product_up_to S lawful A (sum_of n B) 0 (K, r) [] u g E c dA h.vector.descends rA rB divisor.descends refl lead h.reduced product same l i) up_to_here);
           }

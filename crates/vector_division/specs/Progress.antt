@@ -10,14 +10,14 @@ use Rattle.orders.specs.Room.{room}
 use Rattle.bases.specs.Leads.{head_coefficient, head_key}
 use Rattle.monomial_orders.specs.Kept.{IsWeighed, Monomial}
 use Rattle.module_vectors.specs.Stops.{Fits, HasMonomial, IsTooGreat}
-use Rattle.module_vectors.specs.Trails.{IsMet, Step, product_lead}
+use Rattle.module_vectors.specs.Trails.{IsMet, KeptProduct, product_lead}
 use Rattle.module_vectors.specs.Vectors.{HasVariables, IsVector, sum_of, sums_of}
 use Rattle.module_vectors.specs.declared.key.Key.{Key as CodeKey}
 use Rattle.module_vectors.specs.declared.stop.VectStop.{VectStop}
 use Rattle.module_vectors.specs.declared.stop.VectStop.TheVariants.{Memory, Degree}
 use Rattle.vector_division.specs.Divisions.{IsUncovered}
-use Rattle.vector_division.specs.Reductions.{AreMetFrom, HaveLeadsUpTo, IsQuotient, cofactors_of, step_of}
-use Rattle.vector_division.specs.declared.reduction.Quotient.{Quotient}
+use Rattle.vector_division.specs.Reductions.{AreMetFrom, HaveLeadsUpTo, IsScaledProduct, cofactors_of, unscaled}
+use Rattle.vector_division.specs.declared.reduction.ScaledProduct.{ScaledProduct}
 
 -- each vector of the list has n variables
 abbrev pub HaveVariables : ℕ → List (List (CodeKey × ℕ)) → Type 0
@@ -36,15 +36,15 @@ IsTried n weights v k (Some t) = (0 < length v) × IsWeighed n weights t × (shi
 abbrev pub AreTried : (n : ℕ) → List (List (CodeKey × ℕ)) → Key n → ℕ → Type 0
 AreTried n list k i = (j : ℕ) → j < i → 0 < length (get_or list j []) → KeyDivides (head_key (sum_of n (get_or list j []))) k → ⊥
 
--- a step whose product has the lead k
-pub record IsDivisor (n : ℕ) (weights : List ℕ) (list : List (List (CodeKey × ℕ))) (k : Key n) (s : Step) : Type 0 where
+-- a product with the lead k
+pub record IsDivisor (n : ℕ) (weights : List ℕ) (list : List (List (CodeKey × ℕ))) (k : Key n) (s : KeptProduct) : Type 0 where
   pub index : s.0 < length list
   pub some : 0 < length (get_or list s.0 [])
   pub variables : IsWeighed n weights s.1
   pub lead : product_lead n list s ≡ k
 
--- such a step, or none where no lead of the list divides k
-abbrev pub IsFound : (n : ℕ) → List ℕ → List (List (CodeKey × ℕ)) → Key n → Option Step → Type 0
+-- such a product, or none where no lead of the list divides k
+abbrev pub IsFound : (n : ℕ) → List ℕ → List (List (CodeKey × ℕ)) → Key n → Option KeptProduct → Type 0
 IsFound n weights list k None = IsUncovered (sums_of n list) k
 IsFound n weights list k (Some s) = IsDivisor n weights list k s
 
@@ -56,13 +56,13 @@ pub record IsFactor (p a b c : ℕ) : Type 0 where
 
 -- what was taken away and what is left of v stand for v; each key of what is left is met, and none is above v's first
 pub record IsProgress (n : ℕ) (weights : List ℕ) (p : ℕ) (compare : Key n → Key n → Ordering) (v : List (CodeKey × ℕ))
-    (list : List (List (CodeKey × ℕ))) (qs : List Quotient) (work : List (CodeKey × ℕ)) : Type 0 where
-  pub quotients : Each (IsQuotient n weights p list) qs
+    (list : List (List (CodeKey × ℕ))) (qs : List ScaledProduct) (work : List (CodeKey × ℕ)) : Type 0 where
+  pub quotients : Each (IsScaledProduct n weights p list) qs
   pub met : AreMetFrom n (sum_of n v) list [] qs
   pub bounded : HaveLeadsUpTo n compare list (head_key (sum_of n v)) qs
   pub sum : IsSame p (sum_of n v) (combination (sums_of n list) (cofactors_of n qs) ++ sum_of n work)
   pub vector : IsVector n weights p compare work
-  pub keys : Each (λ t. IsMet n (sum_of n v) list (map step_of qs) t.0) (sum_of n work)
+  pub keys : Each (λ t. IsMet n (sum_of n v) list (map unscaled qs) t.0) (sum_of n work)
   pub up_to : Each (λ t. compare t.0 (head_key (sum_of n v)) ≡ Greater → ⊥) (sum_of n work)
 
 -- the greatest position that a key can have
@@ -86,19 +86,19 @@ pub record IsBelow (n : ℕ) (compare : Key n → Key n → Ordering) (old new :
   pub falls : room_of compare (drop at (sum_of n new)) < room_of compare (drop at (sum_of n old))
 
 -- the quotients are of vectors of the list
-abbrev pub AreKnown : ℕ → List Quotient → Type 0
+abbrev pub AreKnown : ℕ → List ScaledProduct → Type 0
 AreKnown count qs = Each (λ q. q.index < count) qs
 
 -- the quotients' monomials are in n variables of these weights
-abbrev pub HaveLengths : ℕ → List ℕ → List Quotient → Type 0
+abbrev pub HaveLengths : ℕ → List ℕ → List ScaledProduct → Type 0
 HaveLengths n weights qs = Each (λ q. IsWeighed n weights q.monomial) qs
 
--- a step of n variables that is met by v or by the quotients' products, and too great for a monomial of its vector
-pub record IsFailingStep (n : ℕ) (weights : List ℕ) (v : List (CodeKey × ℕ)) (list : List (List (CodeKey × ℕ))) (qs : List Quotient) (s : Step)
+-- a product of n variables that is met by v or by the products taken away, and too great for a monomial of its vector
+pub record IsFailingProduct (n : ℕ) (weights : List ℕ) (v : List (CodeKey × ℕ)) (list : List (List (CodeKey × ℕ))) (qs : List ScaledProduct) (s : KeptProduct)
     (last : Monomial) : Type 0 where
   pub index : s.0 < length list
   pub variables : IsWeighed n weights s.1
-  pub met : IsMet n (sum_of n v) list (map step_of qs) (product_lead n list s)
+  pub met : IsMet n (sum_of n v) list (map unscaled qs) (product_lead n list s)
   pub monomial : HasMonomial (get_or list s.0 []) last
   pub last_variables : IsWeighed n weights last
   pub too_great : IsTooGreat s.1 last

@@ -6,21 +6,22 @@ ghost use Rattle.bases.specs.Leads.{head_key};
 ghost use Rattle.module_vectors.specs.Rings.{variables};
 ghost use Rattle.module_vectors.specs.Vectors.{sum_of, sums_of, IsVectorOver, AreVectorsOver, StandsFor};
 ghost use Rattle.vector_division.specs.Divisions.{IsFreeOfLeads, HasReducedLead, DivisionStops};
-ghost use Rattle.vector_division.specs.Reductions.{cofactors_of, IsQuotient, AreMetFrom, HaveLeadsUpTo};
+ghost use Rattle.vector_division.specs.Reductions.{cofactors_of, IsScaledProduct, AreMetFrom, HaveLeadsUpTo};
 
 use crate::buckets::Buckets;
 use crate::divisors::find_divisor;
 use crate::marks::marks_of;
+use crate::products::take_away;
 use crate::runs::Run;
-use crate::steps::take_away;
 use crate::underway::advance;
 use module_vectors::{Frame, Vect, Vectors, WorkStop};
 use monomial_orders::Mono;
 use std::alloc::Global;
 
-/// A term of a quotient: residue times monomial times the vector with this index was taken away.
+/// A residue times a product: the one of the monomial and the vector with this index. As what a division took away it is
+/// a term of the quotient by that vector.
 #[derive(Drop)]
-pub struct Quotient {
+pub struct ScaledProduct {
     pub index: u64,
     pub residue: u32,
     pub monomial: Mono,
@@ -29,7 +30,7 @@ pub struct Quotient {
 /// What a reduction took away, in that order, and what it left.
 #[derive(Drop)]
 pub struct Reduction {
-    pub quotients: Vec<Quotient>,
+    pub quotients: Vec<ScaledProduct>,
     pub rest: Vect,
 }
 
@@ -46,7 +47,7 @@ pub fn reduce<F: Frame, L: Vectors>(
 ) -> Result<Reduction, WorkStop>
     requires vector { IsVectorOver (F.over frame.now) (F.compare frame.now) v.now }
     requires list { AreVectorsOver (F.over frame.now) (F.compare frame.now) (L.listed list.now) }
-    ensures quotients { IfOk result (λ r. Each (IsQuotient (variables (F.over frame.now)) (F.over frame.now).weights (F.over frame.now).modulus.value
+    ensures quotients { IfOk result (λ r. Each (IsScaledProduct (variables (F.over frame.now)) (F.over frame.now).weights (F.over frame.now).modulus.value
         (L.listed list.now)) r.quotients.items) }
     ensures met { let n = variables (F.over frame.now) in IfOk result (λ r. AreMetFrom n (sum_of n v.now) (L.listed list.now) [] r.quotients.items) }
     ensures bounded { let n = variables (F.over frame.now) in
@@ -100,7 +101,7 @@ pub fn reduce_lead<F: Frame, L: Vectors>(
 ) -> Result<Reduction, WorkStop>
     requires vector { IsVectorOver (F.over frame.now) (F.compare frame.now) v.now }
     requires list { AreVectorsOver (F.over frame.now) (F.compare frame.now) (L.listed list.now) }
-    ensures quotients { IfOk result (λ r. Each (IsQuotient (variables (F.over frame.now)) (F.over frame.now).weights (F.over frame.now).modulus.value
+    ensures quotients { IfOk result (λ r. Each (IsScaledProduct (variables (F.over frame.now)) (F.over frame.now).weights (F.over frame.now).modulus.value
         (L.listed list.now)) r.quotients.items) }
     ensures met { let n = variables (F.over frame.now) in IfOk result (λ r. AreMetFrom n (sum_of n v.now) (L.listed list.now) [] r.quotients.items) }
     ensures bounded { let n = variables (F.over frame.now) in

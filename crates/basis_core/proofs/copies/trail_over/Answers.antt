@@ -13,6 +13,6 @@ returns c =
       start_is = refl;
       vector_is = refl;
       members = c.in_ok-vectors.ensures;
-      steps_are = refl;
+      products_are = refl;
       last_is = refl;
     }

@@ -6,7 +6,7 @@ use Rattle.module_vectors.specs.Rings.{ring_comparison, variables}
 use Rattle.module_vectors.specs.Vectors.{AreVectorsOver, StandsFor, sum_of, sums_of}
 use Rattle.module_vectors.specs.declared.ring.Ring.{Ring}
 use Rattle.vector_division.specs.Divisions.{HasReducedLead}
-use Rattle.vector_division.specs.Reductions.{AreMetFrom, HaveLeadsUpTo, IsQuotient, cofactors_of}
+use Rattle.vector_division.specs.Reductions.{AreMetFrom, HaveLeadsUpTo, IsScaledProduct, cofactors_of}
 use Rattle.member_products.specs.Generators.{IsVectorOf}
 use Rattle.basis_core.proofs.Failing.{vector_trail}
 use Rattle.basis_core.proofs.Tracking.{vectors_over}
@@ -27,7 +27,7 @@ returns-in-Ok-clause-quotients c =
     let v = c.args.v.now in
     let qs = c.in-Ok.reduction.quotients.items in
     record {
-      each = subst (λ (x : Ring). Each (IsQuotient (variables x) x.weights x.modulus.value (vectors_in ms)) qs) c.ring.ensures c.in-Ok.ensures.quotients;
+      each = subst (λ (x : Ring). Each (IsScaledProduct (variables x) x.weights x.modulus.value (vectors_in ms)) qs) c.ring.ensures c.in-Ok.ensures.quotients;
       met = subst (λ (x : Ring). AreMetFrom (variables x) (sum_of (variables x) v) (vectors_in ms) [] qs) c.ring.ensures c.in-Ok.ensures.met;
       bounded = subst (λ (x : Ring). HaveLeadsUpTo (variables x) (ring_comparison x (variables x)) (vectors_in ms)
           (head_key (sum_of (variables x) v)) qs) c.ring.ensures c.in-Ok.ensures.bounded;
@@ -51,5 +51,5 @@ pub returns-in-Err-Degree-clause-stop : goal.returns-in-Err-Degree-clause-stop
 returns-in-Err-Degree-clause-stop c =
     let ms = c.args.members.now.list in
     let t = c.in-Err-Degree.trail in
-    subst (λ (x : Ring). IsRowTrail (variables x) x.weights ms c.args.v.now t.steps.items t.last) c.ring.ensures
+    subst (λ (x : Ring). IsRowTrail (variables x) x.weights ms c.args.v.now t.products.items t.last) c.ring.ensures
     (vector_trail c.ring.result.now ms c.args.v.now t c.in-Err-Degree.field-0 c.in-Err-Degree.field-0-is c.in-Err-Degree.ensures.stop)

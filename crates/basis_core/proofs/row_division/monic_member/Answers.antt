@@ -1,7 +1,7 @@
 use Rattle.std.proofs.Common.{List, subst, sym}
 use Rattle.module_vectors.specs.declared.ring.Ring.{Ring}
 use Rattle.member_products.specs.Generators.{IsVectorOf}
-use Rattle.vector_division.specs.declared.reduction.Quotient.{Quotient}
+use Rattle.vector_division.specs.declared.reduction.ScaledProduct.{ScaledProduct}
 use Rattle.basis_core.proofs.Leaving.{left_member}
 use Rattle.basis_core.specs.RowDivision.{AreRowProducts}
 use Rattle.basis_core.proofs.row_division.monic_member.Goals as goal
@@ -23,7 +23,7 @@ returns c =
     c.args.reduction.quotients.items
     c.args.reduction.rest c.in_ok-products.products c.scale.new.self c.scale-2.new.self c.scale-3.new.self c.invert_lead-inverse.result
     c.ring-ring.ensures c.in_ok-multiple.ensures c.kept.ensures c.requires.over c.requires.monic c.requires.some c.requires.quotients c.requires.rest
-    (subst (λ (qs : List Quotient). AreRowProducts c.args.members.now.shared c.args.row.now.products qs c.in_ok-products.products)
+    (subst (λ (qs : List ScaledProduct). AreRowProducts c.args.members.now.shared c.args.row.now.products qs c.in_ok-products.products)
     c.deref.ensures.value c.in_ok-products.ensures) c.invert_lead-inverse.ensures.inverse
     c.scale.ensures.vector c.scale.ensures.multiple c.scale.ensures.residues c.scale-2.ensures.vector c.scale-2.ensures.multiple
     c.scale-3.ensures.vector c.scale-3.ensures.multiple

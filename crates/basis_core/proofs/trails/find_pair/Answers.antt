@@ -14,26 +14,26 @@ pub bounds-terms-0 : goal.bounds-terms-0
 bounds-terms-0 c = omega (
   arith,
   ap length (c.terms.ensures ∙ c.at.ensures),
-  nonzero_at c.args.members.now.list c.args.step.now.0 c.requires.nonzero c.requires.step.0,
+  nonzero_at c.args.members.now.list c.args.product.now.0 c.requires.nonzero c.requires.product.0,
 )
 
 pub same_product-requires-clause-left : goal.same_product-requires-clause-left
 same_product-requires-clause-left c =
-    variables_at c.args.members.now.shared c.args.members.now.list c.args.step.now.0 c.terms.result.now 0 (get_or c.terms.result.now 0 c.index-terms-0.result) c.kept.ensures (c.terms.ensures ∙ c.at.ensures)
-    (omega (arith, ap length (c.terms.ensures ∙ c.at.ensures), nonzero_at c.args.members.now.list c.args.step.now.0 c.requires.nonzero c.requires.step.0)) (ap (λ (z : CodeKey × ℕ). get_or c.terms.result.now 0 z) c.index-terms-0.is)
-    ∙ sym c.requires.step.1.variables
+    variables_at c.args.members.now.shared c.args.members.now.list c.args.product.now.0 c.terms.result.now 0 (get_or c.terms.result.now 0 c.index-terms-0.result) c.kept.ensures (c.terms.ensures ∙ c.at.ensures)
+    (omega (arith, ap length (c.terms.ensures ∙ c.at.ensures), nonzero_at c.args.members.now.list c.args.product.now.0 c.requires.nonzero c.requires.product.0)) (ap (λ (z : CodeKey × ℕ). get_or c.terms.result.now 0 z) c.index-terms-0.is)
+    ∙ sym c.requires.product.1.variables
 
 pub returns-then-same_product-clause-some : goal.returns-then-same_product-clause-some
 returns-then-same_product-clause-some c =
     let n : ℕ = variables c.args.members.now.shared.ring in
     let vs : List (List (CodeKey × ℕ)) = vectors_in c.args.members.now.list in
     let lead : CodeKey = (get_or c.terms.result.now 0 c.index-terms-0.result).0 in
-    let first : product_lead n vs c.args.step.now ≡ shift (exponents_of n c.args.step.now.1.exponents) (key_of n lead) =
-    lead_is n vs c.args.step.now c.terms.result.now (get_or c.terms.result.now 0 c.index-terms-0.result) (c.terms.ensures ∙ c.at.ensures)
-    (omega (arith, ap length (c.terms.ensures ∙ c.at.ensures), nonzero_at c.args.members.now.list c.args.step.now.0 c.requires.nonzero c.requires.step.0)) (ap (λ (z : CodeKey × ℕ). get_or c.terms.result.now 0 z) c.index-terms-0.is) in
+    let first : product_lead n vs c.args.product.now ≡ shift (exponents_of n c.args.product.now.1.exponents) (key_of n lead) =
+    lead_is n vs c.args.product.now c.terms.result.now (get_or c.terms.result.now 0 c.index-terms-0.result) (c.terms.ensures ∙ c.at.ensures)
+    (omega (arith, ap length (c.terms.ensures ∙ c.at.ensures), nonzero_at c.args.members.now.list c.args.product.now.0 c.requires.nonzero c.requires.product.0)) (ap (λ (z : CodeKey × ℕ). get_or c.terms.result.now 0 z) c.index-terms-0.is) in
     let same =
-    same_in n (length c.args.step.now.1.exponents) c.args.step.now.1.exponents c.args.one.now.exponents lead c.pair-item.result.lcm
-    c.requires.step.1.variables (c.same_product.ensures.same c.if-same_product.true) in (
+    same_in n (length c.args.product.now.1.exponents) c.args.product.now.1.exponents c.args.one.now.exponents lead c.pair-item.result.lcm
+    c.requires.product.1.variables (c.same_product.ensures.same c.if-same_product.true) in (
       (c.loop-pair.pair-index, c.loop-pair-test.true, sym c.pair-item.is),
       first ∙ same ∙ times_one n c.args.one.now.exponents (key_of n c.pair-item.result.lcm) c.requires.unit,
     )
@@ -43,17 +43,17 @@ loop-pair-preserved c =
     let n : ℕ = variables c.args.members.now.shared.ring in
     let vs : List (List (CodeKey × ℕ)) = vectors_in c.args.members.now.list in
     let lead : CodeKey = (get_or c.terms.result.now 0 c.index-terms-0.result).0 in
-    let first : product_lead n vs c.args.step.now ≡ shift (exponents_of n c.args.step.now.1.exponents) (key_of n lead) =
-    lead_is n vs c.args.step.now c.terms.result.now (get_or c.terms.result.now 0 c.index-terms-0.result) (c.terms.ensures ∙ c.at.ensures)
+    let first : product_lead n vs c.args.product.now ≡ shift (exponents_of n c.args.product.now.1.exponents) (key_of n lead) =
+    lead_is n vs c.args.product.now c.terms.result.now (get_or c.terms.result.now 0 c.index-terms-0.result) (c.terms.ensures ∙ c.at.ensures)
     (omega (
       arith,
       ap length (c.terms.ensures ∙ c.at.ensures),
-      nonzero_at c.args.members.now.list c.args.step.now.0 c.requires.nonzero
-          c.requires.step.0,
+      nonzero_at c.args.members.now.list c.args.product.now.0 c.requires.nonzero
+          c.requires.product.0,
     )) (ap (λ (z : CodeKey × ℕ). get_or c.terms.result.now 0 z) c.index-terms-0.is) in
-    none_more (λ (x : CodePair). product_lead n vs c.args.step.now ≡ key_of n x.lcm) c.args.pairs.now c.loop-pair.pair-index c.pair-item.result
+    none_more (λ (x : CodePair). product_lead n vs c.args.product.now ≡ key_of n x.lcm) c.args.pairs.now c.loop-pair.pair-index c.pair-item.result
     c.loop-pair.invariant c.loop-pair-test.true c.pair-item.is
     (λ e. c.same_product.ensures.apart c.if-same_product.false
-    (same_in (length c.args.step.now.1.exponents) n c.args.step.now.1.exponents c.args.one.now.exponents lead c.pair-item.result.lcm
-    (sym c.requires.step.1.variables)
+    (same_in (length c.args.product.now.1.exponents) n c.args.product.now.1.exponents c.args.one.now.exponents lead c.pair-item.result.lcm
+    (sym c.requires.product.1.variables)
     (sym first ∙ e ∙ sym (times_one n c.args.one.now.exponents (key_of n c.pair-item.result.lcm) c.requires.unit))))

@@ -10,4 +10,4 @@ use Rattle.basis_core.proofs.trails.find_pair.Given as goal
 abbrev pub invariant-loop-pair : goal.invariant-loop-pair
 invariant-loop-pair l =
     (k : ℕ) (x : CodePair) → k < l.pair-index → x ≡ get_or l.pairs k x
-    → product_lead (variables l.members.shared.ring) (vectors_in l.members.list) l.step ≡ key_of (variables l.members.shared.ring) x.lcm → ⊥
+    → product_lead (variables l.members.shared.ring) (vectors_in l.members.list) l.product ≡ key_of (variables l.members.shared.ring) x.lcm → ⊥

@@ -13,4 +13,4 @@ abbrev pub invariant-loop-term : goal.invariant-loop-term
 invariant-loop-term l =
     (k : ℕ) (t : CodeKey × ℕ) → k < l.term-index → t ≡ get_or l.term-items k t
     → product_lead (variables l.members.shared.ring) (vectors_in l.members.list) l.of
-    ≡ shift (exponents_of (variables l.members.shared.ring) l.step.1.exponents) (key_of (variables l.members.shared.ring) t.0) → ⊥
+    ≡ shift (exponents_of (variables l.members.shared.ring) l.product.1.exponents) (key_of (variables l.members.shared.ring) t.0) → ⊥

@@ -1,7 +1,7 @@
 use Rattle.std.proofs.Common.{List, ap, subst, sym, ℕ, ◌++◌, ◌∙◌, ◌≡◌}
 use Rattle.formal_sums.specs.FormalSums.{Each}
 use Rattle.module_vectors.specs.Rings.{variables}
-use Rattle.module_vectors.specs.Trails.{IsStep, Step}
+use Rattle.module_vectors.specs.Trails.{IsKeptProduct, KeptProduct}
 use Rattle.module_vectors.specs.Vectors.{IsMonomialOver}
 use Rattle.module_vectors.specs.declared.key.Key.{Key as CodeKey}
 use Rattle.module_vectors.specs.declared.ring.Ring.{Ring}
@@ -19,9 +19,9 @@ use Rattle.basis_core.proofs.trails.put_trail.Goals as goal
 
 -- the row that stops, at the call that traces back
 stopped : (c : goal.After-deref-2) → HasStoppedRow c.args.members.now.shared c.args.members.now.list c.args.outcome.now.job.members
-    c.args.outcome.now.rows c.args.outcome.now.job.pairs c.args.outcome.now.products (c.requires.row).0 c.args.trail.steps.items c.args.trail.last
+    c.args.outcome.now.rows c.args.outcome.now.job.pairs c.args.outcome.now.products (c.requires.row).0 c.args.trail.products.items c.args.trail.last
 stopped c =
-    has_stopped_row c.args.members.now.shared c.args.members.now.list c.args.outcome.now c.args.trail.steps.items c.args.trail.last
+    has_stopped_row c.args.members.now.shared c.args.members.now.list c.args.outcome.now c.args.trail.products.items c.args.trail.last
     c.kept.ensures c.requires.shared c.kept-2.ensures (subst IsJobOver c.job-job.ensures c.kept-3.ensures) c.requires.base c.requires.row
 
 pub trace_back-requires-clause-nonzero : goal.trace_back-requires-clause-nonzero
@@ -40,9 +40,9 @@ trace_back-requires-clause-all c =
     let o : OutcomeShown = c.args.outcome.now in
     let n : ℕ = variables c.args.members.now.shared.ring in
     let vs : List (List (CodeKey × ℕ)) = vectors_in c.args.members.now.list in
-    let all : c.deref-2.result.now ≡ o.products ++ c.args.trail.steps.items = c.deref-2.ensures.value ∙ c.in_ok-all.ensures ∙ (λ i. c.products.ensures i ++ c.deref.ensures.value i) in
-    subst (Each (IsStep n c.args.members.now.shared.ring.weights vs)) (sym all)
-    (all_known c.args.members.now.shared c.args.members.now.list o.job.members o.rows o.job.pairs o.products (c.requires.row).0 c.args.trail.steps.items c.args.trail.last (stopped c))
+    let all : c.deref-2.result.now ≡ o.products ++ c.args.trail.products.items = c.deref-2.ensures.value ∙ c.in_ok-all.ensures ∙ (λ i. c.products.ensures i ++ c.deref.ensures.value i) in
+    subst (Each (IsKeptProduct n c.args.members.now.shared.ring.weights vs)) (sym all)
+    (all_known c.args.members.now.shared c.args.members.now.list o.job.members o.rows o.job.pairs o.products (c.requires.row).0 c.args.trail.products.items c.args.trail.last (stopped c))
 
 pub trace_back-requires-clause-traced : goal.trace_back-requires-clause-traced
 trace_back-requires-clause-traced c =
@@ -50,11 +50,11 @@ trace_back-requires-clause-traced c =
     let n : ℕ = variables c.args.members.now.shared.ring in
     let vs : List (List (CodeKey × ℕ)) = vectors_in c.args.members.now.list in
     let pairs : c.pairs.result.now ≡ o.job.pairs = c.pairs.ensures ∙ ap (λ (j : JobShown). j.pairs) c.job-job.ensures in
-    let all : c.deref-2.result.now ≡ o.products ++ c.args.trail.steps.items = c.deref-2.ensures.value ∙ c.in_ok-all.ensures
+    let all : c.deref-2.result.now ≡ o.products ++ c.args.trail.products.items = c.deref-2.ensures.value ∙ c.in_ok-all.ensures
     ∙ (λ i. c.products.ensures i ++ c.deref.ensures.value i) in
-    subst (λ (z : List CodePair × List Step). AreTraced n vs z.0 z.1) (λ i. (sym pairs i, sym all i))
+    subst (λ (z : List CodePair × List KeptProduct). AreTraced n vs z.0 z.1) (λ i. (sym pairs i, sym all i))
     (all_traced c.args.members.now.shared c.args.members.now.list o.job.members o.rows o.job.pairs o.products
-    (c.requires.row).0 c.args.trail.steps.items c.args.trail.last (stopped c))
+    (c.requires.row).0 c.args.trail.products.items c.args.trail.last (stopped c))
 
 pub returns-clause-trail : goal.returns-clause-trail
 returns-clause-trail c =
@@ -65,15 +65,15 @@ returns-clause-trail c =
     let ws : List ℕ = shared.ring.weights in
     let vs : List (List (CodeKey × ℕ)) = vectors_in ms in
     let pairs : c.pairs.result.now ≡ o.job.pairs = c.pairs.ensures ∙ ap (λ (j : JobShown). j.pairs) c.job-job.ensures in
-    let all : c.deref-2.result.now ≡ o.products ++ c.args.trail.steps.items = c.deref-2.ensures.value ∙ c.in_ok-all.ensures ∙ (λ i. c.products.ensures i ++ c.deref.ensures.value i) in
-    let traced : IsTracedTo n ws vs o.job.pairs (o.products ++ c.args.trail.steps.items) c.in_ok-steps.steps.items c.in_ok-steps.i c.in_ok-steps.j =
-    subst (λ (z : List CodePair × List Step). IsTracedTo n ws vs z.0 z.1 c.in_ok-steps.steps.items c.in_ok-steps.i c.in_ok-steps.j)
-    (λ i. (pairs i, all i)) c.in_ok-steps.ensures in
-    let row = has_stopped_row shared ms o c.args.trail.steps.items c.args.trail.last c.kept.ensures c.requires.shared c.kept-2.ensures (subst IsJobOver c.job-job.ensures c.kept-3.ensures) c.requires.base c.requires.row in
+    let all : c.deref-2.result.now ≡ o.products ++ c.args.trail.products.items = c.deref-2.ensures.value ∙ c.in_ok-all.ensures ∙ (λ i. c.products.ensures i ++ c.deref.ensures.value i) in
+    let traced : IsTracedTo n ws vs o.job.pairs (o.products ++ c.args.trail.products.items) c.in_ok-products.products.items c.in_ok-products.i c.in_ok-products.j =
+    subst (λ (z : List CodePair × List KeptProduct). IsTracedTo n ws vs z.0 z.1 c.in_ok-products.products.items c.in_ok-products.i c.in_ok-products.j)
+    (λ i. (pairs i, all i)) c.in_ok-products.ensures in
+    let row = has_stopped_row shared ms o c.args.trail.products.items c.args.trail.last c.kept.ensures c.requires.shared c.kept-2.ensures (subst IsJobOver c.job-job.ensures c.kept-3.ensures) c.requires.base c.requires.row in
     let t : KeptTrail = c.in_ok-kept.kept in
     let over = c.in_ok-kept.ensures in
-    trail_at shared ms o (c.requires.row).0 c.args.trail.steps.items c.args.trail.last row c.in_ok-steps.steps.items c.in_ok-steps.i c.in_ok-steps.j
-    traced (members_nonzero shared ms c.requires.monic) t over.steps_are over.below
+    trail_at shared ms o (c.requires.row).0 c.args.trail.products.items c.args.trail.last row c.in_ok-products.products.items c.in_ok-products.i c.in_ok-products.j
+    traced (members_nonzero shared ms c.requires.monic) t over.products_are over.below
     (λ i. record t {
       ring = over.ring i;
       rank = over.rank i;
@@ -93,15 +93,15 @@ returns-clause-ends c =
     let ws : List ℕ = shared.ring.weights in
     let vs : List (List (CodeKey × ℕ)) = vectors_in ms in
     let pairs : c.pairs.result.now ≡ o.job.pairs = c.pairs.ensures ∙ ap (λ (j : JobShown). j.pairs) c.job-job.ensures in
-    let all : c.deref-2.result.now ≡ o.products ++ c.args.trail.steps.items = c.deref-2.ensures.value ∙ c.in_ok-all.ensures ∙ (λ i. c.products.ensures i ++ c.deref.ensures.value i) in
-    let traced : IsTracedTo n ws vs o.job.pairs (o.products ++ c.args.trail.steps.items) c.in_ok-steps.steps.items c.in_ok-steps.i c.in_ok-steps.j =
-    subst (λ (z : List CodePair × List Step). IsTracedTo n ws vs z.0 z.1 c.in_ok-steps.steps.items c.in_ok-steps.i c.in_ok-steps.j)
-    (λ i. (pairs i, all i)) c.in_ok-steps.ensures in
-    let row = has_stopped_row shared ms o c.args.trail.steps.items c.args.trail.last c.kept.ensures c.requires.shared c.kept-2.ensures (subst IsJobOver c.job-job.ensures c.kept-3.ensures) c.requires.base c.requires.row in
+    let all : c.deref-2.result.now ≡ o.products ++ c.args.trail.products.items = c.deref-2.ensures.value ∙ c.in_ok-all.ensures ∙ (λ i. c.products.ensures i ++ c.deref.ensures.value i) in
+    let traced : IsTracedTo n ws vs o.job.pairs (o.products ++ c.args.trail.products.items) c.in_ok-products.products.items c.in_ok-products.i c.in_ok-products.j =
+    subst (λ (z : List CodePair × List KeptProduct). IsTracedTo n ws vs z.0 z.1 c.in_ok-products.products.items c.in_ok-products.i c.in_ok-products.j)
+    (λ i. (pairs i, all i)) c.in_ok-products.ensures in
+    let row = has_stopped_row shared ms o c.args.trail.products.items c.args.trail.last c.kept.ensures c.requires.shared c.kept-2.ensures (subst IsJobOver c.job-job.ensures c.kept-3.ensures) c.requires.base c.requires.row in
     let t : KeptTrail = c.in_ok-kept.kept in
     let over = c.in_ok-kept.ensures in
-    ends_as shared ms o (c.requires.row).0 c.args.trail.steps.items c.args.trail.last row c.in_ok-steps.steps.items c.in_ok-steps.i c.in_ok-steps.j
-    traced t over.steps_are
+    ends_as shared ms o (c.requires.row).0 c.args.trail.products.items c.args.trail.last row c.in_ok-products.products.items c.in_ok-products.i c.in_ok-products.j
+    traced t over.products_are
     (λ i. record t {
       ring = over.ring i;
       rank = over.rank i;

@@ -5,7 +5,7 @@ use Rattle.module_vectors.specs.Rings.{variables}
 use Rattle.module_vectors.specs.Vectors.{AreTermsOver, IsMonomialOver, StandsFor, sum_of}
 use Rattle.row_matrix.specs.Rows.{Entry}
 use Rattle.vector_division.specs.Reductions.{cofactors_of}
-use Rattle.vector_division.specs.declared.reduction.Quotient.{Quotient}
+use Rattle.vector_division.specs.declared.reduction.ScaledProduct.{ScaledProduct}
 use Rattle.f4_job.proofs.MadeRows.{columns_within, parts_over, terms_over, terms_sum, vector_same}
 use Rattle.f4_job.specs.Made.{entry_term, source_parts}
 use Rattle.f4_job.proofs.making.make_row.Goals as goal
@@ -26,29 +26,29 @@ from_terms-requires c =
 pub row_parts-requires : goal.row_parts-requires
 row_parts-requires c =
     let p = c.args.ring.now.modulus.value in
-    let steps = c.args.products.now in
-    subst (Each (λ (e : Entry). e.0 < length steps)) (sym c.sources.ensures) (columns_within p 0 (length steps) c.args.row.now.sources c.requires.row.sources)
+    let products = c.args.products.now in
+    subst (Each (λ (e : Entry). e.0 < length products)) (sym c.sources.ensures) (columns_within p 0 (length products) c.args.row.now.sources c.requires.row.sources)
 
 pub quotient_products-requires : goal.quotient_products-requires
 quotient_products-requires c =
-    let steps = c.args.products.now in
-    subst (Each (λ (q : Quotient). IsMonomialOver c.args.ring.now q.monomial × (q.residue < c.args.ring.now.modulus.value)))
-    (sym (c.deref.ensures.value ∙ c.in_ok-parts.ensures ∙ ap (source_parts steps) c.sources.ensures))
-    (parts_over c.args.ring.now steps 0 c.args.row.now.sources c.requires.products c.requires.row.sources)
+    let products = c.args.products.now in
+    subst (Each (λ (q : ScaledProduct). IsMonomialOver c.args.ring.now q.monomial × (q.residue < c.args.ring.now.modulus.value)))
+    (sym (c.deref.ensures.value ∙ c.in_ok-parts.ensures ∙ ap (source_parts products) c.sources.ensures))
+    (parts_over c.args.ring.now products 0 c.args.row.now.sources c.requires.products c.requires.row.sources)
 
 pub returns : goal.returns
 returns c =
     let ring = c.args.ring.now in
     let n = variables ring in
     let columns = c.args.columns.now in
-    let steps = c.args.products.now in
+    let products = c.args.products.now in
     let r = c.args.row.now in
     let is = ap (sum_of n) (c.in_ok-terms.ensures ∙ ap (map (λ (e : Entry). entry_term columns e)) c.entries.ensures) ∙ terms_sum n columns r.entries in
     record {
       vector = c.in_ok-vector.ensures.vector;
-      sum = vector_same ring columns (length steps) r c.in_ok-vector.vector c.requires.descend c.requires.row c.in_ok-vector.ensures.vector
+      sum = vector_same ring columns (length products) r c.in_ok-vector.vector c.requires.descend c.requires.row c.in_ok-vector.ensures.vector
           (IsSame_trans c.in_ok-vector.ensures.same (IsSame_of ring.modulus.value _ _ is));
       products = c.in_ok-products.ensures.vector;
-      made = subst (λ (ps : List Quotient). StandsFor ring c.in_ok-products.products (cofactors_of n ps))
-          (c.deref.ensures.value ∙ c.in_ok-parts.ensures ∙ ap (source_parts steps) c.sources.ensures) c.in_ok-products.ensures.sum;
+      made = subst (λ (ps : List ScaledProduct). StandsFor ring c.in_ok-products.products (cofactors_of n ps))
+          (c.deref.ensures.value ∙ c.in_ok-parts.ensures ∙ ap (source_parts products) c.sources.ensures) c.in_ok-products.ensures.sum;
     }

@@ -33,10 +33,10 @@ returns g c = λ rank.
     let n = variables ring in
     let list = g.L.Vectors.listed c.args.members.now in
     let m = c.in-Ok.prepared.matrix in
-    let steps = c.in-Ok.prepared.products.items in
+    let products = c.in-Ok.prepared.products.items in
     let flags = c.in_ok-flags.flags.items in
     let E = c.in_ok-form.form.rows.items in
     let marked : AreFlags m.rows flags = subst (λ rows. AreFlags rows flags) c.rows.ensures c.in_ok-flags.ensures.flags in
-    let h = solved n (setting ring n (ring_comparison ring n) rank) (ring_lawful ring rank) list c.args.pairs.now m steps flags E
+    let h = solved n (setting ring n (ring_comparison ring n) rank) (ring_lawful ring rank) list c.args.pairs.now m products flags E
     c.requires.members c.requires.monic c.requires.pairs (c.in-Ok.ensures.prepared rank) c.in_ok-form.ensures.rows marked in
     rw (c.in_ok-rows.ensures, c.deref.ensures.value, c.in_ok-form.ensures.columns) h

@@ -20,7 +20,7 @@ use Rattle.s_vectors.proofs.Solved.{solved_zero}
 use Rattle.s_vectors.specs.Divided.{IsDivided, IsTopVector}
 use Rattle.s_vectors.specs.Parts.{ArePairParts, SumStops}
 use Rattle.s_vectors.specs.Solutions.{IsSolved}
-use Rattle.s_vectors.specs.Steps.{PairStops}
+use Rattle.s_vectors.specs.PairProducts.{PairStops}
 use Rattle.s_vectors.proofs.division.divide_over.Goals as goal
 
 pub pair_parts-requires-clause-list : goal.pair_parts-requires-clause-list
@@ -72,9 +72,9 @@ returns-then-is_empty-clause-solved c =
     let d : IsDivided m x parts [] = divided_zero m x c.requires.pair parts c.in-Ok.vector top none in
     record {
       over = tt;
-      weighed = subst (Each (λ t. IsWeighed n m.shared.ring.weights t.1)) (sym c.in_ok-steps_of.ensures) d.steps.weighed;
+      weighed = subst (Each (λ t. IsWeighed n m.shared.ring.weights t.1)) (sym c.in_ok-without_residues.ensures) d.products.weighed;
       solved =
-          subst (λ ts. IsSolved (setting_of n m.shared) (vectors (members_of n m.list)) (pair_of x ∷ []) [] (products_of n ts)) (sym c.in_ok-steps_of.ensures)
+          subst (λ ts. IsSolved (setting_of n m.shared) (vectors (members_of n m.list)) (pair_of x ∷ []) [] (products_of n ts)) (sym c.in_ok-without_residues.ensures)
           (solved_zero m x c.requires.pair c.kept.ensures parts d);
     }
 

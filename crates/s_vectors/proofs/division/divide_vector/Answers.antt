@@ -17,7 +17,7 @@ use Rattle.s_vectors.proofs.Lists.{empty_list}
 use Rattle.s_vectors.proofs.Solved.{solved_zero}
 use Rattle.s_vectors.specs.Divided.{IsDivided}
 use Rattle.s_vectors.specs.Solutions.{IsSolved}
-use Rattle.s_vectors.specs.Steps.{PairStops}
+use Rattle.s_vectors.specs.PairProducts.{PairStops}
 use Rattle.s_vectors.proofs.division.divide_vector.Goals as goal
 
 pub reduce-requires-clause-vector : goal.reduce-requires-clause-vector
@@ -56,9 +56,9 @@ returns-then-is_empty-clause-solved c =
     c.requires.over c.requires.some c.in_ok-take_quotients.ensures f.quotients f.met f.bounded f.sum f.rest) in
     record {
       over = tt;
-      weighed = subst (Each (λ t. IsWeighed n m.shared.ring.weights t.1)) (sym c.in_ok-steps_of.ensures) d.steps.weighed;
+      weighed = subst (Each (λ t. IsWeighed n m.shared.ring.weights t.1)) (sym c.in_ok-without_residues.ensures) d.products.weighed;
       solved =
-          subst (λ ts. IsSolved (setting_of n m.shared) (vectors (members_of n m.list)) (pair_of x ∷ []) [] (products_of n ts)) (sym c.in_ok-steps_of.ensures)
+          subst (λ ts. IsSolved (setting_of n m.shared) (vectors (members_of n m.list)) (pair_of x ∷ []) [] (products_of n ts)) (sym c.in_ok-without_residues.ensures)
           (solved_zero m x c.requires.pair c.kept.ensures c.take_quotients.new.parts.items d);
     }
 

@@ -6,7 +6,7 @@ use Rattle.module_vectors.specs.Vectors.{IsMonomialOver, StandsFor}
 use Rattle.module_vectors.specs.declared.ring.Ring.{Ring}
 use Rattle.member_products.specs.Generators.{IsVectorOf}
 use Rattle.vector_division.specs.Reductions.{cofactors_of}
-use Rattle.vector_division.specs.declared.reduction.Quotient.{Quotient}
+use Rattle.vector_division.specs.declared.reduction.ScaledProduct.{ScaledProduct}
 use Rattle.basis_steps.specs.States.{vectors}
 use Rattle.basis_core.specs.Jobs.{pair_of}
 use Rattle.basis_core.specs.Members.{members_of, row_of, setting_of}
@@ -33,11 +33,11 @@ returns c =
     let parts = c.args.parts.items in
     let products = c.in_ok-products.products in
     let iv = subst (λ (r : Ring). IsVectorOf r products) c.requires.over c.in_ok-products.ensures.vector in
-    let same = subst₂ (λ (r : Ring) (ps : List Quotient). StandsFor r products (cofactors_of (variables r) ps)) c.requires.over c.deref.ensures.value c.in_ok-products.ensures.sum in
+    let same = subst₂ (λ (r : Ring) (ps : List ScaledProduct). StandsFor r products (cofactors_of (variables r) ps)) c.requires.over c.deref.ensures.value c.in_ok-products.ensures.sum in
     record {
       over = (record { vector = divided_ranked m x parts c.args.vector c.kept.ensures d; products = row_ranked m.shared parts products iv same (length m.list) d.each }, tt);
-      weighed = subst (Each (λ t. IsWeighed n m.shared.ring.weights t.1)) (sym c.in_ok-steps_of.ensures) d.steps.weighed;
+      weighed = subst (Each (λ t. IsWeighed n m.shared.ring.weights t.1)) (sym c.in_ok-without_residues.ensures) d.products.weighed;
       solved =
-          subst (λ ts. IsSolved (setting_of n m.shared) (vectors (members_of n m.list)) (pair_of x ∷ []) (row_of n (record { vector = c.args.vector; products = products }) ∷ []) (products_of n ts)) (sym c.in_ok-steps_of.ensures)
+          subst (λ ts. IsSolved (setting_of n m.shared) (vectors (members_of n m.list)) (pair_of x ∷ []) (row_of n (record { vector = c.args.vector; products = products }) ∷ []) (products_of n ts)) (sym c.in_ok-without_residues.ensures)
           (solved_row m x c.requires.pair c.kept.ensures parts c.args.vector products d c.requires.some iv same);
     }

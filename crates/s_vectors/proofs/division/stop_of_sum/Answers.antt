@@ -6,5 +6,5 @@ use Rattle.s_vectors.proofs.division.stop_of_sum.Goals as goal
 
 pub returns-in-Ok : goal.returns-in-Ok
 returns-in-Ok c = λ n ws ms k h s.
-    great_chain n ws ms k c.args.parts.items c.in-Degree.number c.in-Degree.last c.in-Ok.steps.items h
+    great_chain n ws ms k c.args.parts.items c.in-Degree.number c.in-Degree.last c.in-Ok.products.items h
     (subst (SumStops (vectors_in ms) c.args.parts.items) c.in-Degree.is s) c.in-Ok.ensures

@@ -33,8 +33,8 @@ loop-number-preserved c =
     subst₂ (λ (s : Shared) (l : List Tracked). IsSolvedPair (record { shared = s; list = l }) x c.in-Ok.division) c.members.ensures.shared c.members.ensures.list c.in-Ok.ensures.solved in
     record {
       over = subst (Each (IsRunRow j.shared (length j.members))) (sym c.in_ok-add_division-in-Ok.ensures.rows) (Each_append _ c.loop-number.solution.rows.items (row_list c.in-Ok.division.row) i.over s.over);
-      weighed = subst (Each (λ t. IsWeighed n j.shared.ring.weights t.1)) (sym c.in_ok-add_division-in-Ok.ensures.products) (Each_append _ c.loop-number.solution.products.items c.in-Ok.division.steps.items i.weighed s.weighed);
-      solved = solved_step j c.loop-number.number x c.loop-number.solution.rows.items (row_list c.in-Ok.division.row) c.add_division.new.solution.rows.items c.loop-number.solution.products.items c.in-Ok.division.steps.items c.add_division.new.solution.products.items
+      weighed = subst (Each (λ t. IsWeighed n j.shared.ring.weights t.1)) (sym c.in_ok-add_division-in-Ok.ensures.products) (Each_append _ c.loop-number.solution.products.items c.in-Ok.division.products.items i.weighed s.weighed);
+      solved = solved_step j c.loop-number.number x c.loop-number.solution.rows.items (row_list c.in-Ok.division.row) c.add_division.new.solution.rows.items c.loop-number.solution.products.items c.in-Ok.division.products.items c.add_division.new.solution.products.items
           c.kept.ensures lt is c.in_ok-add_division-in-Ok.ensures.rows c.in_ok-add_division-in-Ok.ensures.products i.solved s.solved;
     }
 

@@ -6,4 +6,4 @@ pub returns-in-Some : goal.returns-in-Some
 returns-in-Some c =
     let trail = c.args.trail.now in
     ap₂ ◌+◌ c.degree_of.ensures.value c.degree_of-in-Some.ensures.value
-    ∙ degree_at trail.ring.weights trail.steps.items _ _ trail.last (sym c.deref.ensures.value ∙ c.in-Some.ensures.cases.0)
+    ∙ degree_at trail.ring.weights trail.products.items _ _ trail.last (sym c.deref.ensures.value ∙ c.in-Some.ensures.cases.0)

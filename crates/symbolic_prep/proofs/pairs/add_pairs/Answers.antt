@@ -3,7 +3,7 @@ use Rattle.module_vectors.proofs.Scaling.{Each_at, Each_more}
 use Rattle.module_vectors.specs.Rings.{variables}
 use Rattle.symbolic_prep.proofs.Closing.{both_tops, later_itself, later_trans, pair_divides, pairs_more}
 use Rattle.symbolic_prep.proofs.Tracing.{pair_position}
-use Rattle.symbolic_prep.specs.Plans.{HasPairSteps, IsPairOf}
+use Rattle.symbolic_prep.specs.Plans.{HasPairProducts, IsPairOf}
 use Rattle.symbolic_prep.proofs.pairs.add_pairs.Goals as goal
 
 pub loop-i-init : goal.loop-i-init
@@ -56,9 +56,9 @@ loop-i-preserved g c =
     let both = later_trans n ws list p.keys q.keys r.keys q.rows.items r.rows.items p.products.items q.products.items r.products.items p.led.items q.led.items r.led.items one.later two.later in
     record {
       later = later_trans n ws list a.keys p.keys r.keys p.rows.items r.rows.items a.products.items p.products.items r.products.items a.led.items p.led.items r.led.items c.loop-i.invariant.later both;
-      pairs = Each_more (HasPairSteps n list r.products.items) c.args.pairs.now c.loop-i.i x
-          (pairs_more n list p.products.items both.more r.products.items (take c.loop-i.i c.args.pairs.now) both.steps_more c.loop-i.invariant.pairs) c.loop-i-test.true c.index-pairs-i.is
-          (both_tops n list q.products.items r.products.items two.later.more x one.top two.later.steps_more two.top);
+      pairs = Each_more (HasPairProducts n list r.products.items) c.args.pairs.now c.loop-i.i x
+          (pairs_more n list p.products.items both.more r.products.items (take c.loop-i.i c.args.pairs.now) both.products_more c.loop-i.invariant.pairs) c.loop-i-test.true c.index-pairs-i.is
+          (both_tops n list q.products.items r.products.items two.later.more x one.top two.later.products_more two.top);
       traced = two.traced;
       count = omega (arith, c.loop-i.invariant.count, one.one, two.one);
     }

@@ -1,7 +1,7 @@
 use Rattle.std.proofs.Common.{length, take, ◌*◌, ◌+◌, ◌≤◌}
 use Rattle.formal_sums.specs.FormalSums.{Each}
 use Rattle.module_vectors.specs.Rings.{variables}
-use Rattle.symbolic_prep.specs.Plans.{HasPairSteps, IsLaterPlan}
+use Rattle.symbolic_prep.specs.Plans.{HasPairProducts, IsLaterPlan}
 use Rattle.pair_criteria.specs.Traces.{AreTraced}
 use Rattle.symbolic_prep.proofs.pairs.add_pairs.Given as goal
 
@@ -12,7 +12,7 @@ invariant-loop-i g l =
     record {
       later : IsLaterPlan n l.ring.weights list l.fn.plan.keys l.fn.plan.products.items l.fn.plan.led.items
           l.plan.keys l.plan.rows.items l.plan.products.items l.plan.led.items;
-      pairs : Each (HasPairSteps n list l.plan.products.items) (take l.i l.pairs);
+      pairs : Each (HasPairProducts n list l.plan.products.items) (take l.i l.pairs);
       traced : AreTraced n list l.pairs l.plan.products.items;
       count : length l.plan.rows.items ≤ length l.fn.plan.rows.items + 2 * l.i;
     }

@@ -40,14 +40,14 @@ returns-in-Ok-clause-top g c =
     let ring = c.args.ring.now in (
       length c.args.plan.now.products.items,
       top_step (variables ring) ring.weights (g.L.Vectors.listed c.args.members.now) c.args.plan.now.products.items c.add_product.new.plan.products.items c.args.pair.now.lcm c.args.member c.in_ok-t.t c.at.result.now
-          c.at.ensures c.in_ok-t.ensures c.in-Ok.ensures.planned.steps_more,
+          c.at.ensures c.in_ok-t.ensures c.in-Ok.ensures.planned.products_more,
     )
 
 pub returns-in-Ok-clause-traced : goal.returns-in-Ok-clause-traced
 returns-in-Ok-clause-traced g c =
     let ring = c.args.ring.now in
     top_traced (variables ring) ring.weights (g.L.Vectors.listed c.args.members.now) c.args._pairs.now c.args.plan.now.products.items c.add_product.new.plan.products.items c.args.pair.now c.args.member c.in_ok-t.t c.at.result.now
-    c.requires.traced c.in-Ok.ensures.planned.steps_more c.at.ensures c.requires.position c.in_ok-t.ensures c.requires.pair
+    c.requires.traced c.in-Ok.ensures.planned.products_more c.at.ensures c.requires.position c.in_ok-t.ensures c.requires.pair
 
 pub returns-in-Err-clause-stop : goal.returns-in-Err-clause-stop
 returns-in-Err-clause-stop g c =

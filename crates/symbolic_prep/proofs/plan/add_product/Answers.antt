@@ -2,7 +2,7 @@ use Rattle.std.proofs.Common.{get_or, length, subst, sym, ◌∙◌, ◌≡◌, 
 use Rattle.formal_sums.specs.FormalSums.{Each}
 use Rattle.monomial_orders.specs.Kept.{IsWeighed}
 use Rattle.module_vectors.specs.Rings.{variables}
-use Rattle.module_vectors.specs.Trails.{Step}
+use Rattle.module_vectors.specs.Trails.{KeptProduct}
 use Rattle.symbolic_prep.proofs.Planning.{entries_some, has_variables, keys_product, lead_known, more_planned, named_product, terms_weighed}
 use Rattle.symbolic_prep.specs.Plans.{IsMorePlanned}
 use Rattle.symbolic_prep.specs.Traces.{ProductEnds}
@@ -48,7 +48,7 @@ returns-clause-planned g c =
     let list = g.L.Vectors.listed c.args.members.now in
     let p = c.args.plan.now in
     let q = c.put_row.new.plan in
-    let s : Step = (c.args.member, c.args.t) in
+    let s : KeptProduct = (c.args.member, c.args.t) in
     let e = c.in-Ok.ensures in
     let r = c.in_ok-put_row.ensures in
     let es = c.in-Ok.entries.items in

@@ -27,6 +27,6 @@ returns g c = λ rank.
     let count : c.len-count.result ≡ length q.rows.items = omega (arith, c.len-count.ensures) in
     prepared n ring.weights ring.modulus.value c.domain.ensures.above_one (ring_comparison ring n) (key_comparison_order ring.module_order ring.order ring.weights n 0) list c.args._pairs.now
     q.keys q.rows.items q.products.items q.led.items c.in_ok-matrix.matrix c.requires.members c.requires.monic c.requires.plan c.requires.closed
-    c.requires.pairs c.requires.steps
+    c.requires.pairs c.requires.products
     (subst₂ (λ ks m. IsPlacedMatrix n ring.weights (ring_comparison ring n) ks m q.rows.items c.in_ok-matrix.matrix) (c.deref.ensures.value ∙ c.into_keys-columns.ensures.keys) count c.in_ok-matrix.ensures)
     c.requires.traced (subst AreApart c.into_keys-columns.ensures.keys c.into_keys-columns.ensures.apart) c.requires.few rank

@@ -1,6 +1,6 @@
 use Rattle.std.proofs.Common.{[], arith, length, ◌*◌, ◌-◌, ◌<◌, ◌∷◌, ◌≤◌}
 use Rattle.module_vectors.specs.Rings.{ring_comparison, variables}
-use Rattle.symbolic_prep.proofs.Closing.{pairs_more, some_steps}
+use Rattle.symbolic_prep.proofs.Closing.{pairs_more, some_products}
 use Rattle.symbolic_prep.proofs.Counting.{sparse_start}
 use Rattle.vector_division.proofs.Looping.{are_weighed}
 use Rattle.symbolic_prep.proofs.preparing.prepare.Goals as goal
@@ -32,16 +32,16 @@ returns-in-Err-close_plan-clause-stop g c =
     let ring = c.args.ring.now in
     c.stop_of-in-Err-close_plan.ensures (variables ring) ring.weights (g.L.Vectors.listed c.args.members.now) c.args.pairs.now c.in-Err-close_plan.ensures.stop
 
-pub matrix_of-requires-clause-steps : goal.matrix_of-requires-clause-steps
-matrix_of-requires-clause-steps g c =
+pub matrix_of-requires-clause-products : goal.matrix_of-requires-clause-products
+matrix_of-requires-clause-products g c =
     let later = c.in_default-close_plan.ensures.later in
-    pairs_more (variables c.args.ring.now) (g.L.Vectors.listed c.args.members.now) c.add_pairs.new.plan.products.items later.more c.close_plan.new.plan.products.items c.args.pairs.now later.steps_more c.in_default.ensures.pairs
+    pairs_more (variables c.args.ring.now) (g.L.Vectors.listed c.args.members.now) c.add_pairs.new.plan.products.items later.more c.close_plan.new.plan.products.items c.args.pairs.now later.products_more c.in_default.ensures.pairs
 
 pub matrix_of-requires-clause-few : goal.matrix_of-requires-clause-few
 matrix_of-requires-clause-few g c = λ some.
     let rows = c.add_pairs.new.plan.rows.items in
-    let steps = c.add_pairs.new.plan.products.items in
+    let products = c.add_pairs.new.plan.products.items in
     let count : length rows ≤ 2 * length c.args.pairs.now = omega (arith, c.in_default.ensures.count, c.in_ok-plan.ensures.no_rows) in
-    let there : 0 < length rows = omega (arith, c.in_default.ensures.later.plan.count, some_steps (variables c.args.ring.now) (g.L.Vectors.listed c.args.members.now) steps c.args.pairs.now some c.in_default.ensures.pairs) in
+    let there : 0 < length rows = omega (arith, c.in_default.ensures.later.plan.count, some_products (variables c.args.ring.now) (g.L.Vectors.listed c.args.members.now) products c.args.pairs.now some c.in_default.ensures.pairs) in
     c.in_default-close_plan.ensures.sparse (0 ∷ []) (2 * length c.args.pairs.now - 1)
     (sparse_start rows (length c.args.pairs.now) some there count)

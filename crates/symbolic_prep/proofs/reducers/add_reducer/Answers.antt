@@ -41,7 +41,7 @@ returns-in-Ok-clause-traced g c =
     let key = c.index-keys-cursor.result in
     let r = key_read n ring.weights p.keys c.keys-keys.result.now c.args.cursor key c.requires.plan.monomials c.requires.within c.keys-keys.ensures.keys c.index-keys-cursor.is in
     reducer_traced n ring.weights list c.args._pairs.now p.keys p.rows.items p.products.items q.products.items p.led.items
-    (c.in-Some.member, c.in-Some.t) c.args.cursor key c.requires.plan c.requires.traced c.requires.within r.1 (rw c.in-Some.is at c.in_ok-found.ensures) c.in-Ok.ensures.planned.steps_more
+    (c.in-Some.member, c.in-Some.t) c.args.cursor key c.requires.plan c.requires.traced c.requires.within r.1 (rw c.in-Some.is at c.in_ok-found.ensures) c.in-Ok.ensures.planned.products_more
 
 pub returns-in-Err-clause-stop : goal.returns-in-Err-clause-stop
 returns-in-Err-clause-stop g c =
