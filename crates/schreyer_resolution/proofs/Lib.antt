@@ -1,0 +1,16 @@
+pub mod Summing
+pub mod Heading
+pub mod Pushing
+pub mod Inducing
+pub mod Canonical
+pub mod Making
+pub mod Dividing
+pub mod Trailing
+pub mod LeastLeads
+pub mod PairSteps
+pub mod FirstMaps
+pub mod Starting
+pub mod Places
+pub mod Joining
+pub mod Finding
+pub mod Pairing

@@ -1,0 +1,36 @@
+use Rattle.std.proofs.Common.{ap, ap₂, arith, get_or, length, mul-le-mul, rules, subst, sym, ◌*◌, ◌+◌, ◌<◌, ◌∙◌, ◌≡◌, ◌≤◌}
+use Rattle.std.proofs.lemmas.List.{take_all}
+use Rattle.monomials.specs.Exponents.{exponents_of}
+use Rattle.monomials.specs.Weights.{weighted_degree}
+use Rattle.monomial_orders.proofs.Totals.{total_step, weighted_sum, weighted_sum_is}
+use Rattle.schreyer_resolution.specs.Heads.{summed}
+use Rattle.schreyer_resolution.proofs.Summing.{length-summed}
+use Rattle.schreyer_resolution.proofs.comparing.total.Goals as goal
+
+pub loop-k-preserved : goal.loop-k-preserved
+loop-k-preserved c =
+    let ws = c.args.weights.now in
+    let xs = summed c.args.a.now c.args.e.now in
+    let k = c.loop-k.k in
+    let same : length ws ≡ length xs = sym c.requires.summands.count ∙ sym (length-summed c.args.a.now c.args.e.now) in
+    let w : get_or ws k 0 < 256 = search rules in
+    let x : get_or xs k 0 < 562949953421312 = subst (λ z. z < 562949953421312) c.place.ensures.sum c.place.ensures.low in
+    let w1 : get_or ws k 0 ≤ 255 = omega arith in
+    let x1 : get_or xs k 0 ≤ 562949953421312 = omega arith in
+    let m : get_or ws k 0 * get_or xs k 0 ≤ 255 * 562949953421312 = mul-le-mul w1 x1 in
+    let e : c.from.result * c.from-in-loop-k.result ≡ get_or ws k 0 * get_or xs k 0 = ap₂ ◌*◌ c.from.ensures (c.from-in-loop-k.ensures ∙ c.place.ensures.sum) in
+    record {
+      total =
+          ap₂ (λ y z. c.loop-k.degree + y * z) c.from.ensures (c.from-in-loop-k.ensures ∙ c.place.ensures.sum)
+          ∙ total_step ws xs k c.loop-k.degree same c.requires.positive (omega (arith, length-summed c.args.a.now c.args.e.now)) c.loop-k.invariant.total;
+      small = omega (arith, e, m, c.loop-k.invariant.small);
+    }
+
+pub returns : goal.returns
+returns c =
+    let ws = c.args.weights.now in
+    let xs = summed c.args.a.now c.args.e.now in
+    c.loop-k.invariant.total
+    ∙ ap₂ weighted_sum (take_all c.loop-k.k ws (omega (arith, c.requires.summands.count))) (take_all c.loop-k.k xs (omega (arith, length-summed c.args.a.now c.args.e.now)))
+    ∙ weighted_sum_is ws xs
+    ∙ ap (λ n. weighted_degree ws (exponents_of n xs)) (length-summed c.args.a.now c.args.e.now)

@@ -1,0 +1,12 @@
+use Rattle.std.proofs.Common.{[]}
+use Rattle.module_vectors.specs.Rings.{variables}
+use Rattle.schreyer_resolution.proofs.Trailing.{first_chain, key_inside}
+use Rattle.schreyer_resolution.proofs.trails.first_trail.Goals as goal
+
+pub keep_trail-requires-clause-chain : goal.keep_trail-requires-clause-chain
+keep_trail-requires-clause-chain g c =
+    let ring = g.F.Frame.over c.args.frame.now in
+    let rank = c.requires.base.rank in
+    let cols = c.args.columns.now in
+    let key = c.args.key.now in
+    ([], c.in_ok-products.ensures, first_chain ring (g.F.Frame.compare c.args.frame.now) rank (c.lawful_setting.ensures rank) cols c.requires.vectors key (key_inside (variables ring) cols key c.requires.pair) c.requires.monomial c.args.last c.requires.last c.requires.great)

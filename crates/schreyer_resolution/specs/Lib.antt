@@ -1,0 +1,13 @@
+-- what public clauses cite
+pub mod Inducing
+pub mod Laws
+pub mod Resolved
+-- invariants of loops
+pub mod Steps
+pub mod Heads
+pub mod Columns
+pub mod Chains
+pub mod Pairs
+pub mod Sorting
+pub mod Progress
+pub mod Joining

@@ -1,0 +1,15 @@
+-- Vectors by the places of their leads
+use Rattle.std.specs.Cmp.Lexicographic.{slice_cmp}
+use Rattle.std.specs.Ordering.{nat_cmp, ordering_then}
+use Rattle.std.specs.Prelude.{List, [], ℕ, ◌∷◌}
+use Rattle.std.specs.declared.cmp.Ordering.{Ordering}
+use Rattle.module_vectors.specs.declared.key.Key.{Key as CodeKey}
+
+-- the position and the exponents of the first key; 0 and none where there is none
+abbrev pub place_of : List (CodeKey × ℕ) → ℕ × List ℕ
+place_of [] = (0, [])
+place_of (t ∷ v) = (t.0.position, t.0.monomial.exponents)
+
+-- the lower position first, and at one position the lex-greater monomial
+abbrev pub by_place : List (CodeKey × ℕ) → List (CodeKey × ℕ) → Ordering
+by_place v w = ordering_then (nat_cmp (place_of v).0 (place_of w).0) (slice_cmp nat_cmp (place_of w).1 (place_of v).1)

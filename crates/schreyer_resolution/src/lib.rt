@@ -1,0 +1,22 @@
+//! Free resolutions by Schreyer's theorem: orders that columns induce, and the canonical resolution of a module.
+//!
+//! The leads of a map's columns induce an order of the next map's rows, and by it the syzygies of the pairs are a Gröbner basis of
+//! the kernel. Of each column the minimal leads of its pairs with later ones are found by their monomials alone, and one division
+//! makes the column of the next map at each of them. Where each step takes the last column that can be taken, the columns come
+//! out reduced (Schreyer's theorem; Eisenbud, section 15.5).
+#![tactic(auto)]
+
+mod column;
+mod comparing;
+mod divisors;
+mod head;
+mod induced;
+mod maps;
+mod pair_leads;
+mod resolving;
+mod sorting;
+mod trails;
+
+pub use induced::Induced;
+pub use maps::{Map, Resolution, column_degrees, joined_maps};
+pub use resolving::resolve;

@@ -1,0 +1,237 @@
+// The canonical resolution of a module.
+ghost use Rattle.std.specs.Prelude.{◌≡◌, ◌<◌, ◌≤◌, ◌++◌, ◌∷◌, [], ℕ, List, IfErr, IfOk, length, map, replicate};
+ghost use Rattle.formal_sums.specs.FormalSums.{Each};
+ghost use Rattle.bases.specs.Bases.{IsReducedBasis};
+ghost use Rattle.resolution_laws.specs.Resolutions.{IsCanonical};
+ghost use Rattle.module_vectors.specs.Rings.{ring_comparison, setting, variables};
+ghost use Rattle.module_vectors.specs.Vectors.{AreVectorsOver, HasPositions, IsMonomialOver, key_of, sums_of};
+ghost use Rattle.module_vectors.specs.declared.key.Key.{Key as KeyValue};
+ghost use Rattle.schreyer_resolution.specs.Columns.{AreColumnsTo, ColumnStops, IsAbove, IsBase};
+ghost use Rattle.schreyer_resolution.specs.Inducing.{Columns, maps_of};
+ghost use Rattle.schreyer_resolution.specs.Progress.{AreResolvedTo, HavePositions, IsNext, IsTop};
+ghost use Rattle.schreyer_resolution.specs.Resolved.{AreJoined, AreVectorsThrough, ResolutionStops, columns_of};
+ghost use Rattle.schreyer_resolution.specs.Steps.{ArePairLeads};
+
+use crate::column::column;
+use crate::maps::{joined_maps, positions_of_zero};
+use crate::pair_leads::pair_leads;
+use crate::sorting::sorted_columns;
+use crate::{Induced, Resolution};
+use module_vectors::{Frame, Key, NoMemory, Ring, VectList, WorkStop, lawful_setting};
+use std::alloc::Global;
+
+// The columns with these leads.
+fn columns_at<F: Frame>(
+    alloc: Global,
+    frame: &F,
+    induced: &Induced<'_>,
+    below: &[VectList],
+    columns: &VectList,
+    keys: &[Key],
+) -> Result<VectList, WorkStop>
+    requires over { induced.now.ring ≡ F.over frame.now }
+    requires above { IsAbove (F.over frame.now) (F.compare frame.now) columns.now induced.now }
+    requires vectors { AreVectorsOver (F.over frame.now) (F.compare frame.now) columns.now }
+    requires base { IsBase (F.over frame.now) (F.compare frame.now) columns.now }
+    requires monomials { Each (λ k. IsMonomialOver (F.over frame.now) k.monomial) keys.now }
+    requires pairs { let n = variables (F.over frame.now) in ArePairLeads (sums_of n columns.now) (map (key_of n) keys.now) }
+    ensures columns { IfOk result (AreColumnsTo (F.over frame.now) (F.compare frame.now) columns.now induced.now keys.now (length keys.now)) }
+    ensures stop { IfErr result (ColumnStops (F.over frame.now) below.now columns.now) }
+{
+    let mut next = Vec::new(alloc);
+    for key in keys {
+        let made = match column(alloc, frame, induced, below, columns, key) {
+            Ok(made) => made,
+            Err(stop) => return Err(stop),
+        };
+        next.push(made)?;
+    }
+    Ok(VectList::from_vec(next))
+}
+
+// The next map above one that stands on no other.
+fn second_map(
+    alloc: Global,
+    ring: &Ring,
+    maps: &[VectList],
+    columns: &VectList,
+) -> Result<VectList, WorkStop>
+    requires maps { maps.now ≡ columns.now ∷ [] }
+    requires top { IsTop ring.now [] columns.now }
+    ensures next { IfOk result (IsNext ring.now [] columns.now) }
+    ensures stop { IfErr result (ColumnStops ring.now [] columns.now) }
+{
+    lawful_setting(ring);
+    let keys = pair_leads(alloc, ring, columns)?;
+    let induced = Induced::through(alloc, ring, maps)?;
+    columns_at(alloc, ring, &induced, &[], columns, &keys)
+}
+
+// The next map above one that stands on others.
+fn later_map(
+    alloc: Global,
+    ring: &Ring,
+    maps: &[VectList],
+    below: &[VectList],
+    columns: &VectList,
+) -> Result<VectList, WorkStop>
+    requires maps { maps.now ≡ below.now ++ columns.now ∷ [] }
+    requires some { 0 < length below.now }
+    requires top { IsTop ring.now below.now columns.now }
+    ensures next { IfOk result (IsNext ring.now below.now columns.now) }
+    ensures stop { IfErr result (ColumnStops ring.now below.now columns.now) }
+{
+    let frame = Induced::through(alloc, ring, below)?;
+    lawful_setting(&frame);
+    let keys = pair_leads(alloc, &frame, columns)?;
+    let induced = Induced::through(alloc, ring, maps)?;
+    columns_at(alloc, &frame, &induced, below, columns, &keys)
+}
+
+// The next map above one and those that it stands on, if any.
+fn map_above(
+    alloc: Global,
+    ring: &Ring,
+    maps: &[VectList],
+    below: &[VectList],
+    columns: &VectList,
+) -> Result<VectList, WorkStop>
+    requires maps { maps.now ≡ below.now ++ columns.now ∷ [] }
+    requires top { IsTop ring.now below.now columns.now }
+    ensures next { IfOk result (IsNext ring.now below.now columns.now) }
+    ensures stop { IfErr result (ColumnStops ring.now below.now columns.now) }
+{
+    if below.is_empty() {
+        second_map(alloc, ring, maps, columns)
+    } else {
+        later_map(alloc, ring, maps, below, columns)
+    }
+}
+
+// The next map.
+fn next_map(alloc: Global, ring: &Ring, maps: &[VectList]) -> Result<VectList, WorkStop>
+    requires some { 0 < length maps.now }
+    requires top { (below : Columns) (last : List (List (KeyValue × ℕ))) → maps.now ≡ below ++ last ∷ [] → IsTop ring.now below last }
+    ensures next { (below : Columns) (last : List (List (KeyValue × ℕ))) → maps.now ≡ below ++ last ∷ []
+        → IfOk result (IsNext ring.now below last) }
+    ensures stop { (below : Columns) (last : List (List (KeyValue × ℕ))) → maps.now ≡ below ++ last ∷ []
+        → IfErr result (ColumnStops ring.now below last) }
+{
+    match maps.split_last() {
+        Some((columns, below)) => map_above(alloc, ring, maps, below, columns),
+        None => unreachable!(),
+    }
+}
+
+// The first map alone.
+fn first_maps(
+    alloc: Global,
+    ring: &Ring,
+    rank: u128,
+    reduced: &VectList,
+) -> Result<Vec<VectList>, NoMemory>
+    requires vectors { AreVectorsOver ring.now (ring_comparison ring.now) reduced.now }
+    requires positions { Each (HasPositions rank) reduced.now }
+    requires basis { let n = variables ring.now in
+        IsReducedBasis (setting ring.now n (ring_comparison ring.now n) rank) (sums_of n reduced.now) (sums_of n reduced.now) }
+    requires some { 0 < length reduced.now }
+    ensures { IfOk result (λ maps. AreResolvedTo ring.now rank reduced.now maps.items) }
+{
+    let first = sorted_columns(alloc, ring, rank, reduced)?;
+    let mut maps = Vec::new(alloc);
+    maps.push(first)?;
+    Ok(maps)
+}
+
+// These maps and all that come behind them.
+fn complete_maps(
+    alloc: Global,
+    ring: &Ring,
+    rank: u128,
+    reduced: &VectList,
+    first: Vec<VectList>,
+) -> Result<Vec<VectList>, WorkStop>
+    requires positions { Each (HasPositions rank) reduced.now }
+    requires resolved { AreResolvedTo ring.now rank reduced.now first.items }
+    ensures canonical { let n = variables ring.now in
+        IfOk result (λ maps. IsCanonical (setting ring.now n (ring_comparison ring.now n) rank) (sums_of n reduced.now) (maps_of n maps.items)) }
+    ensures length { 0 < variables ring.now → IfOk result (λ maps. length maps.items ≤ variables ring.now) }
+    ensures vectors { IfOk result (λ maps. AreVectorsThrough ring.now [] maps.items) }
+    ensures positions { IfOk result (λ maps. HavePositions rank maps.items) }
+    ensures stop { IfErr result (ResolutionStops ring.now rank reduced.now) }
+{
+    lawful_setting(ring);
+    let _rank = rank;
+    let _reduced = reduced;
+    let mut maps = first;
+    for _ in 0..u64::MAX {
+        let next = match next_map(alloc, ring, &maps) {
+            Ok(next) => next,
+            Err(stop) => return Err(stop),
+        };
+        if next.is_empty() {
+            return Ok(maps);
+        }
+        maps.push(next)?;
+    }
+    Err(WorkStop::Memory)
+}
+
+// The columns of the maps.
+fn resolved_maps(
+    alloc: Global,
+    ring: &Ring,
+    rank: u128,
+    reduced: &VectList,
+) -> Result<Vec<VectList>, WorkStop>
+    requires vectors { AreVectorsOver ring.now (ring_comparison ring.now) reduced.now }
+    requires positions { Each (HasPositions rank) reduced.now }
+    requires basis { let n = variables ring.now in
+        IsReducedBasis (setting ring.now n (ring_comparison ring.now n) rank) (sums_of n reduced.now) (sums_of n reduced.now) }
+    ensures canonical { let n = variables ring.now in
+        IfOk result (λ maps. IsCanonical (setting ring.now n (ring_comparison ring.now n) rank) (sums_of n reduced.now) (maps_of n maps.items)) }
+    ensures length { 0 < variables ring.now → IfOk result (λ maps. length maps.items ≤ variables ring.now) }
+    ensures vectors { IfOk result (λ maps. AreVectorsThrough ring.now [] maps.items) }
+    ensures positions { IfOk result (λ maps. HavePositions rank maps.items) }
+    ensures stop { IfErr result (ResolutionStops ring.now rank reduced.now) }
+{
+    if reduced.is_empty() {
+        return Ok(Vec::new(alloc));
+    }
+    let first = first_maps(alloc, ring, rank, reduced)?;
+    complete_maps(alloc, ring, rank, reduced, first)
+}
+
+/// The canonical resolution of the free module of this rank modulo the module of `reduced`, a reduced Gröbner basis: its
+/// first map has the columns of that basis, and each further one the reduced basis of the kernel of the one before, in the
+/// order that its leads induce. Columns stand by lead position ascending, then by lex-descending lead monomial. Over n
+/// variables, n at least 1, there are at most n maps (Eisenbud, section 15.5).
+///
+/// `Degree` comes with a trail that begins with a pair of columns of one of its maps; `Memory` where there is none, and where
+/// the degree of a column is 2^32 or more.
+pub fn resolve(
+    alloc: Global,
+    ring: &Ring,
+    rank: u128,
+    reduced: &VectList,
+) -> Result<Resolution, WorkStop>
+    requires vectors { AreVectorsOver ring.now (ring_comparison ring.now) reduced.now }
+    requires positions { Each (HasPositions rank) reduced.now }
+    requires basis { let n = variables ring.now in
+        IsReducedBasis (setting ring.now n (ring_comparison ring.now n) rank) (sums_of n reduced.now) (sums_of n reduced.now) }
+    ensures canonical { let n = variables ring.now in
+        IfOk result (λ r. IsCanonical (setting ring.now n (ring_comparison ring.now n) rank) (sums_of n reduced.now) (maps_of n (columns_of r))) }
+    ensures length { 0 < variables ring.now → IfOk result (λ r. length r.maps.items ≤ variables ring.now) }
+    ensures vectors { IfOk result (λ r. AreVectorsThrough ring.now [] (columns_of r)) }
+    ensures places { IfOk result (λ r. r.positions.items ≡ replicate rank 0) }
+    ensures joined { IfOk result (λ r. AreJoined ring.now r.positions.items r.maps.items) }
+    ensures stop { IfErr result (ResolutionStops ring.now rank reduced.now) }
+{
+    let columns = match resolved_maps(alloc, ring, rank, reduced) {
+        Ok(columns) => columns,
+        Err(stop) => return Err(stop),
+    };
+    let positions = positions_of_zero(alloc, rank)?;
+    let maps = joined_maps(alloc, ring, &positions, columns)?;
+    Ok(Resolution { positions, maps })
+}
