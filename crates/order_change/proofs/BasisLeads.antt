@@ -1,11 +1,10 @@
 -- The leads of a reduced basis as a list of monomials
-use Rattle.std.proofs.Common.{List, Ordering, [], ap, ap₂, arith, get_or, inl, inr, length, length-append, map, refl, subst, suc, sym, zero, ℕ, ◌++◌, ◌+◌, ◌<◌, ◌∙◌, ◌∷◌, ◌≡◌, ◌≤◌, ◌⊎◌}
+use Rattle.std.proofs.Common.{List, Ordering, [], ap, ap₂, arith, get_or, inl, inr, length, refl, subst, suc, sym, zero, ℕ, ◌++◌, ◌+◌, ◌<◌, ◌∙◌, ◌∷◌, ◌≡◌, ◌≤◌, ◌⊎◌}
 use Rattle.std.proofs.lemmas.Bool.{cases_lt}
 use Rattle.std.proofs.lemmas.List.{get_or-map}
 use Rattle.residues.proofs.Congruences.{IsCongruent_nonzero, IsCongruent_sym}
 use Rattle.monomials.specs.Exponents.{Exponents, exponents_of, unit}
 use Rattle.formal_sums.specs.FormalSums.{Each, FormalSum, Key}
-use Rattle.bases.specs.Bases.{IsReducedBasis}
 use Rattle.bases.specs.Leads.{IsMonicLead, head_key, leads}
 use Rattle.bases.specs.Settings.{IsLawful, Setting}
 use Rattle.monomial_orders.specs.Kept.{IsWeighed, Monomial}
@@ -17,7 +16,7 @@ use Rattle.groebner_iface.specs.Runs.{IsReducedBasisOf}
 use Rattle.change_laws.proofs.Pushing.{at_new, at_old}
 use Rattle.change_laws.specs.Standard.{lead_monomials}
 use Rattle.order_change.proofs.Items.{length_monomials, monomials_push}
-use Rattle.order_change.specs.Lists.{AreMonomials, monomials}
+use Rattle.order_change.specs.Lists.{monomials}
 
 monic_some : {n : ℕ} (S : Setting n) (v : List (CodeKey × ℕ)) (k : Key n) → 1 < S.modulus → IsMonicLead S (sum_of n v) k → 0 < length v
 monic_some S [] k big h = absurd (IsCongruent_nonzero S.modulus 1 (omega arith) big (IsCongruent_sym h.one))
@@ -28,7 +27,7 @@ sums_at n [] i = refl
 sums_at n (v ∷ basis) zero = refl
 sums_at n (v ∷ basis) (suc i) = sums_at n basis i
 
-length_sums : (n : ℕ) (basis : List (List (CodeKey × ℕ))) → length (sums_of n basis) ≡ length basis
+pub length_sums : (n : ℕ) (basis : List (List (CodeKey × ℕ))) → length (sums_of n basis) ≡ length basis
 length_sums n [] = refl
 length_sums n (v ∷ basis) = ap suc (length_sums n basis)
 
@@ -91,7 +90,7 @@ same_items [] (y ∷ ys) e h = absurd (omega (arith, e))
 same_items (x ∷ xs) [] e h = absurd (omega (arith, e))
 same_items {n} (x ∷ xs) (y ∷ ys) e h = ap₂ ◌∷◌ (h 0 (omega arith)) (same_items xs ys (omega (arith, e)) (λ k lt. h (suc k) (omega (arith, lt))))
 
-length_leads : {n : ℕ} (G : List (FormalSum n)) → length (lead_monomials G) ≡ length G
+pub length_leads : {n : ℕ} (G : List (FormalSum n)) → length (lead_monomials G) ≡ length G
 length_leads [] = refl
 length_leads (g ∷ G) = ap suc (length_leads G)
 

@@ -1,5 +1,5 @@
 -- Items of a list of monomials
-use Rattle.std.proofs.Common.{IsTrue, List, [], ap, ap₂, arith, get_or, inl, inr, length, map, refl, subst, suc, sym, zero, ℕ, ◌++◌, ◌+◌, ◌<◌, ◌∙◌, ◌∷◌, ◌≡◌, ◌≤◌, ◌⊎◌, ◌↔◌, Bool, false, true}
+use Rattle.std.proofs.Common.{IsTrue, List, [], ap, arith, get_or, inl, inr, length, refl, subst, suc, sym, zero, ℕ, ◌++◌, ◌+◌, ◌<◌, ◌∙◌, ◌∷◌, ◌≡◌, ◌≤◌, ◌⊎◌, ◌↔◌, Bool, false, true}
 use Rattle.std.proofs.lemmas.Bool.{cases_lt}
 use Rattle.std.proofs.lemmas.List.{get_or-map}
 use Rattle.monomials.specs.Exponents.{Divides, Exponents, cons, exponents_of, times, unit}

@@ -1,3 +1,16 @@
 mod Items
 mod Listed
 mod BasisLeads
+mod Orders
+mod Compared
+mod Sorting
+mod Turns
+mod Borders
+mod Tails
+mod Filling
+mod Adding
+mod Turning
+mod Stepping
+mod Finishing
+mod Clearing
+mod VariableProducts

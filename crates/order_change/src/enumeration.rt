@@ -14,8 +14,8 @@ use std::alloc::Global;
 // The greatest number of standard monomials.
 const MOST: usize = 256;
 
-// Is m standard, and not in the list?
-fn is_new(weights: &Weights, leads: &[Mono], list: &[Mono], m: &Mono) -> bool
+/// Is m standard, and not in the list?
+pub(crate) fn is_new(weights: &Weights, leads: &[Mono], list: &[Mono], m: &Mono) -> bool
     requires leads { AreMonomials (length weights.now) weights.now leads.now }
     requires list { AreMonomials (length weights.now) weights.now list.now }
     requires monomial { IsWeighed (length weights.now) weights.now m.now }

@@ -2,10 +2,18 @@
 //! algebra on normal forms (Faugère, Gianni, Lazard, Mora, Journal of Symbolic Computation 16, 1993).
 #![tactic(auto)]
 
+mod ascending;
+mod change;
+mod conversion;
 mod enumeration;
+mod forms;
 mod leads;
 mod listing;
+mod products;
+mod rows;
 mod stop;
+mod table;
 
+pub use conversion::convert;
 pub use listing::standard;
 pub use stop::ChangeStop;

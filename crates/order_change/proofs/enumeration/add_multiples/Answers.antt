@@ -1,8 +1,6 @@
-use Rattle.std.proofs.Common.{ap, arith, false, get_or, length, refl, subst, sym, true, ℕ, ◌+◌, ◌<◌, ◌∙◌, ◌≡◌, ◌≤◌}
-use Rattle.monomials.specs.Exponents.{Divides, exponents_of, times, unit}
-use Rattle.change_laws.specs.Standard.{Has, IsStandard, power}
-use Rattle.order_change.specs.Lists.{AreListed, IsNew, monomials}
-use Rattle.order_change.proofs.Items.{divides_by, equal_by, is_free, item_at, not_standard, one_more, product_by, variable_power}
+use Rattle.std.proofs.Common.{arith, false, get_or, length, refl, subst, sym, true, ◌+◌, ◌≡◌, ◌≤◌}
+use Rattle.monomials.specs.Exponents.{exponents_of}
+use Rattle.order_change.specs.Lists.{IsNew, monomials}
 use Rattle.order_change.proofs.Listed.{IsMultiplying_done, IsMultiplying_push, IsMultiplying_skip, many}
 use Rattle.order_change.specs.Lists.{IsMultiplying}
 use Rattle.order_change.proofs.enumeration.add_multiples.Goals.{then-is_new+else-len-ge-MOST+in_ok-push, else-is_new+in-Heap-1, else-is_new+in-Inline-1}

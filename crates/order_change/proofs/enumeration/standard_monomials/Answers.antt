@@ -1,8 +1,5 @@
-use Rattle.std.proofs.Common.{ap, arith, false, get_or, length, refl, subst, sym, true, [], ℕ, ◌++◌, ◌+◌, ◌<◌, ◌∙◌, ◌∷◌, ◌≡◌, ◌≤◌}
-use Rattle.monomials.specs.Exponents.{exponents_of, unit}
-use Rattle.monomial_orders.specs.Kept.{IsWeighed}
-use Rattle.change_laws.specs.Standard.{IsStandard}
-use Rattle.order_change.specs.Lists.{AreListed, IsListing, monomials}
+use Rattle.std.proofs.Common.{arith, false, length, subst, sym, true, ◌+◌, ◌≡◌, ◌≤◌}
+use Rattle.order_change.specs.Lists.{IsListing, monomials}
 use Rattle.order_change.proofs.Listed.{AreFew_listed, AreMultiplied_all, AreMultiplied_past, AreStandard_listed}
 use Rattle.order_change.proofs.enumeration.standard_monomials.Goals.{then-at-len+in_ok-add_multiples, else-at-len}
 use Rattle.order_change.proofs.enumeration.standard_monomials.Goals as goal

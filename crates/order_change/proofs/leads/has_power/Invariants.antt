@@ -1,6 +1,6 @@
 use Rattle.std.proofs.Common.{get_or, length, ℕ, ◌<◌, ◌≡◌}
-use Rattle.monomials.specs.Exponents.{Divides, exponents_of, unit}
-use Rattle.change_laws.specs.Standard.{Has, power}
+use Rattle.monomials.specs.Exponents.{unit}
+use Rattle.change_laws.specs.Standard.{power}
 use Rattle.order_change.specs.Lists.{monomials}
 use Rattle.order_change.proofs.leads.has_power.Given as goal
 

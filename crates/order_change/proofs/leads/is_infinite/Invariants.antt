@@ -1,5 +1,4 @@
-use Rattle.std.proofs.Common.{get_or, length, ℕ, ◌<◌, ◌≡◌}
-use Rattle.monomials.specs.Exponents.{Divides, exponents_of, unit}
+use Rattle.std.proofs.Common.{length, ℕ, ◌<◌}
 use Rattle.change_laws.specs.Standard.{Has, power}
 use Rattle.order_change.specs.Lists.{monomials}
 use Rattle.order_change.proofs.leads.is_infinite.Given as goal

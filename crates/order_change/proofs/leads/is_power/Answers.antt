@@ -1,4 +1,4 @@
-use Rattle.std.proofs.Common.{ap, ap₂, eq-eqb, eqb-true, get_or, length, refl, sym, ℕ, ◌*◌, ◌∙◌, ◌≡◌}
+use Rattle.std.proofs.Common.{ap, ap₂, eq-eqb, eqb-true, get_or, length, refl, sym, ◌*◌, ◌∙◌, ◌≡◌}
 use Rattle.monomials.specs.Exponents.{exponents_of}
 use Rattle.monomials.specs.Weights.{weighted_degree}
 use Rattle.change_laws.proofs.Powers.{is_power}

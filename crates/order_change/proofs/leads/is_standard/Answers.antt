@@ -1,8 +1,7 @@
-use Rattle.std.proofs.Common.{ap, arith, false, get_or, length, refl, subst, sym, true, ℕ, ◌+◌, ◌<◌, ◌∙◌, ◌≡◌, ◌≤◌}
-use Rattle.monomials.specs.Exponents.{Divides, exponents_of, times, unit}
-use Rattle.change_laws.specs.Standard.{Has, IsStandard, power}
-use Rattle.order_change.specs.Lists.{AreListed, IsNew, monomials}
-use Rattle.order_change.proofs.Items.{divides_by, equal_by, is_free, item_at, not_standard, one_more, product_by, variable_power}
+use Rattle.std.proofs.Common.{false, get_or, length, refl, subst, sym, true, ◌≡◌}
+use Rattle.monomials.specs.Exponents.{Divides, exponents_of, unit}
+use Rattle.order_change.specs.Lists.{monomials}
+use Rattle.order_change.proofs.Items.{divides_by, is_free, item_at, not_standard, one_more}
 use Rattle.order_change.proofs.leads.is_standard.Goals as goal
 
 pub returns-then-divides : goal.returns-then-divides

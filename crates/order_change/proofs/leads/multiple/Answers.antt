@@ -1,8 +1,6 @@
-use Rattle.std.proofs.Common.{ap, arith, false, get_or, length, refl, subst, sym, true, ℕ, ◌+◌, ◌<◌, ◌∙◌, ◌≡◌, ◌≤◌}
-use Rattle.monomials.specs.Exponents.{Divides, exponents_of, times, unit}
-use Rattle.change_laws.specs.Standard.{Has, IsStandard, power}
-use Rattle.order_change.specs.Lists.{AreListed, IsNew, monomials}
-use Rattle.order_change.proofs.Items.{divides_by, equal_by, is_free, item_at, not_standard, one_more, product_by, variable_power}
+use Rattle.std.proofs.Common.{ap, length, ◌∙◌}
+use Rattle.monomials.specs.Exponents.{exponents_of, times}
+use Rattle.order_change.proofs.Items.{product_by, variable_power}
 use Rattle.order_change.proofs.leads.multiple.Goals as goal
 
 pub returns-in-Ok-clause-product : goal.returns-in-Ok-clause-product

@@ -1,4 +1,4 @@
-use Rattle.std.proofs.Common.{ap, arith, get_or, length, length-append, refl, rules, subst, sym, [], ℕ, ◌++◌, ◌+◌, ◌<◌, ◌∙◌, ◌∷◌, ◌≡◌, ◌≤◌}
+use Rattle.std.proofs.Common.{ap, arith, get_or, length, length-append, rules, subst, sym, [], ℕ, ◌+◌, ◌<◌, ◌∙◌, ◌∷◌, ◌≡◌}
 use Rattle.std.proofs.lemmas.List.{get_or_default}
 use Rattle.monomials.specs.Exponents.{exponents_of, unit}
 use Rattle.bases.specs.Leads.{head_key}

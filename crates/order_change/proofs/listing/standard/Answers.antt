@@ -1,4 +1,4 @@
-use Rattle.std.proofs.Common.{length, subst, sym, ℕ, ◌≡◌}
+use Rattle.std.proofs.Common.{length, subst, sym, ◌≡◌}
 use Rattle.monomial_orders.specs.Kept.{IsWeighed}
 use Rattle.module_vectors.specs.Rings.{variables}
 use Rattle.change_laws.specs.Standard.{AreStandard}
