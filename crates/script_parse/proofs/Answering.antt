@@ -39,6 +39,8 @@ none_before_syntax ring infos line kinds.Rank lt h = omega (arith, lt)
 none_before_syntax ring infos line kinds.Degree lt h = omega (arith, lt)
 none_before_syntax ring infos line kinds.Leads lt h = omega (arith, lt)
 none_before_syntax ring infos line kinds.Large lt h = omega (arith, lt)
+none_before_syntax ring infos line kinds.Infinite lt h = omega (arith, lt)
+none_before_syntax ring infos line kinds.Many lt h = omega (arith, lt)
 
 none_before_numeral : (ring : Option Ring) (infos : List NameInfo) (line : List ℕ) → ((w : Written) × IsLine line w) → (earlier : Kind) → place earlier < 2 → Holds ring infos line earlier → ⊥
 none_before_numeral ring infos line is kinds.Syntax lt h = h is.0 is.1
@@ -51,6 +53,8 @@ none_before_numeral ring infos line is kinds.Rank lt h = omega (arith, lt)
 none_before_numeral ring infos line is kinds.Degree lt h = omega (arith, lt)
 none_before_numeral ring infos line is kinds.Leads lt h = omega (arith, lt)
 none_before_numeral ring infos line is kinds.Large lt h = omega (arith, lt)
+none_before_numeral ring infos line is kinds.Infinite lt h = omega (arith, lt)
+none_before_numeral ring infos line is kinds.Many lt h = omega (arith, lt)
 
 -- what is refused before the form is looked at
 pub early : (ring : Option Ring) (infos : List NameInfo) (line : List ℕ) (stop : ParseStop) → IsFormed line (Err stop) → Answers ring infos line (Err stop)
@@ -65,6 +69,8 @@ early ring infos line (Refused kinds.Rank) h = absurd h
 early ring infos line (Refused kinds.Degree) h = absurd h
 early ring infos line (Refused kinds.Leads) h = absurd h
 early ring infos line (Refused kinds.Large) h = absurd h
+early ring infos line (Refused kinds.Infinite) h = absurd h
+early ring infos line (Refused kinds.Many) h = absurd h
 
 module _ (ring : Option Ring) (infos : List NameInfo) (line : List ℕ) (w : Written) (is : IsLine line w) (none : HasGreatNumeral line → ⊥) where
   of_form : (kind : Kind) → Holds ring infos line kind → HoldsOf ring infos line w kind
@@ -78,6 +84,8 @@ module _ (ring : Option Ring) (infos : List NameInfo) (line : List ℕ) (w : Wri
   of_form kinds.Degree h = subst (λ v. HasGreatDegree ring line v) (one_line line h.0 w h.1 is) h.2
   of_form kinds.Leads h = h
   of_form kinds.Large h = h
+  of_form kinds.Infinite h = h
+  of_form kinds.Many h = h
 
   of_line : (kind : Kind) → HoldsOf ring infos line w kind → Holds ring infos line kind
   of_line kinds.Syntax h = absurd h
@@ -90,6 +98,8 @@ module _ (ring : Option Ring) (infos : List NameInfo) (line : List ℕ) (w : Wri
   of_line kinds.Degree h = (w, is, h)
   of_line kinds.Leads h = h
   of_line kinds.Large h = h
+  of_line kinds.Infinite h = h
+  of_line kinds.Many h = h
 
   -- what is answered to the form is answered to the line
   pub late : (result : Result Statement ParseStop) → AnswersForm ring infos line w result → Answers ring infos line result
@@ -130,6 +140,8 @@ blank_free ring infos line kinds.Rank h = h
 blank_free ring infos line kinds.Degree h = no_great_degree ring infos line nothing refl refl refl (λ k. k) h
 blank_free ring infos line kinds.Leads h = h
 blank_free ring infos line kinds.Large h = h
+blank_free ring infos line kinds.Infinite h = h
+blank_free ring infos line kinds.Many h = h
 
 blank_at : (ring : Option Ring) (infos : List NameInfo) (line : List ℕ) (w : Written) → IsLine line w → IsFormOf forms.Nothing w → (HasGreatNumeral line → ⊥) → Answers ring infos line (Ok statements.Nothing)
 blank_at ring infos line nothing is h none = late ring infos line nothing is none (Ok statements.Nothing) (tt, blank_free ring infos line)
@@ -186,6 +198,8 @@ module _ (ring : Option Ring) (infos : List NameInfo) (line : List ℕ) (r : Rin
   before_ring kinds.Degree lt h = omega (arith, lt)
   before_ring kinds.Leads lt h = omega (arith, lt)
   before_ring kinds.Large lt h = omega (arith, lt)
+  before_ring kinds.Infinite lt h = omega (arith, lt)
+  before_ring kinds.Many lt h = omega (arith, lt)
 
   -- a faulty line makes no ring
   pub no_ring : HasFaultyRing line r → AnswersForm ring infos line (ring_line r) (Err (Refused kinds.Ring))
@@ -202,6 +216,8 @@ module _ (ring : Option Ring) (infos : List NameInfo) (line : List ℕ) (r : Rin
   before_modulus fine kinds.Degree lt h = omega (arith, lt)
   before_modulus fine kinds.Leads lt h = omega (arith, lt)
   before_modulus fine kinds.Large lt h = omega (arith, lt)
+  before_modulus fine kinds.Infinite lt h = omega (arith, lt)
+  before_modulus fine kinds.Many lt h = omega (arith, lt)
 
   pub no_modulus : (HasFaultyRing line r → ⊥) → is_modulus (value_of line r.modulus) ≡ false → AnswersForm ring infos line (ring_line r) (Err (Refused kinds.Modulus))
   no_modulus fine other = (other, before_modulus fine)
@@ -217,6 +233,8 @@ module _ (ring : Option Ring) (infos : List NameInfo) (line : List ℕ) (r : Rin
   ring_free fine known kinds.Degree h = no_great_degree ring infos line (ring_line r) refl refl refl (λ k. k) h
   ring_free fine known kinds.Leads h = h
   ring_free fine known kinds.Large h = h
+  ring_free fine known kinds.Infinite h = h
+  ring_free fine known kinds.Many h = h
 
   pub ring_made :
       (made : Ring) → (HasFaultyRing line r → ⊥) → is_modulus made.modulus.value ≡ true → Makes line r made
@@ -249,6 +267,8 @@ module _ (o : Option Ring) (ring : Ring) (infos : List NameInfo) (line : List �
   none_before n p kinds.Degree lt h = low_degrees ring infos line w head pieces is (p.degree lt) h
   none_before n p kinds.Leads lt h = h
   none_before n p kinds.Large lt h = h
+  none_before n p kinds.Infinite lt h = h
+  none_before n p kinds.Many lt h = h
 
   refused : (kind : Kind) → Passed (place kind) → HoldsOf (Some ring) infos line w kind → AnswersForm o infos line w (Err (Refused kind))
   refused kind p h = subst (λ r. AnswersForm r infos line w (Err (Refused kind))) (sym stated) (h, none_before (place kind) p)
@@ -270,7 +290,7 @@ module _ (o : Option Ring) (ring : Ring) (infos : List NameInfo) (line : List �
       → list_all (λ v. low_degree ring line v.items) pieces ≡ false → AnswersForm o infos line w (Err (Refused kinds.Degree))
   degree_refused m n k r e = refused kinds.Degree (record { eliminates = λ lt. m; name = λ lt. n; kind = λ lt. k; rank = λ lt. r; degree = λ lt. absurd (omega (arith, lt)) }) (great_degree ring infos line w head pieces is e)
 
-  place_small : (kind : Kind) → place kind < 12
+  place_small : (kind : Kind) → place kind < 14
   place_small kinds.Syntax = omega arith
   place_small kinds.Numeral = omega arith
   place_small kinds.Ring = omega arith
@@ -281,6 +301,8 @@ module _ (o : Option Ring) (ring : Ring) (infos : List NameInfo) (line : List �
   place_small kinds.Degree = omega arith
   place_small kinds.Leads = omega arith
   place_small kinds.Large = omega arith
+  place_small kinds.Infinite = omega arith
+  place_small kinds.Many = omega arith
 
   pub line_stated :
       elimination_fits (length ring.vars) line head ≡ true → known_names ring.vars infos line head pieces ≡ true → right_kinds ring.vars infos line head pieces ≡ true → rank_fits infos line head (length pieces) ≡ true → list_all (λ v. low_degree ring line v.items) pieces ≡ true
@@ -288,6 +310,6 @@ module _ (o : Option Ring) (ring : Ring) (infos : List NameInfo) (line : List �
   line_stated m n k r d result h = subst (λ x. AnswersForm x infos line w result) (sym stated) (by_result result h)
     where
       by_result : (result : Result Statement ParseStop) → IsStated ring line head pieces result → AnswersForm (Some ring) infos line w result
-      by_result (Ok statement) h = (h w is, λ kind. none_before 12 (record { eliminates = λ lt. m; name = λ lt. n; kind = λ lt. k; rank = λ lt. r; degree = λ lt. d }) kind (place_small kind))
+      by_result (Ok statement) h = (h w is, λ kind. none_before 14 (record { eliminates = λ lt. m; name = λ lt. n; kind = λ lt. k; rank = λ lt. r; degree = λ lt. d }) kind (place_small kind))
       by_result (Err Memory) h = tt
       by_result (Err (Refused kind)) h = absurd h

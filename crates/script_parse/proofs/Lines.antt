@@ -16,13 +16,13 @@ use Rattle.poly_grammar.proofs.Unique.{one_tree}
 use Rattle.poly_grammar.specs.Machine.{Gives}
 use Rattle.script_parse.specs.Forms.{AreReadAs, AreVectorsRead, IsOperationRead, IsRead, IsReadBehind, head_of}
 use Rattle.script_parse.specs.RingForms.{ring_line_of, ring_of}
-use Rattle.script_parse.specs.Written.{AreEntries, ArePolys, AreVectors, IsOnePoly, IsOperation, Written, ask_line, divide_line, equal_line, ideal_line, let_line, module_line, nothing, ring_line, show_line, Word, division_word, equal_word, ideal_word, let_word, module_word, question_word, ring_word, show_word, polys_of, word_text, word_of, IsBehind, IsLine, IsRingLine, IsWritten, IsWrittenAs}
+use Rattle.script_parse.specs.Written.{AreEntries, ArePolys, AreVectors, IsOnePoly, IsOperation, IsOrder, Written, ask_line, change_line, change_word, divide_line, equal_line, ideal_line, let_line, module_line, nothing, ring_line, show_line, Word, division_word, equal_word, ideal_word, let_word, module_word, question_word, ring_word, show_word, polys_of, word_text, word_of, IsBehind, IsLine, IsRingLine, IsWritten, IsWrittenAs}
 use Rattle.script_parse.specs.declared.form.Division.{Division}
 use Rattle.script_parse.specs.declared.form.Division.TheVariants.{Lift, Member, NormalForm}
 use Rattle.script_parse.specs.declared.form.Head.{Head}
 use Rattle.script_parse.specs.declared.form.Head.TheVariants as heads
 use Rattle.script_parse.specs.declared.form.Question.{Question}
-use Rattle.script_parse.specs.declared.form.Question.TheVariants.{Gb, Gens, Hilbert, Size}
+use Rattle.script_parse.specs.declared.form.Question.TheVariants.{Gb, Gens, Hilbert, Resolution, Size}
 use Rattle.script_parse.specs.declared.form.Form.{Form}
 use Rattle.script_parse.specs.declared.form.Form.TheVariants as forms
 use Rattle.script_parse.specs.declared.operands.Operands.{Operands}
@@ -31,7 +31,8 @@ use Rattle.script_parse.specs.declared.vectors.Shape.{Shape}
 use Rattle.script_parse.proofs.LetLines.{same_operation}
 use Rattle.script_parse.proofs.Pieces.{name_is, named, one_list, one_vector}
 use Rattle.script_parse.proofs.VectorLists.{one_list_of_vectors}
-use Rattle.script_parse.proofs.RingLines.{one_ring, ring_again, ring_back}
+use Rattle.script_parse.specs.declared.ring_words.OrderName.{OrderName}
+use Rattle.script_parse.proofs.RingLines.{one_order, one_ring, ring_again, ring_back}
 use Rattle.script_tokens.proofs.Cuts.{one_cut}
 
 -- the word that a text is
@@ -43,7 +44,7 @@ word_named text =
     said text (codes "ring") ring_word (said text (codes "show") show_word (said text (codes "ideal") ideal_word (said text (codes "gens") (question_word Gens)
     (said text (codes "gb") (question_word Gb) (said text (codes "size") (question_word Size) (said text (codes "nf") (division_word NormalForm)
     (said text (codes "member") (division_word Member) (said text (codes "equal") equal_word (said text (codes "module") module_word
-    (said text (codes "let") let_word (said text (codes "hilb") (question_word Hilbert) (said text (codes "lift") (division_word Lift) None))))))))))))
+    (said text (codes "let") let_word (said text (codes "hilb") (question_word Hilbert) (said text (codes "lift") (division_word Lift) (said text (codes "fglm") change_word (said text (codes "res") (question_word Resolution) None))))))))))))))
 
 word_again : (w : Word) → word_named (word_text w) ≡ Some w
 word_again ring_word = refl
@@ -55,10 +56,12 @@ word_again (question_word Gens) = refl
 word_again (question_word Gb) = refl
 word_again (question_word Size) = refl
 word_again (question_word Hilbert) = refl
+word_again (question_word Resolution) = refl
 word_again (division_word NormalForm) = refl
 word_again (division_word Member) = refl
 word_again (division_word Lift) = refl
 word_again equal_word = refl
+word_again change_word = refl
 
 -- no text is that of two words
 one_word : (text : List ℕ) (a b : Word) → text ≡ word_text a → text ≡ word_text b → a ≡ b
@@ -205,6 +208,19 @@ module _ (line : List ℕ) (xs rest : List Lexeme) (t : Token) (is : xs ≡ name
   pub equal_read : (s : Token) (after : List Lexeme) (found : Vec (Vec Step Global) Global) → rest ≡ name s ∷ after → after ≡ [] → found.items ≡ [] → IsReadBehind equal_word line xs (Ok (forms.Line (heads.Equal t s) found))
   equal_read s after found e f none = (equal_line t s, refl, is ∙ ap (λ l. name t ∷ l) (e ∙ ap (λ l. name s ∷ l) f), record { head_is = refl; steps_are = ap (λ l. map (λ v. v.items) l) none })
 
+  -- a parser of an order gives a `fglm` line, or there is none
+  pub change_read : (order : OrderName) (found : Vec (Vec Step Global) Global) → IsOrder line rest order → found.items ≡ []
+      → IsReadBehind change_word line xs (Ok (forms.Line (heads.Change t order) found))
+  change_read order found h none = (change_line t order, refl, (rest, is, h), record { head_is = refl; steps_are = ap (λ l. map (λ v. v.items) l) none })
+
+  pub change_none : ((order : OrderName) → IsOrder line rest order → ⊥) → IsReadBehind change_word line xs (Err Syntax)
+  change_none h = go
+    where
+      go : (w : Written) → word_of w ≡ Some change_word → IsBehind line xs w → ⊥
+      go nothing g k = k
+      go (change_line value order) g k = h order (subst (λ l. IsOrder line l order) (sym (behind_name value k.0 k.1)) k.2)
+      go _ g k = absurd cc
+
 same_behind : (line : List ℕ) (xs : List Lexeme) (v w : Written) (word : Word) → word_of v ≡ Some word → word_of w ≡ Some word → IsBehind line xs v → IsBehind line xs w → v ≡ w
 same_behind line xs nothing w word e f h k = absurd h
 same_behind line xs v nothing word e f h k = absurd k
@@ -246,6 +262,11 @@ same_behind line xs (equal_line a b) (equal_line a' b') word e f h k =
     let lefts : a ≡ a' = cc in
     let rights : b ≡ b' = cc in
     ap₂ equal_line lefts rights
+same_behind line xs (change_line a o) (change_line b q) word e f h k =
+    let all : name a ∷ h.0 ≡ name b ∷ k.0 = sym h.1 ∙ k.1 in
+    let values : a ≡ b = cc in
+    let rest : h.0 ≡ k.0 = cc in
+    ap₂ change_line values (one_order line k.0 o q (subst (λ l. IsOrder line l o) rest h.2) k.2)
 same_behind line xs v w word e f h k = absurd cc
 
 blank_written : (line : List ℕ) (w : Written) → IsWritten line [] w → w ≡ nothing

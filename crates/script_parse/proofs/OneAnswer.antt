@@ -12,7 +12,7 @@ use Rattle.poly_grammar.specs.Trees.{Poly}
 use Rattle.poly_value.specs.Values.{IsValue}
 use Rattle.script_parse.specs.Refusals.{Refuses, place}
 use Rattle.script_parse.specs.Statements.{ArePolynomialsOf, AreVectorsOf, HasEntries, IsOperationOf, IsSameOperation, IsSameStatement, Says, States, entries_from}
-use Rattle.script_parse.specs.Written.{Written, WrittenOperation, ask_line, divide_line, elimination, equal_line, ideal_line, let_line, module_line, nothing, of_polynomial, of_two, ring_line, show_line, syzygies}
+use Rattle.script_parse.specs.Written.{Written, WrittenOperation, ask_line, change_line, divide_line, elimination, equal_line, ideal_line, let_line, module_line, nothing, of_polynomial, of_two, ring_line, show_line, syzygies}
 use Rattle.script_parse.specs.declared.form.Division.TheVariants as divisions
 use Rattle.script_parse.specs.declared.form.Question.TheVariants as questions
 use Rattle.script_parse.specs.declared.kind.Kind.{Kind}
@@ -32,7 +32,7 @@ apart ring infos line a b s r = s.free b r.holds
 
 -- kinds at one place are one
 kind_at : ℕ → Kind
-kind_at n = cond (eqb n 1) kinds.Syntax (cond (eqb n 2) kinds.Numeral (cond (eqb n 3) kinds.Ring (cond (eqb n 4) kinds.Modulus (cond (eqb n 5) kinds.Name (cond (eqb n 6) kinds.OfKind (cond (eqb n 7) kinds.Rank (cond (eqb n 8) kinds.Degree (cond (eqb n 10) kinds.Leads kinds.Large))))))))
+kind_at n = cond (eqb n 1) kinds.Syntax (cond (eqb n 2) kinds.Numeral (cond (eqb n 3) kinds.Ring (cond (eqb n 4) kinds.Modulus (cond (eqb n 5) kinds.Name (cond (eqb n 6) kinds.OfKind (cond (eqb n 7) kinds.Rank (cond (eqb n 8) kinds.Degree (cond (eqb n 10) kinds.Leads (cond (eqb n 11) kinds.Large (cond (eqb n 12) kinds.Infinite kinds.Many))))))))))
 
 at_place : (k : Kind) → kind_at (place k) ≡ k
 unfolding kind_at
@@ -46,6 +46,8 @@ at_place kinds.Rank = refl
 at_place kinds.Degree = refl
 at_place kinds.Leads = refl
 at_place kinds.Large = refl
+at_place kinds.Infinite = refl
+at_place kinds.Many = refl
 
 pub one_kind : (ring : Option Ring) (infos : List NameInfo) (line : List ℕ) (a b : Kind) → Refuses ring infos line a → Refuses ring infos line b → a ≡ b
 one_kind ring infos line a b r s = by_cases (cases_lt (place a) (place b)) (cases_lt (place b) (place a))
@@ -161,6 +163,9 @@ says_same ring line (ask_line questions.Size t) _ b h k = absurd h
 says_same ring line (ask_line questions.Hilbert t) (statements.Hilbert a) (statements.Hilbert b) h k = h ∙ sym k
 says_same ring line (ask_line questions.Hilbert t) (statements.Hilbert a) _ h k = absurd k
 says_same ring line (ask_line questions.Hilbert t) _ b h k = absurd h
+says_same ring line (ask_line questions.Resolution t) (statements.Resolution a) (statements.Resolution b) h k = h ∙ sym k
+says_same ring line (ask_line questions.Resolution t) (statements.Resolution a) _ h k = absurd k
+says_same ring line (ask_line questions.Resolution t) _ b h k = absurd h
 says_same (Some ring) line (divide_line divisions.NormalForm t ps) (statements.NormalForm a v) (statements.NormalForm b w) h k = (h.0 ∙ sym k.0, same_vector ring line ps v w h.1.0 k.1.0 h.1.2 k.1.2)
 says_same (Some ring) line (divide_line divisions.NormalForm t ps) (statements.NormalForm a v) _ h k = absurd k
 says_same (Some ring) line (divide_line divisions.NormalForm t ps) _ b h k = absurd h
@@ -174,6 +179,9 @@ says_same None line (divide_line d t ps) a b h k = absurd h
 says_same ring line (equal_line s t) (statements.Equal a b) (statements.Equal c d) h k = (h.0 ∙ sym k.0, h.1 ∙ sym k.1)
 says_same ring line (equal_line s t) (statements.Equal a b) _ h k = absurd k
 says_same ring line (equal_line s t) _ b h k = absurd h
+says_same ring line (change_line t q) (statements.Change a o) (statements.Change b r) h k = (h.0 ∙ sym k.0, h.1 ∙ sym k.1)
+says_same ring line (change_line t q) (statements.Change a o) _ h k = absurd k
+says_same ring line (change_line t q) _ b h k = absurd h
 
 pub one_statement : (ring : Option Ring) (infos : List NameInfo) (line : List ℕ) (a b : Statement) → States ring infos line a → States ring infos line b → IsSameStatement a b
 one_statement ring infos line a b s t =

@@ -111,6 +111,21 @@ order_back line (name t ∷ xs) =
     by_tests false false false p q r = tt
 order_back line (_ ∷ xs) = tt
 
+-- an order is found, with nothing behind it
+pub order_whole : (line : List ℕ) (xs : List Lexeme) (o : OrderName) → IsOrder line xs o → order_first line xs ≡ Some (o, [])
+order_whole line xs o h = ap (order_first line) (sym (append-nil xs)) ∙ order_again line o xs [] h
+
+-- it is found in one way
+pub one_order : (line : List ℕ) (xs : List Lexeme) (o q : OrderName) → IsOrder line xs o → IsOrder line xs q → o ≡ q
+one_order line xs o q h k =
+    ap (λ f. f.0) (same_Some (o, []) (q, []) (sym (order_whole line xs o h) ∙ order_whole line xs q k))
+
+-- what is found with nothing behind it is an order
+pub order_found : (line : List ℕ) (xs : List Lexeme) (o : OrderName) → order_first line xs ≡ Some (o, []) → IsOrder line xs o
+order_found line xs o e =
+    let back = subst (λ f. IfSome f (IsOrderFirst line xs)) e (order_back line xs) in
+    subst (λ l. IsOrder line l o) (sym (back.2 ∙ append-nil back.0)) back.1
+
 top_by : List ℕ → Token → List Lexeme → Bool × List Lexeme
 top_by text t xs = cond (pointwise nat_eq text (codes "top")) (true, xs) (false, name t ∷ xs)
 

@@ -18,9 +18,11 @@ use Rattle.poly_grammar.proofs.Names.{steps_have_names}
 use Rattle.poly_value.specs.Values.{place_of}
 use Rattle.module_vectors.specs.declared.ring.Ring.{Ring}
 use Rattle.script_parse.specs.Forms.{IsLineOf, head_of, operands_of, shape_behind}
-use Rattle.script_parse.specs.Tests.{elimination_fits, factor_fits, given_name, is_known, is_no_value, is_no_variable, known_names, low_degree, names_pass, operand_places, operands_eliminate, operands_fit, operands_multiply, places, rank_fits, right_kinds, same_rank}
-use Rattle.script_parse.specs.Refusals.{HasGreatDegree, HasOtherFactor, HasOtherKind, HasOtherOperands, HasOtherRank, HasUnknownName, IsNamed, LacksRing, StandsInPoly, length_named, rank_named}
-use Rattle.script_parse.specs.Written.{Written, WrittenOperation, ask_line, divide_line, elimination, equal_line, given_by, ideal_line, let_line, module_line, nothing, of_polynomial, of_two, operation_places, polys_of, ring_line, show_line, syzygies, value_places}
+use Rattle.script_parse.specs.Tests.{elimination_fits, factor_fits, given_name, is_known, is_no_value, is_no_variable, known_names, low_degree, names_pass, operand_places, operands_eliminate, operands_fit, operands_multiply, order_eliminates, places, rank_fits, right_kinds, same_rank}
+use Rattle.script_parse.specs.Refusals.{HasElimOutside, HasGreatDegree, HasOtherFactor, HasOtherKind, HasOtherOperands, HasOtherRank, HasUnknownName, IsNamed, LacksRing, StandsInPoly, length_named, rank_named}
+use Rattle.script_parse.specs.declared.ring_words.OrderName.{OrderName}
+use Rattle.script_parse.specs.declared.ring_words.OrderName.TheVariants.{Elim, Grevlex, Lex}
+use Rattle.script_parse.specs.Written.{Written, WrittenOperation, ask_line, change_line, divide_line, elimination, equal_line, given_by, ideal_line, let_line, module_line, nothing, of_polynomial, of_two, operation_places, polys_of, ring_line, show_line, syzygies, value_places}
 use Rattle.script_parse.specs.declared.form.Head.{Head}
 use Rattle.script_parse.specs.declared.form.Head.TheVariants as heads
 use Rattle.script_parse.specs.declared.named.NameInfo.{NameInfo}
@@ -140,6 +142,7 @@ places_are (let_line given operation) head e = let is : heads.Let given (operand
 places_are (ask_line question value) head e = let is : heads.Ask question value ≡ head = cc in ap places (sym is)
 places_are (divide_line division value ps) head e = let is : heads.Divide division value ≡ head = cc in ap places (sym is)
 places_are (equal_line left right) head e = let is : heads.Equal left right ≡ head = cc in ap places (sym is)
+places_are (change_line value order) head e = let is : heads.Change value order ≡ head = cc in ap places (sym is)
 
 given_are : (w : Written) (head : Head) → head_of w ≡ Some head → given_name head ≡ given_by w
 given_are nothing head e = absurd cc
@@ -151,6 +154,7 @@ given_are (let_line given operation) head e = let is : heads.Let given (operands
 given_are (ask_line question value) head e = let is : heads.Ask question value ≡ head = cc in ap given_name (sym is)
 given_are (divide_line division value ps) head e = let is : heads.Divide division value ≡ head = cc in ap given_name (sym is)
 given_are (equal_line left right) head e = let is : heads.Equal left right ≡ head = cc in ap given_name (sym is)
+given_are (change_line value order) head e = let is : heads.Change value order ≡ head = cc in ap given_name (sym is)
 
 some_rank : (o : Option ℕ) → is_some o ≡ true → (r : ℕ) × (o ≡ Some r)
 some_rank None e = absurd cc
@@ -252,6 +256,10 @@ other_rank_of names line (divide_line division value ps) head count e n f =
 other_rank_of names line (equal_line left right) head count e n f =
     let is : head ≡ heads.Equal left right = cc in
     ranks_differ (rank_named names (text_of line left)) (rank_named names (text_of line right)) (subst (λ h. rank_fits names line h count ≡ false) is f)
+other_rank_of names line (change_line value order) head count e n f =
+    let is : head ≡ heads.Change value order = cc in
+    let d = ranks_differ (rank_named names (text_of line value)) (Some 1) (subst (λ h. rank_fits names line h count ≡ false) is f) in
+    (d.0, d.2, λ one. d.4 (let c : 1 ≡ d.1 = (let q = d.3 in cc) in one ∙ c))
 
 right_rank_of : (names : List NameInfo) (line : List ℕ) (w : Written) (head : Head) (count : ℕ) → head_of w ≡ Some head → count ≡ length (polys_of w) → rank_fits names line head count ≡ true → HasOtherRank names line w → ⊥
 right_rank_of names line (ideal_line given ps) head count e n f h =
@@ -269,6 +277,9 @@ right_rank_of names line (divide_line division value ps) head count e n f h =
 right_rank_of names line (equal_line left right) head count e n f h =
     let is : head ≡ heads.Equal left right = cc in
     h.4 (ranks_same (rank_named names (text_of line left)) (rank_named names (text_of line right)) h.0 h.1 (subst (λ d. rank_fits names line d count ≡ true) is f) h.2 h.3)
+right_rank_of names line (change_line value order) head count e n f h =
+    let is : head ≡ heads.Change value order = cc in
+    h.2 (ranks_same (rank_named names (text_of line value)) (Some 1) h.0 1 (subst (λ d. rank_fits names line d count ≡ true) is f) h.1 refl)
 right_rank_of names line _ head count e n f h = h
 
 -- the same of a line
@@ -290,11 +301,23 @@ other_factor names line (divide_line division value ps) head e f =
     let is : head ≡ heads.Divide division value = cc in let no : true ≡ false = subst (λ h. factor_fits names line h ≡ false) is f in absurd cc
 other_factor names line (equal_line left right) head e f =
     let is : head ≡ heads.Equal left right = cc in let no : true ≡ false = subst (λ h. factor_fits names line h ≡ false) is f in absurd cc
+other_factor names line (change_line value order) head e f =
+    let is : head ≡ heads.Change value order = cc in let no : true ≡ false = subst (λ h. factor_fits names line h ≡ false) is f in absurd cc
 
 right_factor : (names : List NameInfo) (line : List ℕ) (w : Written) (head : Head) → head_of w ≡ Some head → factor_fits names line head ≡ true → HasOtherFactor names line w → ⊥
 right_factor names line (let_line given operation) head e f h =
     let is : head ≡ heads.Let given (operands_of operation) = cc in no_other_factor names line given operation (subst (λ d. factor_fits names line d ≡ true) is f) h
 right_factor names line _ head e f h = h
+
+order_outside : (ring : Ring) (line : List ℕ) (order : OrderName) → order_eliminates (length ring.vars) line order ≡ false → HasElimOutside (Some ring) line order
+order_outside ring line (Elim k) e = not_within (length ring.vars) (value_of line k) e
+order_outside ring line Lex e = absurd cc
+order_outside ring line Grevlex e = absurd cc
+
+order_not_outside : (ring : Ring) (line : List ℕ) (order : OrderName) → order_eliminates (length ring.vars) line order ≡ true → HasElimOutside (Some ring) line order → ⊥
+order_not_outside ring line (Elim k) e h = within_not (length ring.vars) (value_of line k) e h
+order_not_outside ring line Lex e h = h
+order_not_outside ring line Grevlex e h = h
 
 outside : (ring : Ring) (line : List ℕ) (w : Written) (head : Head) → head_of w ≡ Some head → elimination_fits (length ring.vars) line head ≡ false → LacksRing (Some ring) line w
 outside ring line (let_line given operation) head e f =
@@ -313,10 +336,15 @@ outside ring line (divide_line division value ps) head e f =
     let is : head ≡ heads.Divide division value = cc in let no : true ≡ false = subst (λ h. elimination_fits (length ring.vars) line h ≡ false) is f in absurd cc
 outside ring line (equal_line left right) head e f =
     let is : head ≡ heads.Equal left right = cc in let no : true ≡ false = subst (λ h. elimination_fits (length ring.vars) line h ≡ false) is f in absurd cc
+outside ring line (change_line value order) head e f =
+    let is : head ≡ heads.Change value order = cc in inr (order_outside ring line order (subst (λ h. elimination_fits (length ring.vars) line h ≡ false) is f))
 
 inside : (ring : Ring) (line : List ℕ) (w : Written) (head : Head) → head_of w ≡ Some head → elimination_fits (length ring.vars) line head ≡ true → LacksRing (Some ring) line w → ⊥
 inside ring line (let_line given operation) head e f h =
     let is : head ≡ heads.Let given (operands_of operation) = cc in not_outside ring line given operation (subst (λ d. elimination_fits (length ring.vars) line d ≡ true) is f) h
+inside ring line (change_line value order) head e f (inl h) = absurd cc
+inside ring line (change_line value order) head e f (inr h) =
+    let is : head ≡ heads.Change value order = cc in order_not_outside ring line order (subst (λ d. elimination_fits (length ring.vars) line d ≡ true) is f) h
 inside ring line nothing head e f h = h
 inside ring line (ring_line r) head e f h = absurd cc
 inside ring line _ head e f h = absurd cc

@@ -24,7 +24,7 @@ use Rattle.poly_grammar.proofs.NumbersOfSteps.{steps_have_numbers}
 use Rattle.script_parse.specs.Forms.{IsFormOf, head_of, operands_of, shape_behind}
 use Rattle.script_parse.specs.Tests.{IsPolynomial, IsWellFormed, head_names, operand_places, repeats, stands_among}
 use Rattle.script_parse.specs.Refusals.{HasGreatNumeral, HasRepeat}
-use Rattle.script_parse.specs.Written.{AreEntries, AreNames, ArePolys, AreVectors, IsOperation, IsWritten, Written, WrittenOperation, ask_line, comma_list, divide_line, elimination, equal_line, ideal_line, let_line, module_line, nothing, of_polynomial, of_two, operation_polys, polys_of, ring_line, show_line, syzygies}
+use Rattle.script_parse.specs.Written.{AreEntries, AreNames, ArePolys, AreVectors, IsOperation, IsWritten, Written, WrittenOperation, ask_line, change_line, comma_list, divide_line, elimination, equal_line, ideal_line, let_line, module_line, nothing, of_polynomial, of_two, operation_polys, polys_of, ring_line, show_line, syzygies}
 use Rattle.script_parse.specs.declared.form.Form.{Form}
 use Rattle.script_parse.specs.declared.form.Form.TheVariants as forms
 use Rattle.script_parse.specs.declared.form.Head.{Head}
@@ -125,6 +125,10 @@ head_among P line xs (equal_line left right) head e h all =
     let is : heads.Equal left right ≡ head = cc in
     let names = subst (λ l. AllByRecursion P (names_in l)) (h.1.2 ∙ ap (λ l. name h.1.0 ∷ l) h.2) all in
     subst (λ d. AllByRecursion P (head_names d)) is (names.1.0, (names.1.1.0, tt))
+head_among P line xs (change_line value order) head e h all =
+    let is : heads.Change value order ≡ head = cc in
+    let names = subst (λ l. AllByRecursion P (names_in l)) (h.1.2 ∙ ap (λ l. name h.1.0 ∷ l) h.2.1) all in
+    subst (λ d. AllByRecursion P (head_names d)) is (names.1.0, tt)
 
 numbers_in_both : (a b : List Lexeme) → numbers_in (a ++ b) ≡ numbers_in a ++ numbers_in b
 numbers_in_both [] b = refl

@@ -10,7 +10,7 @@ use Rattle.poly_grammar.specs.declared.step.Step.{Step}
 use Rattle.poly_grammar.specs.declared.stop.ReadStop.{ReadStop}
 use Rattle.poly_grammar.specs.declared.stop.ReadStop.TheVariants.{Memory, Syntax}
 use Rattle.script_parse.specs.RingForms.{ring_line_of}
-use Rattle.script_parse.specs.Written.{AreEntries, AreOperands, AreVectors, IsBehind, IsOperation, IsWritten, OperationWord, Word, Written, WrittenOperation, ask_line, divide_line, elimination, equal_line, ideal_line, let_line, module_line, nothing, of_polynomial, of_two, operation_polys, operation_word, polys_of, ring_line, show_line, syzygies, word_of}
+use Rattle.script_parse.specs.Written.{AreEntries, AreOperands, AreVectors, IsBehind, IsOperation, IsWritten, OperationWord, Word, Written, WrittenOperation, ask_line, change_line, divide_line, elimination, equal_line, ideal_line, let_line, module_line, nothing, of_polynomial, of_two, operation_polys, operation_word, polys_of, ring_line, show_line, syzygies, word_of}
 use Rattle.script_parse.specs.declared.form.Form.{Form}
 use Rattle.script_parse.specs.declared.form.Form.TheVariants as forms
 use Rattle.script_parse.specs.declared.form.Head.{Head}
@@ -47,6 +47,7 @@ head_of (let_line given operation) = Some (heads.Let given (operands_of operatio
 head_of (ask_line question value) = Some (heads.Ask question value)
 head_of (divide_line division value entries) = Some (heads.Divide division value)
 head_of (equal_line left right) = Some (heads.Equal left right)
+head_of (change_line value order) = Some (heads.Change value order)
 head_of _ = None
 
 -- the line has this head, and these are the steps of its POLYs

@@ -12,7 +12,7 @@ use Rattle.zp_field.specs.Moduli.{is_modulus}
 use Rattle.module_vectors.specs.Rings.{variables}
 use Rattle.module_vectors.specs.declared.ring.Ring.{Ring}
 use Rattle.poly_value.specs.Values.{name_weight}
-use Rattle.script_parse.specs.Written.{IsLine, RingLine, Written, WrittenOperation, divide_line, elimination, equal_line, given_by, ideal_line, let_line, module_line, nothing, of_two, polys_of, ring_line, syzygies, value_places}
+use Rattle.script_parse.specs.Written.{IsLine, RingLine, Written, WrittenOperation, change_line, divide_line, elimination, equal_line, given_by, ideal_line, let_line, module_line, nothing, of_two, polys_of, ring_line, syzygies, value_places}
 use Rattle.script_parse.specs.declared.kind.Kind.{Kind}
 use Rattle.script_parse.specs.declared.kind.Kind.TheVariants as kinds
 use Rattle.script_parse.specs.declared.named.NameInfo.{NameInfo}
@@ -60,12 +60,18 @@ abbrev pub IsOutsideRing : Option Ring → ℕ → Type 0
 IsOutsideRing None k = ⊥
 IsOutsideRing (Some ring) k = IsOutside (variables ring) k
 
--- a ring line is faulty; another line that is not blank has no ring stated before it; `eliminate B K` has K outside 1..n, where n
--- is the number of the ring's variables
+-- an order is `elim K`, and K is not from 1 to the number of the ring's variables
+abbrev pub HasElimOutside : Option Ring → List ℕ → OrderName → Type 0
+HasElimOutside None line order = ⊥
+HasElimOutside (Some ring) line order = HasOtherElim line (variables ring) order
+
+-- a ring line is faulty; another line that is not blank has no ring stated before it; `eliminate B K`, or `elim K` of `fglm`, has K
+-- outside 1..n, where n is the number of the ring's variables
 abbrev pub LacksRing : Option Ring → List ℕ → Written → Type 0
 LacksRing ring line nothing = ⊥
 LacksRing ring line (ring_line r) = HasFaultyRing line r
 LacksRing ring line (let_line given (elimination value count)) = (ring ≡ None) ⊎ IsOutsideRing ring (value_of line count)
+LacksRing ring line (change_line value order) = (ring ≡ None) ⊎ HasElimOutside ring line order
 LacksRing ring line _ = ring ≡ None
 
 -- the first number of a ring line is not in the table
@@ -129,7 +135,7 @@ HasOtherOperands names line _ = ⊥
 
 -- an ideal or a module has more than 1,000 vectors; a module's rank is outside 1..64, or a VEC of it has another number of
 -- entries; the number of entries of a divided VEC is not the value's rank; the ranks of compared values differ; the
--- operands of an operation have other ranks or lengths than it takes
+-- operands of an operation have other ranks or lengths than it takes; the value of `fglm` is of another rank than 1
 abbrev pub HasOtherRank : List NameInfo → List ℕ → Written → Type 0
 HasOtherRank names line (ideal_line given ps) = 1000 < length ps
 HasOtherRank names line (module_line given rank vectors) =
@@ -137,6 +143,7 @@ HasOtherRank names line (module_line given rank vectors) =
 HasOtherRank names line (let_line given operation) = HasOtherOperands names line operation
 HasOtherRank names line (divide_line division value entries) = (rank : ℕ) × (rank_named names (text_of line value) ≡ Some rank) × (length entries ≡ rank → ⊥)
 HasOtherRank names line (equal_line left right) = HaveOtherRanks names line left right
+HasOtherRank names line (change_line value order) = (rank : ℕ) × (rank_named names (text_of line value) ≡ Some rank) × (rank ≡ 1 → ⊥)
 HasOtherRank names line _ = ⊥
 
 -- the formal degree, by the ring's weights, of a POLY or of a part of it is above 1,000
@@ -145,7 +152,7 @@ HasGreatDegree None line w = ⊥
 HasGreatDegree (Some ring) line w =
     (p : Poly) × Contains (polys_of w) p × (formal_degree (λ t. name_weight ring (text_of line t)) (value_of line) p ≡ None)
 
--- the kind holds of the line, where this ring is stated and values have these names; the last two kinds hold of no line by itself:
+-- the kind holds of the line, where this ring is stated and values have these names; the last four kinds hold of no line by itself:
 -- the session tells them after the line's run
 abbrev pub Holds : Option Ring → List NameInfo → List ℕ → Kind → Type 0
 Holds ring names line kinds.Syntax = (w : Written) → IsLine line w → ⊥
@@ -158,6 +165,8 @@ Holds ring names line kinds.Rank = (w : Written) × IsLine line w × HasOtherRan
 Holds ring names line kinds.Degree = (w : Written) × IsLine line w × HasGreatDegree ring line w
 Holds ring names line kinds.Leads = ⊥
 Holds ring names line kinds.Large = ⊥
+Holds ring names line kinds.Infinite = ⊥
+Holds ring names line kinds.Many = ⊥
 
 -- the place of a kind in the order in which they are tried (9 is free)
 abbrev pub place : Kind → ℕ
@@ -171,6 +180,8 @@ place kinds.Rank = 7
 place kinds.Degree = 8
 place kinds.Leads = 10
 place kinds.Large = 11
+place kinds.Infinite = 12
+place kinds.Many = 13
 
 -- the line is refused for this kind: it holds, and none that is tried before it
 pub record Refuses (ring : Option Ring) (names : List NameInfo) (line : List ℕ) (kind : Kind) : Type 0 where

@@ -16,7 +16,7 @@ use Rattle.module_vectors.specs.Vectors.{HasPositions, IsVectorOver, StandsFor}
 use Rattle.module_vectors.specs.declared.key.Key.{Key}
 use Rattle.module_vectors.specs.declared.ring.Ring.{Ring}
 use Rattle.script_parse.specs.Refusals.{Holds}
-use Rattle.script_parse.specs.Written.{IsLine, RingLine, Written, WrittenOperation, ask_line, divide_line, elimination, equal_line, ideal_line, let_line, module_line, nothing, of_polynomial, of_two, ring_line, show_line, syzygies}
+use Rattle.script_parse.specs.Written.{IsLine, RingLine, Written, WrittenOperation, ask_line, change_line, divide_line, elimination, equal_line, ideal_line, let_line, module_line, nothing, of_polynomial, of_two, ring_line, show_line, syzygies}
 use Rattle.script_parse.specs.declared.form.Division.TheVariants as divisions
 use Rattle.script_parse.specs.declared.form.Question.TheVariants as questions
 use Rattle.script_parse.specs.declared.kind.Kind.{Kind}
@@ -119,10 +119,12 @@ Says ring line (ask_line questions.Gens value) (statements.Gens name) = string_b
 Says ring line (ask_line questions.Gb value) (statements.Gb name) = string_bytes name ≡ text_of line value
 Says ring line (ask_line questions.Size value) (statements.Size name) = string_bytes name ≡ text_of line value
 Says ring line (ask_line questions.Hilbert value) (statements.Hilbert name) = string_bytes name ≡ text_of line value
+Says ring line (ask_line questions.Resolution value) (statements.Resolution name) = string_bytes name ≡ text_of line value
 Says (Some ring) line (divide_line divisions.NormalForm value entries) (statements.NormalForm name v) = (string_bytes name ≡ text_of line value) × IsVectorOf ring line entries v
 Says (Some ring) line (divide_line divisions.Member value entries) (statements.Member name v) = (string_bytes name ≡ text_of line value) × IsVectorOf ring line entries v
 Says (Some ring) line (divide_line divisions.Lift value entries) (statements.Lift name v) = (string_bytes name ≡ text_of line value) × IsVectorOf ring line entries v
 Says ring line (equal_line left right) (statements.Equal first second) = (string_bytes first ≡ text_of line left) × (string_bytes second ≡ text_of line right)
+Says ring line (change_line value order) (statements.Change name made) = (string_bytes name ≡ text_of line value) × (made ≡ order_stated line order)
 Says ring line _ _ = ⊥
 
 -- the line states this, where this ring is stated and values have these names: it is written so, and no kind of refusal
@@ -158,8 +160,10 @@ IsSameStatement (statements.Gens a) (statements.Gens b) = string_bytes a ≡ str
 IsSameStatement (statements.Gb a) (statements.Gb b) = string_bytes a ≡ string_bytes b
 IsSameStatement (statements.Size a) (statements.Size b) = string_bytes a ≡ string_bytes b
 IsSameStatement (statements.Hilbert a) (statements.Hilbert b) = string_bytes a ≡ string_bytes b
+IsSameStatement (statements.Resolution a) (statements.Resolution b) = string_bytes a ≡ string_bytes b
 IsSameStatement (statements.NormalForm a v) (statements.NormalForm b w) = (string_bytes a ≡ string_bytes b) × (v ≡ w)
 IsSameStatement (statements.Member a v) (statements.Member b w) = (string_bytes a ≡ string_bytes b) × (v ≡ w)
 IsSameStatement (statements.Lift a v) (statements.Lift b w) = (string_bytes a ≡ string_bytes b) × (v ≡ w)
 IsSameStatement (statements.Equal a b) (statements.Equal c d) = (string_bytes a ≡ string_bytes c) × (string_bytes b ≡ string_bytes d)
+IsSameStatement (statements.Change a o) (statements.Change b q) = (string_bytes a ≡ string_bytes b) × (o ≡ q)
 IsSameStatement _ _ = ⊥

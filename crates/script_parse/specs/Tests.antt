@@ -34,6 +34,8 @@ use Rattle.script_parse.specs.declared.operands.Binary.TheVariants.{Product}
 use Rattle.script_parse.specs.declared.operands.Operands.{Operands}
 use Rattle.script_parse.specs.declared.operands.Operands.TheVariants.{Eliminate, Polynomial, Syzygies, Two}
 use Rattle.script_parse.specs.declared.operation.Operation.{Operation}
+use Rattle.script_parse.specs.declared.ring_words.OrderName.{OrderName}
+use Rattle.script_parse.specs.declared.ring_words.OrderName.TheVariants.{Elim}
 use Rattle.script_parse.specs.declared.stated.Statement.{Statement}
 use Rattle.script_parse.specs.declared.vectors.Shape.{Shape}
 use Rattle.script_parse.specs.declared.vectors.Shape.TheVariants as widths
@@ -50,6 +52,8 @@ HoldsOf ring names line w kinds.Rank = HasOtherRank names line w
 HoldsOf ring names line w kinds.Degree = HasGreatDegree ring line w
 HoldsOf ring names line w kinds.Leads = ⊥
 HoldsOf ring names line w kinds.Large = ⊥
+HoldsOf ring names line w kinds.Infinite = ⊥
+HoldsOf ring names line w kinds.Many = ⊥
 
 -- what is answered to a line written as w whose numbers are below 2^128
 abbrev pub AnswersForm : Option Ring → List NameInfo → List ℕ → Written → Result Statement ParseStop → Type 0
@@ -70,6 +74,7 @@ places (heads.Let given operands) = operand_places operands
 places (heads.Ask question value) = value ∷ []
 places (heads.Divide division value) = value ∷ []
 places (heads.Equal left right) = left ∷ right ∷ []
+places (heads.Change value order) = value ∷ []
 places _ = []
 
 -- the name of a head to be given
@@ -178,8 +183,15 @@ abbrev pub operands_eliminate : ℕ → List ℕ → Operands → Bool
 operands_eliminate n line (Eliminate value count) = within n (value_of line count)
 operands_eliminate n line _ = true
 
+-- whether an order `elim` has one
+abbrev pub order_eliminates : ℕ → List ℕ → OrderName → Bool
+order_eliminates n line (Elim k) = within n (value_of line k)
+order_eliminates n line _ = true
+
+-- the same of a head
 abbrev pub elimination_fits : ℕ → List ℕ → Head → Bool
 elimination_fits n line (heads.Let given operands) = operands_eliminate n line operands
+elimination_fits n line (heads.Change value order) = order_eliminates n line order
 elimination_fits n line _ = true
 
 -- whether ranks are the same, where there are two
@@ -216,6 +228,7 @@ rank_fits names line (heads.Module given rank shape) count = module_fits (value_
 rank_fits names line (heads.Let given operands) count = operands_fit names line operands
 rank_fits names line (heads.Divide division value) count = same_rank (rank_named names (text_of line value)) (Some count)
 rank_fits names line (heads.Equal left right) count = same_rank (rank_named names (text_of line left)) (rank_named names (text_of line right))
+rank_fits names line (heads.Change value order) count = same_rank (rank_named names (text_of line value)) (Some 1)
 rank_fits names line _ count = true
 
 -- whether steps have a formal degree, by the ring's weights, of at most 1,000

@@ -1,7 +1,8 @@
 -- The lines of a script, as they are written:
 -- line := nothing | ring NUM NAME {, NAME} order [top] [weights NUM {, NUM}] | show POLY | ideal NAME = POLY {, POLY}
 --       | module NAME NUM = VEC {, VEC} | let NAME = operation
---       | gens NAME | gb NAME | size NAME | hilb NAME | nf NAME VEC | member NAME VEC | lift NAME VEC | equal NAME NAME
+--       | gens NAME | gb NAME | size NAME | hilb NAME | res NAME | nf NAME VEC | member NAME VEC | lift NAME VEC | equal NAME NAME
+--       | fglm NAME order
 -- order := lex | grevlex | elim NUM
 -- operation := sum NAME NAME | product NAME NAME | intersect NAME NAME | colon NAME NAME
 --            | quotient NAME POLY | saturate NAME POLY | eliminate NAME NUM | syz NAME
@@ -15,7 +16,7 @@ use Rattle.poly_grammar.specs.Trees.{Poly, Reads}
 use Rattle.script_parse.specs.declared.form.Division.{Division}
 use Rattle.script_parse.specs.declared.form.Division.TheVariants.{Lift, Member, NormalForm}
 use Rattle.script_parse.specs.declared.form.Question.{Question}
-use Rattle.script_parse.specs.declared.form.Question.TheVariants.{Gb, Gens, Hilbert, Size}
+use Rattle.script_parse.specs.declared.form.Question.TheVariants.{Gb, Gens, Hilbert, Resolution, Size}
 use Rattle.script_parse.specs.declared.operands.Binary.{Binary}
 use Rattle.script_parse.specs.declared.operands.Binary.TheVariants.{Colon, Intersect, Product, Sum}
 use Rattle.script_parse.specs.declared.operands.ByPolynomial.{ByPolynomial}
@@ -40,7 +41,7 @@ pub data WrittenOperation : Type 0 where
 
 -- a line: nothing; a ring; a shown polynomial; an ideal by its NAME and its POLYs; a module by its NAME, the NUM of its rank
 -- and the entries of each of its VECs; a NAME for what an operation gives; a question on a value; a division of a VEC, by
--- its entries, by a value; two values to be compared
+-- its entries, by a value; two values to be compared; an order for a value
 pub data Written : Type 0 where
   nothing : Written
   ring_line : RingLine → Written
@@ -51,6 +52,7 @@ pub data Written : Type 0 where
   ask_line : Question → Token → Written
   divide_line : Division → Token → List Poly → Written
   equal_line : Token → Token → Written
+  change_line : Token → OrderName → Written
 
 -- the words that lines begin with
 pub data Word : Type 0 where
@@ -62,6 +64,7 @@ pub data Word : Type 0 where
   question_word : Question → Word
   division_word : Division → Word
   equal_word : Word
+  change_word : Word
 
 -- how a word is written
 abbrev pub word_text : Word → List ℕ
@@ -74,10 +77,12 @@ word_text (question_word Gens) = codes "gens"
 word_text (question_word Gb) = codes "gb"
 word_text (question_word Size) = codes "size"
 word_text (question_word Hilbert) = codes "hilb"
+word_text (question_word Resolution) = codes "res"
 word_text (division_word NormalForm) = codes "nf"
 word_text (division_word Member) = codes "member"
 word_text (division_word Lift) = codes "lift"
 word_text equal_word = codes "equal"
+word_text change_word = codes "fglm"
 
 -- the word of a line, if it has any
 abbrev pub word_of : Written → Option Word
@@ -90,6 +95,7 @@ word_of (let_line given operation) = Some let_word
 word_of (ask_line question value) = Some (question_word question)
 word_of (divide_line division value entries) = Some (division_word division)
 word_of (equal_line left right) = Some equal_word
+word_of (change_line value order) = Some change_word
 
 -- the words of operations
 pub data OperationWord : Type 0 where
@@ -204,6 +210,7 @@ IsBehind line xs (let_line given operation) = (rest : List Lexeme) × (xs ≡ na
 IsBehind line xs (ask_line question value) = xs ≡ name value ∷ []
 IsBehind line xs (divide_line division value entries) = (rest : List Lexeme) × (xs ≡ name value ∷ rest) × AreEntries rest entries
 IsBehind line xs (equal_line left right) = xs ≡ name left ∷ name right ∷ []
+IsBehind line xs (change_line value order) = (rest : List Lexeme) × (xs ≡ name value ∷ rest) × IsOrder line rest order
 
 -- the POLYs of an operation
 abbrev pub operation_polys : WrittenOperation → List Poly
@@ -232,6 +239,7 @@ value_places (let_line given operation) = operation_places operation
 value_places (ask_line question value) = value ∷ []
 value_places (divide_line division value entries) = value ∷ []
 value_places (equal_line left right) = left ∷ right ∷ []
+value_places (change_line value order) = value ∷ []
 value_places _ = []
 
 -- the NAME to be given, if any

@@ -10,6 +10,7 @@ use crate::form::Head;
 use crate::named::{NameInfo, length_named, rank_named};
 use crate::numbers::{is_within, number_within};
 use crate::operands::{Binary, Operands};
+use crate::ring_words::OrderName;
 use crate::vectors::Shape;
 use module_vectors::{Names, Ring};
 use poly_grammar::{Step, formal_degree, text};
@@ -155,6 +156,7 @@ pub fn places_known(line: &[u8], vars: &Names, names: &[NameInfo], head: Head) -
         Head::Let(_, operands) => operands_known(line, vars, names, operands),
         Head::Ask(_, value) => is_known(vars, names, text(line, value)),
         Head::Divide(_, value) => is_known(vars, names, text(line, value)),
+        Head::Change(value, _) => is_known(vars, names, text(line, value)),
         Head::Equal(left, right) => {
             is_known(vars, names, text(line, left)) && is_known(vars, names, text(line, right))
         }
@@ -170,6 +172,7 @@ pub fn places_free(line: &[u8], vars: &Names, head: Head) -> bool
         Head::Let(_, operands) => operands_free(line, vars, operands),
         Head::Ask(_, value) => place(vars, text(line, value)).is_none(),
         Head::Divide(_, value) => place(vars, text(line, value)).is_none(),
+        Head::Change(value, _) => place(vars, text(line, value)).is_none(),
         Head::Equal(left, right) => {
             place(vars, text(line, left)).is_none() && place(vars, text(line, right)).is_none()
         }
@@ -184,11 +187,15 @@ pub fn given_free(line: &[u8], vars: &Names, head: Head) -> bool
         Head::Ideal(given) | Head::Module(given, _, _) | Head::Let(given, _) => {
             place(vars, text(line, given)).is_none()
         }
-        Head::Show | Head::Ask(_, _) | Head::Divide(_, _) | Head::Equal(_, _) => true,
+        Head::Show
+        | Head::Ask(_, _)
+        | Head::Divide(_, _)
+        | Head::Equal(_, _)
+        | Head::Change(_, _) => true,
     }
 }
 
-/// Whether the number of `eliminate` is from 1 to the number of variables.
+/// Whether the number of `eliminate`, or of an order `elim`, is from 1 to the number of variables.
 pub fn elimination_fits(line: &[u8], vars: &Names, head: Head) -> bool
     ensures { result ≡ elimination_fits (length vars.now) line.now head }
 {
@@ -198,6 +205,7 @@ pub fn elimination_fits(line: &[u8], vars: &Names, head: Head) -> bool
             count,
             vars.as_slice().len(),
         ),
+        Head::Change(_, OrderName::Elim(count)) => is_within(line, count, vars.as_slice().len()),
         _ => true,
     }
 }
@@ -288,6 +296,10 @@ pub fn rank_fits(line: &[u8], names: &[NameInfo], head: Head, count: usize) -> b
             None => true,
         },
         Head::Equal(left, right) => ranks_agree(line, names, left, right),
+        Head::Change(value, _) => match rank_named(names, text(line, value)) {
+            Some(rank) => rank == 1,
+            None => true,
+        },
     }
 }
 

@@ -7,11 +7,11 @@ ghost use Rattle.poly_grammar.specs.Numerals.{text_of};
 ghost use Rattle.script_parse.specs.Forms.{IsRead, IsReadBehind};
 ghost use Rattle.script_parse.specs.declared.form.Division.{Division as DivisionValue};
 ghost use Rattle.script_parse.specs.declared.form.Question.{Question as QuestionValue};
-ghost use Rattle.script_parse.specs.Written.{division_word, equal_word, ideal_word, let_word, module_word, question_word, ring_word, show_word, word_text};
+ghost use Rattle.script_parse.specs.Written.{change_word, division_word, equal_word, ideal_word, let_word, module_word, question_word, ring_word, show_word, word_text};
 
 use crate::operands::{Operands, read_operation};
 use crate::polynomials::{entries, one_polynomial, polynomials};
-use crate::ring_words::{RingForm, read_ring};
+use crate::ring_words::{OrderName, RingForm, read_order, read_ring};
 use crate::vectors::{Shape, vectors};
 use crate::words::{behind_equals, is_word, name_first, number_first};
 use poly_grammar::{ReadStop, Step};
@@ -29,6 +29,8 @@ pub enum Question {
     Size,
     /// `hilb`
     Hilbert,
+    /// `res`
+    Resolution,
 }
 
 /// The word of a division of a vector by a value.
@@ -59,6 +61,8 @@ pub enum Head {
     Divide(Division, Token),
     /// `equal`, by the names of both values.
     Equal(Token, Token),
+    /// `fglm`, by the name of its value and its order.
+    Change(Token, OrderName),
 }
 
 /// A line as it is written.
@@ -188,6 +192,19 @@ fn equal_form(alloc: Global, tokens: &[Token]) -> Result<Form, ReadStop>
     Ok(Form::Line(Head::Equal(left, right), Vec::new(alloc)))
 }
 
+/// What stands behind `fglm`.
+fn change_form(alloc: Global, line: &[u8], tokens: &[Token]) -> Result<Form, ReadStop>
+    ensures { IsReadBehind change_word line.now (map lexeme tokens.now) result }
+{
+    let Some((value, behind)) = name_first(tokens) else {
+        return Err(ReadStop::Syntax);
+    };
+    let Some(order) = read_order(line, behind) else {
+        return Err(ReadStop::Syntax);
+    };
+    Ok(Form::Line(Head::Change(value, order), Vec::new(alloc)))
+}
+
 /// Which question a word asks.
 fn question_of(line: &[u8], token: Token) -> Option<Question>
     ensures found { IfSome result (λ question. (token.kind ≡ Name) × (text_of line.now token ≡ word_text (question_word question))) }
@@ -201,6 +218,8 @@ fn question_of(line: &[u8], token: Token) -> Option<Question>
         Some(Question::Size)
     } else if is_word(line, token, b"hilb") {
         Some(Question::Hilbert)
+    } else if is_word(line, token, b"res") {
+        Some(Question::Resolution)
     } else {
         None
     }
@@ -246,6 +265,9 @@ pub fn read_form(alloc: Global, line: &[u8], tokens: &[Token]) -> Result<Form, R
     }
     if is_word(line, *word, b"let") {
         return let_form(alloc, line, behind);
+    }
+    if is_word(line, *word, b"fglm") {
+        return change_form(alloc, line, behind);
     }
     if let Some(question) = question_of(line, *word) {
         return ask_form(alloc, question, behind);

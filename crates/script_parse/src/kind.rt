@@ -6,7 +6,7 @@ ghost use Rattle.script_parse.specs.declared.kind.ParseStop.TheVariants.{Memory}
 use module_vectors::NoMemory;
 use std::alloc::{AllocError, AllocFailed};
 
-/// Why a line is refused. The kinds are tried in this order, and the first that holds is answered. The last two are told of a
+/// Why a line is refused. The kinds are tried in this order, and the first that holds is answered. The last four are told of a
 /// line's values, after its run: no line is refused for them when it is read.
 #[derive(Clone, Copy, Debug, PartialEq, Eq)]
 pub enum Kind {
@@ -17,7 +17,7 @@ pub enum Kind {
     Numeral,
     /// A line that needs a ring, and none is stated; or a ring of more than 15 variables, or with a variable twice, an
     /// `elim K` with K outside 1..n, a number of weights other than n, or a weight outside 1..255, in n variables; or
-    /// `eliminate B K` with K outside 1..n.
+    /// `eliminate B K`, or `fglm B elim K`, with K outside 1..n.
     Ring,
     /// The modulus of a ring is not in the table.
     Modulus,
@@ -29,7 +29,8 @@ pub enum Kind {
     OfKind,
     /// An ideal or a module of more than 1,000 vectors; or a module's rank is outside 1..64; or the entries of a vector are not
     /// as many as the rank of the module, or of the value that divides it; or two ranks differ that `equal`, `sum`,
-    /// `intersect` or `colon` want the same; or the stored list of what `syz` is asked of has a length outside 1..64.
+    /// `intersect` or `colon` want the same; or the stored list of what `syz` is asked of has a length outside 1..64; or the
+    /// value of `fglm` is no ideal.
     Rank,
     /// The formal degree, by the ring's weights, of a polynomial or of a part of it is above 1,000.
     Degree,
@@ -37,6 +38,10 @@ pub enum Kind {
     Leads,
     /// `hilb` of a value whose numbers do not fit.
     Large,
+    /// `fglm` of an ideal some variable of which has no power among the leads of its reduced basis, the power 1 included.
+    Infinite,
+    /// `fglm` of an ideal of which that is not so, and more than 256 monomials are divisible by no lead.
+    Many,
 }
 
 /// Why a line was not read.

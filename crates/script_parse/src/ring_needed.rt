@@ -1,6 +1,6 @@
 //! What a line that needs a ring states.
 
-ghost use Rattle.std.specs.Prelude.{◌≡◌, ◌<◌, List, Vec as VecValue, length, true};
+ghost use Rattle.std.specs.Prelude.{◌≡◌, ◌<◌, IfSome, List, Vec as VecValue, length, true};
 ghost use Rattle.std.specs.Global.{Global};
 ghost use Rattle.std.specs.List.{AllByRecursion};
 ghost use Rattle.std.specs.Option.{option_copied};
@@ -9,6 +9,7 @@ ghost use Rattle.poly_grammar.specs.Numerals.{text_of, value_of};
 ghost use Rattle.poly_grammar.specs.declared.step.Step.{Step as StepValue};
 ghost use Rattle.module_vectors.specs.declared.ring.Ring.{Ring as RingValue};
 ghost use Rattle.script_parse.specs.Forms.{IsLineOf};
+ghost use Rattle.script_parse.specs.Statements.{order_stated};
 ghost use Rattle.script_parse.specs.Tests.{AnswersForm, HaveNumerals, IsPolynomial, IsStated, IsWorkable, head_names, known_names, module_fits, rank_fits, right_kinds};
 ghost use Rattle.script_parse.specs.Written.{Written};
 ghost use Rattle.script_parse.specs.declared.form.Head.TheVariants as heads;
@@ -20,13 +21,15 @@ use crate::checks::{
 use crate::form::{Division, Head, Question};
 use crate::kind::{Kind, ParseStop};
 use crate::named::NameInfo;
-use crate::numbers::number_within;
+use crate::numbers::{number_within, small_number};
 use crate::operation_line::let_statement;
+use crate::ring_words::OrderName;
 use crate::stated::Statement;
 use crate::values::{list_value, vector_value, vectors_value};
 use crate::vectors::Shape;
 use crate::words::name_of;
 use module_vectors::Ring;
+use monomial_orders::Order;
 use poly_grammar::Step;
 use poly_value::polynomial_value;
 use script_tokens::Token;
@@ -142,6 +145,7 @@ fn ask_statement(
         Question::Gb => Ok(Statement::Gb(name)),
         Question::Size => Ok(Statement::Size(name)),
         Question::Hilbert => Ok(Statement::Hilbert(name)),
+        Question::Resolution => Ok(Statement::Resolution(name)),
     }
 }
 
@@ -185,6 +189,37 @@ fn equal_statement(
     Ok(Statement::Equal(first, second))
 }
 
+/// The order that is stated, where its number fits.
+fn small_order(line: &[u8], order: OrderName) -> Option<Order>
+    ensures { IfSome result (λ made. made ≡ order_stated line.now order) }
+{
+    match order {
+        OrderName::Lex => Some(Order::Lex),
+        OrderName::Grevlex => Some(Order::Grevlex),
+        OrderName::Elim(token) => match small_number(line, token) {
+            Some(k) => Some(Order::Elim(k)),
+            None => None,
+        },
+    }
+}
+
+/// The statement of `fglm`. A number of 2^32 or more is one of variables whose names no memory holds.
+fn change_statement(
+    alloc: Global,
+    line: &[u8],
+    value: Token,
+    order: OrderName,
+) -> Result<Statement, ParseStop>
+    requires { IsAscii (text_of line.now value) }
+    ensures { (ring : RingValue) (pieces : List (VecValue StepValue Global)) → IsStated ring line.now (heads.Change value order) pieces result }
+{
+    let name = name_of(alloc, line, value)?;
+    match small_order(line, order) {
+        Some(order) => Ok(Statement::Change(name, order)),
+        None => Err(ParseStop::Memory),
+    }
+}
+
 /// The statement of a line that is refused for no kind.
 fn stated(
     alloc: Global,
@@ -214,11 +249,12 @@ fn stated(
             divide_statement(alloc, ring, line, division, value, polynomials)
         }
         Head::Equal(left, right) => equal_statement(alloc, line, left, right),
+        Head::Change(value, order) => change_statement(alloc, line, value, order),
     }
 }
 
-/// What a line states that needs a ring, by its head and its polynomials: else `Ring` where none is stated or `eliminate` has a
-/// number outside 1..n, then `Name`, `OfKind`, `Rank` and `Degree`, the first that holds.
+/// What a line states that needs a ring, by its head and its polynomials: else `Ring` where none is stated or `eliminate` or
+/// the order of `fglm` has a number outside 1..n, then `Name`, `OfKind`, `Rank` and `Degree`, the first that holds.
 pub fn line_statement(
     alloc: Global,
     line: &[u8],

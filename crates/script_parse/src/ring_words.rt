@@ -4,6 +4,8 @@ ghost use Rattle.std.specs.Prelude.{◌≡◌, ◌⊎◌, Some, None, map, IfSom
 ghost use Rattle.script_tokens.specs.declared.token.TokenKind.TheVariants.{Name, Number};
 ghost use Rattle.poly_grammar.specs.Lexemes.{lexeme};
 ghost use Rattle.poly_grammar.specs.Machine.{Gives};
+ghost use Rattle.script_parse.specs.Written.{IsOrder};
+ghost use Rattle.script_parse.specs.declared.ring_words.OrderName.{OrderName as OrderValue};
 ghost use Rattle.script_parse.specs.RingForms.{elim_first, list_first, list_view, order_first, ring_line_of, ring_of, token_of, top_first, weights_of};
 
 use crate::words::is_word;
@@ -101,6 +103,18 @@ fn order_first<'a>(line: &[u8], tokens: &'a [Token]) -> Option<(OrderName, &'a [
         return elim_first(behind);
     }
     None
+}
+
+/// The order that the tokens are, all of them.
+pub fn read_order(line: &[u8], tokens: &[Token]) -> Option<OrderName>
+    ensures found { IfSome result (IsOrder line.now (map lexeme tokens.now)) }
+    ensures none { IfNone result ((order : OrderValue) → IsOrder line.now (map lexeme tokens.now) order → ⊥) }
+{
+    let (order, rest) = order_first(line, tokens)?;
+    if !rest.is_empty() {
+        return None;
+    }
+    Some(order)
 }
 
 /// Whether `top` stands first, and what stands behind it.

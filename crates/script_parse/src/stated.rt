@@ -2,6 +2,7 @@
 
 use crate::operation::Operation;
 use module_vectors::{Ring, Vect, VectList};
+use monomial_orders::Order;
 
 /// What a line states. Its vectors are in the order of the ring, and its names are those of values.
 #[derive(Drop)]
@@ -26,6 +27,8 @@ pub enum Statement {
     Size(String),
     /// The Hilbert numbers of a value are to be printed.
     Hilbert(String),
+    /// The canonical resolution of a value is to be printed.
+    Resolution(String),
     /// The normal form of a vector modulo a value is to be printed.
     NormalForm(String, Vect),
     /// Whether a vector is in a value is to be printed.
@@ -34,4 +37,6 @@ pub enum Statement {
     Lift(String, Vect),
     /// Whether two values are equal is to be printed.
     Equal(String, String),
+    /// The reduced basis of a value in this order is to be printed.
+    Change(String, Order),
 }

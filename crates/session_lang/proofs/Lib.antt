@@ -7,6 +7,9 @@ mod OneModule
 mod Finding
 mod Making
 mod Placing
+mod Reporting
+mod OneReordering
+mod OneResolution
 mod Performing
 mod Stopping
 mod Reported

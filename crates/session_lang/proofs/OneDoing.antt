@@ -14,6 +14,8 @@ use Rattle.script_parse.specs.declared.operation.Operation.{Operation}
 use Rattle.script_parse.specs.declared.stated.Statement.{Statement}
 use Rattle.script_parse.specs.declared.stated.Statement.TheVariants as statements
 use Rattle.session_lang.proofs.OneAnswer.{answers_once, decides_once, one_ring, one_value}
+use Rattle.session_lang.proofs.OneReordering.{reorders_once}
+use Rattle.session_lang.proofs.OneResolution.{resolves_once}
 use Rattle.session_lang.proofs.OneText.{counts_once, lifts_once}
 use Rattle.session_lang.proofs.OneWork.{gives_once}
 use Rattle.session_lang.specs.Answers.{Asked, Decides, IsOneModule, basis, member, normal_form, sizes_of_basis}
@@ -131,6 +133,14 @@ module _ (before : State) where
   does_once (statements.Hilbert m) (statements.Hilbert n) p q x y e a b =
       (a.0 ∙ kept_once (string_bytes m) (string_bytes n) e ∙ sym b.0, counts_once before (string_bytes m) (string_bytes n) x y e a.1 b.1)
   does_once (statements.Hilbert m) _ p q x y e a b = absurd e
+  does_once (statements.Resolution m) (statements.Resolution n) p q x y e a b =
+      (a.0 ∙ kept_once (string_bytes m) (string_bytes n) e ∙ sym b.0, resolves_once before (string_bytes m) (string_bytes n) x y e a.1 b.1)
+  does_once (statements.Resolution m) _ p q x y e a b = absurd e
+  does_once (statements.Change m o) (statements.Change n q') p q x y e a b = (
+    a.0 ∙ kept_once (string_bytes m) (string_bytes n) e.0 ∙ sym b.0,
+    reorders_once before (string_bytes m) (string_bytes n) o q' x y e.0 e.1 a.1 b.1,
+  )
+  does_once (statements.Change m o) _ p q x y e a b = absurd e
   does_once (statements.Gens m) (statements.Gens n) p q x y e a b =
       (a.0 ∙ sym b.0, listed_once (string_bytes m) (string_bytes n) a.1.0 b.1.0 a.1.1 b.1.1 x y e a.1.2 b.1.2 a.1.3 b.1.3)
   does_once (statements.Gens m) _ p q x y e a b = absurd e

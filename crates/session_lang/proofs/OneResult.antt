@@ -9,6 +9,7 @@ use Rattle.script_parse.specs.declared.kind.Kind.{Kind}
 use Rattle.script_parse.specs.declared.stated.Statement.{Statement}
 use Rattle.script_parse.specs.declared.stated.Statement.TheVariants as statements
 use Rattle.session_lang.proofs.OneDoing.{does_once}
+use Rattle.session_lang.proofs.OneReordering.{reordering_refused_once, reorders_or_refuses}
 use Rattle.session_lang.proofs.OneText.{counts_or_refuses, refuses_once}
 use Rattle.session_lang.proofs.Reading.{refuses_alike, states_alike}
 use Rattle.session_lang.specs.Lines.{Does, Line, Refuses, RefusesReading, RefusesStated, RunOf, States}
@@ -47,6 +48,25 @@ module _ (before : State) where
   done_not_refused (statements.Member y z) (statements.Hilbert n) p x kind e d r = absurd e
   done_not_refused (statements.Lift y z) (statements.Hilbert n) p x kind e d r = absurd e
   done_not_refused (statements.Equal y z) (statements.Hilbert n) p x kind e d r = absurd e
+  done_not_refused (statements.Change y z) (statements.Hilbert n) p x kind e d r = absurd e
+  done_not_refused (statements.Resolution y) (statements.Hilbert n) p x kind e d r = absurd e
+  done_not_refused (statements.Change m q) (statements.Change n o) p x kind e d r =
+      reorders_or_refuses before (string_bytes m) (string_bytes n) q o e.0 e.1 x kind d.1 r
+  done_not_refused statements.Nothing (statements.Change n o) p x kind e d r = absurd e
+  done_not_refused (statements.Ring y) (statements.Change n o) p x kind e d r = absurd e
+  done_not_refused (statements.Show y) (statements.Change n o) p x kind e d r = absurd e
+  done_not_refused (statements.Ideal y z) (statements.Change n o) p x kind e d r = absurd e
+  done_not_refused (statements.Module y z w) (statements.Change n o) p x kind e d r = absurd e
+  done_not_refused (statements.Let y z) (statements.Change n o) p x kind e d r = absurd e
+  done_not_refused (statements.Gens y) (statements.Change n o) p x kind e d r = absurd e
+  done_not_refused (statements.Gb y) (statements.Change n o) p x kind e d r = absurd e
+  done_not_refused (statements.Size y) (statements.Change n o) p x kind e d r = absurd e
+  done_not_refused (statements.NormalForm y z) (statements.Change n o) p x kind e d r = absurd e
+  done_not_refused (statements.Member y z) (statements.Change n o) p x kind e d r = absurd e
+  done_not_refused (statements.Lift y z) (statements.Change n o) p x kind e d r = absurd e
+  done_not_refused (statements.Equal y z) (statements.Change n o) p x kind e d r = absurd e
+  done_not_refused (statements.Hilbert y) (statements.Change n o) p x kind e d r = absurd e
+  done_not_refused (statements.Resolution y) (statements.Change n o) p x kind e d r = absurd e
   done_not_refused s statements.Nothing p x kind e d r = absurd r
   done_not_refused s (statements.Ring y) p x kind e d r = absurd r
   done_not_refused s (statements.Show y) p x kind e d r = absurd r
@@ -60,12 +80,15 @@ module _ (before : State) where
   done_not_refused s (statements.Member y z) p x kind e d r = absurd r
   done_not_refused s (statements.Lift y z) p x kind e d r = absurd r
   done_not_refused s (statements.Equal y z) p x kind e d r = absurd r
+  done_not_refused s (statements.Resolution y) p x kind e d r = absurd r
 
   -- a statement is refused for one kind
   stated_once :
       (s t : Statement) (j k : Kind) → IsSameStatement s t → RefusesStated before s j → RefusesStated before t k → j ≡ k
   stated_once (statements.Hilbert m) (statements.Hilbert n) j k e g h = refuses_once before (string_bytes m) (string_bytes n) e j k g h
   stated_once (statements.Hilbert m) _ j k e g h = absurd e
+  stated_once (statements.Change m o) (statements.Change n q) j k e g h = reordering_refused_once before (string_bytes m) (string_bytes n) e.0 j k g h
+  stated_once (statements.Change m o) _ j k e g h = absurd e
   stated_once statements.Nothing t j k e g h = absurd g
   stated_once (statements.Ring y) t j k e g h = absurd g
   stated_once (statements.Show y) t j k e g h = absurd g
@@ -79,6 +102,7 @@ module _ (before : State) where
   stated_once (statements.Member y z) t j k e g h = absurd g
   stated_once (statements.Lift y z) t j k e g h = absurd g
   stated_once (statements.Equal y z) t j k e g h = absurd g
+  stated_once (statements.Resolution y) t j k e g h = absurd g
 
 -- a line that is done is not refused
 pub line_not_refused : (before : State) (line : List ℕ) (p : State) (x : List ℕ) (kind : Kind) → Line before line p x → Refuses before line kind → ⊥

@@ -14,18 +14,21 @@ use Rattle.module_vectors.specs.Vectors.{IsVectorOver}
 use Rattle.module_vectors.specs.declared.key.Key.{Key}
 use Rattle.module_vectors.specs.declared.ring.Ring.{Ring}
 use Rattle.module_vectors.specs.declared.trail.KeptTrail.{KeptTrail}
+use Rattle.script_parse.specs.declared.kind.Kind.{Kind}
 use Rattle.script_parse.specs.declared.stated.Statement.{Statement}
 use Rattle.script_parse.specs.declared.stated.Statement.TheVariants as statements
 use Rattle.session_lang.proofs.Stopping.{call_stops, no_trail, run_for, trail_for}
 use Rattle.session_lang.specs.Answers.{Asked, Decides, IsAnswer, IsOneModule, basis, member, normal_form, sizes_of_basis}
 use Rattle.session_lang.specs.Asking.{IsAskedOver}
-use Rattle.session_lang.specs.Counting.{CountsAs, KeepsAs}
 use Rattle.session_lang.specs.Held.{Held}
 use Rattle.session_lang.specs.Kept.{IsFit, IsGiven}
-use Rattle.session_lang.specs.Lines.{Answers, Does, IsLiftRun, IsRunFor, IsRunForEither, Lifts, Needs, States}
+use Rattle.session_lang.specs.Lines.{Answers, Does, IsLiftRun, IsRunFor, IsRunForEither, Lifts, Needs, RefusesStated, States}
 use Rattle.session_lang.specs.Names.{HasValue, State, Value, after_run}
 use Rattle.session_lang.specs.Parts.{IsRunOf}
 use Rattle.session_lang.specs.Performing.{Performed, Performs, asking}
+use Rattle.session_lang.specs.Reporting.{HasReport, IsReport, IsReportTrail, KeepsAs, RefusesReport, ReportsAs, reporting}
+use Rattle.session_lang.specs.declared.reports.Report.{Report}
+use Rattle.session_lang.specs.declared.reports.Report.TheVariants.{InOrder, Numbers, Resolution}
 use Rattle.session_lang.specs.Stops.{IsTrailFor, IsTrailOf, IsTrailOfLift, Meets, Steps}
 use Rattle.session_lang.specs.declared.step.Step.{Step}
 use Rattle.session_lang.specs.declared.step.Step.TheVariants as steps
@@ -198,31 +201,82 @@ lifted_performed {before} {out} {out'} {old} {new} {kept} {kept'} called answer 
     unchanged (Ok u) = tt
     unchanged (Err e) = refl
 
--- the numbers of a value
-pub counted_performed :
+-- ---- reports
+module _ (before : State) (name : String Global) where
+  -- the value is there, and has such a report
+  pub report_given : (report : Report) → IsFit before (reporting name report) → IsGiven before (string_bytes name)
+  report_given Numbers f = f
+  report_given (InOrder order) f = (f.0, f.1, f.2)
+  report_given Resolution f = f
+
+  pub has_report :
+      (report : Report) → IsFit before (reporting name report) → (ring : Ring) (value : Value) → HasValue before (string_bytes name) ring value
+      → HasReport value.rank report
+  has_report Numbers f ring value h = tt
+  has_report Resolution f ring value h = tt
+  has_report (InOrder order) f ring value h = subst (λ v. v.rank ≡ 1) (same_Some _ _ (sym f.2.named ∙ h.named)) f.3
+
+  report_does :
+      (report : Report) (after : State) (text : List ℕ) (over : Ring) (value : Value)
+      → HasValue before (string_bytes name) over value → after ≡ after_run (string_bytes name) before → IsReport over value report text
+      → Does before (reporting name report) after text
+  report_does Numbers after text over value has d r = (d, (over, value, has, r))
+  report_does (InOrder order) after text over value has d r = (d, (over, value, has, r))
+  report_does Resolution after text over value has d r = (d, (over, value, has, r))
+
+  report_refused :
+      (report : Report) (over : Ring) (value : Value) (kind : Kind) → HasValue before (string_bytes name) over value → RefusesReport over value report kind
+      → RefusesStated before (reporting name report) kind
+  report_refused Numbers over value kind has r = (over, value, has, r)
+  report_refused (InOrder order) over value kind has r = (over, value, has, r)
+  report_refused Resolution over value kind has r = absurd r
+
+  report_needs :
+      (report : Report) (ring : Ring) (rank : ℕ) (list : Terms) → IsRunFor before (string_bytes name) ring rank list
+      → Needs before (reporting name report) ring rank list
+  report_needs Numbers ring rank list h = h
+  report_needs (InOrder order) ring rank list h = h
+  report_needs Resolution ring rank list h = h
+
+  report_meets :
+      (report : Report) (over : Ring) (value : Value) (t : KeptTrail) → HasValue before (string_bytes name) over value → IsReportTrail over value report t
+      → Meets before (reporting name report) t
+  report_meets Numbers over value t has h = absurd h
+  report_meets (InOrder order) over value t has h = absurd h
+  report_meets Resolution over value t has h = (over, value, has, h)
+
+-- the report of a value
+pub reported_performed :
     {before after : State} {out out' : List ℕ} {old new : ℕ} {kept kept' : Option StoppedRun} (answer : Result Step OpStop)
-    (name : String Global) (n : List ℕ) (over : Ring) (value : Value) (s item : Held) → n ≡ string_bytes name → HasValue before n over value
+    (name : String Global) (report : Report) (n : List ℕ) (over : Ring) (value : Value) (s item : Held) → n ≡ string_bytes name → HasValue before n over value
     → (IsSome item.basis → after ≡ after_run n before) → (item ≡ s → after ≡ before)
     → IfOk answer (KeepsAs s item) → OnErr answer (item ≡ s)
-    → IfOk answer (CountsAs over value out out') → OnErr answer (out' ≡ out) → OnOk answer ((new ≡ old) × (kept' ≡ kept))
-    → IfErr answer (CallStops (IsRunOf over value) NoTrail old new kept kept')
-    → Performed before (statements.Hilbert name) after out out' old new kept kept' answer
-counted_performed {before} {after} {out} {out'} {old} {new} {kept} {kept'} (Ok steps.Done) name n over value s item named has done same keeps undone counts unwritten engine stop =
-    was_done before (statements.Hilbert name) after out out' old new kept kept' counts.0
-    (subst (λ m. after ≡ after_run m before) named (done keeps), (over, value, subst (λ m. HasValue before m over value) named has, counts.1)) counts.2 engine.0 engine.1
-counted_performed {before} {after} {out} {out'} {old} {new} {kept} {kept'} (Ok (steps.Refused kind)) name n over value s item named has done same keeps undone counts unwritten engine stop =
+    → IfOk answer (ReportsAs over value report out out') → OnErr answer (out' ≡ out) → OnOk answer ((new ≡ old) × (kept' ≡ kept))
+    → IfErr answer (CallStops (IsRunOf over value) (IsReportTrail over value report) old new kept kept')
+    → Performed before (reporting name report) after out out' old new kept kept' answer
+reported_performed {before} {after} {out} {out'} {old} {new} {kept} {kept'} (Ok steps.Done) name report n over value s item named has done same keeps undone reports unwritten engine stop =
+    was_done before (reporting name report) after out out' old new kept kept' reports.0
+    (report_does before name report after reports.0 over value (subst (λ m. HasValue before m over value) named has)
+    (subst (λ m. after ≡ after_run m before) named (done keeps)) reports.1)
+    reports.2 engine.0 engine.1
+reported_performed {before} {after} {out} {out'} {old} {new} {kept} {kept'} (Ok (steps.Refused kind)) name report n over value s item named has done same keeps undone reports unwritten engine stop =
     record {
-      done = ((over, value, subst (λ m. HasValue before m over value) named has, counts.0), same keeps, counts.1);
+      done = (
+        report_refused before name report over value kind (subst (λ m. HasValue before m over value) named has) reports.0,
+        same keeps,
+        reports.1,
+      );
       same = tt;
       unwritten = tt;
       engine = engine;
       stop = tt;
     }
-counted_performed {before} {after} {out} {out'} {old} {new} {kept} {kept'} (Err e) name n over value s item named has done same keeps undone counts unwritten engine stop =
-    was_stopped before (statements.Hilbert name) after out out' old new kept kept' e (same undone) unwritten
+reported_performed {before} {after} {out} {out'} {old} {new} {kept} {kept'} (Err e) name report n over value s item named has done same keeps undone reports unwritten engine stop =
+    was_stopped before (reporting name report) after out out' old new kept kept' e (same undone) unwritten
     (call_stops old new kept kept'
-    (λ ring rank list h. run_for before (string_bytes name) over value (subst (λ m. HasValue before m over value) named has) ring rank list h)
-    (no_trail (Meets before (statements.Hilbert name))) e stop)
+    (λ ring rank list h. report_needs before name report ring rank list
+    (run_for before (string_bytes name) over value (subst (λ m. HasValue before m over value) named has) ring rank list h))
+    (λ t h. report_meets before name report over value t (subst (λ m. HasValue before m over value) named has) h) e stop)
 
 -- a statement that was performed, as its line
 pub performed_line :

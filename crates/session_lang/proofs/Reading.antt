@@ -14,7 +14,8 @@ use Rattle.module_vectors.specs.declared.key.Key.{Key}
 use Rattle.module_vectors.specs.declared.ring.Ring.{Ring}
 use Rattle.script_parse.specs.Refusals.{HasOtherFactor, HasOtherKind, HasOtherOperands, HasOtherRank, HasUnknownName, HaveOtherRanks, Holds, IsNamed, IsOutside, Refuses, length_named, rank_named}
 use Rattle.script_parse.specs.Statements.{ArePolynomialsOf, AreVectorsOf, IsOperationOf, Says, States}
-use Rattle.script_parse.specs.Written.{IsLine, Written, WrittenOperation, ask_line, divide_line, elimination, equal_line, ideal_line, let_line, module_line, nothing, of_polynomial, of_two, ring_line, show_line, syzygies, value_places}
+use Rattle.script_parse.specs.declared.ring_words.OrderName.{OrderName}
+use Rattle.script_parse.specs.Written.{IsLine, Written, WrittenOperation, ask_line, change_line, divide_line, elimination, equal_line, ideal_line, let_line, module_line, nothing, of_polynomial, of_two, ring_line, show_line, syzygies, value_places}
 use Rattle.script_parse.specs.declared.form.Division.{Division}
 use Rattle.script_parse.specs.declared.form.Division.TheVariants as divisions
 use Rattle.script_parse.specs.declared.form.Question.{Question}
@@ -29,7 +30,7 @@ use Rattle.script_parse.specs.declared.operation.Operation.{Operation}
 use Rattle.script_parse.specs.declared.operation.Operation.TheVariants as operations
 use Rattle.script_parse.specs.declared.stated.Statement.{Statement}
 use Rattle.script_parse.specs.declared.stated.Statement.TheVariants as statements
-use Rattle.session_lang.specs.Kept.{AreGiven, IsFit, IsGiven, IsOfValue, IsOfValueRank, IsValueRank, IsWithPolynomial, IsWorkable}
+use Rattle.session_lang.specs.Kept.{AreGiven, IsFit, IsGiven, IsIdealGiven, IsOfValue, IsOfValueRank, IsValueRank, IsWithPolynomial, IsWorkable}
 use Rattle.session_lang.specs.Names.{AreInfosOf, HasValue, State, Value, value_named}
 
 -- the rank of a value that may be none
@@ -98,6 +99,7 @@ module _ (ring : Option Ring) (infos more : List NameInfo) (line : List ℕ) (sa
   other_factor (ask_line q t) h = absurd h
   other_factor (divide_line d t ps) h = absurd h
   other_factor (equal_line s t) h = absurd h
+  other_factor (change_line t o) h = absurd h
 
   other_kind : (w : Written) → HasOtherKind ring infos line w → HasOtherKind ring more line w
   other_kind w (inl (t, stands, h)) = inl (t, stands, named (text_of line t) h)
@@ -119,6 +121,7 @@ module _ (ring : Option Ring) (infos more : List NameInfo) (line : List ℕ) (sa
   other_rank : (w : Written) → HasOtherRank infos line w → HasOtherRank more line w
   other_rank (divide_line d t ps) (r, e, ne) = (r, sym (same (text_of line t)) ∙ e, ne)
   other_rank (equal_line s t) h = other_ranks s t h
+  other_rank (change_line t o) (r, e, ne) = (r, sym (same (text_of line t)) ∙ e, ne)
   other_rank (let_line t w) h = other_operands w h
   other_rank (module_line t k vs) h = h
   other_rank (ideal_line t ps) h = h
@@ -138,6 +141,8 @@ module _ (ring : Option Ring) (infos more : List NameInfo) (line : List ℕ) (sa
   holds_alike kinds.Degree h = h
   holds_alike kinds.Leads h = h
   holds_alike kinds.Large h = h
+  holds_alike kinds.Infinite h = h
+  holds_alike kinds.Many h = h
 
 module _ (values : List Value) (infos more : List NameInfo) (told : AreInfosOf values infos) (told' : AreInfosOf values more) where
   ranks_alike : (text : List ℕ) → rank_named infos text ≡ rank_named more text
@@ -247,6 +252,15 @@ module _ (values : List Value) (infos : List NameInfo) (line : List ℕ) (told :
   asked_of (Some r) q t name is free e =
       let x = given r (ask_line q t) t name is free (0, omega arith, refl) e in
       (r, x.0, x.1)
+
+  -- the ideal with the name that an order is stated for
+  ideal_of :
+      (ring : Option Ring) (t : Token) (o : OrderName) (name : List ℕ) → IsLine line (change_line t o)
+      → ((kind : Kind) → Holds ring infos line kind → ⊥) → name ≡ text_of line t → IsIdealGiven (record { ring = ring; values = values }) name
+  ideal_of None t o name is free e = absurd (free kinds.Ring (change_line t o, is, inl refl))
+  ideal_of (Some r) t o name is free e =
+      let x = given r (change_line t o) t name is free (0, omega arith, refl) e in
+      (r, x.0, x.1, not_other x.0.rank 1 (λ ne. free kinds.Rank (change_line t o, is, (x.0.rank, x.2, ne))))
 
   -- the value with a name that a vector is divided by
   divided_by :
@@ -380,6 +394,8 @@ module _ (values : List Value) (infos : List NameInfo) (line : List ℕ) (told :
   fit ring (ask_line questions.Size t) _ is free h = absurd h
   fit ring (ask_line questions.Hilbert t) (statements.Hilbert name) is free h = asked_of ring questions.Hilbert t (string_bytes name) is free h
   fit ring (ask_line questions.Hilbert t) _ is free h = absurd h
+  fit ring (ask_line questions.Resolution t) (statements.Resolution name) is free h = asked_of ring questions.Resolution t (string_bytes name) is free h
+  fit ring (ask_line questions.Resolution t) _ is free h = absurd h
   fit (Some r) (divide_line divisions.NormalForm t ps) (statements.NormalForm name v) is free h =
       divided_by r divisions.NormalForm t ps (string_bytes name) v is free h.0 h.1.0
   fit (Some r) (divide_line divisions.NormalForm t ps) _ is free h = absurd h
@@ -390,6 +406,8 @@ module _ (values : List Value) (infos : List NameInfo) (line : List ℕ) (told :
       lifted_over r t ps (string_bytes name) v is free h.0 h.1.0 h.1.1
   fit (Some r) (divide_line divisions.Lift t ps) _ is free h = absurd h
   fit None (divide_line d t ps) s is free h = absurd h
+  fit ring (change_line t o) (statements.Change name order) is free h = ideal_of ring t o (string_bytes name) is free h.0
+  fit ring (change_line t o) _ is free h = absurd h
   fit ring (equal_line s t) (statements.Equal a b) is free h = compared ring s t (string_bytes a) (string_bytes b) is free h.0 h.1
   fit ring (equal_line s t) _ is free h = absurd h
 

@@ -55,6 +55,10 @@ place_named (i ∷ infos) name = if pointwise nat_eq (string_bytes i.name) name 
 abbrev pub IsGiven : State → List ℕ → Type 0
 IsGiven before name = (ring : Ring) × (value : Value) × HasValue before name ring value
 
+-- an ideal has this name
+abbrev pub IsIdealGiven : State → List ℕ → Type 0
+IsIdealGiven before name = (ring : Ring) × (value : Value) × HasValue before name ring value × (value.rank ≡ 1)
+
 -- a value has this name, and the vector is of its rank over the ring
 abbrev pub IsOfValue : State → List ℕ → List (Key × ℕ) → Type 0
 IsOfValue before name v = (ring : Ring) × (value : Value) × HasValue before name ring value × IsVectorOver ring (ring_comparison ring) v
@@ -103,6 +107,8 @@ IsFit before (statements.NormalForm name v) = IsOfValue before (string_bytes nam
 IsFit before (statements.Member name v) = IsOfValue before (string_bytes name) v
 IsFit before (statements.Lift name v) = IsOfValueRank before (string_bytes name) v
 IsFit before (statements.Hilbert name) = IsGiven before (string_bytes name)
+IsFit before (statements.Resolution name) = IsGiven before (string_bytes name)
+IsFit before (statements.Change name order) = IsIdealGiven before (string_bytes name)
 IsFit before (statements.Equal first second) = AreGiven before (string_bytes first) (string_bytes second) (λ r s. r ≡ s)
 
 -- a list of vectors over the ring, of this rank

@@ -5,6 +5,8 @@ pub mod Answers
 pub mod Operations
 pub mod Lifting
 pub mod Numbers
+pub mod Reordering
+pub mod Resolving
 pub mod Lines
 pub mod Stops
 -- what private clauses cite
@@ -12,6 +14,8 @@ pub mod Held
 pub mod Kept
 pub mod Tasks
 pub mod Counting
+pub mod Reporting
+pub mod Writing
 pub mod Asking
 pub mod Parts
 pub mod Performing

@@ -1,5 +1,6 @@
 -- What a line does to a session
 use Rattle.std.specs.Prelude.{List, Some, [], codes, false, string_bytes, true, ℕ, ◌++◌, ◌∷◌, ◌≡◌, ◌⊎◌}
+use Rattle.monomial_orders.specs.declared.order.Order.{Order}
 use Rattle.module_vectors.specs.declared.key.Key.{Key}
 use Rattle.module_vectors.specs.declared.ring.Ring.{Ring}
 use Rattle.poly_text.specs.Texts.{names_of, poly_text}
@@ -15,6 +16,8 @@ use Rattle.session_lang.specs.Answers.{Asked, Decides, IsAnswer, IsOneModule, ba
 use Rattle.session_lang.specs.Lifting.{IsLiftText}
 use Rattle.session_lang.specs.Names.{AreInfosOf, HasValue, State, Value, after_giving, after_run}
 use Rattle.session_lang.specs.Numbers.{IsNumbersText, RefusesNumbers}
+use Rattle.session_lang.specs.Reordering.{IsReorderedText, RefusesReordering}
+use Rattle.session_lang.specs.Resolving.{IsResolutionText}
 use Rattle.session_lang.specs.Operations.{AreRunsOf, IsResult, Work, WorksOn, result_rank}
 use Rattle.session_lang.specs.Texts.{listing}
 
@@ -26,10 +29,12 @@ States before line statement = (infos : List NameInfo) × AreInfosOf before.valu
 abbrev pub RefusesReading : State → List ℕ → Kind → Type 0
 RefusesReading before line kind = (infos : List NameInfo) × AreInfosOf before.values infos × refusals.Refuses before.ring infos line kind
 
--- the statement is refused for this kind once its run is done: it asks for the numbers of a value
+-- the statement is refused for this kind once its run is done: it asks for the numbers of a value, or for its basis in another order
 abbrev pub RefusesStated : State → Statement → Kind → Type 0
 RefusesStated before (statements.Hilbert name) kind =
     (ring : Ring) × (value : Value) × HasValue before (string_bytes name) ring value × RefusesNumbers ring value kind
+RefusesStated before (statements.Change name order) kind =
+    (ring : Ring) × (value : Value) × HasValue before (string_bytes name) ring value × RefusesReordering ring value kind
 RefusesStated before _ kind = ⊥
 
 -- the line is refused for this kind
@@ -51,6 +56,14 @@ Lifts before name v text = (ring : Ring) × (value : Value) × HasValue before n
 -- the text has the numbers of the value with this name
 abbrev pub Counts : State → List ℕ → List ℕ → Type 0
 Counts before name text = (ring : Ring) × (value : Value) × HasValue before name ring value × IsNumbersText ring value text
+
+-- the text has the reduced basis, in this order, of the value with this name
+abbrev pub Reorders : State → List ℕ → Order → List ℕ → Type 0
+Reorders before name order text = (ring : Ring) × (value : Value) × HasValue before name ring value × IsReorderedText ring value order text
+
+-- the text has the resolution of the value with this name
+abbrev pub Resolves : State → List ℕ → List ℕ → Type 0
+Resolves before name text = (ring : Ring) × (value : Value) × HasValue before name ring value × IsResolutionText ring value text
 
 -- From a state, the statement leads to this state and has this text: a blank line changes nothing, a ring is stated anew
 -- and takes all names away, a polynomial is printed, an ideal, a module or the result of an operation gets a name, the others
@@ -75,6 +88,8 @@ Does before (statements.NormalForm name v) after text = (after ≡ after_run (st
 Does before (statements.Member name v) after text = (after ≡ after_run (string_bytes name) before) × Answers before (string_bytes name) (member v) text
 Does before (statements.Lift name v) after text = (after ≡ before) × Lifts before (string_bytes name) v text
 Does before (statements.Hilbert name) after text = (after ≡ after_run (string_bytes name) before) × Counts before (string_bytes name) text
+Does before (statements.Resolution name) after text = (after ≡ after_run (string_bytes name) before) × Resolves before (string_bytes name) text
+Does before (statements.Change name order) after text = (after ≡ after_run (string_bytes name) before) × Reorders before (string_bytes name) order text
 Does before (statements.Equal first second) after text =
     (after ≡ after_run (string_bytes second) (after_run (string_bytes first) before))
     × ((ring : Ring) × (left : Value) × (right : Value) × HasValue before (string_bytes first) ring left × HasValue before (string_bytes second) ring right
@@ -108,6 +123,8 @@ Needs before (statements.Size name) ring rank list = IsRunFor before (string_byt
 Needs before (statements.NormalForm name v) ring rank list = IsRunFor before (string_bytes name) ring rank list
 Needs before (statements.Member name v) ring rank list = IsRunFor before (string_bytes name) ring rank list
 Needs before (statements.Hilbert name) ring rank list = IsRunFor before (string_bytes name) ring rank list
+Needs before (statements.Resolution name) ring rank list = IsRunFor before (string_bytes name) ring rank list
+Needs before (statements.Change name order) ring rank list = IsRunFor before (string_bytes name) ring rank list
 Needs before (statements.Let name operation) ring rank list = IsRunOfWork before operation ring rank list
 Needs before (statements.Lift name v) ring rank list = IsLiftRun before (string_bytes name) ring rank list
 Needs before (statements.Equal first second) ring rank list = IsRunForEither before (string_bytes first) (string_bytes second) ring rank list

@@ -11,6 +11,7 @@ use Rattle.script_parse.specs.declared.stated.Statement.TheVariants as statement
 use Rattle.session_lang.specs.Answers.{Asked, basis, member, normal_form, sizes_of_basis}
 use Rattle.session_lang.specs.Lines.{Line, Refuses, States}
 use Rattle.session_lang.specs.Names.{HasValue, State, Value}
+use Rattle.session_lang.specs.Resolving.{IsResolvingTrail}
 use Rattle.session_lang.specs.Operations.{AreTrailsOf, Work, WorksOn}
 use Rattle.syzygy_engine.specs.Lifts.{IsLiftTrail}
 use Rattle.session_lang.specs.declared.step.Step.{Step}
@@ -45,12 +46,17 @@ IsTrailOfWork before operation t = (ring : Ring) × (work : Work) × WorksOn bef
 abbrev pub IsTrailOfLift : State → List ℕ → List (Key × ℕ) → KeptTrail → Type 0
 IsTrailOfLift before name v t = (ring : Ring) × (value : Value) × HasValue before name ring value × IsLiftTrail ring value.rank value.list v t
 
+-- a trail of the resolution of the value with this name
+abbrev pub IsTrailOfResolving : State → List ℕ → KeptTrail → Type 0
+IsTrailOfResolving before name t = (ring : Ring) × (value : Value) × HasValue before name ring value × IsResolvingTrail ring value t
+
 -- the trails that a statement can meet outside of its runs
 abbrev pub Meets : State → Statement → KeptTrail → Type 0
 Meets before (statements.NormalForm name v) t = IsTrailFor before (string_bytes name) (normal_form v) t
 Meets before (statements.Member name v) t = IsTrailFor before (string_bytes name) (member v) t
 Meets before (statements.Let name operation) t = IsTrailOfWork before operation t
 Meets before (statements.Lift name v) t = IsTrailOfLift before (string_bytes name) v t
+Meets before (statements.Resolution name) t = IsTrailOfResolving before (string_bytes name) t
 Meets before _ t = ⊥
 
 -- a trail of a line that is not refused as it is read, met outside of its runs

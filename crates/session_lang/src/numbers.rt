@@ -1,7 +1,6 @@
 // Hilbert numerator, dimension and degree of a value.
 ghost use Rattle.std.specs.Prelude.{◌≡◌, ◌≤◌, ◌++◌, IfErr, IfOk, Bool, List, OnErr, OnOk, ℕ, string_bytes, ◌∷◌};
 ghost use Rattle.std.specs.Fmt.{signed_decimal};
-ghost use Rattle.groebner_iface.specs.Calls.{CallStops, NoTrail};
 ghost use Rattle.groebner_iface.specs.Runs.{IsReducedBasisOf};
 ghost use Rattle.hilbert_laws.specs.Dimensions.{HasDimension};
 ghost use Rattle.hilbert_series.specs.Large.{IsLarge};
@@ -9,24 +8,19 @@ ghost use Rattle.module_vectors.specs.Rings.{variables};
 ghost use Rattle.module_vectors.specs.declared.key.Key.{Key as KeyValue};
 ghost use Rattle.module_vectors.specs.declared.ring.Ring.{Ring as RingValue};
 ghost use Rattle.poly_text.specs.Writing.{IsFront};
-ghost use Rattle.session_lang.specs.Counting.{CountsAs, KeepsAs, NumbersStop};
-ghost use Rattle.session_lang.specs.Kept.{IsSound, value_of};
+ghost use Rattle.session_lang.specs.Counting.{NumbersStop};
 ghost use Rattle.session_lang.specs.Names.{Value};
 ghost use Rattle.session_lang.specs.Numbers.{HasManyLeads, IsNumeratorFor, coefficients_text, leads_of, measures_text, numbers_text};
-ghost use Rattle.session_lang.specs.Parts.{IsRunOf};
+ghost use Rattle.session_lang.specs.Reporting.{Reports, ReportsAs};
+ghost use Rattle.session_lang.specs.declared.reports.Report.TheVariants as reports;
 
-use crate::kept_bases::{forget, keep_basis};
 use crate::step::Step;
-use crate::stored::Stored;
 use crate::texts::whole_or_none;
-use groebner_iface::{Groebner, OpStop};
 use hilbert_series::{HilbertStop, Series, dimension_degree, numerator};
 use module_vectors::{Key, NoMemory, Ring, VectList};
 use poly_text::push_number;
 use script_parse::{Kind, NameInfo};
 use std::alloc::Global;
-use std::sync::Wait;
-use std::thread::Threads;
 
 /// The numbers of a basis.
 #[derive(Drop)]
@@ -157,7 +151,7 @@ fn append_numbers(
 // What the stop is to the line.
 fn refused(stop: HilbertStop) -> Result<Step, NoMemory>
     ensures { IfOk result (λ step. (ring : RingValue) (value : Value) (basis : List (List (KeyValue × ℕ))) (out : List ℕ)
-        → IsReducedBasisOf ring value.rank value.list basis → NumbersStop ring value.rank basis stop → CountsAs ring value out out step) }
+        → IsReducedBasisOf ring value.rank value.list basis → NumbersStop ring value.rank basis stop → ReportsAs ring value reports.Numbers out out step) }
 {
     match stop {
         HilbertStop::Memory => Err(NoMemory),
@@ -166,9 +160,9 @@ fn refused(stop: HilbertStop) -> Result<Step, NoMemory>
     }
 }
 
-// Appends the numbers of a value with this reduced basis, or says for which kind they are refused; then, and after an
-// error, nothing is appended.
-fn push_numbers(
+/// Appends the numbers of a value with this reduced basis, or says for which kind they are refused; then, and after an
+/// error, nothing is appended.
+pub fn push_numbers(
     alloc: Global,
     out: &mut Vec<u8>,
     ring: &Ring,
@@ -177,8 +171,7 @@ fn push_numbers(
 ) -> Result<Step, NoMemory>
     requires rank { info.now.rank ≤ 64 }
     requires basis { (list : List _) × IsReducedBasisOf ring.now info.now.rank list basis.now }
-    ensures counts { IfOk result (λ step. (list : List _) → IsReducedBasisOf ring.now info.now.rank list basis.now
-        → (kept : Bool) → CountsAs ring.now (record { name = string_bytes info.now.name; rank = info.now.rank; list = list; kept = kept }) out.old.items out.new.items step) }
+    ensures reports { IfOk result (Reports ring.now info.now basis.now reports.Numbers out.old.items out.new.items) }
     ensures unwritten { OnErr result (out.new.items ≡ out.old.items) }
 {
     let numbers = match numbers_of(alloc, ring, info.rank, basis) {
@@ -190,47 +183,5 @@ fn push_numbers(
     match whole_or_none(out, before, written) {
         Ok(()) => Ok(Step::Done),
         Err(early) => Err(early),
-    }
-}
-
-/// Appends the numbers of a value, whose reduced basis is kept from then on, or says for which kind they are refused. Then,
-/// and after an error, nothing is appended, and no basis is kept that was not.
-pub fn count_value<R: Threads + Wait + Sync, B: Groebner>(
-    rt: &R,
-    alloc: Global,
-    engine: &mut B,
-    ring: &Ring,
-    info: &NameInfo,
-    stored: &mut Stored,
-    out: &mut Vec<u8>,
-) -> Result<Step, OpStop>
-    requires { IsSound ring.now info.now.rank stored.old }
-    ensures sound { IsSound ring.now info.now.rank stored.new }
-    ensures list { stored.new.list ≡ stored.old.list }
-    ensures kept { IfOk result (KeepsAs stored.old stored.new) }
-    ensures as_before { OnErr result (stored.new ≡ stored.old) }
-    ensures counts { IfOk result (CountsAs ring.now (value_of info.now stored.old) out.old.items out.new.items) }
-    ensures unwritten { OnErr result (out.new.items ≡ out.old.items) }
-    ensures same { OnOk result ((B.stops engine.new ≡ B.stops engine.old) × (B.stopped engine.new ≡ B.stopped engine.old)) }
-    ensures stop { IfErr result (CallStops (IsRunOf ring.now (value_of info.now stored.old)) NoTrail
-        (B.stops engine.old) (B.stops engine.new) (B.stopped engine.old) (B.stopped engine.new)) }
-    ensures later { B.stops engine.old ≤ B.stops engine.new }
-    ensures settings { B.settings engine.new ≡ B.settings engine.old }
-{
-    let fresh = stored.lacks_basis();
-    match keep_basis(rt, alloc, engine, ring, info.rank, stored) {
-        Ok(()) => {}
-        Err(stop) => return Err(OpStop::from(stop)),
-    }
-    match push_numbers(alloc, out, ring, info, stored.basis()) {
-        Ok(Step::Done) => Ok(Step::Done),
-        Ok(Step::Refused(kind)) => {
-            forget(stored, fresh);
-            Ok(Step::Refused(kind))
-        }
-        Err(_) => {
-            forget(stored, fresh);
-            Err(OpStop::Memory)
-        }
     }
 }

@@ -8,8 +8,8 @@ ghost use Rattle.session_lang.specs.declared.step.Step.TheVariants as steps;
 use crate::answers::{Question, answer_value, compare_values};
 use crate::lifts::push_lift;
 use crate::names::{give_name, place_of};
-use crate::numbers::count_value;
 use crate::operate::{Task, operate, rank_of_result};
+use crate::reports::{Report, report_value};
 use crate::step::Step;
 use crate::stored::Stored;
 use crate::texts::{push_line, push_listing};
@@ -76,6 +76,7 @@ impl Session {
     ghost use Rattle.session_lang.specs.Names.{HasValue, after_giving, no_names};
     ghost use Rattle.session_lang.specs.Operations.{WorksOn};
     ghost use Rattle.session_lang.specs.Performing.{Performed, PerformedAlone, asking};
+    ghost use Rattle.session_lang.specs.Reporting.{reporting};
     ghost use Rattle.session_lang.specs.Tasks.{IsOperand, IsReady, work_of};
 
     /// A session in which no ring is stated and nothing has a name.
@@ -358,17 +359,18 @@ impl Session {
         ))
     }
 
-    // Prints the Hilbert numbers of a value, or says for which kind they are refused.
-    fn count<R: Threads + Wait + Sync, B: Groebner>(
+    // Prints the report of a value, or says for which kind it is refused.
+    fn report<R: Threads + Wait + Sync, B: Groebner>(
         &mut self,
         rt: &R,
         alloc: Global,
         engine: &mut B,
         name: &String,
+        report: Report,
         out: &mut Vec<u8>,
     ) -> Result<Step, OpStop>
-        requires { IsFit self.old (statements.Hilbert name.now) }
-        ensures performed { Performed self.old (statements.Hilbert name.now) self.new out.old.items out.new.items
+        requires { IsFit self.old (reporting name.now report) }
+        ensures performed { Performed self.old (reporting name.now report) self.new out.old.items out.new.items
             (B.stops engine.old) (B.stops engine.new) (B.stopped engine.old) (B.stopped engine.new) result }
         ensures later { B.stops engine.old ≤ B.stops engine.new }
         ensures settings { B.settings engine.new ≡ B.settings engine.old }
@@ -379,13 +381,14 @@ impl Session {
         let Some(i) = place_of(&self.names, name.as_bytes()) else {
             unreachable!()
         };
-        count_value(
+        report_value(
             rt,
             alloc,
             engine,
             ring,
             &self.names[i],
             &mut self.stored[i],
+            report,
             out,
         )
     }
@@ -425,7 +428,15 @@ impl Session {
                 self.ask(rt, alloc, engine, &name, Question::Member(&v), out)
             }
             Statement::Lift(name, v) => self.lift(rt, alloc, engine, &name, &v, out),
-            Statement::Hilbert(name) => self.count(rt, alloc, engine, &name, out),
+            Statement::Hilbert(name) => {
+                self.report(rt, alloc, engine, &name, Report::Numbers, out)
+            }
+            Statement::Resolution(name) => {
+                self.report(rt, alloc, engine, &name, Report::Resolution, out)
+            }
+            Statement::Change(name, order) => {
+                self.report(rt, alloc, engine, &name, Report::InOrder(order), out)
+            }
             Statement::Equal(first, second) => {
                 self.compare(rt, alloc, engine, &first, &second, out)
             }

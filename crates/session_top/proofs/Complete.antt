@@ -116,7 +116,7 @@ extends xs ys t m k means below =
     ]
 
 -- what was read has the meaning of the whole
-meaning_of_all : (script xs ys t : List ℕ) (e : Ending) → script ≡ xs ++ ys → IsSettled xs (Some ys) e → Meaning xs t e → Meaning script t e
+pub meaning_of_all : (script xs ys t : List ℕ) (e : Ending) → script ≡ xs ++ ys → IsSettled xs (Some ys) e → Meaning xs t e → Meaning script t e
 meaning_of_all script xs ys t Done same end means = subst (λ s. Meaning s t Done) (sym (same ∙ ap (λ l. xs ++ l) end ∙ append-nil xs)) means
 meaning_of_all script xs ys t (Refused m k) same (inl below) means = subst (λ s. Meaning s t (Refused m k)) (sym same) (extends xs ys t m k means below)
 meaning_of_all script xs ys t (Refused m k) same (inr end) means = subst (λ s. Meaning s t (Refused m k)) (sym (same ∙ ap (λ l. xs ++ l) end ∙ append-nil xs)) means

@@ -1,175 +1,149 @@
 -- What a run has done, one line on.
-use Rattle.std.proofs.Common.{◌≡◌, ℕ, ◌+◌, inl, inr, Bool, true, false, List, [], ◌∷◌, ◌++◌, length, refl, sym, ap, ◌∙◌, subst, arith}
-use Rattle.std.proofs.lemmas.List.{append_assoc, append-nil, length-append}
-use Rattle.std.proofs.KnownBytes.{Appends-trans, Appends-kept, Appends-nil}
+use Rattle.std.proofs.Common.{◌≡◌, ℕ, suc, ◌+◌, ◌<◌, ◌≤◌, inl, inr, true, false, List, [], ◌∷◌, ◌++◌, length, take, refl, sym, ap, ◌∙◌, subst, arith}
+use Rattle.std.proofs.lemmas.List.{append_assoc, append-nil, length-append, take_all}
+use Rattle.std.proofs.Math.Seq.{take-append-add}
+use Rattle.std.proofs.KnownBytes.{Appends-trans, Appends-nil, Consumes-nil, Consumes-trans}
 use Rattle.std.specs.declared.option.Option.{Option}
-use Rattle.std.specs.Io.KnownBytes.{Appends}
-use Rattle.session_lang.specs.Lines.{Refuses}
+use Rattle.std.specs.Io.KnownBytes.{Appends, Consumes}
+use Rattle.byte_ports.specs.Lines.{Reading, AreTaken, IsNextLine, IsRest, IsTooLong, IsCutOff}
 use Rattle.session_lang.specs.Lines.{Line}
 use Rattle.session_lang.specs.Names.{State, no_names}
-use Rattle.script_parse.specs.declared.kind.Kind.{Kind}
-use Rattle.session_top.specs.declared.early.Refusal.{Refusal}
-use Rattle.session_top.specs.declared.early.Refusal.TheVariants.{OfLine, Length}
-use Rattle.session_top.specs.declared.early.Early.{Early}
-use Rattle.session_top.specs.declared.early.Early.TheVariants as early
-use Rattle.session_top.specs.Meaning.{Ending, Done, Refused, Folds, closing, last_of}
-use Rattle.session_top.specs.Stops.{stop_line}
-use Rattle.session_top.specs.Parts.{LineStops, LinesStop, LinesMeant, ErrorEnds}
-use Rattle.session_top.proofs.Going.{Going}
-use Rattle.session_top.proofs.Endings.{front_after}
-use Rattle.session_top.proofs.Steps.{done_more, folds_after, folds_all}
-use Rattle.session_top.specs.Limits.{Limits}
+use Rattle.session_top.specs.declared.TheConstants.{SCRIPT_LIMIT}
+use Rattle.session_top.specs.Lines.{lines_in, lines_of, whole_lines}
+use Rattle.session_top.specs.Meaning.{AllDone, is_long, script_lines}
+use Rattle.session_top.specs.Run.{ReadCut}
+use Rattle.session_top.proofs.Going.{Going, Due}
+use Rattle.session_top.proofs.Steps.{done_more}
+use Rattle.session_top.proofs.Texts.{lines_at, no_whole_line, last_line}
+use Rattle.session_top.proofs.Whole.{long_script, short_script}
 
-pub going_starts : (all : List (List ℕ)) (a : Option (List ℕ)) → Going all all 0 no_names a a
-going_starts all a = record { lines = []; text = []; parts = refl; count = refl; steps = (refl, refl); written = Appends-nil a }
-
-pub going_more : (all rest : List (List ℕ)) (line : List ℕ) (n : ℕ) (s t : State) (a b c : Option (List ℕ)) (text : List ℕ)
-    → Going all (line ∷ rest) n s a b → Line s line t text → Appends b c text → Going all rest (n + 1) t a c
-going_more all rest line n s t a b c text so step wrote = record {
-  lines = so.lines ++ line ∷ [];
-  text = so.text ++ text;
-  parts = so.parts ∙ sym (append_assoc so.lines (line ∷ []) rest);
-  count = let len : length (so.lines ++ line ∷ []) ≡ length so.lines + 1 = length-append so.lines (line ∷ []) in omega (arith, len, so.count);
-  steps = done_more no_names s t so.lines line so.text text so.steps step;
-  written = Appends-trans a b c so.text text so.written wrote;
+pub going_starts : (a t : Option (List ℕ)) (r : Reading) → r.held ≡ [] → r.room ≡ SCRIPT_LIMIT → Going a a t t r 0 no_names
+going_starts a t r none room = record {
+  used = [];
+  lines = [];
+  text = [];
+  read = subst (Consumes a a) (sym none) (Consumes-nil a);
+  room = omega (arith, room);
+  cut = λ w more. refl;
+  count = refl;
+  few = omega arith;
+  steps = (refl, refl);
+  written = Appends-nil t;
 }
 
--- the next line is refused
-refused_next : (all rest : List (List ℕ)) (line : List ℕ) (n : ℕ) (s : State) (a b : Option (List ℕ)) (kind : Kind) (last : Ending)
-    → (so : Going all (line ∷ rest) n s a b) → Refuses s line kind → (more : List (List ℕ))
-    → Folds last 1 no_names (so.lines ++ line ∷ more) (so.text ++ closing (Refused (n + 1) (OfLine kind))) (Refused (n + 1) (OfLine kind))
-refused_next all rest line n s a b kind last so refuses more =
-    let number : n + 1 ≡ 1 + length so.lines = omega (arith, so.count) in
-    folds_after last (Refused (n + 1) (OfLine kind)) 1 no_names s so.lines (line ∷ more) so.text (closing (Refused (n + 1) (OfLine kind))) so.steps
-    (inr (kind, refuses, ap (λ k. Refused k (OfLine kind)) number, ap (λ k. closing (Refused k (OfLine kind))) number))
+-- the bytes of the lines that were done, and what was held and then taken
+pub so_far : (a b c t u : Option (List ℕ)) (r : Reading) (n : ℕ) (s : State) (bytes : List ℕ) → (so : Going a b t u r n s) → AreTaken r b c bytes → Consumes a c (so.used ++ bytes)
+so_far a b c t u r n s bytes so taken =
+    subst (Consumes a c) (append_assoc so.used r.held taken.more ∙ ap (λ l. so.used ++ l) (sym taken.parts))
+    (Consumes-trans a b c (so.used ++ r.held) taken.more so.read taken.read)
 
-pub going_stops : (all rest : List (List ℕ)) (line : List ℕ) (n : ℕ) (s : State) (a b c : Option (List ℕ)) (limits : Limits) (last : Ending) (stop : Early)
-    → Going all (line ∷ rest) n s a b → LineStops b c limits s line (n + 1) stop → LinesStop a c limits all last stop
-going_stops all rest line n s a b c limits last (early.Refused m) so (same, (kind, refuses, wrote)) = (
-  OfLine kind,
-  record {
-    text = so.text ++ closing (Refused (n + 1) (OfLine kind));
-    means = subst (λ k. Folds last 1 no_names all (so.text ++ closing (Refused (n + 1) (OfLine kind))) (Refused k (OfLine kind))) (sym same)
-        (subst (λ l. Folds last 1 no_names l (so.text ++ closing (Refused (n + 1) (OfLine kind))) (Refused (n + 1) (OfLine kind))) (sym so.parts)
-        (refused_next all rest line n s a b kind last so refuses rest));
-    written = Appends-trans a b c so.text (closing (Refused (n + 1) (OfLine kind))) so.written wrote;
-  },
-)
-going_stops all rest line n s a b c limits last early.WriteFault so (text, inl (t, step), wrote) = record {
-  lines = so.lines ++ line ∷ [];
-  rest = rest;
-  text = so.text ++ text;
-  parts = so.parts ∙ sym (append_assoc so.lines (line ∷ []) rest);
-  due = inl (
-    Done,
-    Done,
-    inl refl,
-    subst (λ l. Folds Done 1 no_names (so.lines ++ line ∷ []) l Done) (append-nil (so.text ++ text))
-        (folds_all Done no_names t (so.lines ++ line ∷ []) (so.text ++ text) (done_more no_names s t so.lines line so.text text so.steps step)),
-  );
-  written = front_after a b c so.text text so.written wrote;
-}
-going_stops all rest line n s a b c limits last early.WriteFault so (text, inr (inl (kind, refuses, is)), wrote) = record {
-  lines = so.lines ++ line ∷ [];
-  rest = rest;
-  text = so.text ++ text;
-  parts = so.parts ∙ sym (append_assoc so.lines (line ∷ []) rest);
-  due = inl (
-    Done,
-    Refused (n + 1) (OfLine kind),
-    inl refl,
-    subst (λ l. Folds Done 1 no_names (so.lines ++ line ∷ []) (so.text ++ l) (Refused (n + 1) (OfLine kind))) (sym is)
-        (refused_next all rest line n s a b kind Done so refuses []),
-  );
-  written = front_after a b c so.text text so.written wrote;
-}
-going_stops all rest line n s a b c limits last early.WriteFault so (text, inr (inr (kept, trail, cause, is)), wrote) = record {
+behind : (used line more : List ℕ) → (used ++ (line ++ 10 ∷ [])) ++ more ≡ used ++ (line ++ 10 ∷ more)
+behind used line more = append_assoc used (line ++ 10 ∷ []) more ∙ ap (λ l. used ++ l) (append_assoc line (10 ∷ []) more)
+
+-- the next line was done
+pub going_more : (a b c t u v : Option (List ℕ)) (r q : Reading) (n : ℕ) (s z : State) (line text : List ℕ)
+    → Going a b t u r n s → IsNextLine r q b c line → Line s line z text → Appends u v text → Going a c t v q (n + 1) z
+going_more a b c t u v r q n s z line text so next step wrote =
+    let one : length (line ++ 10 ∷ []) ≡ length line + 1 = length-append line (10 ∷ []) in
+    let len : length (so.used ++ (line ++ 10 ∷ [])) ≡ length so.used + length (line ++ 10 ∷ []) = length-append so.used (line ++ 10 ∷ []) in
+    let lines : length (so.lines ++ line ∷ []) ≡ length so.lines + 1 = length-append so.lines (line ∷ []) in
+    record {
+      used = so.used ++ (line ++ 10 ∷ []);
+      lines = so.lines ++ line ∷ [];
+      text = so.text ++ text;
+      read = subst (Consumes a c) (sym (behind so.used line q.held)) (so_far a b c t u r n s (line ++ 10 ∷ q.held) so next.taken);
+      room = omega (arith, one, len, so.room, next.counts);
+      cut = λ w more. ap (lines_in w) (behind so.used line more) ∙ so.cut w (line ++ 10 ∷ more) ∙ ap (λ l. so.lines ++ l) (lines_at w line more next.whole)
+          ∙ sym (append_assoc so.lines (line ∷ []) (lines_in w more));
+      count = omega (arith, lines, so.count);
+      few = omega (arith, one, len, so.few);
+      steps = done_more no_names s z so.lines line so.text text so.steps step;
+      written = Appends-trans t u v so.text text so.written wrote;
+    }
+
+-- the bytes that count
+take_used : (used bytes : List ℕ) (room : ℕ) → length used + room ≡ SCRIPT_LIMIT → take SCRIPT_LIMIT (used ++ bytes) ≡ used ++ take room bytes
+take_used used bytes room sum = ap (λ n. take n (used ++ bytes)) (sym sum) ∙ take-append-add used bytes room
+
+take_line : (line held : List ℕ) (room left : ℕ) → room ≡ length line + 1 + left → take room (line ++ 10 ∷ held) ≡ line ++ 10 ∷ take left held
+take_line line held room left sum =
+    let sums : room ≡ length line + suc left = omega (arith, sum) in
+    ap (λ n. take n (line ++ 10 ∷ held)) sums ∙ take-append-add line (10 ∷ held) (suc left)
+
+-- the next line may be done
+pub line_due : (a b c t u : Option (List ℕ)) (r q : Reading) (n : ℕ) (s : State) (line : List ℕ)
+    → Going a b t u r n s → IsNextLine r q b c line → Due a c t u line n s
+line_due a b c t u r q n s line so next = record {
+  script = so.used ++ (line ++ 10 ∷ q.held);
   lines = so.lines;
-  rest = line ∷ rest;
-  text = so.text ++ text;
-  parts = so.parts;
-  due = inr (record {
-    state = s;
-    done = so.text;
-    line = line;
-    more = rest;
-    kept = kept;
-    trail = trail;
-    steps = so.steps;
-    next = refl;
-    cause = cause;
-    parts = ap (λ l. so.text ++ l) is;
-  });
-  written = front_after a b c so.text text so.written wrote;
-}
-going_stops all rest line n s a b c limits last (early.NoMemory m) so (same, keeps) = record {
-  lines = so.lines;
-  rest = line ∷ rest;
-  state = s;
+  rest = whole_lines (take q.room q.held);
   text = so.text;
-  parts = so.parts;
-  next = omega (arith, same, so.count);
-  more = omega arith;
+  read = so_far a b c t u r n s (line ++ 10 ∷ q.held) so next.taken;
+  ready =
+      let front : take SCRIPT_LIMIT (so.used ++ (line ++ 10 ∷ q.held)) ≡ so.used ++ (line ++ 10 ∷ take q.room q.held) =
+      take_used so.used (line ++ 10 ∷ q.held) r.room so.room ∙ ap (λ l. so.used ++ l) (take_line line q.held r.room q.room next.counts) in
+      inl (sym (ap whole_lines front ∙ so.cut true (line ++ 10 ∷ take q.room q.held) ∙ ap (λ l. so.lines ++ l) (lines_at true line (take q.room q.held) next.whole)));
+  count = so.count;
   steps = so.steps;
-  written = Appends-kept a b c so.text so.written keeps;
-}
-going_stops all rest line n s a b c limits last early.ReadFault so stops = absurd stops
-going_stops all rest line n s a b c limits last (early.Stopped m kept) so (same, cause, wrote) = record {
-  lines = so.lines;
-  line = line;
-  rest = rest;
-  state = s;
-  text = so.text;
-  parts = so.parts;
-  next = omega (arith, same, so.count);
-  steps = so.steps;
-  cause = cause;
-  written = Appends-trans a b c so.text (stop_line kept.state kept.trail) so.written wrote;
-}
-
-all_lines : (all : List (List ℕ)) (n : ℕ) (s : State) (a b : Option (List ℕ)) → (so : Going all [] n s a b) → (last : Ending) → Folds last 1 no_names all (so.text ++ closing last) last
-all_lines all n s a b so last =
-    subst (λ l. Folds last 1 no_names l (so.text ++ closing last) last) (sym (so.parts ∙ append-nil so.lines)) (folds_all last no_names s so.lines so.text so.steps)
-
--- no line is left
-pub going_ends : (all : List (List ℕ)) (n : ℕ) (s : State) (a b : Option (List ℕ)) → Going all [] n s a b → LinesMeant a b all Done Done
-going_ends all n s a b so = record {
-  text = so.text;
-  means = subst (λ l. Folds Done 1 no_names all l Done) (append-nil so.text) (all_lines all n s a b so Done);
   written = so.written;
 }
 
--- no line is left, and a refusal comes behind them
-pub going_refused : (all : List (List ℕ)) (n : ℕ) (s : State) (a b c : Option (List ℕ)) (limits : Limits) (refusal : Refusal) (stop : Early)
-    → Going all [] n s a b → ErrorEnds b c 0 refusal stop → LinesStop a c limits all (Refused 0 refusal) stop
-going_refused all n s a b c limits refusal (early.Refused m) so (same, wrote) = (
-  refusal,
-  record {
-    text = so.text ++ closing (Refused 0 refusal);
-    means = subst (λ k. Folds (Refused 0 refusal) 1 no_names all (so.text ++ closing (Refused 0 refusal)) (Refused k refusal)) (sym same)
-        (all_lines all n s a b so (Refused 0 refusal));
-    written = Appends-trans a b c so.text (closing (Refused 0 refusal)) so.written wrote;
-  },
-)
-going_refused all n s a b c limits refusal early.WriteFault so wrote = record {
-  lines = all;
+-- at the end of the input all bytes count
+pub rest_short : (a b c t u : Option (List ℕ)) (r : Reading) (n : ℕ) (s : State) (bytes : List ℕ) → (so : Going a b t u r n s) → IsRest r b c bytes
+    → length (so.used ++ bytes) ≤ SCRIPT_LIMIT
+rest_short a b c t u r n s bytes so rest =
+    let len : length (so.used ++ bytes) ≡ length so.used + length bytes = length-append so.used bytes in
+    omega (arith, len, so.room, rest.counts)
+
+pub rest_lines : (a b c t u : Option (List ℕ)) (r : Reading) (n : ℕ) (s : State) (bytes : List ℕ) → (so : Going a b t u r n s) → IsRest r b c bytes
+    → script_lines (so.used ++ bytes) ≡ so.lines ++ lines_of bytes
+rest_lines a b c t u r n s bytes so rest =
+    let short = rest_short a b c t u r n s bytes so rest in
+    ap (λ w. lines_in w (take SCRIPT_LIMIT (so.used ++ bytes))) (short_script (so.used ++ bytes) short) ∙ ap lines_of (take_all SCRIPT_LIMIT (so.used ++ bytes) short)
+    ∙ so.cut false bytes
+
+pub one_last : (line : List ℕ) (b c : Option (List ℕ)) (r : Reading) → IsRest r b c line → 0 < length line → lines_of line ≡ line ∷ []
+one_last line b c r rest some = last_line false line rest.line refl some
+
+-- the last line may be done
+pub last_due : (a b c t u : Option (List ℕ)) (r : Reading) (n : ℕ) (s : State) (line : List ℕ)
+    → Going a b t u r n s → IsRest r b c line → 0 < length line → Due a c t u line n s
+last_due a b c t u r n s line so rest some = record {
+  script = so.used ++ line;
+  lines = so.lines;
   rest = [];
-  text = so.text ++ closing (Refused 0 refusal);
-  parts = sym (append-nil all);
-  due = inl (Refused 0 refusal, Refused 0 refusal, inr (refl, refl), all_lines all n s a b so (Refused 0 refusal));
-  written = front_after a b c so.text (closing (Refused 0 refusal)) so.written wrote;
+  text = so.text;
+  read = so_far a b c t u r n s line so rest.taken;
+  ready = inr (rest.end, sym (rest_lines a b c t u r n s line so rest ∙ ap (λ l. so.lines ++ l) (one_last line b c r rest some)));
+  count = so.count;
+  steps = so.steps;
+  written = so.written;
 }
-going_refused all n s a b c limits refusal (early.NoMemory m) so stops = absurd stops
-going_refused all n s a b c limits refusal early.ReadFault so stops = absurd stops
-going_refused all n s a b c limits refusal (early.Stopped m kept) so stops = absurd stops
 
--- the same, where the text was cut off or not
-pub going_cut : (w : Bool) (all : List (List ℕ)) (n : ℕ) (s : State) (a b c : Option (List ℕ)) (limits : Limits) (stop : Early) → w ≡ true
-    → Going all [] n s a b → ErrorEnds b c 0 Length stop → LinesStop a c limits all (last_of w) stop
-going_cut true all n s a b c limits stop e so says = going_refused all n s a b c limits Length stop so says
-going_cut false all n s a b c limits stop e so says = cc
+-- more bytes were taken than count, and no line is left among those that do
+pub long_is : (a b c t u : Option (List ℕ)) (r : Reading) (n : ℕ) (s : State) → (so : Going a b t u r n s) → (long : IsTooLong r b c) → is_long (so.used ++ long.bytes) ≡ true
+long_is a b c t u r n s so long =
+    let len : length (so.used ++ long.bytes) ≡ length so.used + length long.bytes = length-append so.used long.bytes in
+    long_script (so.used ++ long.bytes) (omega (arith, len, so.room, long.long))
 
-pub going_whole : (w : Bool) (all : List (List ℕ)) (n : ℕ) (s : State) (a b : Option (List ℕ)) → w ≡ false
-    → Going all [] n s a b → LinesMeant a b all (last_of w) Done
-going_whole true all n s a b e so = cc
-going_whole false all n s a b e so = going_ends all n s a b so
+pub long_lines : (a b c t u : Option (List ℕ)) (r : Reading) (n : ℕ) (s : State) → (so : Going a b t u r n s) → (long : IsTooLong r b c)
+    → whole_lines (take SCRIPT_LIMIT (so.used ++ long.bytes)) ≡ so.lines
+long_lines a b c t u r n s so long =
+    ap whole_lines (take_used so.used long.bytes r.room so.room) ∙ so.cut true (take r.room long.bytes)
+    ∙ ap (λ l. so.lines ++ l) (no_whole_line (take r.room long.bytes) long.line) ∙ append-nil so.lines
+
+-- a read failed, and each whole line was done
+pub going_cut : (a b c t u : Option (List ℕ)) (r : Reading) (n : ℕ) (s : State) → Going a b t u r n s → IsCutOff r b c → ReadCut a c t u
+going_cut a b c t u r n s so cut =
+    let front : take SCRIPT_LIMIT (so.used ++ cut.bytes) ≡ so.used ++ cut.bytes =
+    take_used so.used cut.bytes r.room so.room ∙ ap (λ l. so.used ++ l) (take_all r.room cut.bytes cut.counts) in
+    let lines : whole_lines (take SCRIPT_LIMIT (so.used ++ cut.bytes)) ≡ so.lines =
+    ap whole_lines front ∙ so.cut true cut.bytes ∙ ap (λ l. so.lines ++ l) (no_whole_line cut.bytes cut.line) ∙ append-nil so.lines in
+    record {
+      script = so.used ++ cut.bytes;
+      state = s;
+      text = so.text;
+      read = so_far a b c t u r n s cut.bytes so cut.taken;
+      steps = subst (λ l. AllDone no_names l s so.text) (sym lines) so.steps;
+      written = so.written;
+    }

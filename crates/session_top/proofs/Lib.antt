@@ -2,8 +2,10 @@ mod Causes
 mod Complete
 mod Degrees
 mod Endings
+mod GeneratedLines
 mod Going
 mod Goings
+mod Runs
 mod Shown
 mod Steps
 mod Texts

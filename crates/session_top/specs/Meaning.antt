@@ -27,6 +27,8 @@ kind_word kind.Rank = codes "rank"
 kind_word kind.Degree = codes "degree"
 kind_word kind.Leads = codes "leads"
 kind_word kind.Large = codes "large"
+kind_word kind.Infinite = codes "infinite"
+kind_word kind.Many = codes "many"
 
 abbrev pub refusal_word : Refusal → List ℕ
 refusal_word (OfLine kind) = kind_word kind

@@ -34,16 +34,13 @@ pub record MeantRefused (left left' taken taken' : Option (List ℕ)) (line : �
   pub refusal : Refusal
   pub meant : Meant left left' taken taken' (Refused line refusal)
 
--- The first of the lines that were whole in the bytes read were done, and their text is what was written.
+-- all lines that were whole in the bytes read were done, and their text is what was written
 pub record ReadCut (left left' taken taken' : Option (List ℕ)) : Type 0 where
   pub script : List ℕ
-  pub lines : List (List ℕ)
-  pub rest : List (List ℕ)
   pub state : State
   pub text : List ℕ
   pub read : Consumes left left' script
-  pub ready : lines ++ rest ≡ whole_lines (take SCRIPT_LIMIT script)
-  pub steps : AllDone no_names lines state text
+  pub steps : AllDone no_names (whole_lines (take SCRIPT_LIMIT script)) state text
   pub written : Appends taken taken' text
 
 -- lines that may be done once these bytes are read

@@ -4,8 +4,8 @@
 #![tactic(auto)]
 
 mod early;
+mod generated;
 mod lines;
-mod reading;
 mod stops;
 mod top;
 

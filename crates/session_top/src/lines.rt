@@ -1,23 +1,23 @@
-// The lines of a script, done one after another.
-ghost use Rattle.std.specs.Prelude.{◌≡◌, ℕ, ◌+◌, ◌<◌, ◌≤◌, List, length, take, drop, codes, [], ◌∷◌, ◌++◌, IfErr, OnOk, OnErr, MatchOption, IfSome, None, Some, Err};
+// The lines of a script, each done as soon as it is read.
+ghost use Rattle.std.specs.Prelude.{◌≡◌, ℕ, ◌<◌, ◌≤◌, List, codes, [], ◌++◌, true, vec_capacity, IfErr, OnOk, OnErr, IfSome, None, Some, Err};
 ghost use Rattle.std.specs.Io.KnownBytes.{Appends};
 ghost use Rattle.byte_ports.specs.Causes.{HasCause, AppendsFront};
 ghost use Rattle.risen_counts.specs.Counts.{Rose};
 ghost use Rattle.session_lang.specs.Lines.{Line};
 ghost use Rattle.session_lang.specs.Names.{no_names};
-ghost use Rattle.session_top.specs.Lines.{lines_in, HasNoNewline};
-ghost use Rattle.session_top.specs.Meaning.{refusal_word, error_line, last_of, Done};
+ghost use Rattle.session_top.specs.Meaning.{refusal_word, error_line, Done};
 ghost use Rattle.basis_core.specs.Views.{run_of, state_of, variables_of};
 ghost use Rattle.basis_steps.specs.Steps.{Replays};
 ghost use Rattle.run_endings.specs.Stops.{IsStop};
 ghost use Rattle.session_top.specs.Limits.{limits_in, limits_of};
-ghost use Rattle.session_top.specs.Parts.{ErrorEnds, LineStops, LinesMeant, LinesStop, StopEnds};
+ghost use Rattle.session_top.specs.Parts.{ErrorEnds, LineStops, StopEnds};
+ghost use Rattle.session_top.specs.Run.{Meant, RunStops};
 
 use crate::SCRIPT_LIMIT;
 use crate::early::{Early, Kept, Refusal};
 use crate::stops::write_stop_line;
 use basis_core::BasisState;
-use byte_ports::{Failed, Sink, write_all_to};
+use byte_ports::{Failed, Lines, LinesStop, Next, Sink, Source, write_all_to};
 use command_words::Request;
 use f4_engine::F4Engine;
 use groebner_iface::OpStop;
@@ -46,34 +46,9 @@ fn error_end(refusal: Refusal) -> &'static [u8]
         Refusal::OfLine(Kind::Degree) => b" degree\n",
         Refusal::OfLine(Kind::Leads) => b" leads\n",
         Refusal::OfLine(Kind::Large) => b" large\n",
+        Refusal::OfLine(Kind::Infinite) => b" infinite\n",
+        Refusal::OfLine(Kind::Many) => b" many\n",
         Refusal::Length => b" length\n",
-    }
-}
-
-/// The place of the first newline.
-fn newline_at(bytes: &[u8]) -> Option<usize>
-    ensures none { result ≡ None → HasNoNewline bytes.now }
-    ensures first { IfSome result (λ i. (i < length bytes.now) × HasNoNewline (take i bytes.now)
-        × (bytes.now ≡ take i bytes.now ++ 10 ∷ drop (i + 1) bytes.now)) }
-{
-    for (i, b) in bytes.iter().enumerate() {
-        if *b == b'\n' {
-            return Some(i);
-        }
-    }
-    None
-}
-
-/// The first line and what stands behind it. With `is_cut` the bytes after the last newline are no line.
-fn next_line(bytes: &[u8], is_cut: bool) -> Option<(&[u8], &[u8])>
-    ensures { MatchOption result (lines_in is_cut bytes.now ≡ []) (λ p.
-        (lines_in is_cut bytes.now ≡ p.0.now ∷ lines_in is_cut p.1.now) × (length p.1.now < length bytes.now)) }
-{
-    match newline_at(bytes) {
-        Some(i) => Some((&bytes[..i], &bytes[i + 1..])),
-        None if is_cut => None,
-        None if bytes.is_empty() => None,
-        None => Some((bytes, &bytes[bytes.len()..])),
     }
 }
 
@@ -169,6 +144,19 @@ pub struct Desk {
     out: Vec<u8>,
 }
 
+/// A desk at which nothing has a name yet, whose basis runs are as the request says, by workers that pass this gate.
+fn set_desk(alloc: Global, request: Request, gate: SharedGate) -> Desk
+    requires workers { 0 < request.workers }
+    ensures names { result.session ≡ no_names }
+    ensures limits { limits_in result.engine ≡ limits_of request }
+{
+    Desk {
+        engine: F4Engine::new(request.pairs, request.workers, gate),
+        session: Session::new(alloc),
+        out: Vec::new(alloc),
+    }
+}
+
 /// Does a line and writes its text, its error line or its stop line.
 fn do_line<R: Threads + Wait + Sync, K: Sink>(
     rt: &R,
@@ -201,62 +189,76 @@ fn do_line<R: Threads + Wait + Sync, K: Sink>(
     }
 }
 
-/// Does the lines of a text at a desk at which nothing has a name yet. Where the text is the front of a longer one, the
-/// script is refused behind it.
-fn do_all<R: Threads + Wait + Sync, K: Sink>(
+/// Does the lines of a source at a desk at which nothing has a name yet, each as soon as it is read. Its text is written before
+/// more is read. The room for the longest line was taken ahead.
+fn do_all<R: Threads + Wait + Sync, S: Source, K: Sink>(
     rt: &R,
     alloc: Global,
     desk: &mut Desk,
+    lines: &mut Lines,
+    line: &mut Vec<u8>,
+    source: &mut S,
     sink: &mut K,
-    text: &[u8],
-    is_cut: bool,
 ) -> Result<(), Early>
-    requires limit { length text.now ≤ SCRIPT_LIMIT }
     requires names { desk.old.session ≡ no_names }
-    ensures done { OnOk result (LinesMeant (K.taken sink.old) (K.taken sink.new) (lines_in is_cut text.now) (last_of is_cut) Done) }
-    ensures stops { IfErr result (LinesStop (K.taken sink.old) (K.taken sink.new) (limits_in desk.old.engine) (lines_in is_cut text.now) (last_of is_cut)) }
+    requires lines { lines.old ≡ record { held = []; room = SCRIPT_LIMIT; is_open = true } }
+    requires line { SCRIPT_LIMIT ≤ vec_capacity line.old }
+    ensures done { OnOk result (Meant (S.left source.old) (S.left source.new) (K.taken sink.old) (K.taken sink.new) Done) }
+    ensures stops { IfErr result (RunStops (S.left source.old) (S.left source.new) (K.taken sink.old) (K.taken sink.new) (limits_in desk.old.engine)) }
+    ensures read { result ≡ Err Early.ReadFault → Rose (S.faults source.old) (S.faults source.new) }
     ensures write { result ≡ Err Early.WriteFault → Rose (K.faults sink.old) (K.faults sink.new) }
-    ensures later { K.faults sink.old ≤ K.faults sink.new }
+    ensures read_later { S.faults source.old ≤ S.faults source.new }
+    ensures write_later { K.faults sink.old ≤ K.faults sink.new }
 {
-    let mut rest = text;
     let mut number: u32 = 0;
-    while let Some((line, after)) = next_line(rest, is_cut) {
-        number += 1;
-        match do_line(rt, alloc, desk, sink, number, line) {
-            Ok(()) => rest = after,
-            Err(early) => return Err(early),
+    loop {
+        let next = match lines.next(source, line) {
+            Ok(next) => next,
+            Err(LinesStop::Fault) => return Err(Early::ReadFault),
+            Err(LinesStop::Memory) => return Err(Early::NoMemory(0)),
+        };
+        match next {
+            Next::Line => {
+                number += 1;
+                match do_line(rt, alloc, desk, sink, number, line) {
+                    Ok(()) => {}
+                    Err(early) => return Err(early),
+                }
+            }
+            Next::Last => return do_line(rt, alloc, desk, sink, number + 1, line),
+            Next::End => return Ok(()),
+            Next::Long => return Err(refuse(sink, 0, Refusal::Length)),
         }
     }
-    if is_cut {
-        return Err(refuse(sink, 0, Refusal::Length));
-    }
-    Ok(())
 }
 
-/// Does the lines of a text, each basis run as the request says, by workers that pass this gate. Where the text is the front
-/// of a longer one, the script is refused behind it.
-pub fn do_lines<R: Threads + Wait + Sync, K: Sink>(
+/// Does the lines of a source, each basis run as the request says, by workers that pass this gate.
+pub fn do_lines<R: Threads + Wait + Sync, S: Source, K: Sink>(
     rt: &R,
     alloc: Global,
     request: Request,
     gate: SharedGate,
+    source: &mut S,
     sink: &mut K,
-    text: &[u8],
-    is_cut: bool,
 ) -> Result<(), Early>
-    requires limit { length text.now ≤ SCRIPT_LIMIT }
     requires workers { 0 < request.workers }
-    ensures done { OnOk result (LinesMeant (K.taken sink.old) (K.taken sink.new) (lines_in is_cut text.now) (last_of is_cut) Done) }
-    ensures stops { IfErr result (LinesStop (K.taken sink.old) (K.taken sink.new) (limits_of request) (lines_in is_cut text.now) (last_of is_cut)) }
+    ensures done { OnOk result (Meant (S.left source.old) (S.left source.new) (K.taken sink.old) (K.taken sink.new) Done) }
+    ensures stops { IfErr result (RunStops (S.left source.old) (S.left source.new) (K.taken sink.old) (K.taken sink.new) (limits_of request)) }
+    ensures read { result ≡ Err Early.ReadFault → Rose (S.faults source.old) (S.faults source.new) }
     ensures write { result ≡ Err Early.WriteFault → Rose (K.faults sink.old) (K.faults sink.new) }
-    ensures later { K.faults sink.old ≤ K.faults sink.new }
+    ensures read_later { S.faults source.old ≤ S.faults source.new }
+    ensures write_later { K.faults sink.old ≤ K.faults sink.new }
 {
-    let mut desk = Desk {
-        engine: F4Engine::new(request.pairs, request.workers, gate),
-        session: Session::new(alloc),
-        out: Vec::new(alloc),
+    let mut lines = match Lines::new(alloc, SCRIPT_LIMIT) {
+        Ok(lines) => lines,
+        Err(_) => return Err(Early::NoMemory(0)),
     };
-    let result = do_all(rt, alloc, &mut desk, sink, text, is_cut);
+    let mut line = match Vec::with_capacity(alloc, SCRIPT_LIMIT) {
+        Ok(line) => line,
+        Err(_) => return Err(Early::NoMemory(0)),
+    };
+    let mut desk = set_desk(alloc, request, gate);
+    let result = do_all(rt, alloc, &mut desk, &mut lines, &mut line, source, sink);
     drop(desk);
     result
 }

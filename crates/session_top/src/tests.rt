@@ -21,12 +21,14 @@ struct Told {
     trail: Option<TrailTold>,
 }
 
-/// Words, a script, the ports and what is told of the run. Each call of a port moves so many bytes at most. The calls with
-/// these numbers fail, which count from 1.
+/// Words, a script, the ports and what is told of the run. Behind the script stand so many blanks, and then the tail. Each call
+/// of a port moves so many bytes at most. The calls with these numbers fail, which count from 1.
 #[derive(Clone, Copy)]
 struct Case {
     words: &'static str,
     script: &'static str,
+    blanks: usize,
+    tail: &'static str,
     piece: usize,
     failing_read: u64,
     failing_write: u64,
@@ -69,6 +71,8 @@ fn calm(words: &'static str, script: &'static str, text: &'static str, told: Tol
     Case {
         words,
         script,
+        blanks: 0,
+        tail: "",
         piece: 5000,
         failing_read: 0,
         failing_write: 0,
@@ -82,6 +86,8 @@ fn faulty(script: &'static str, read: u64, write: u64, text: &'static str, told:
     Case {
         words: "p run --pairs 1",
         script,
+        blanks: 0,
+        tail: "",
         piece: 1,
         failing_read: read,
         failing_write: write,
@@ -90,25 +96,59 @@ fn faulty(script: &'static str, read: u64, write: u64, text: &'static str, told:
     }
 }
 
-/// A script of 35 bytes, whose text has 19.
+/// A run over ports that move so many bytes at a time, and of which this read fails.
+fn cut_off(script: &'static str, piece: usize, read: u64, text: &'static str, told: Told) -> Case {
+    Case {
+        words: "p run",
+        script,
+        blanks: 0,
+        tail: "",
+        piece,
+        failing_read: read,
+        failing_write: 0,
+        text,
+        told,
+    }
+}
+
+/// A run of a long script: 19 bytes, so many blanks, and the tail.
+fn long(blanks: usize, tail: &'static str, text: &'static str, told: Told) -> Case {
+    Case {
+        words: "p run",
+        script: "ring 5 x lex\nshow x",
+        blanks,
+        tail,
+        piece: 5000,
+        failing_read: 0,
+        failing_write: 0,
+        text,
+        told,
+    }
+}
+
+/// A script of 35 bytes, whose text has 19. Its lines end at bytes 13, 20, 29 and 35.
 const LINES: &str = "ring 7 x lex\nshow x\nshow x+1\nshow y";
+
+/// A script of 20 bytes.
+const SHOW: &str = "ring 5 x lex\nshow x\n";
 
 const BASIS: &str = "ring 101 x,y grevlex\nideal I = x^2+y, x*y\ngb I\n";
 
 /// How many cases there are.
-const CASES: usize = 15;
+const CASES: usize = 25;
 
 /// Each case by its number: words that are not of the form; a script without a fault that is met, with a read that fails, with
-/// a write that fails, and with one that fails within the stop line; a run that meets its budget; and each kind of stop by a
+/// a write that fails, and with one that fails within the stop line; a run that meets its budget; each kind of stop by a
 /// degree: in a run where a tail is divided, in one where a pair is worked on, before a run has a state, in a division, and in
-/// a division by weights.
+/// a division by weights; reads that fail behind whole lines; and scripts of as many bytes as count, and of one more, with a
+/// newline at the last byte that counts, and with one behind it.
 fn case_of(number: usize) -> Case {
     match number {
         0 => calm("p", "", "error words\n", plain(2, 0)),
         1 => calm("p large x", "", "error words\n", plain(2, 0)),
         2 => faulty(LINES, 37, 20, "x\nx+1\nerror 4 name\n", plain(1, 4)),
         3 => faulty(LINES, 1, 20, "", plain(3, 0)),
-        4 => faulty(LINES, 36, 20, "", plain(3, 0)),
+        4 => faulty(LINES, 36, 20, "x\nx+1\n", plain(3, 0)),
         5 => faulty(LINES, 37, 1, "", plain(4, 0)),
         6 => faulty(LINES, 37, 3, "x\n", plain(4, 0)),
         7 => faulty(LINES, 37, 19, "x\nx+1\nerror 4 name", plain(4, 0)),
@@ -143,12 +183,22 @@ fn case_of(number: usize) -> Case {
             "gb D 1\nb+100*c^1000\nstop degree 65935\n",
             degree_stop(4, None, ("term", 0, 1, 65, 64935, 1000)),
         ),
-        _ => calm(
+        14 => calm(
             "p run",
             "ring 101 b,c lex weights 1,200\nideal D = b-c^5\ngb D\nnf D b^1000\n",
             "gb D 1\nb+100*c^5\nstop degree 65935\n",
             degree_stop(4, None, ("term", 0, 1, 65, 64935, 1000)),
         ),
+        15 => cut_off(SHOW, 20, 2, "x\n", plain(3, 0)),
+        16 => cut_off(SHOW, 1, 0, "x\n", plain(0, 0)),
+        17 => cut_off(LINES, 1, 20, "", plain(3, 0)),
+        18 => cut_off(LINES, 1, 21, "x\n", plain(3, 0)),
+        19 => cut_off(LINES, 25, 2, "x\n", plain(3, 0)),
+        20 => cut_off("", 1, 1, "", plain(3, 0)),
+        21 => long(1_048_557, "", "x\n", plain(0, 0)),
+        22 => long(1_048_558, "", "error 0 length\n", plain(1, 0)),
+        23 => long(1_048_556, "\nshow x+1", "x\nerror 0 length\n", plain(1, 0)),
+        _ => long(1_048_557, "\nshow x+1", "error 0 length\n", plain(1, 0)),
     }
 }
 
@@ -195,7 +245,11 @@ fn words_of(alloc: Global, case: &Case) -> Result<Vec<String>, Fail> {
 
 fn source_of(alloc: Global, case: &Case) -> Result<MemSource, Fail> {
     let failing = [case.failing_read].to_vec(alloc)?;
-    let script = case.script.as_bytes().to_vec(alloc)?;
+    let mut script = case.script.as_bytes().to_vec(alloc)?;
+    for _ in 0..case.blanks {
+        script.push(b' ')?;
+    }
+    script.extend_from_slice(case.tail.as_bytes())?;
     Ok(MemSource::new(script, case.piece.max(1), failing))
 }
 

@@ -10,13 +10,12 @@ ghost use Rattle.session_top.specs.Scripts.{script_before, script_behind, script
 ghost use Rattle.session_top.specs.Stops.{stop_status};
 ghost use Rattle.session_top.specs.Run.{Meant, MeantRefused, ReadCut, WriteCut, MemoryCut, RunStops, StoppedByDegree, StoppedByPairs, WordsEnd, IsComplete};
 
-use crate::SCRIPT_LIMIT;
 use crate::early::{Early, Kept};
+use crate::generated::do_generated;
 use crate::lines::do_lines;
-use crate::reading::script_for;
 use basis_core::BasisState;
 use byte_ports::{Sink, Source, write_all_to};
-use command_words::{Request, WordStop, read_words};
+use command_words::{Command, Request, WordStop, read_words};
 use module_vectors::KeptTrail;
 use session_lang::one_result;
 use std::alloc::Global;
@@ -96,30 +95,20 @@ fn run_script<R: Threads + Wait + Sync, S: Source, K: Sink>(
     ensures read_later { S.faults source.old ≤ S.faults source.new }
     ensures write_later { K.faults sink.old ≤ K.faults sink.new }
 {
-    match script_for(alloc, request.command, source) {
-        Ok(script) => {
-            let text = &script[..SCRIPT_LIMIT.min(script.len())];
-            do_lines(
-                rt,
-                alloc,
-                request,
-                gate,
-                sink,
-                text,
-                script.len() > SCRIPT_LIMIT,
-            )
-        }
-        Err(early) => Err(early),
+    match request.command {
+        Command::Run => do_lines(rt, alloc, request, gate, source, sink),
+        Command::Large(seed) => do_generated(rt, alloc, request, gate, seed, sink),
     }
 }
 
 /// Runs the script that the source gives, or with the command `large` the generated script of its seed, as the words ask, and
 /// writes its text into the sink.
 ///
-/// The script is read whole and then done line by line. The text of a line is written only when the
-/// line is done; a refused line writes its error line, and one that stops its stop line, and both end
-/// the run. Words that are not of the form write `error words`, and nothing is read then; nor is anything read with `large`. Basis runs
-/// take as many pairs each as the words say, by as many workers, which pass the gate with each job.
+/// Each line is done as soon as its newline is read, and its text is written before more is read; so after a read that failed the
+/// text of each line that was whole is there. The bytes behind the last newline are a line once the input is at its end. A refused
+/// line writes its error line, and one that stops its stop line, and both end the run. Words that are not of the form write `error
+/// words`, and nothing is read then; nor is anything read with `large`. Basis runs take as many pairs each as the words say, by as
+/// many workers, which pass the gate with each job.
 pub fn run<R: Threads + Wait + Sync, S: Source, K: Sink, G: Gate + Sync>(
     rt: &R,
     alloc: Global,
@@ -147,7 +136,7 @@ pub fn run<R: Threads + Wait + Sync, S: Source, K: Sink, G: Gate + Sync>(
     // With `large` the source is as it was.
     ensures unread { ((request_of (map string_bytes words.now)).command ≡ Run → ⊥) → source.new ≡ source.old }
 
-    // Statuses 3 and 4 have their cause in the ports.
+    // Statuses 3 and 4 have their cause in the ports. After 3 the text of all lines that were whole was written.
     ensures read_fault { result.status ≡ 3 → Rose (S.faults source.old) (S.faults source.new) }
     ensures read_cut { result.status ≡ 3
         → ReadCut (script_to_come (map string_bytes words.now) (S.left source.old)) (script_left (map string_bytes words.now) (S.left source.new)) (K.taken sink.old) (K.taken sink.new) }

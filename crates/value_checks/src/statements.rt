@@ -29,6 +29,8 @@ fn kind_text(kind: Kind) -> &'static str {
         Kind::Degree => "  degree\n",
         Kind::Leads => "  leads\n",
         Kind::Large => "  large\n",
+        Kind::Infinite => "  infinite\n",
+        Kind::Many => "  many\n",
     }
 }
 

@@ -1,6 +1,6 @@
 use Rattle.std.proofs.Common.{ap, map}
 use Rattle.poly_grammar.specs.Lexemes.{lexeme}
-use Rattle.script_parse.specs.Written.{division_word, equal_word, ideal_word, let_word, module_word, nothing, question_word, ring_word, show_word}
+use Rattle.script_parse.specs.Written.{change_word, division_word, equal_word, ideal_word, let_word, module_word, nothing, question_word, ring_word, show_word}
 use Rattle.script_parse.proofs.Lines.{word_read}
 use Rattle.script_parse.proofs.Pieces.{nil_of}
 use Rattle.script_parse.proofs.form.read_form.Goals as goal
@@ -47,3 +47,8 @@ pub returns-in-Some-division_of : goal.returns-in-Some-division_of
 returns-in-Some-division_of c =
     let says = c.in-Some-division_of.ensures.found in
     word_read c.args.line.now (division_word c.in-Some-division_of.division) c.args.tokens.now c.in-Some.behind.now c.in-Some.word.now c.divide_form.result says.0 says.1 c.in-Some.ensures.cases.0 (c.divide_form.ensures c.args.line.now)
+
+pub returns-then-is_word-7 : goal.returns-then-is_word-7
+returns-then-is_word-7 c =
+    let says = c.is_word-7.ensures.name.0 c.if-is_word-7.true in
+    word_read c.args.line.now change_word c.args.tokens.now c.in-Some.behind.now c.in-Some.word.now c.change_form.result says.0 says.1 c.in-Some.ensures.cases.0 c.change_form.ensures

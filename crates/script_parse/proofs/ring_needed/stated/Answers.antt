@@ -14,3 +14,6 @@ returns-in-Ask c = subst (λ h. IsStated c.args.ring.now c.args.line.now h c.arg
 
 pub returns-in-Equal : goal.returns-in-Equal
 returns-in-Equal c = subst (λ h. IsStated c.args.ring.now c.args.line.now h c.args.polynomials.now c.equal_statement.result) (sym c.in-Equal.is) (c.equal_statement.ensures c.args.ring.now c.args.polynomials.now)
+
+pub returns-in-Change : goal.returns-in-Change
+returns-in-Change c = subst (λ h. IsStated c.args.ring.now c.args.line.now h c.args.polynomials.now c.change_statement.result) (sym c.in-Change.is) (c.change_statement.ensures c.args.ring.now c.args.polynomials.now)

@@ -1,16 +1,18 @@
-use Rattle.std.proofs.Common.{◌≡◌, ◌+◌, ◌≤◌, length}
+use Rattle.std.proofs.Common.{◌≡◌, ◌≤◌, true, vec_capacity}
+use Rattle.session_top.specs.declared.TheConstants.{SCRIPT_LIMIT}
 use Rattle.session_top.specs.Limits.{limits_in}
-use Rattle.session_top.specs.Lines.{lines_in}
 use Rattle.session_top.proofs.Going.{Going}
 use Rattle.session_top.proofs.lines.do_all.Given as goal
 
-abbrev pub invariant-loop-line : goal.invariant-loop-line
-invariant-loop-line g l = record {
-  going : Going (lines_in l.is_cut l.text) (lines_in l.is_cut l.rest) l.number l.desk.session (g.K.Sink.taken l.initial.sink) (g.K.Sink.taken l.sink);
+abbrev pub invariant-loop-next : goal.invariant-loop-next
+invariant-loop-next g l = record {
+  going : Going (g.S.Source.left l.initial.source) (g.S.Source.left l.source) (g.K.Sink.taken l.initial.sink) (g.K.Sink.taken l.sink) l.lines l.number l.desk.session;
+  is_open : l.lines.is_open ≡ true;
+  capacity : SCRIPT_LIMIT ≤ vec_capacity l.line;
   limits : limits_in l.desk.engine ≡ limits_in l.initial.desk.engine;
-  room : length l.rest + l.number ≤ length l.text;
-  later : g.K.Sink.faults l.initial.sink ≤ g.K.Sink.faults l.sink;
+  read_later : g.S.Source.faults l.initial.source ≤ g.S.Source.faults l.source;
+  write_later : g.K.Sink.faults l.initial.sink ≤ g.K.Sink.faults l.sink;
 }
 
-abbrev pub decreases-loop-line : goal.decreases-loop-line
-decreases-loop-line g l = length l.rest
+abbrev pub decreases-loop-next : goal.decreases-loop-next
+decreases-loop-next g l = l.lines.room

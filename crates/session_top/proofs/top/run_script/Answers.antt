@@ -1,13 +1,19 @@
-use Rattle.std.proofs.Common.{rules}
-use Rattle.std.proofs.lemmas.List.{take_min}
-use Rattle.session_top.proofs.Whole.{results_done, results_stop, reading_stops}
 use Rattle.session_top.proofs.top.run_script.Goals as goal
 
-pub returns-in-Ok-clause-done : goal.returns-in-Ok-clause-done
-returns-in-Ok-clause-done g c = results_done _ _ _ _ c.in-Ok.script.items c.in-Ok.ensures.read c.in-Ok.ensures.end _ (search (rules, take_min))
+pub returns-in-Run-clause-done : goal.returns-in-Run-clause-done
+returns-in-Run-clause-done g c = rw c.in-Run.is c.do_lines.ensures.done
 
-pub returns-in-Ok-clause-stops : goal.returns-in-Ok-clause-stops
-returns-in-Ok-clause-stops g c = results_stop _ _ _ _ _ c.in-Ok.script.items c.in-Ok.ensures.read c.in-Ok.ensures.end _ (search (rules, take_min))
+pub returns-in-Run-clause-stops : goal.returns-in-Run-clause-stops
+returns-in-Run-clause-stops g c = rw c.in-Run.is c.do_lines.ensures.stops
 
-pub returns-in-Err-clause-stops : goal.returns-in-Err-clause-stops
-returns-in-Err-clause-stops g c = reading_stops _ _ _ _ _ c.in-Err.ensures.errors c.in-Err.ensures.part
+pub returns-in-Run-clause-unread : goal.returns-in-Run-clause-unread
+returns-in-Run-clause-unread g c other = absurd (other c.in-Run.is)
+
+pub returns-in-Large-clause-done : goal.returns-in-Large-clause-done
+returns-in-Large-clause-done g c = rw c.in-Large.is c.do_generated.ensures.done
+
+pub returns-in-Large-clause-stops : goal.returns-in-Large-clause-stops
+returns-in-Large-clause-stops g c = rw c.in-Large.is c.do_generated.ensures.stops
+
+pub returns-in-Large-clause-read : goal.returns-in-Large-clause-read
+returns-in-Large-clause-read g c fault = absurd (c.do_generated.ensures.read fault)

@@ -78,11 +78,23 @@ lift-requires-after_bounds g c κs within = subst (IsFit c.args.self.now) c.in-L
 pub returns-in-Lift-clause-performed : goal.returns-in-Lift-clause-performed
 returns-in-Lift-clause-performed g c = performed_as c.in-Lift.is c.lift.ensures.performed
 
-pub count-requires-after_bounds : goal.count-requires-after_bounds
-count-requires-after_bounds g c κs within = subst (IsFit c.args.self.now) c.in-Hilbert.is c.requires.fit
+pub report-requires-after_bounds : goal.report-requires-after_bounds
+report-requires-after_bounds g c κs within = subst (IsFit c.args.self.now) c.in-Hilbert.is c.requires.fit
 
 pub returns-in-Hilbert-clause-performed : goal.returns-in-Hilbert-clause-performed
-returns-in-Hilbert-clause-performed g c = performed_as c.in-Hilbert.is c.count.ensures.performed
+returns-in-Hilbert-clause-performed g c = performed_as c.in-Hilbert.is c.report.ensures.performed
+
+pub report-requires-in-Resolution-after_bounds : goal.report-requires-in-Resolution-after_bounds
+report-requires-in-Resolution-after_bounds g c κs within = subst (IsFit c.args.self.now) c.in-Resolution.is c.requires.fit
+
+pub returns-in-Resolution-clause-performed : goal.returns-in-Resolution-clause-performed
+returns-in-Resolution-clause-performed g c = performed_as c.in-Resolution.is c.report-in-Resolution.ensures.performed
+
+pub report-requires-in-Change-after_bounds : goal.report-requires-in-Change-after_bounds
+report-requires-in-Change-after_bounds g c κs within = subst (IsFit c.args.self.now) c.in-Change.is c.requires.fit
+
+pub returns-in-Change-clause-performed : goal.returns-in-Change-clause-performed
+returns-in-Change-clause-performed g c = performed_as c.in-Change.is c.report-in-Change.ensures.performed
 
 pub compare-requires-after_bounds : goal.compare-requires-after_bounds
 compare-requires-after_bounds g c κs within = subst (IsFit c.args.self.now) c.in-Equal.is c.requires.fit

@@ -1,0 +1,85 @@
+-- The resolution of a value has one text
+use Rattle.std.proofs.Common.{List, [], ap, ap₂, get_or, length, refl, subst, subst₂, sym, ℕ, ◌<◌, ◌++◌, ◌∙◌, ◌∷◌, ◌≡◌}
+use Rattle.std.specs.declared.cmp.Ordering.{Ordering}
+use Rattle.std.specs.Prelude.{codes}
+use Rattle.formal_sums.proofs.OfRank.{IsOfRank_of}
+use Rattle.formal_sums.specs.FormalSums.{HasRank, IsOfRank, Key as FormalKey}
+use Rattle.module_vectors.proofs.NormalVectors.{one_terms}
+use Rattle.module_vectors.specs.Rings.{ring_comparison, setting, variables}
+use Rattle.module_vectors.specs.Vectors.{AreVectorsOver, sums_of}
+use Rattle.module_vectors.specs.declared.key.Key.{Key}
+use Rattle.module_vectors.specs.declared.ring.Ring.{Ring}
+use Rattle.operation_laws.proofs.Linear.{Each_at}
+use Rattle.resolution_laws.proofs.OneResolution.{canonical_unique}
+use Rattle.resolution_laws.specs.Resolutions.{IsCanonical}
+use Rattle.schreyer_resolution.specs.Inducing.{Columns, maps_of, over, tower_comparison}
+use Rattle.schreyer_resolution.specs.Resolved.{AreVectorsThrough}
+use Rattle.script_parse.proofs.Working.{lawful}
+use Rattle.syzygy_engine.proofs.Standing.{ranks_of_positions}
+use Rattle.session_lang.proofs.OneAnswer.{one_ring, one_value}
+use Rattle.session_lang.proofs.OneForm.{one_reduced}
+use Rattle.session_lang.specs.Lines.{Resolves}
+use Rattle.session_lang.specs.Names.{HasValue, State, Value}
+use Rattle.session_lang.specs.Resolving.{IsResolutionText, maps_text}
+use Rattle.session_lang.specs.Texts.{heading}
+
+-- vectors with the same formal sums are one list, in whatever order each has its terms
+columns_once :
+    (ring : Ring) (left_order right_order : (n : ℕ) → FormalKey n → FormalKey n → Ordering) (left right : List (List (Key × ℕ)))
+    → AreVectorsOver ring left_order left → AreVectorsOver ring right_order right
+    → sums_of (variables ring) left ≡ sums_of (variables ring) right → left ≡ right
+columns_once ring left_order right_order [] [] g h e = refl
+columns_once ring left_order right_order [] (w ∷ right) g h e = absurd cc
+columns_once ring left_order right_order (v ∷ left) [] g h e = absurd cc
+columns_once ring left_order right_order (v ∷ left) (w ∷ right) g h e =
+    ap₂ (λ x l. x ∷ l) (one_terms (variables ring) ring.weights ring.modulus.value v w g.0.each h.0.each (head e))
+    (columns_once ring left_order right_order left right g.1 h.1 (tail e))
+  where
+    head : {X : Type 0} {x y : X} {xs ys : List X} → x ∷ xs ≡ y ∷ ys → x ≡ y
+    head e = cc
+
+    tail : {X : Type 0} {x y : X} {xs ys : List X} → x ∷ xs ≡ y ∷ ys → xs ≡ ys
+    tail e = cc
+
+maps_once :
+    (ring : Ring) (below other maps others : Columns) → AreVectorsThrough ring below maps → AreVectorsThrough ring other others
+    → maps_of (variables ring) maps ≡ maps_of (variables ring) others → maps ≡ others
+maps_once ring below other [] [] g h e = refl
+maps_once ring below other [] (H ∷ others) g h e = absurd cc
+maps_once ring below other (F ∷ maps) [] g h e = absurd cc
+maps_once ring below other (F ∷ maps) (H ∷ others) g h e =
+    ap₂ (λ x l. x ∷ l) (columns_once ring (tower_comparison (over ring below)) (tower_comparison (over ring other)) F H g.0 h.0 (head e))
+    (maps_once ring (below ++ F ∷ []) (other ++ H ∷ []) maps others g.1 h.1 (tail e))
+  where
+    head : {X : Type 0} {x y : X} {xs ys : List X} → x ∷ xs ≡ y ∷ ys → x ≡ y
+    head e = cc
+
+    tail : {X : Type 0} {x y : X} {xs ys : List X} → x ∷ xs ≡ y ∷ ys → xs ≡ ys
+    tail e = cc
+
+module _ (ring : Ring) (value : Value) (x y : List ℕ) (g : IsResolutionText ring value x) (h : IsResolutionText ring value y) where
+  bases_same : g.basis ≡ h.basis
+  bases_same = one_reduced ring value.rank value.list g.basis h.basis g.reduced h.reduced
+
+  ranks : (i : ℕ) → i < length (sums_of (variables ring) g.basis) → IsOfRank ring.modulus.value value.rank (get_or (sums_of (variables ring) g.basis) i [])
+  ranks i lt =
+      IsOfRank_of ring.modulus.value value.rank (get_or (sums_of (variables ring) g.basis) i [])
+      (Each_at (HasRank value.rank) [] (sums_of (variables ring) g.basis) (ranks_of_positions (variables ring) value.rank g.basis (g.reduced).positions) i lt)
+
+  maps_same : g.maps ≡ h.maps
+  maps_same =
+      maps_once ring [] [] g.maps h.maps g.vectors h.vectors
+      (canonical_unique (setting ring (variables ring) (ring_comparison ring (variables ring)) value.rank) (lawful ring value.rank)
+      (sums_of (variables ring) g.basis) ranks (maps_of (variables ring) g.maps) (maps_of (variables ring) h.maps) g.canonical
+      (subst (λ B. IsCanonical (setting ring (variables ring) (ring_comparison ring (variables ring)) value.rank) (sums_of (variables ring) B)
+      (maps_of (variables ring) h.maps)) (sym bases_same) h.canonical))
+
+  text_once : x ≡ y
+  text_once =
+      g.text_is ∙ ap (λ M. heading (codes "res") value.name (length M) ++ maps_text ring 1 value.rank M) maps_same ∙ sym h.text_is
+
+pub resolves_once : (before : State) (m n : List ℕ) (x y : List ℕ) → m ≡ n → Resolves before m x → Resolves before n y → x ≡ y
+resolves_once before m n x y e g h =
+    let there : HasValue before m h.0 h.1 = subst (λ z. HasValue before z h.0 h.1) (sym e) h.2 in
+    text_once g.0 g.1 x y g.3
+    (subst₂ (λ r u. IsResolutionText r u y) (sym (one_ring before m m g.0 h.0 g.1 h.1 g.2 there)) (sym (one_value before m g.0 h.0 g.1 h.1 g.2 there)) h.3)

@@ -1,0 +1,34 @@
+use Rattle.std.proofs.Common.{subst, sym}
+use Rattle.std.specs.Prelude.{IfErr, IfOk}
+use Rattle.session_lang.proofs.Reporting.{resolving_stops}
+use Rattle.session_lang.specs.Reporting.{HasReport, ReportStops, Reports}
+use Rattle.session_lang.proofs.reports.push_report.Goals as goal
+
+pub push_numbers-requires-clause-basis : goal.push_numbers-requires-clause-basis
+push_numbers-requires-clause-basis c = (c.requires.basis.0, c.requires.basis.2)
+
+pub returns-in_ok-push_numbers-in-Numbers-clause-reports : goal.returns-in_ok-push_numbers-in-Numbers-clause-reports
+returns-in_ok-push_numbers-in-Numbers-clause-reports c =
+    subst
+    (λ r. Reports c.args.ring.now c.args.info.now c.args.basis.now r c.args.out.now.items c.push_numbers.new.out.items c.in_ok-push_numbers-in-Numbers.field-0)
+    (sym c.in-Numbers.is) c.in_ok-push_numbers-in-Numbers.ensures.reports
+
+pub push_reordered-requires-clause-ideal : goal.push_reordered-requires-clause-ideal
+push_reordered-requires-clause-ideal c = subst (HasReport c.args.info.now.rank) c.in-InOrder.is c.requires.has
+
+pub returns-in_ok-push_reordered-in-InOrder-clause-reports : goal.returns-in_ok-push_reordered-in-InOrder-clause-reports
+returns-in_ok-push_reordered-in-InOrder-clause-reports c =
+    subst
+    (λ r. Reports c.args.ring.now c.args.info.now c.args.basis.now r c.args.out.now.items c.push_reordered.new.out.items
+    c.in_ok-push_reordered-in-InOrder.field-0)
+    (sym c.in-InOrder.is) c.in_ok-push_reordered-in-InOrder.ensures.reports
+
+pub returns-in-Resolution-clause-reports : goal.returns-in-Resolution-clause-reports
+returns-in-Resolution-clause-reports c =
+    subst (λ r. IfOk c.push_resolution.result (Reports c.args.ring.now c.args.info.now c.args.basis.now r c.args.out.now.items c.push_resolution.new.out.items))
+    (sym c.in-Resolution.is) c.push_resolution.ensures.reports
+
+pub returns-in-Resolution-clause-stop : goal.returns-in-Resolution-clause-stop
+returns-in-Resolution-clause-stop c =
+    subst (λ r. IfErr c.push_resolution.result (ReportStops c.args.ring.now c.args.info.now.rank c.args.basis.now r)) (sym c.in-Resolution.is)
+    (resolving_stops c.args.ring.now c.args.info.now.rank c.args.basis.now c.push_resolution.result c.push_resolution.ensures.stop)

@@ -1,0 +1,29 @@
+use Rattle.std.proofs.Common.{subst}
+use Rattle.std.specs.Prelude.{is_some}
+use Rattle.groebner_iface.specs.Runs.{IsReducedBasisOf}
+use Rattle.session_lang.proofs.KeptValues.{basis_kept}
+use Rattle.session_lang.proofs.Stopping.{run_fails}
+use Rattle.session_lang.specs.Kept.{value_of}
+use Rattle.session_lang.specs.Reporting.{IsReportTrail}
+use Rattle.session_lang.proofs.reports.report_value.Goals as goal
+
+pub returns-in-Err-clause-stop : goal.returns-in-Err-clause-stop
+returns-in-Err-clause-stop g c =
+    rw c.from.ensures
+    (run_fails _ _ _ _ (IsReportTrail c.args.ring.now (value_of c.args.info.now c.args.stored.now) c.args.report) c.args.ring.now c.args.info.now c.args.stored.now c.in-Err.stop c.in-Err.ensures.none.0 c.in-Err.ensures.stop)
+
+pub returns-in-Ok-Done-clause-reports : goal.returns-in-Ok-Done-clause-reports
+returns-in-Ok-Done-clause-reports g c =
+    let kept = c.keep_basis.new.stored in
+    let reduced =
+    subst (λ l. IsReducedBasisOf c.args.ring.now c.args.info.now.rank l c.basis.result.now) c.in-Ok.ensures.list
+    (basis_kept c.args.ring.now c.args.info.now.rank kept c.basis.result.now c.in-Ok.ensures.sound c.basis.ensures) in
+    (rw c.in-Ok-Done.field-0-is at c.in-Ok-Done.ensures.reports) c.args.stored.now.list (c.requires.sound).positions reduced (is_some c.args.stored.now.basis)
+
+pub returns-in-Ok-Refused-clause-reports : goal.returns-in-Ok-Refused-clause-reports
+returns-in-Ok-Refused-clause-reports g c =
+    let kept = c.keep_basis.new.stored in
+    let reduced =
+    subst (λ l. IsReducedBasisOf c.args.ring.now c.args.info.now.rank l c.basis.result.now) c.in-Ok.ensures.list
+    (basis_kept c.args.ring.now c.args.info.now.rank kept c.basis.result.now c.in-Ok.ensures.sound c.basis.ensures) in
+    (rw c.in-Ok-Refused.field-0-is at c.in-Ok-Refused.ensures.reports) c.args.stored.now.list (c.requires.sound).positions reduced (is_some c.args.stored.now.basis)
