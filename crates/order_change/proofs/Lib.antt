@@ -12,5 +12,6 @@ mod Adding
 mod Turning
 mod Stepping
 mod Finishing
+mod Reducing
 mod Clearing
 mod VariableProducts

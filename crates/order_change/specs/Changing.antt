@@ -27,8 +27,9 @@ HasDivisor {n} H m = (k : ℕ) × (k < length H) × Divides (get_or H k (unit n)
 
 -- the standard monomials of the new order so far, ascending: modulo the ideal of F each is the combination of the monomials B by its form,
 -- and their forms have rows in echelon form, the last residue of whose combinations is that of the monomial
-pub record AreNewStandard (n : ℕ) (ring : Ring) (F : List (FormalSum n)) (B : List (Exponents n)) (monos : List Monomial) (forms : List (List ℕ))
-    (rows : List Row) : Type 0 where
+pub record AreNewStandard
+    (n : ℕ) (ring : Ring) (F : List (FormalSum n)) (B : List (Exponents n)) (monos : List Monomial)
+    (forms : List (List ℕ)) (rows : List Row) : Type 0 where
   pub monomials_of : AreMonomials n ring.weights monos
   pub degrees : HaveDegrees monos
   pub ascending : IsAscending (comparison ring.order ring.weights n) (monomials n monos)
@@ -43,7 +44,8 @@ pub record AreNewStandard (n : ℕ) (ring : Ring) (F : List (FormalSum n)) (B : 
       → l < length rows → get_or rows l row ≡ row → (0 < slice_index row.combination l) × (length row.combination ≤ l + 1)
 
 -- the members of the new basis so far, the greatest lead first: members of the ideal of F, each a lead and monomials of N
-pub record AreNewMembers (n : ℕ) (ring : Ring) (F : List (FormalSum n)) (N : List (Exponents n)) (heads : List Monomial)
+pub record AreNewMembers
+    (n : ℕ) (ring : Ring) (F : List (FormalSum n)) (N : List (Exponents n)) (heads : List Monomial)
     (members : List (List (CodeKey × ℕ))) : Type 0 where
   pub heads_of : AreMonomials n ring.weights heads
   pub vectors : Each (IsVector n ring.weights ring.modulus.value (ring_comparison ring n)) members
@@ -114,7 +116,8 @@ pub record IsAdded (old new : Change) (m : Monomial) : Type 0 where
       ⊎ ((new.monomials.items ≡ old.monomials.items) × (new.leads.items ≡ m ∷ old.leads.items))
 
 -- what is left of the form of m without the rows, and the combination of the standard monomials and m that it then is
-pub record IsRest (n : ℕ) (ring : Ring) (F : List (FormalSum n)) (B : List (Exponents n)) (change : Change) (m : Monomial)
+pub record IsRest
+    (n : ℕ) (ring : Ring) (F : List (FormalSum n)) (B : List (Exponents n)) (change : Change) (m : Monomial)
     (form combination : List ℕ) : Type 0 where
   pub form_residues : AreResidues ring.modulus.value (length B) form
   pub combination_residues : AreResidues ring.modulus.value (length change.monomials.items + 1) combination

@@ -1,5 +1,5 @@
 -- Normal forms by their residues over the standard monomials (IVA chapter 5, section 2)
-use Rattle.std.specs.Prelude.{List, [], get_or, length, slice_index, suc, zero, ℕ, ◌∷◌, ◌<◌, ◌≡◌}
+use Rattle.std.specs.Prelude.{List, [], get_or, length, slice_index, suc, zero, ℕ, ◌∷◌, ◌<◌, ◌≡◌, ◌≤◌}
 use Rattle.monomials.specs.Exponents.{Exponents, times, unit}
 use Rattle.formal_sums.specs.FormalSums.{FormalSum}
 use Rattle.change_laws.specs.Combinations.{IsSameModulo, expansion}
@@ -8,6 +8,12 @@ use Rattle.change_laws.specs.Combinations.{IsSameModulo, expansion}
 pub record AreResidues (p d : ℕ) (row : List ℕ) : Type 0 where
   pub long : length row ≡ d
   pub small : (k : ℕ) → slice_index row k < p
+
+-- the residues stand from `low` on and before `high`; the others are 0
+pub record IsWithin (low high : ℕ) (residues : List ℕ) : Type 0 where
+  pub within : high ≤ length residues
+  pub before : (j : ℕ) → j < low → slice_index residues j ≡ 0
+  pub behind : (j : ℕ) → high ≤ j → slice_index residues j ≡ 0
 
 -- the first k of the residues, and zeros
 abbrev pub before : ℕ → (ℕ → ℕ) → ℕ → ℕ

@@ -1,5 +1,6 @@
 -- Rows in echelon form
 use Rattle.std.specs.Prelude.{List, get_or, length, slice_index, ℕ, ◌<◌, ◌≡◌, ◌≤◌}
+use Rattle.residues.specs.Residues.{IsCongruent}
 use Rattle.monomials.specs.Exponents.{Exponents}
 use Rattle.formal_sums.specs.FormalSums.{FormalSum}
 use Rattle.change_laws.specs.Combinations.{IsSameModulo, expansion}
@@ -31,3 +32,8 @@ AreSame p F B N rows =
 -- the form is 0 at the pivots of the first i rows
 abbrev pub IsCleared : List Row → List ℕ → (i : ℕ) → Type 0
 IsCleared rows form i = (l : ℕ) (row : Row) → l < i → l < length rows → get_or rows l row ≡ row → slice_index form row.pivot ≡ 0
+
+-- so it is modulo p
+abbrev pub IsClearedModulo : (p : ℕ) → List Row → List ℕ → (i : ℕ) → Type 0
+IsClearedModulo p rows form i =
+    (l : ℕ) (row : Row) → l < i → l < length rows → get_or rows l row ≡ row → IsCongruent p (slice_index form row.pivot) 0

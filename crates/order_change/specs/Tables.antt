@@ -18,7 +18,8 @@ use Rattle.order_change.specs.Lists.{AreMonomials, monomials}
 use Rattle.order_change.specs.Products.{HaveRoom, IsAscending, product_at}
 
 -- modulo the ideal of F, m is the combination of the monomials B by the row, and none of those in it is above m
-pub record IsNormalForm {n : ℕ} (compare : Exponents n → Exponents n → Ordering) (p : ℕ) (F : List (FormalSum n)) (B : List (Exponents n))
+pub record IsNormalForm {n : ℕ}
+    (compare : Exponents n → Exponents n → Ordering) (p : ℕ) (F : List (FormalSum n)) (B : List (Exponents n))
     (m : Exponents n) (row : List ℕ) : Type 0 where
   pub residues : AreResidues p (length B) row
   pub same : IsForm p F B (monomial_vector m) row
@@ -30,14 +31,16 @@ AreForms {n} compare p F B table =
     (v k : ℕ) → v < n → k < length (get_or table v []) → IsNormalForm compare p F B (product_at n B v k) (get_or (get_or table v []) k [])
 
 -- with all monomials of B
-pub record IsTable {n : ℕ} (compare : Exponents n → Exponents n → Ordering) (p : ℕ) (F : List (FormalSum n)) (B : List (Exponents n))
+pub record IsTable {n : ℕ}
+    (compare : Exponents n → Exponents n → Ordering) (p : ℕ) (F : List (FormalSum n)) (B : List (Exponents n))
     (table : List (List (List ℕ))) : Type 0 where
   pub long : length table ≡ n
   pub full : (v : ℕ) → v < n → length (get_or table v []) ≡ length B
   pub forms : AreForms compare p F B table
 
 -- the rows that are there while it is filled: as many of each variable as it has had turns
-pub record IsFilling {n : ℕ} (compare : Exponents n → Exponents n → Ordering) (p : ℕ) (F : List (FormalSum n)) (B : List (Exponents n))
+pub record IsFilling {n : ℕ}
+    (compare : Exponents n → Exponents n → Ordering) (p : ℕ) (F : List (FormalSum n)) (B : List (Exponents n))
     (turns : List ℕ) (table : List (List (List ℕ))) : Type 0 where
   pub turns_long : length turns ≡ n
   pub long : length table ≡ n

@@ -19,6 +19,7 @@ use crate::enumeration::is_new;
 use crate::forms::{Form, multiple_of, times_variable};
 use crate::products::{Candidate, Turns, least_product};
 use crate::rows::{Row, clear_pivots};
+use crate::sums::Sums;
 use crate::table::Table;
 use module_vectors::{Key, NoMemory, Ring, Vect, VectList, lawful_setting};
 use monomial_orders::{Mono, Weights};
@@ -60,13 +61,14 @@ fn rest_of(alloc: Global, modulus: &Modulus, rows: &[Row], form: &Form) -> Resul
 {
     modulus.domain();
     let at = rows.len();
-    let mut left = Form::copy_of(alloc, form)?;
-    let mut combination = Form::zeros(alloc, at + 1)?;
-    combination.add_at(modulus, at, 1);
+    let mut unit = Form::zeros(alloc, at + 1)?;
+    unit.add_at(modulus, at, 1);
+    let mut left = Sums::of_form(alloc, form)?;
+    let mut combination = Sums::of_form(alloc, &unit)?;
     clear_pivots(modulus, rows, &mut left, &mut combination);
     Ok(Rest {
-        form: left,
-        combination,
+        form: left.reduced(alloc, modulus)?,
+        combination: combination.reduced(alloc, modulus)?,
     })
 }
 
@@ -269,8 +271,7 @@ impl Change {
         form: Form,
     ) -> Result<Change, NoMemory>
         requires few { length standard.now ≤ 256 }
-        requires form { let n = length ring.now.weights in
-            IsFormOf n ring.now (sums_of n basis.now) (monomials n standard.now) (unit n) form }
+        requires form { let n = length ring.now.weights in IsFormOf n ring.now (sums_of n basis.now) (monomials n standard.now) (unit n) form }
         ensures { let n = length ring.now.weights in IfOk result (IsChanging n ring.now (sums_of n basis.now) (monomials n standard.now)) }
     {
         let one = Mono::unit(alloc, ring.weights.len())?;

@@ -6,23 +6,56 @@ ghost use Rattle.residues.specs.Residues.{IsCongruent};
 ghost use Rattle.change_laws.specs.Combinations.{expansion};
 ghost use Rattle.order_change.specs.Forms.{AreProductsOf, AreResidues, IsForm};
 
+use crate::sums::Sums;
 use module_vectors::NoMemory;
 use std::alloc::Global;
 use std::marker::Model;
 use zp_field::Modulus;
 
-/// The residues of a normal form, one for each standard monomial. Contracts see their list.
+/// The residues of a normal form, one for each standard monomial, and between which indices they stand: the others are 0. Contracts see
+/// their list.
 #[derive(Drop)]
 pub(crate) struct Form {
     residues: Vec<u32>,
+    low: usize,
+    high: usize,
 }
 
 impl Model for Form {
     ghost use Rattle.std.specs.Prelude.{ℕ, List};
+    ghost use Rattle.order_change.specs.Forms.{IsWithin};
 
     ghost Value = { List ℕ };
 
     ghost view = { λ f. f.residues.items };
+
+    ghost invariant = { λ f. IsWithin f.low f.high f.residues.items };
+}
+
+// How many residues in front are 0.
+fn zeros_in_front(residues: &[u32]) -> usize
+    ensures { (j : ℕ) → j < result → slice_index residues.now j ≡ 0 }
+{
+    for k in 0..residues.len() {
+        if residues[k] > 0 {
+            return k;
+        }
+    }
+    residues.len()
+}
+
+// The index behind the last residue that is not 0.
+fn end_of(residues: &[u32]) -> usize
+    ensures within { result ≤ length residues.now }
+    ensures behind { (j : ℕ) → result ≤ j → slice_index residues.now j ≡ 0 }
+{
+    let mut end = 0;
+    for k in 0..residues.len() {
+        if residues[k] > 0 {
+            end = k + 1;
+        }
+    }
+    end
 }
 
 impl Form {
@@ -33,16 +66,22 @@ impl Form {
     {
         Ok(Form {
             residues: vec![in alloc; 0; long]?,
+            low: long,
+            high: 0,
         })
     }
 
-    /// The same residues again.
-    pub(crate) fn copy_of(alloc: Global, form: &Form) -> Result<Form, NoMemory>
-        ensures { IfOk result (λ f. f ≡ form.now) }
+    /// The form of these residues.
+    pub(crate) fn from_vec(residues: Vec<u32>) -> Form
+        ensures { result ≡ residues.items }
     {
-        Ok(Form {
-            residues: Vec::from_slice(alloc, &form.residues)?,
-        })
+        let low = zeros_in_front(&residues);
+        let high = end_of(&residues);
+        Form {
+            residues,
+            low,
+            high,
+        }
     }
 
     /// How many residues there are.
@@ -58,6 +97,21 @@ impl Form {
         ensures { result ≡ slice_index self.now k }
     {
         self.residues[k]
+    }
+
+    /// An index before which all residues are 0.
+    pub(crate) fn low(&self) -> usize
+        ensures { (j : ℕ) → j < result → slice_index self.now j ≡ 0 }
+    {
+        self.low
+    }
+
+    /// An index from which on all residues are 0.
+    pub(crate) fn high(&self) -> usize
+        ensures within { result ≤ length self.now }
+        ensures behind { (j : ℕ) → result ≤ j → slice_index self.now j ≡ 0 }
+    {
+        self.high
     }
 
     /// The first index with a residue that is not 0.
@@ -85,22 +139,8 @@ impl Form {
     {
         let sum = modulus.add(self.residues[k], c);
         self.residues[k] = sum;
-    }
-
-    /// Adds c times another form, which is not longer.
-    pub(crate) fn add_multiple(&mut self, modulus: &Modulus, c: u32, form: &Form)
-        requires long { length form.now ≤ length self.old }
-        requires factor { c < modulus.now.value }
-        requires left { (j : ℕ) → slice_index self.old j < modulus.now.value }
-        requires right { (j : ℕ) → slice_index form.now j < modulus.now.value }
-        ensures long { length self.new ≡ length self.old }
-        ensures residues { (j : ℕ) → slice_index self.new j < modulus.now.value }
-        ensures sums { (j : ℕ) → IsCongruent modulus.now.value (slice_index self.new j) (slice_index self.old j + c * slice_index form.now j) }
-    {
-        for k in 0..form.len() {
-            let term = modulus.mul(c, form.at(k));
-            self.add_at(modulus, k, term);
-        }
+        self.low = self.low.min(k);
+        self.high = self.high.max(k + 1);
     }
 }
 
@@ -117,9 +157,10 @@ pub(crate) fn multiple_of(
     ensures residues { IfOk result (λ f. (j : ℕ) → slice_index f j < modulus.now.value) }
     ensures multiple { IfOk result (λ f. (j : ℕ) → IsCongruent modulus.now.value (slice_index f j) (c * slice_index form.now j)) }
 {
-    let mut multiple = Form::zeros(alloc, form.len())?;
+    modulus.domain();
+    let mut multiple = Sums::zeros(alloc, form.len())?;
     multiple.add_multiple(modulus, c, form);
-    Ok(multiple)
+    multiple.reduced(alloc, modulus)
 }
 
 /// The form of a variable times what has this form, from the forms of its products with the standard monomials.
@@ -138,12 +179,13 @@ pub(crate) fn times_variable(
         → AreProductsOf modulus.now.value F B x rows.now form.now
         → IsForm modulus.now.value F B (scale 1 x (expansion B (slice_index form.now))) out) }
 {
-    let mut product = Form::zeros(alloc, form.len())?;
+    modulus.domain();
+    let mut product = Sums::zeros(alloc, form.len())?;
     for k in 0..form.len() {
         let c = form.at(k);
         if c > 0 {
             product.add_multiple(modulus, c, &rows[k]);
         }
     }
-    Ok(product)
+    product.reduced(alloc, modulus)
 }

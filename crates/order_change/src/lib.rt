@@ -12,6 +12,7 @@ mod listing;
 mod products;
 mod rows;
 mod stop;
+mod sums;
 mod table;
 
 pub use conversion::convert;

@@ -1,4 +1,4 @@
-use Rattle.std.proofs.Common.{ap, arith, get_or, length, subst, sym, ℕ, List, [], ◌*◌, ◌+◌, ◌<◌, ◌∙◌, ◌≡◌, ◌≤◌}
+use Rattle.std.proofs.Common.{ap, arith, get_or, length, subst, sym, ℕ, List, [], ◌%◌, ◌*◌, ◌+◌, ◌<◌, ◌∙◌, ◌≡◌, ◌≤◌}
 use Rattle.std.proofs.lemmas.List.{get_or_default}
 use Rattle.std.specs.Prelude.{slice_index}
 use Rattle.residues.specs.Residues.{IsCongruent}
@@ -6,6 +6,9 @@ use Rattle.monomials.specs.Exponents.{Exponents}
 use Rattle.formal_sums.specs.FormalSums.{FormalSum, scale}
 use Rattle.change_laws.specs.Combinations.{expansion}
 use Rattle.order_change.proofs.Clearing.{unchanged_at}
+use Rattle.change_laws.proofs.Modulo.{modulo_same, modulo_trans}
+use Rattle.residues.proofs.Congruences.{IsCongruent_of, IsCongruent_trans}
+use Rattle.order_change.proofs.Reducing.{if_ok2, reduced_at, reduced_expansion, reduced_residues, square_positive}
 use Rattle.order_change.proofs.VariableProducts.{product_all, product_more, product_none, product_skip}
 use Rattle.order_change.specs.Forms.{AreProductsOf, AreResidues, IsForm, before}
 use Rattle.order_change.proofs.forms.times_variable.Goals.{then-c-gt0, else-c-gt0}
@@ -22,8 +25,8 @@ loop-k-init c =
     let pos : 0 < p = let h = c.requires.residues 0 in omega (arith, h) in
     let zeros = c.in_ok-product.ensures.zeros in
     record {
-      residues = record { long = c.in_ok-product.ensures.long ∙ c.len.ensures; small = λ k. let z = zeros k in omega (arith, z, pos) };
-      zeros = λ t none. zeros t;
+      residues = record { long = c.in_ok-product.ensures.long ∙ c.len.ensures; small = λ k. let z = zeros k in omega (arith, z, square_positive p pos) };
+      zeros = λ t none. IsCongruent_of p _ 0 (zeros t);
       product = λ n F B x long products. product_none pos F B x (slice_index c.args.form.now) c.in_ok-product.product zeros;
     }
 
@@ -42,15 +45,15 @@ loop-k-preserved c =
           let some : 0 < slice_index form k = omega arith in
           let is : row ≡ get_or rows k [] = w.index-rows-k.is ∙ sym (get_or_default rows k [] row (c.requires.covered k some)) in
           subst (λ z. record {
-            residues : AreResidues p (length form) z;
-            zeros : (t : ℕ) → ((s : ℕ) → 0 < slice_index form s → slice_index (get_or rows s []) t ≡ 0) → slice_index z t ≡ 0;
+            residues : AreResidues (p * p) (length form) z;
+            zeros : (t : ℕ) → ((s : ℕ) → 0 < slice_index form s → slice_index (get_or rows s []) t ≡ 0) → IsCongruent p (slice_index z t) 0;
             product : (n : ℕ) (F : List (FormalSum n)) (B : List (Exponents n)) (x : Exponents n) → length B ≡ length form
                 → AreProductsOf p F B x rows form → IsForm p F B (scale 1 x (expansion B (before (k + 1) (slice_index form)))) z;
           }) (sym w.product-is)
           (record {
-            residues = record { long = w.add_multiple.ensures.long ∙ c.loop-k.invariant.residues.long; small = w.add_multiple.ensures.residues };
-            zeros = λ t none. unchanged_at p c.at-c.result row c.loop-k.product new t (c.loop-k.invariant.residues.small t) (w.add_multiple.ensures.residues t) w.add_multiple.ensures.sums
-                (ap (λ z. slice_index z t) is ∙ none k some) ∙ c.loop-k.invariant.zeros t none;
+            residues = record { long = w.add_multiple.ensures.long ∙ c.loop-k.invariant.residues.long; small = w.add_multiple.ensures.numbers };
+            zeros = λ t none. IsCongruent_trans (unchanged_at p c.at-c.result row c.loop-k.product new t w.add_multiple.ensures.sums
+                (ap (λ z. slice_index z t) is ∙ none k some)) (c.loop-k.invariant.zeros t none);
             product = λ n F B x long products. product_more pos F B x rows form c.loop-k.product new k lt long some products
                 (λ j. subst (λ y. IsCongruent p (slice_index new j) (slice_index c.loop-k.product j + slice_index form k * slice_index y j)) is
                 (subst (λ y. IsCongruent p (slice_index new j) (slice_index c.loop-k.product j + y * slice_index row j)) c.at-c.ensures (w.add_multiple.ensures.sums j)))
@@ -59,8 +62,8 @@ loop-k-preserved c =
       | else-c-gt0 w ↦
           let none : slice_index form k ≡ 0 = omega arith in
           subst (λ z. record {
-            residues : AreResidues p (length form) z;
-            zeros : (t : ℕ) → ((s : ℕ) → 0 < slice_index form s → slice_index (get_or rows s []) t ≡ 0) → slice_index z t ≡ 0;
+            residues : AreResidues (p * p) (length form) z;
+            zeros : (t : ℕ) → ((s : ℕ) → 0 < slice_index form s → slice_index (get_or rows s []) t ≡ 0) → IsCongruent p (slice_index z t) 0;
             product : (n : ℕ) (F : List (FormalSum n)) (B : List (Exponents n)) (x : Exponents n) → length B ≡ length form
                 → AreProductsOf p F B x rows form → IsForm p F B (scale 1 x (expansion B (before (k + 1) (slice_index form)))) z;
           }) (sym w.product-is)
@@ -71,9 +74,35 @@ loop-k-preserved c =
           })
     ]
 
+pub returns-clause-residues : goal.returns-clause-residues
+returns-clause-residues c =
+    let p = c.args.modulus.now.value in
+    let pos : 0 < p = let h = c.requires.residues 0 in omega (arith, h) in
+    let numbers = c.loop-k.product in
+    if_ok2 (λ out. length out ≡ length numbers) (λ out. (k : ℕ) → k < length numbers → slice_index out k ≡ slice_index numbers k % p) (AreResidues p (length c.args.form.now)) c.reduced.result
+    (λ out long same. subst (λ d. AreResidues p d out) c.loop-k.invariant.residues.long (reduced_residues p pos numbers out (record { long = long; same = same })))
+    c.reduced.ensures.long c.reduced.ensures.same
+
+pub returns-clause-zeros : goal.returns-clause-zeros
+returns-clause-zeros c =
+    let p = c.args.modulus.now.value in
+    let pos : 0 < p = let h = c.requires.residues 0 in omega (arith, h) in
+    let numbers = c.loop-k.product in
+    if_ok2 (λ out. length out ≡ length numbers) (λ out. (k : ℕ) → k < length numbers → slice_index out k ≡ slice_index numbers k % p)
+    (λ out. (t : ℕ) → ((s : ℕ) → 0 < slice_index c.args.form.now s → slice_index (get_or c.args.rows.now s []) t ≡ 0) → slice_index out t ≡ 0) c.reduced.result
+    (λ out long same t none. reduced_at p pos numbers out (record { long = long; same = same }) t 0 pos (c.loop-k.invariant.zeros t none))
+    c.reduced.ensures.long c.reduced.ensures.same
+
 pub returns-clause-product : goal.returns-clause-product
-returns-clause-product c = λ n F B x long products.
+returns-clause-product c =
     let p = c.args.modulus.now.value in
     let pos : 0 < p = let h = c.requires.residues 0 in omega (arith, h) in
     let le : length c.args.form.now ≤ c.loop-k.k = omega arith in
-    product_all pos F B x c.args.form.now c.loop-k.product c.loop-k.k long le (c.loop-k.invariant.product n F B x long products)
+    let numbers = c.loop-k.product in
+    if_ok2 (λ out. length out ≡ length numbers) (λ out. (k : ℕ) → k < length numbers → slice_index out k ≡ slice_index numbers k % p)
+    (λ out. (n : ℕ) (F : List (FormalSum n)) (B : List (Exponents n)) (x : Exponents n) → length B ≡ length c.args.form.now
+    → AreProductsOf p F B x c.args.rows.now c.args.form.now → IsForm p F B (scale 1 x (expansion B (slice_index c.args.form.now))) out) c.reduced.result
+    (λ out long same n F B x count products.
+    modulo_trans F (product_all pos F B x c.args.form.now numbers c.loop-k.k count le (c.loop-k.invariant.product n F B x count products))
+    (modulo_same F _ _ (reduced_expansion p pos numbers out (record { long = long; same = same }) B)))
+    c.reduced.ensures.long c.reduced.ensures.same

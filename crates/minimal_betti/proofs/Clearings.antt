@@ -1,0 +1,171 @@
+-- A row that is cleared term by term, and taken out
+use Rattle.std.specs.Prelude.{Contains, Err, Ok, OnOk, Result, nat_eq, nat_lt}
+use Rattle.std.proofs.Common.{Bool, List, [], ap, ap₂, append-nil, arith, cond, eq-eqb, eqb-true, false, get_or, length, mod-lt, refl, subst, suc, sym, take, true, zero, ℕ, ◌%◌, ◌*◌, ◌++◌, ◌+◌, ◌-◌, ◌<◌, ◌∙◌, ◌∷◌, ◌≡◌}
+use Rattle.std.proofs.lemmas.List.{append_assoc, map-append, take_more}
+use Rattle.residues.proofs.Congruences.{IsCongruent_add, IsCongruent_cancel, IsCongruent_minus, IsCongruent_mod, IsCongruent_multiply, IsCongruent_of, IsCongruent_refl, IsCongruent_sym, IsCongruent_trans}
+use Rattle.residues.specs.Residues.{IsCongruent}
+use Rattle.monomials.proofs.Monomials.{times-unit}
+use Rattle.monomials.specs.Exponents.{Exponents, exponents_of, times, unit}
+use Rattle.formal_sums.proofs.Linear.{linear_after, linear_append, linear_product, linear_times}
+use Rattle.formal_sums.proofs.Sameness.{IsSame_append, IsSame_of, IsSame_refl, IsSame_sym, IsSame_trans}
+use Rattle.formal_sums.proofs.WeightedSums.{weighted_sum-scale}
+use Rattle.formal_sums.specs.FormalSums.{Each, FormalSum, IsSame, indicator, product, scale, weighted_sum, shift}
+use Rattle.minimal_laws.proofs.Rows.{linear_component}
+use Rattle.minimal_laws.specs.Cancellation.{component, without_row}
+use Rattle.module_vectors.specs.Rings.{variables}
+use Rattle.module_vectors.specs.Vectors.{StandsFor, sum_of}
+use Rattle.module_vectors.specs.declared.key.Key.{Key as CodeKey}
+use Rattle.module_vectors.specs.declared.ring.Ring.{Ring}
+use Rattle.module_vectors.specs.Stops.{ScaledStops}
+use Rattle.module_vectors.specs.declared.stop.VectStop.{VectStop}
+use Rattle.module_vectors.specs.declared.stop.VectStop.TheVariants.{Degree, Memory}
+use Rattle.minimal_betti.specs.Clearing.{ClearingStops, IsMonomialAt, multiple_of}
+
+abbrev Terms : Type 0
+Terms = List (CodeKey × ℕ)
+
+-- ---- the rows of one term
+pub nat_eq-other : (a b : ℕ) → (a ≡ b → ⊥) → nat_eq a b ≡ false
+nat_eq-other a b ne = go (nat_eq a b) refl
+  where
+    go : (c : Bool) → nat_eq a b ≡ c → nat_eq a b ≡ false
+    go false e = e
+    go true e = absurd (ne (eqb-true a b e))
+
+component-one : {n : ℕ} (r : ℕ) (t : CodeKey × ℕ) → t.0.position ≡ r → component r (sum_of n (t ∷ [])) ≡ ((0, exponents_of n t.0.monomial.exponents), t.1) ∷ []
+component-one {n} r t e = let q : nat_eq t.0.position r ≡ true = eq-eqb t.0.position r e in
+    ap (λ b. cond b (((0, exponents_of n t.0.monomial.exponents), t.1) ∷ []) []) q
+
+component-other : {n : ℕ} (r : ℕ) (t : CodeKey × ℕ) → (t.0.position ≡ r → ⊥) → component r (sum_of n (t ∷ [])) ≡ []
+component-other {n} r t ne =
+    ap (λ b. cond b (((0, exponents_of n t.0.monomial.exponents), t.1) ∷ []) []) (nat_eq-other t.0.position r ne)
+
+-- minus the product of two residues
+minus_product : (p s c f : ℕ) → 0 < p → f ≡ (p - (s * c) % p) % p → IsCongruent p f ((p - 1) * s * c)
+minus_product p s c f pos e =
+    IsCongruent_cancel pos (s * c)
+    (IsCongruent_trans (IsCongruent_trans (IsCongruent_add (IsCongruent_sym (IsCongruent_mod p (s * c))) (IsCongruent_trans (IsCongruent_of p f _ e) (IsCongruent_mod p (p - (s * c) % p)))) (whole (s * c) pos))
+    (IsCongruent_sym (IsCongruent_trans (IsCongruent_of p (s * c + (p - 1) * s * c) (s * c + (p - 1) * (s * c)) (omega arith)) (IsCongruent_minus p (s * c) pos))))
+  where
+    whole : (x : ℕ) → 0 < p → IsCongruent p (x % p + (p - x % p)) 0
+    whole x pos =
+        let lt : x % p < p = mod-lt x pos in
+        IsCongruent_trans (IsCongruent_of p (x % p + (p - x % p)) (1 + (p - 1) * 1) (omega (arith, lt, pos))) (IsCongruent_minus p 1 pos)
+
+scale_congruent : {n p : ℕ} (c d : ℕ) (m : Exponents n) (v : FormalSum n) → IsCongruent p c d → IsSame p (scale c m v) (scale d m v)
+scale_congruent {n} {p} c d m v h = record {
+  by_key = λ k.
+      IsCongruent_trans (IsCongruent_of p _ _ (weighted_sum-scale (indicator k) c m v))
+      (IsCongruent_trans (IsCongruent_multiply h (IsCongruent_refl p (weighted_sum (λ l. indicator k (shift m l)) v))) (IsCongruent_of p _ _ (sym (weighted_sum-scale (indicator k) d m v))));
+}
+
+module _ (ring : Ring) (r s : ℕ) (w : Terms) where
+  -- a term in another row
+  pub multiple_other : (t : CodeKey × ℕ) → (t.0.position ≡ r → ⊥) → multiple_of ring r s w (t ∷ []) ≡ []
+  multiple_other t ne = ap (λ u. product (scale ((ring.modulus.value - 1) * s) (unit (variables ring)) u) (sum_of (variables ring) w)) (component-other r t ne)
+
+  pub clear_other :
+      (t : CodeKey × ℕ) (out : Terms) → (t.0.position ≡ r → ⊥)
+      → StandsFor ring out (sum_of (variables ring) out ++ multiple_of ring r s w (t ∷ []))
+  clear_other t out ne =
+      IsSame_of ring.modulus.value _ _ (sym (ap (λ z. sum_of (variables ring) out ++ z) (multiple_other t ne) ∙ append-nil (sum_of (variables ring) out)))
+
+  -- a term in the row
+  pub clear_here :
+      (t : CodeKey × ℕ) (out new : Terms) (f : ℕ) → 0 < ring.modulus.value → t.0.position ≡ r → f ≡ (ring.modulus.value - (s * t.1) % ring.modulus.value) % ring.modulus.value
+      → StandsFor ring new (sum_of (variables ring) out ++ scale f (exponents_of (variables ring) t.0.monomial.exponents) (sum_of (variables ring) w))
+      → StandsFor ring new (sum_of (variables ring) out ++ multiple_of ring r s w (t ∷ []))
+  clear_here t out new f pos at is h =
+      let n = variables ring in
+      let p = ring.modulus.value in
+      let m = exponents_of n t.0.monomial.exponents in
+      let W = sum_of n w in
+      let c = (p - 1) * s * t.1 in
+      let one : multiple_of ring r s w (t ∷ []) ≡ scale c m W =
+      ap (λ u. product (scale ((p - 1) * s) (unit n) u) W) (component-one r t at)
+      ∙ append-nil (scale ((p - 1) * s * t.1) (times (unit n) m) W)
+      ∙ ap (λ x. scale c x W) (times-unit m)
+      in
+      IsSame_trans h (IsSame_append (IsSame_refl p (sum_of n out)) (IsSame_trans (scale_congruent f c m W (minus_product p s t.1 f pos is)) (IsSame_of p _ _ (sym one))))
+
+  -- one more term
+  pub clear_more :
+      (v out new : Terms) (i : ℕ) (t : CodeKey × ℕ) (V : FormalSum (variables ring))
+      → i < length v → t ≡ get_or v i t
+      → StandsFor ring out (V ++ multiple_of ring r s w (take i v))
+      → StandsFor ring new (sum_of (variables ring) out ++ multiple_of ring r s w (t ∷ []))
+      → StandsFor ring new (V ++ multiple_of ring r s w (take (i + 1) v))
+  clear_more v out new i t V lt is h step =
+      let n = variables ring in
+      let p = ring.modulus.value in
+      let T = λ (u : FormalSum n). product (scale ((p - 1) * s) (unit n) (component r u)) (sum_of n w) in
+      let split : sum_of n (take (i + 1) v) ≡ sum_of n (take i v) ++ sum_of n (t ∷ []) =
+      ap (sum_of n) (take_more v i t lt ∙ ap (λ x. take i v ++ x ∷ []) (sym is)) ∙ map-append _ (take i v) (t ∷ [])
+      in
+      let more : IsSame p (T (sum_of n (take i v) ++ sum_of n (t ∷ []))) (T (sum_of n (take i v)) ++ T (sum_of n (t ∷ []))) =
+      linear_append (linear_after (linear_product (sum_of n w)) (linear_after (linear_times ((p - 1) * s)) (linear_component r))) (sum_of n (take i v)) (sum_of n (t ∷ []))
+      in
+      IsSame_trans step (IsSame_trans (IsSame_append h (IsSame_refl p (multiple_of ring r s w (t ∷ []))))
+      (IsSame_trans (IsSame_of p _ _ (append_assoc V (multiple_of ring r s w (take i v)) (multiple_of ring r s w (t ∷ []))))
+      (IsSame_append (IsSame_refl p V) (IsSame_trans (IsSame_sym more) (IsSame_of p _ _ (sym (ap T split)))))))
+
+-- ---- a row is taken out
+pub without-append : {n : ℕ} (r : ℕ) (v w : FormalSum n) → without_row r (v ++ w) ≡ without_row r v ++ without_row r w
+without-append r [] w = refl
+without-append {n} r (t ∷ v) w = go (nat_eq t.0.0 r) (without-append r v w)
+  where
+    go :
+        (b : Bool) → without_row r (v ++ w) ≡ without_row r v ++ without_row r w
+        → cond b (without_row r (v ++ w)) (((cond (nat_lt t.0.0 r) t.0.0 (t.0.0 - 1), t.0.1), t.1) ∷ without_row r (v ++ w))
+        ≡ cond b (without_row r v) (((cond (nat_lt t.0.0 r) t.0.0 (t.0.0 - 1), t.0.1), t.1) ∷ without_row r v) ++ without_row r w
+    go true e = e
+    go false e = ap (λ z. ((cond (nat_lt t.0.0 r) t.0.0 (t.0.0 - 1), t.0.1), t.1) ∷ z) e
+
+pub without_here : (n r : ℕ) (t : CodeKey × ℕ) (old : Terms) → t.0.position ≡ r → sum_of n old ≡ sum_of n old ++ without_row r (sum_of n (t ∷ []))
+without_here n r t old e =
+    let q : nat_eq t.0.position r ≡ true = eq-eqb t.0.position r e in
+    sym (append-nil (sum_of n old)) ∙ ap (λ b. sum_of n old ++ cond b [] (((cond (nat_lt t.0.position r) t.0.position (t.0.position - 1), exponents_of n t.0.monomial.exponents), t.1) ∷ [])) (sym q)
+
+pub without_other :
+    (n r : ℕ) (t : CodeKey × ℕ) (old : Terms) (k : CodeKey) → (t.0.position ≡ r → ⊥)
+    → k.monomial ≡ t.0.monomial → k.position ≡ cond (nat_lt t.0.position r) t.0.position (t.0.position - 1)
+    → sum_of n (old ++ (k, t.1) ∷ []) ≡ sum_of n old ++ without_row r (sum_of n (t ∷ []))
+without_other n r t old k ne em ek =
+    map-append _ old ((k, t.1) ∷ [])
+    ∙ ap₂ (λ i m. sum_of n old ++ ((i, exponents_of n m.exponents), t.1) ∷ []) ek em
+    ∙ ap (λ b. sum_of n old ++ cond b [] (((cond (nat_lt t.0.position r) t.0.position (t.0.position - 1), exponents_of n t.0.monomial.exponents), t.1) ∷ [])) (sym (nat_eq-other t.0.position r ne))
+
+pub without_more :
+    (n r : ℕ) (v old new : Terms) (i : ℕ) (t : CodeKey × ℕ) → i < length v → t ≡ get_or v i t
+    → sum_of n old ≡ without_row r (sum_of n (take i v)) → sum_of n new ≡ sum_of n old ++ without_row r (sum_of n (t ∷ []))
+    → sum_of n new ≡ without_row r (sum_of n (take (i + 1) v))
+without_more n r v old new i t lt is h step =
+    step ∙ ap (λ z. z ++ without_row r (sum_of n (t ∷ []))) h
+    ∙ sym (without-append r (sum_of n (take i v)) (sum_of n (t ∷ [])))
+    ∙ ap (without_row r) (sym (ap (sum_of n) (take_more v i t lt ∙ ap (λ x. take i v ++ x ∷ []) (sym is)) ∙ map-append _ (take i v) (t ∷ [])))
+
+-- ---- why a term is not cleared
+pub clear_stop : (r : ℕ) (w : Terms) (t : CodeKey × ℕ) (f : ℕ) (stop : VectStop) → t.0.position ≡ r → ScaledStops f t.0.monomial w stop → ClearingStops r w (t ∷ []) stop
+clear_stop r w t f Memory e h = tt
+clear_stop r w t f (Degree a b) e h = ((t, (0, omega arith, refl), e, sym h.1), h.2, h.3)
+
+pub stop_of : (r : ℕ) (w v : Terms) (t : CodeKey × ℕ) (stop : VectStop) → Contains v t → ClearingStops r w (t ∷ []) stop → ClearingStops r w v stop
+stop_of r w v t Memory c h = tt
+stop_of r w v t (Degree a b) c h = (at h.0, h.1, h.2)
+  where
+    at : IsMonomialAt r (t ∷ []) a → IsMonomialAt r v a
+    at (u, (zero, lt, e), p, m) = (t, c, ap (λ (z : CodeKey × ℕ). z.0.position) e ∙ p, ap (λ (z : CodeKey × ℕ). z.0.monomial) e ∙ m)
+    at (u, (suc i, lt, e), p, m) = absurd (omega (arith, lt))
+
+-- ---- the start and the end of a loop
+pub clear_start : (ring : Ring) (r s : ℕ) (w v out : Terms) → out ≡ v → StandsFor ring out (sum_of (variables ring) v ++ multiple_of ring r s w [])
+clear_start ring r s w v out e = IsSame_of ring.modulus.value _ _ (ap (sum_of (variables ring)) e ∙ sym (append-nil (sum_of (variables ring) v)))
+
+pub over_more : (P : CodeKey × ℕ → Type 0) (v : Terms) (i : ℕ) (t : CodeKey × ℕ) → Each P v → i < length v → t ≡ get_or v i t → P t
+over_more P [] i t h lt e = absurd (omega (arith, lt))
+over_more P (x ∷ v) zero t h lt e = subst P (sym e) h.0
+over_more P (x ∷ v) (suc i) t h lt e = over_more P v i t h.1 (omega (arith, lt)) e
+
+pub on_ok : {X E : Type 0} (r : Result X E) (P Q : Type 0) → (P → Q) → OnOk r P → OnOk r Q
+on_ok (Ok x) P Q f h = f h
+on_ok (Err e) P Q f h = tt

@@ -1,0 +1,10 @@
+pub mod Clearings
+pub mod Columns
+pub mod Counts
+pub mod Ending
+pub mod Entries
+pub mod Growing
+pub mod NoZeroColumns
+pub mod Reading
+pub mod Splittings
+pub mod Units

@@ -1,0 +1,22 @@
+use Rattle.std.proofs.Common.{arith, subst, ◌∙◌}
+use Rattle.std.proofs.lemmas.List.{take_all}
+use Rattle.formal_sums.specs.FormalSums.{FormalSum}
+use Rattle.module_vectors.specs.Rings.{variables}
+use Rattle.minimal_betti.specs.Carried.{AreOwn}
+use Rattle.minimal_betti.proofs.Columns.{image_pushed, own_all, vectors_pushed}
+use Rattle.minimal_betti.proofs.cancelling.own_columns.Goals as goal
+
+pub loop-v-preserved : goal.loop-v-preserved
+loop-v-preserved c =
+    let ring = c.args.ring.now in
+    record {
+      same = image_pushed ring (λ (v : FormalSum (variables ring)). v) c.as_slice-v-items.result.now c.loop-v.v-index c.v-item.result c.loop-v.own.items c.push.new.self.items c.in_ok-in_own_order.field-0
+          (omega arith) c.v-item.is c.loop-v.invariant.same c.in_ok-in_own_order.ensures.sum c.in_ok-push.ensures.items;
+      vectors = vectors_pushed ring c.loop-v.own.items c.push.new.self.items c.in_ok-in_own_order.field-0 c.loop-v.invariant.vectors c.in_ok-in_own_order.ensures.vector c.in_ok-push.ensures.items;
+    }
+
+pub returns : goal.returns
+returns c =
+    let items = c.as_slice-v-items.result.now in
+    subst (λ z. AreOwn c.args.ring.now z c.from_vec.result) (take_all c.loop-v.v-index items (omega arith) ∙ c.as_slice-v-items.ensures)
+    (own_all c.args.ring.now _ c.loop-v.own.items c.from_vec.result c.from_vec.ensures c.loop-v.invariant.same c.loop-v.invariant.vectors)

@@ -1,0 +1,23 @@
+use Rattle.std.proofs.Common.{[], ap, arith, get_or, subst, sym, ◌<◌, ◌∙◌}
+use Rattle.std.proofs.lemmas.List.{get_or_default}
+use Rattle.formal_sums.proofs.Linear.{linear_same}
+use Rattle.formal_sums.proofs.Sameness.{IsSame_trans}
+use Rattle.minimal_laws.proofs.Rows.{linear_without_row}
+use Rattle.minimal_laws.specs.Cancellation.{cleared}
+use Rattle.module_vectors.specs.Rings.{variables}
+use Rattle.module_vectors.specs.Vectors.{StandsFor, sum_of}
+use Rattle.vector_division.proofs.Members.{sums_at}
+use Rattle.minimal_betti.proofs.splitting.split_column.Goals as goal
+
+pub returns-in_ok-vector_without-in-Ok-clause-sum : goal.returns-in_ok-vector_without-in-Ok-clause-sum
+returns-in_ok-vector_without-in-Ok-clause-sum c =
+    let ring = c.args.ring.now in
+    let n = variables ring in
+    let p = ring.modulus.value in
+    let above : 1 < p = (c.lawful_setting.ensures 0).domain.above_one in
+    let x = c.index-as_slice-at.result in
+    let columns = c.args.columns.now in
+    let at = c.index-as_slice-at.is ∙ ap (λ l. get_or l c.args.at.column x) c.as_slice.ensures ∙ get_or_default columns c.args.at.column x [] c.requires.inside in
+    let w = ap (sum_of n) at ∙ sym (sums_at n columns c.args.at.column) in
+    let h = subst (λ z. StandsFor ring c.in-Ok.cleared (cleared p c.args.at.row c.args.inverse z (sum_of n c.args.v.now))) w c.in-Ok.ensures.sum in
+    IsSame_trans c.in_ok-vector_without-in-Ok.ensures.sum (linear_same (omega (arith, above)) (linear_without_row c.args.at.row) h)

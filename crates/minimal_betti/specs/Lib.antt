@@ -1,0 +1,10 @@
+-- what public clauses cite
+pub mod Graded
+pub mod Minimising
+pub mod Tables
+-- what holds while constants leave, and invariants of loops
+pub mod Carried
+pub mod Clearing
+pub mod Constants
+pub mod Growing
+pub mod Splitting

@@ -1,0 +1,76 @@
+-- A constant, its row and its column leave the maps in the code
+use Rattle.std.specs.Prelude.{List, [], get_or, map, reverse, ℕ, ◌*◌, ◌++◌, ◌∷◌, ◌≡◌, ◌⊎◌}
+use Rattle.residues.specs.Residues.{IsCongruent}
+use Rattle.monomials.specs.Exponents.{unit}
+use Rattle.formal_sums.specs.FormalSums.{Each, FormalSum, coefficient}
+use Rattle.minimal_laws.specs.Cancellation.{AreSameColumns, cleared, remove_at, without_row}
+use Rattle.minimal_laws.specs.Gradings.{AreGraded}
+use Rattle.module_vectors.specs.Rings.{ring_comparison, variables}
+use Rattle.module_vectors.specs.Vectors.{AreVectorsOver, IsVectorOver, StandsFor, sum_of, sums_of}
+use Rattle.module_vectors.specs.declared.key.Key.{Key as CodeKey}
+use Rattle.module_vectors.specs.declared.ring.Ring.{Ring}
+use Rattle.minimal_betti.specs.Carried.{AreOrdered, HasNone, graded_map}
+use Rattle.minimal_betti.specs.declared.carried.Carried.{Carried}
+use Rattle.minimal_betti.specs.declared.constants.Constant.{Constant}
+
+-- v cleared by the constant's column, without its row; s is the inverse of the constant
+abbrev pub split_of : (ring : Ring) → ℕ → Constant → List (List (CodeKey × ℕ)) → FormalSum (variables ring) → FormalSum (variables ring)
+split_of ring s at columns v =
+    without_row at.row (cleared ring.modulus.value at.row s (get_or (sums_of (variables ring) columns) at.column []) v)
+
+-- the column with this index was put behind the others so, unless it is the constant's own
+abbrev pub IsOtherPut : Ring → ℕ → Constant → List (List (CodeKey × ℕ)) → ℕ → List (List (CodeKey × ℕ)) → List (List (CodeKey × ℕ)) → Type 0
+IsOtherPut ring s at columns i old new =
+    ((i ≡ at.column) × (new ≡ old))
+    ⊎ ((i ≡ at.column → ⊥) × ((w : List (CodeKey × ℕ)) × (new ≡ old ++ w ∷ []) × IsVectorOver ring (ring_comparison ring) w
+    × StandsFor ring w (split_of ring s at columns (sum_of (variables ring) (get_or columns i [])))))
+
+-- the other columns, cleared by the constant's column, without its row
+pub record AreSplit (ring : Ring) (s : ℕ) (at : Constant) (old new : List (List (CodeKey × ℕ))) : Type 0 where
+  pub same :
+      let n = variables ring in
+      AreSameColumns ring.modulus.value (map (split_of ring s at old) (remove_at at.column (sums_of n old))) (sums_of n new)
+  pub vectors : AreVectorsOver ring (ring_comparison ring) new
+
+-- the columns without the row
+pub record AreWithout (ring : Ring) (row : ℕ) (old new : List (List (CodeKey × ℕ))) : Type 0 where
+  pub same : AreSameColumns ring.modulus.value (map (λ v. without_row row v) (sums_of (variables ring) old)) (sums_of (variables ring) new)
+  pub vectors : AreVectorsOver ring (ring_comparison ring) new
+
+-- the map is split at the constant
+pub record IsSplit (ring : Ring) (at : Constant) (old new : Carried) : Type 0 where
+  pub inverse : ℕ
+  pub is_inverse :
+      let n = variables ring in
+      IsCongruent ring.modulus.value (inverse * coefficient (get_or (sums_of n old.columns) at.column []) (at.row, unit n)) 1
+  pub columns : AreSplit ring inverse at old.columns new.columns
+  pub degrees : new.degrees.items ≡ remove_at at.column old.degrees.items
+
+-- the map's column leaves, with its degree
+pub record IsFewer (row : ℕ) (old new : Carried) : Type 0 where
+  pub columns : new.columns ≡ remove_at row old.columns
+  pub degrees : new.degrees.items ≡ remove_at row old.degrees.items
+
+-- the column of the last map leaves, or where there is no map the position
+abbrev pub IsRowLeft : ℕ → List ℕ → List ℕ → List Carried → List Carried → Type 0
+IsRowLeft row rows rows' done done' =
+    ((done ≡ []) × (done' ≡ []) × (rows' ≡ remove_at row rows))
+    ⊎ ((before : List Carried) × (last : Carried) × (last' : Carried) × (done ≡ before ++ last ∷ []) × (done' ≡ before ++ last' ∷ [])
+    × IsFewer row last last' × (rows' ≡ rows))
+
+-- the row of the next map leaves, where there is one; the maps stand in the other order
+abbrev pub IsNextLeft : Ring → ℕ → List Carried → List Carried → Type 0
+IsNextLeft ring row rest rest' =
+    ((rest ≡ []) × (rest' ≡ []))
+    ⊎ ((before : List Carried) × (next : Carried) × (next' : Carried) × (rest ≡ before ++ next ∷ []) × (rest' ≡ before ++ next' ∷ [])
+    × AreWithout ring row next.columns next'.columns × (next'.degrees ≡ next.degrees))
+
+-- the maps that are done, the one at hand and those to come, which stand in the other order
+abbrev pub in_turn : List Carried → Carried → List Carried → List Carried
+in_turn done current rest = done ++ current ∷ reverse rest
+
+-- graded maps of vectors, where those that are done have no constant
+pub record IsUnderway (ring : Ring) (rows : List ℕ) (done maps : List Carried) : Type 0 where
+  pub ordered : AreOrdered ring maps
+  pub graded : AreGraded ring.weights ring.modulus.value rows (map (graded_map (variables ring)) maps)
+  pub none : Each (λ m. HasNone ring.modulus.value (sums_of (variables ring) m.columns)) done

@@ -1,0 +1,18 @@
+//! Minimal resolutions and Betti numbers.
+//!
+//! Where a map of a graded resolution has a constant that is not 0, its row and its column leave the maps; what is left at the
+//! end is a minimal resolution of the same module. Its table counts the positions at each step by their degrees, and is that of
+//! every minimal resolution (UAG chapter 6, section 3).
+#![tactic(auto)]
+
+mod cancelling;
+mod carried;
+mod clearing;
+mod constants;
+mod counting;
+mod splitting;
+mod stopping;
+mod tables;
+
+pub use cancelling::minimal;
+pub use tables::{Entry, TableInvariants, invariants, table};

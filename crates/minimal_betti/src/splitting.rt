@@ -1,0 +1,218 @@
+// A constant, its row and its column leave the maps.
+ghost use Rattle.std.specs.Prelude.{◌≡◌, ◌<◌, ◌+◌, [], IfErr, IfOk, OnOk, get_or, length};
+ghost use Rattle.minimal_laws.specs.Cancellation.{cleared, remove_at, without_row};
+ghost use Rattle.module_vectors.specs.Rings.{ring_comparison, variables};
+ghost use Rattle.module_vectors.specs.Vectors.{AreVectorsOver, IsVectorOver, StandsFor, sum_of, sums_of};
+ghost use Rattle.minimal_betti.specs.Carried.{AreOrdered, IsFirst, LeadsTo, graded_maps};
+ghost use Rattle.minimal_betti.specs.Minimising.{CancellationStops};
+ghost use Rattle.minimal_betti.specs.Splitting.{AreSplit, AreWithout, IsOtherPut, IsNextLeft, IsRowLeft, IsSplit, IsUnderway, in_turn};
+
+use crate::carried::Carried;
+use crate::clearing::{cleared_vector, vector_without};
+use crate::constants::Constant;
+use crate::stopping::cancellation_stop;
+use module_vectors::{NoMemory, Ring, Vect, VectList, WorkStop, lawful_setting};
+use std::alloc::Global;
+
+// Another column, cleared by the constant's column, without its row.
+fn split_column(
+    alloc: Global,
+    ring: &Ring,
+    columns: &VectList,
+    at: Constant,
+    inverse: u32,
+    v: &Vect,
+) -> Result<Vect, WorkStop>
+    requires inverse { inverse < ring.now.modulus.value }
+    requires inside { at.column < length columns.now }
+    requires columns { AreVectorsOver ring.now (ring_comparison ring.now) columns.now }
+    requires vector { IsVectorOver ring.now (ring_comparison ring.now) v.now }
+    ensures vector { IfOk result (IsVectorOver ring.now (ring_comparison ring.now)) }
+    ensures sum { let n = variables ring.now in IfOk result (λ u. StandsFor ring.now u
+        (without_row at.row (cleared ring.now.modulus.value at.row inverse (get_or (sums_of n columns.now) at.column []) (sum_of n v.now)))) }
+    ensures stop { IfErr result (CancellationStops ring.now) }
+{
+    lawful_setting(ring);
+    let w = &columns.as_slice()[at.column];
+    match cleared_vector(alloc, ring, w, at.row, inverse, v) {
+        Ok(cleared) => Ok(vector_without(alloc, ring, at.row, &cleared)?),
+        Err(stop) => Err(cancellation_stop(alloc, ring, columns, at, v, stop)),
+    }
+}
+
+// Puts the column with this index, so split, behind the others, unless it is the constant's own.
+fn push_other(
+    alloc: Global,
+    ring: &Ring,
+    columns: &VectList,
+    at: Constant,
+    inverse: u32,
+    i: usize,
+    others: &mut Vec<Vect>,
+) -> Result<(), WorkStop>
+    requires inverse { inverse < ring.now.modulus.value }
+    requires inside { at.column < length columns.now }
+    requires index { i < length columns.now }
+    requires columns { AreVectorsOver ring.now (ring_comparison ring.now) columns.now }
+    ensures put { OnOk result (IsOtherPut ring.now inverse at columns.now i others.old.items others.new.items) }
+    ensures stop { IfErr result (CancellationStops ring.now) }
+{
+    if i == at.column {
+        return Ok(());
+    }
+    let v = &columns.as_slice()[i];
+    match split_column(alloc, ring, columns, at, inverse, v) {
+        Ok(split) => {
+            others.push(split)?;
+            Ok(())
+        }
+        Err(stop) => Err(stop),
+    }
+}
+
+// The other columns so.
+fn split_columns(
+    alloc: Global,
+    ring: &Ring,
+    columns: &VectList,
+    at: Constant,
+    inverse: u32,
+) -> Result<VectList, WorkStop>
+    requires inverse { inverse < ring.now.modulus.value }
+    requires inside { at.column < length columns.now }
+    requires columns { AreVectorsOver ring.now (ring_comparison ring.now) columns.now }
+    ensures split { IfOk result (AreSplit ring.now inverse at columns.now) }
+    ensures stop { IfErr result (CancellationStops ring.now) }
+{
+    lawful_setting(ring);
+    let mut others = Vec::with_capacity(alloc, columns.len())?;
+    for i in 0..columns.len() {
+        match push_other(alloc, ring, columns, at, inverse, i, &mut others) {
+            Ok(()) => {}
+            Err(stop) => return Err(stop),
+        }
+    }
+    Ok(VectList::from_vec(others))
+}
+
+// The columns without the row.
+fn columns_without(
+    alloc: Global,
+    ring: &Ring,
+    row: u64,
+    columns: &VectList,
+) -> Result<VectList, NoMemory>
+    requires { AreVectorsOver ring.now (ring_comparison ring.now) columns.now }
+    ensures { IfOk result (AreWithout ring.now row columns.now) }
+{
+    lawful_setting(ring);
+    let mut without = Vec::with_capacity(alloc, columns.len())?;
+    for v in columns.as_slice() {
+        without.push(vector_without(alloc, ring, row, v)?)?;
+    }
+    Ok(VectList::from_vec(without))
+}
+
+// The degree leaves, where there is one.
+fn drop_degree(degrees: &mut Vec<u32>, at: u64)
+    ensures { degrees.new.items ≡ remove_at at degrees.old.items }
+{
+    if at < degrees.len() as u64 {
+        degrees.remove(at as usize);
+    }
+}
+
+// The column leaves, where there is one.
+fn drop_column(columns: VectList, at: u64) -> VectList
+    ensures { result ≡ remove_at at columns }
+{
+    let mut vectors = columns.into_vec();
+    if at >= vectors.len() as u64 {
+        return VectList::from_vec(vectors);
+    }
+    drop(vectors.remove(at as usize));
+    VectList::from_vec(vectors)
+}
+
+// The map split at the constant.
+fn split_map(alloc: Global, ring: &Ring, map: Carried, at: Constant) -> Result<Carried, WorkStop>
+    requires columns { AreVectorsOver ring.now (ring_comparison ring.now) map.columns }
+    requires first { IsFirst ring.now map.columns at }
+    ensures split { IfOk result (IsSplit ring.now at map) }
+    ensures stop { IfErr result (CancellationStops ring.now) }
+{
+    let inverse = match ring.modulus.invert(at.residue) {
+        Some(inverse) => inverse,
+        None => unreachable!(),
+    };
+    let columns = match split_columns(alloc, ring, &map.columns, at, inverse) {
+        Ok(columns) => columns,
+        Err(stop) => return Err(stop),
+    };
+    let mut degrees = map.degrees;
+    drop_degree(&mut degrees, at.column as u64);
+    Ok(Carried { columns, degrees })
+}
+
+// The column of the last map of those that are done leaves, or where there is none the position.
+fn leave_row(positions: &mut Vec<u32>, done: &mut Vec<Carried>, row: u64) -> Result<(), NoMemory>
+    ensures { OnOk result (IsRowLeft row positions.old.items positions.new.items done.old.items done.new.items) }
+{
+    match done.pop() {
+        Some(last) => {
+            let mut degrees = last.degrees;
+            drop_degree(&mut degrees, row);
+            done.push(Carried {
+                columns: drop_column(last.columns, row),
+                degrees,
+            })?;
+        }
+        None => drop_degree(positions, row),
+    }
+    Ok(())
+}
+
+// The row of the next map leaves, where there is one.
+fn leave_next(alloc: Global, ring: &Ring, row: u64, rest: &mut Vec<Carried>) -> Result<(), NoMemory>
+    requires { AreOrdered ring.now rest.old.items }
+    ensures { OnOk result (IsNextLeft ring.now row rest.old.items rest.new.items) }
+{
+    if let Some(next) = rest.pop() {
+        rest.push(Carried {
+            columns: columns_without(alloc, ring, row, &next.columns)?,
+            degrees: next.degrees,
+        })?;
+    }
+    Ok(())
+}
+
+/// The constant, its row and its column leave the maps, of which those to come stand with the next one last. It is the first
+/// constant of the map at hand, and those before have none. After an error the maps are lost.
+pub(crate) fn cancel(
+    alloc: Global,
+    ring: &Ring,
+    positions: &mut Vec<u32>,
+    done: &mut Vec<Carried>,
+    current: Carried,
+    rest: &mut Vec<Carried>,
+    at: Constant,
+) -> Result<Carried, WorkStop>
+    requires underway { IsUnderway ring.now positions.old.items done.old.items (in_turn done.old.items current rest.old.items) }
+    requires first { IsFirst ring.now current.columns at }
+    ensures underway { IfOk result (λ m. IsUnderway ring.now positions.new.items done.new.items (in_turn done.new.items m rest.new.items)) }
+    ensures leads { IfOk result (λ m. LeadsTo ring.now.modulus.value
+        (graded_maps ring.now positions.old.items (in_turn done.old.items current rest.old.items))
+        (graded_maps ring.now positions.new.items (in_turn done.new.items m rest.new.items))) }
+    ensures falls { IfOk result (λ m. length m.columns + 1 ≡ length current.columns) }
+    ensures rest { OnOk result (length rest.new.items ≡ length rest.old.items) }
+    ensures stop { IfErr result (CancellationStops ring.now) }
+{
+    lawful_setting(ring);
+    let split = match split_map(alloc, ring, current, at) {
+        Ok(split) => split,
+        Err(stop) => return Err(stop),
+    };
+    leave_next(alloc, ring, at.column as u64, rest)?;
+    leave_row(positions, done, at.row)?;
+    Ok(split)
+}
