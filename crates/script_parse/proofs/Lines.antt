@@ -22,7 +22,7 @@ use Rattle.script_parse.specs.declared.form.Division.TheVariants.{Lift, Member, 
 use Rattle.script_parse.specs.declared.form.Head.{Head}
 use Rattle.script_parse.specs.declared.form.Head.TheVariants as heads
 use Rattle.script_parse.specs.declared.form.Question.{Question}
-use Rattle.script_parse.specs.declared.form.Question.TheVariants.{Gb, Gens, Hilbert, Resolution, Size}
+use Rattle.script_parse.specs.declared.form.Question.TheVariants.{Betti, Gb, Gens, Hilbert, Minimal, Regularity, Resolution, Size}
 use Rattle.script_parse.specs.declared.form.Form.{Form}
 use Rattle.script_parse.specs.declared.form.Form.TheVariants as forms
 use Rattle.script_parse.specs.declared.operands.Operands.{Operands}
@@ -44,7 +44,9 @@ word_named text =
     said text (codes "ring") ring_word (said text (codes "show") show_word (said text (codes "ideal") ideal_word (said text (codes "gens") (question_word Gens)
     (said text (codes "gb") (question_word Gb) (said text (codes "size") (question_word Size) (said text (codes "nf") (division_word NormalForm)
     (said text (codes "member") (division_word Member) (said text (codes "equal") equal_word (said text (codes "module") module_word
-    (said text (codes "let") let_word (said text (codes "hilb") (question_word Hilbert) (said text (codes "lift") (division_word Lift) (said text (codes "fglm") change_word (said text (codes "res") (question_word Resolution) None))))))))))))))
+    (said text (codes "let") let_word (said text (codes "hilb") (question_word Hilbert) (said text (codes "lift") (division_word Lift) (said text (codes "fglm") change_word (said text (codes "res") (question_word Resolution)
+    (said text (codes "minres") (question_word Minimal) (said text (codes "betti") (question_word Betti)
+    (said text (codes "reg") (question_word Regularity) None)))))))))))))))))
 
 word_again : (w : Word) → word_named (word_text w) ≡ Some w
 word_again ring_word = refl
@@ -57,6 +59,9 @@ word_again (question_word Gb) = refl
 word_again (question_word Size) = refl
 word_again (question_word Hilbert) = refl
 word_again (question_word Resolution) = refl
+word_again (question_word Minimal) = refl
+word_again (question_word Betti) = refl
+word_again (question_word Regularity) = refl
 word_again (division_word NormalForm) = refl
 word_again (division_word Member) = refl
 word_again (division_word Lift) = refl

@@ -32,7 +32,7 @@ apart ring infos line a b s r = s.free b r.holds
 
 -- kinds at one place are one
 kind_at : ℕ → Kind
-kind_at n = cond (eqb n 1) kinds.Syntax (cond (eqb n 2) kinds.Numeral (cond (eqb n 3) kinds.Ring (cond (eqb n 4) kinds.Modulus (cond (eqb n 5) kinds.Name (cond (eqb n 6) kinds.OfKind (cond (eqb n 7) kinds.Rank (cond (eqb n 8) kinds.Degree (cond (eqb n 10) kinds.Leads (cond (eqb n 11) kinds.Large (cond (eqb n 12) kinds.Infinite kinds.Many))))))))))
+kind_at n = cond (eqb n 1) kinds.Syntax (cond (eqb n 2) kinds.Numeral (cond (eqb n 3) kinds.Ring (cond (eqb n 4) kinds.Modulus (cond (eqb n 5) kinds.Name (cond (eqb n 6) kinds.OfKind (cond (eqb n 7) kinds.Rank (cond (eqb n 8) kinds.Degree (cond (eqb n 9) kinds.Homogeneous (cond (eqb n 10) kinds.Leads (cond (eqb n 11) kinds.Large (cond (eqb n 12) kinds.Infinite kinds.Many)))))))))))
 
 at_place : (k : Kind) → kind_at (place k) ≡ k
 unfolding kind_at
@@ -44,6 +44,7 @@ at_place kinds.Name = refl
 at_place kinds.OfKind = refl
 at_place kinds.Rank = refl
 at_place kinds.Degree = refl
+at_place kinds.Homogeneous = refl
 at_place kinds.Leads = refl
 at_place kinds.Large = refl
 at_place kinds.Infinite = refl
@@ -166,6 +167,15 @@ says_same ring line (ask_line questions.Hilbert t) _ b h k = absurd h
 says_same ring line (ask_line questions.Resolution t) (statements.Resolution a) (statements.Resolution b) h k = h ∙ sym k
 says_same ring line (ask_line questions.Resolution t) (statements.Resolution a) _ h k = absurd k
 says_same ring line (ask_line questions.Resolution t) _ b h k = absurd h
+says_same ring line (ask_line questions.Minimal t) (statements.Minimal a) (statements.Minimal b) h k = h ∙ sym k
+says_same ring line (ask_line questions.Minimal t) (statements.Minimal a) _ h k = absurd k
+says_same ring line (ask_line questions.Minimal t) _ b h k = absurd h
+says_same ring line (ask_line questions.Betti t) (statements.Betti a) (statements.Betti b) h k = h ∙ sym k
+says_same ring line (ask_line questions.Betti t) (statements.Betti a) _ h k = absurd k
+says_same ring line (ask_line questions.Betti t) _ b h k = absurd h
+says_same ring line (ask_line questions.Regularity t) (statements.Regularity a) (statements.Regularity b) h k = h ∙ sym k
+says_same ring line (ask_line questions.Regularity t) (statements.Regularity a) _ h k = absurd k
+says_same ring line (ask_line questions.Regularity t) _ b h k = absurd h
 says_same (Some ring) line (divide_line divisions.NormalForm t ps) (statements.NormalForm a v) (statements.NormalForm b w) h k = (h.0 ∙ sym k.0, same_vector ring line ps v w h.1.0 k.1.0 h.1.2 k.1.2)
 says_same (Some ring) line (divide_line divisions.NormalForm t ps) (statements.NormalForm a v) _ h k = absurd k
 says_same (Some ring) line (divide_line divisions.NormalForm t ps) _ b h k = absurd h

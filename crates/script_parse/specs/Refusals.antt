@@ -152,7 +152,7 @@ HasGreatDegree None line w = ⊥
 HasGreatDegree (Some ring) line w =
     (p : Poly) × Contains (polys_of w) p × (formal_degree (λ t. name_weight ring (text_of line t)) (value_of line) p ≡ None)
 
--- the kind holds of the line, where this ring is stated and values have these names; the last four kinds hold of no line by itself:
+-- the kind holds of the line, where this ring is stated and values have these names; the last five kinds hold of no line by itself:
 -- the session tells them after the line's run
 abbrev pub Holds : Option Ring → List NameInfo → List ℕ → Kind → Type 0
 Holds ring names line kinds.Syntax = (w : Written) → IsLine line w → ⊥
@@ -163,12 +163,13 @@ Holds ring names line kinds.Name = (w : Written) × IsLine line w × HasUnknownN
 Holds ring names line kinds.OfKind = (w : Written) × IsLine line w × HasOtherKind ring names line w
 Holds ring names line kinds.Rank = (w : Written) × IsLine line w × HasOtherRank names line w
 Holds ring names line kinds.Degree = (w : Written) × IsLine line w × HasGreatDegree ring line w
+Holds ring names line kinds.Homogeneous = ⊥
 Holds ring names line kinds.Leads = ⊥
 Holds ring names line kinds.Large = ⊥
 Holds ring names line kinds.Infinite = ⊥
 Holds ring names line kinds.Many = ⊥
 
--- the place of a kind in the order in which they are tried (9 is free)
+-- the place of a kind in the order in which they are tried
 abbrev pub place : Kind → ℕ
 place kinds.Syntax = 1
 place kinds.Numeral = 2
@@ -178,6 +179,7 @@ place kinds.Name = 5
 place kinds.OfKind = 6
 place kinds.Rank = 7
 place kinds.Degree = 8
+place kinds.Homogeneous = 9
 place kinds.Leads = 10
 place kinds.Large = 11
 place kinds.Infinite = 12

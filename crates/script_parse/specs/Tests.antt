@@ -50,6 +50,7 @@ HoldsOf ring names line w kinds.Name = HasUnknownName ring names line w
 HoldsOf ring names line w kinds.OfKind = HasOtherKind ring names line w
 HoldsOf ring names line w kinds.Rank = HasOtherRank names line w
 HoldsOf ring names line w kinds.Degree = HasGreatDegree ring line w
+HoldsOf ring names line w kinds.Homogeneous = ⊥
 HoldsOf ring names line w kinds.Leads = ⊥
 HoldsOf ring names line w kinds.Large = ⊥
 HoldsOf ring names line w kinds.Infinite = ⊥

@@ -1,8 +1,8 @@
 -- The lines of a script, as they are written:
 -- line := nothing | ring NUM NAME {, NAME} order [top] [weights NUM {, NUM}] | show POLY | ideal NAME = POLY {, POLY}
 --       | module NAME NUM = VEC {, VEC} | let NAME = operation
---       | gens NAME | gb NAME | size NAME | hilb NAME | res NAME | nf NAME VEC | member NAME VEC | lift NAME VEC | equal NAME NAME
---       | fglm NAME order
+--       | gens NAME | gb NAME | size NAME | hilb NAME | nf NAME VEC | member NAME VEC | lift NAME VEC | equal NAME NAME
+--       | fglm NAME order | res NAME | minres NAME | betti NAME | reg NAME
 -- order := lex | grevlex | elim NUM
 -- operation := sum NAME NAME | product NAME NAME | intersect NAME NAME | colon NAME NAME
 --            | quotient NAME POLY | saturate NAME POLY | eliminate NAME NUM | syz NAME
@@ -16,7 +16,7 @@ use Rattle.poly_grammar.specs.Trees.{Poly, Reads}
 use Rattle.script_parse.specs.declared.form.Division.{Division}
 use Rattle.script_parse.specs.declared.form.Division.TheVariants.{Lift, Member, NormalForm}
 use Rattle.script_parse.specs.declared.form.Question.{Question}
-use Rattle.script_parse.specs.declared.form.Question.TheVariants.{Gb, Gens, Hilbert, Resolution, Size}
+use Rattle.script_parse.specs.declared.form.Question.TheVariants.{Betti, Gb, Gens, Hilbert, Minimal, Regularity, Resolution, Size}
 use Rattle.script_parse.specs.declared.operands.Binary.{Binary}
 use Rattle.script_parse.specs.declared.operands.Binary.TheVariants.{Colon, Intersect, Product, Sum}
 use Rattle.script_parse.specs.declared.operands.ByPolynomial.{ByPolynomial}
@@ -78,6 +78,9 @@ word_text (question_word Gb) = codes "gb"
 word_text (question_word Size) = codes "size"
 word_text (question_word Hilbert) = codes "hilb"
 word_text (question_word Resolution) = codes "res"
+word_text (question_word Minimal) = codes "minres"
+word_text (question_word Betti) = codes "betti"
+word_text (question_word Regularity) = codes "reg"
 word_text (division_word NormalForm) = codes "nf"
 word_text (division_word Member) = codes "member"
 word_text (division_word Lift) = codes "lift"

@@ -31,6 +31,12 @@ pub enum Question {
     Hilbert,
     /// `res`
     Resolution,
+    /// `minres`
+    Minimal,
+    /// `betti`
+    Betti,
+    /// `reg`
+    Regularity,
 }
 
 /// The word of a division of a vector by a value.
@@ -220,6 +226,12 @@ fn question_of(line: &[u8], token: Token) -> Option<Question>
         Some(Question::Hilbert)
     } else if is_word(line, token, b"res") {
         Some(Question::Resolution)
+    } else if is_word(line, token, b"minres") {
+        Some(Question::Minimal)
+    } else if is_word(line, token, b"betti") {
+        Some(Question::Betti)
+    } else if is_word(line, token, b"reg") {
+        Some(Question::Regularity)
     } else {
         None
     }

@@ -6,7 +6,7 @@ ghost use Rattle.script_parse.specs.declared.kind.ParseStop.TheVariants.{Memory}
 use module_vectors::NoMemory;
 use std::alloc::{AllocError, AllocFailed};
 
-/// Why a line is refused. The kinds are tried in this order, and the first that holds is answered. The last four are told of a
+/// Why a line is refused. The kinds are tried in this order, and the first that holds is answered. The last five are told of a
 /// line's values, after its run: no line is refused for them when it is read.
 #[derive(Clone, Copy, Debug, PartialEq, Eq)]
 pub enum Kind {
@@ -34,6 +34,8 @@ pub enum Kind {
     Rank,
     /// The formal degree, by the ring's weights, of a polynomial or of a part of it is above 1,000.
     Degree,
+    /// `minres`, `betti` or `reg` of a value of which a member of the reduced basis has terms of two degrees.
+    Homogeneous,
     /// `hilb` of a value some position of which has more than 120 leads.
     Leads,
     /// `hilb` of a value whose numbers do not fit.

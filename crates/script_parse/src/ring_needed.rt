@@ -146,6 +146,9 @@ fn ask_statement(
         Question::Size => Ok(Statement::Size(name)),
         Question::Hilbert => Ok(Statement::Hilbert(name)),
         Question::Resolution => Ok(Statement::Resolution(name)),
+        Question::Minimal => Ok(Statement::Minimal(name)),
+        Question::Betti => Ok(Statement::Betti(name)),
+        Question::Regularity => Ok(Statement::Regularity(name)),
     }
 }
 

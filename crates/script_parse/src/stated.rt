@@ -29,6 +29,12 @@ pub enum Statement {
     Hilbert(String),
     /// The canonical resolution of a value is to be printed.
     Resolution(String),
+    /// The minimal resolution of a value is to be printed.
+    Minimal(String),
+    /// The Betti numbers of a value are to be printed.
+    Betti(String),
+    /// The projective dimension and the regularity of a value are to be printed.
+    Regularity(String),
     /// The normal form of a vector modulo a value is to be printed.
     NormalForm(String, Vect),
     /// Whether a vector is in a value is to be printed.

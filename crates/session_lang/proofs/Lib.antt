@@ -9,6 +9,8 @@ mod Making
 mod Placing
 mod Reporting
 mod OneReordering
+mod OneMinimal
+mod MinimalMaps
 mod OneResolution
 mod Performing
 mod Stopping

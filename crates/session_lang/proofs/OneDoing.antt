@@ -15,11 +15,13 @@ use Rattle.script_parse.specs.declared.stated.Statement.{Statement}
 use Rattle.script_parse.specs.declared.stated.Statement.TheVariants as statements
 use Rattle.session_lang.proofs.OneAnswer.{answers_once, decides_once, one_ring, one_value}
 use Rattle.session_lang.proofs.OneReordering.{reorders_once}
+use Rattle.session_lang.proofs.OneMinimal.{betti_once, minimal_once, regularity_once, tells_once}
 use Rattle.session_lang.proofs.OneResolution.{resolves_once}
 use Rattle.session_lang.proofs.OneText.{counts_once, lifts_once}
 use Rattle.session_lang.proofs.OneWork.{gives_once}
 use Rattle.session_lang.specs.Answers.{Asked, Decides, IsOneModule, basis, member, normal_form, sizes_of_basis}
 use Rattle.session_lang.specs.Lines.{Answers, Does, Gives}
+use Rattle.session_lang.specs.Minimising.{IsBettiText, IsMinimalText, IsRegularityText}
 use Rattle.session_lang.specs.Names.{HasValue, State, Value, after_giving, after_run}
 use Rattle.session_lang.specs.Texts.{listing}
 
@@ -136,6 +138,15 @@ module _ (before : State) where
   does_once (statements.Resolution m) (statements.Resolution n) p q x y e a b =
       (a.0 ∙ kept_once (string_bytes m) (string_bytes n) e ∙ sym b.0, resolves_once before (string_bytes m) (string_bytes n) x y e a.1 b.1)
   does_once (statements.Resolution m) _ p q x y e a b = absurd e
+  does_once (statements.Minimal m) (statements.Minimal n) p q x y e a b =
+      (a.0 ∙ kept_once (string_bytes m) (string_bytes n) e ∙ sym b.0, tells_once IsMinimalText (λ r v s t. minimal_once r v s t) before (string_bytes m) (string_bytes n) x y e a.1 b.1)
+  does_once (statements.Minimal m) _ p q x y e a b = absurd e
+  does_once (statements.Betti m) (statements.Betti n) p q x y e a b =
+      (a.0 ∙ kept_once (string_bytes m) (string_bytes n) e ∙ sym b.0, tells_once IsBettiText (λ r v s t. betti_once r v s t) before (string_bytes m) (string_bytes n) x y e a.1 b.1)
+  does_once (statements.Betti m) _ p q x y e a b = absurd e
+  does_once (statements.Regularity m) (statements.Regularity n) p q x y e a b =
+      (a.0 ∙ kept_once (string_bytes m) (string_bytes n) e ∙ sym b.0, tells_once IsRegularityText (λ r v s t. regularity_once r v s t) before (string_bytes m) (string_bytes n) x y e a.1 b.1)
+  does_once (statements.Regularity m) _ p q x y e a b = absurd e
   does_once (statements.Change m o) (statements.Change n q') p q x y e a b = (
     a.0 ∙ kept_once (string_bytes m) (string_bytes n) e.0 ∙ sym b.0,
     reorders_once before (string_bytes m) (string_bytes n) o q' x y e.0 e.1 a.1 b.1,

@@ -48,6 +48,7 @@ module _ (ring : Ring) (value : Value) where
   printed_not_refused order x kinds.Degree g h = absurd h
   printed_not_refused order x kinds.Leads g h = absurd h
   printed_not_refused order x kinds.Large g h = absurd h
+  printed_not_refused order x kinds.Homogeneous g h = absurd h
 
   -- infinitely many and finitely many
   infinite_and_many : RefusesReordering ring value kinds.Infinite → RefusesReordering ring value kinds.Many → ⊥
@@ -77,7 +78,9 @@ module _ (ring : Ring) (value : Value) where
   kind_once kinds.Infinite kinds.Leads g h = absurd h
   kind_once kinds.Many kinds.Leads g h = absurd h
   kind_once kinds.Infinite kinds.Large g h = absurd h
+  kind_once kinds.Infinite kinds.Homogeneous g h = absurd h
   kind_once kinds.Many kinds.Large g h = absurd h
+  kind_once kinds.Many kinds.Homogeneous g h = absurd h
   kind_once kinds.Syntax k g h = absurd g
   kind_once kinds.Numeral k g h = absurd g
   kind_once kinds.Ring k g h = absurd g
@@ -88,6 +91,7 @@ module _ (ring : Ring) (value : Value) where
   kind_once kinds.Degree k g h = absurd g
   kind_once kinds.Leads k g h = absurd g
   kind_once kinds.Large k g h = absurd g
+  kind_once kinds.Homogeneous k g h = absurd g
 
 -- the same of a value by its name
 abbrev pub RefusesNamed : State → List ℕ → Kind → Type 0
@@ -95,7 +99,7 @@ RefusesNamed before name kind = (ring : Ring) × (value : Value) × HasValue bef
 
 module _ (before : State) (m n : List ℕ) where
   -- what is said of the value with a name is said of the one with the same name
-  there : m ≡ n → (r s : Ring) (v w : Value) (P : Ring → Value → Type 0) → HasValue before m r v → HasValue before n s w → P s w → P r v
+  pub there : m ≡ n → (r s : Ring) (v w : Value) (P : Ring → Value → Type 0) → HasValue before m r v → HasValue before n s w → P s w → P r v
   there e r s v w P g h p =
       let same : HasValue before m s w = subst (λ z. HasValue before z s w) (sym e) h in
       subst₂ P (sym (one_ring before m m r s v w g same)) (sym (one_value before m r s v w g same)) p

@@ -9,10 +9,12 @@ use Rattle.script_parse.specs.declared.kind.Kind.{Kind}
 use Rattle.script_parse.specs.declared.stated.Statement.{Statement}
 use Rattle.script_parse.specs.declared.stated.Statement.TheVariants as statements
 use Rattle.session_lang.proofs.OneDoing.{does_once}
+use Rattle.session_lang.proofs.OneMinimal.{betti_or_refused, minimal_or_refused, minimal_refused_once, regularity_or_refused, tells_or_refuses}
 use Rattle.session_lang.proofs.OneReordering.{reordering_refused_once, reorders_or_refuses}
 use Rattle.session_lang.proofs.OneText.{counts_or_refuses, refuses_once}
 use Rattle.session_lang.proofs.Reading.{refuses_alike, states_alike}
 use Rattle.session_lang.specs.Lines.{Does, Line, Refuses, RefusesReading, RefusesStated, RunOf, States}
+use Rattle.session_lang.specs.Minimising.{IsBettiText, IsMinimalText, IsRegularityText}
 use Rattle.session_lang.specs.Names.{State}
 
 -- a line states one statement
@@ -67,6 +69,72 @@ module _ (before : State) where
   done_not_refused (statements.Equal y z) (statements.Change n o) p x kind e d r = absurd e
   done_not_refused (statements.Hilbert y) (statements.Change n o) p x kind e d r = absurd e
   done_not_refused (statements.Resolution y) (statements.Change n o) p x kind e d r = absurd e
+  done_not_refused (statements.Minimal y) (statements.Hilbert n) p x kind e d r = absurd e
+  done_not_refused (statements.Betti y) (statements.Hilbert n) p x kind e d r = absurd e
+  done_not_refused (statements.Regularity y) (statements.Hilbert n) p x kind e d r = absurd e
+  done_not_refused (statements.Minimal y) (statements.Change n o) p x kind e d r = absurd e
+  done_not_refused (statements.Betti y) (statements.Change n o) p x kind e d r = absurd e
+  done_not_refused (statements.Regularity y) (statements.Change n o) p x kind e d r = absurd e
+  done_not_refused (statements.Minimal m) (statements.Minimal n) p x kind e d r =
+      tells_or_refuses IsMinimalText (λ r v t k. minimal_or_refused r v t k) before (string_bytes m) (string_bytes n) e x kind d.1 r
+  done_not_refused statements.Nothing (statements.Minimal n) p x kind e d r = absurd e
+  done_not_refused (statements.Ring y) (statements.Minimal n) p x kind e d r = absurd e
+  done_not_refused (statements.Show y) (statements.Minimal n) p x kind e d r = absurd e
+  done_not_refused (statements.Ideal y z) (statements.Minimal n) p x kind e d r = absurd e
+  done_not_refused (statements.Module y z w) (statements.Minimal n) p x kind e d r = absurd e
+  done_not_refused (statements.Let y z) (statements.Minimal n) p x kind e d r = absurd e
+  done_not_refused (statements.Gens y) (statements.Minimal n) p x kind e d r = absurd e
+  done_not_refused (statements.Gb y) (statements.Minimal n) p x kind e d r = absurd e
+  done_not_refused (statements.Size y) (statements.Minimal n) p x kind e d r = absurd e
+  done_not_refused (statements.NormalForm y z) (statements.Minimal n) p x kind e d r = absurd e
+  done_not_refused (statements.Member y z) (statements.Minimal n) p x kind e d r = absurd e
+  done_not_refused (statements.Lift y z) (statements.Minimal n) p x kind e d r = absurd e
+  done_not_refused (statements.Equal y z) (statements.Minimal n) p x kind e d r = absurd e
+  done_not_refused (statements.Change y z) (statements.Minimal n) p x kind e d r = absurd e
+  done_not_refused (statements.Resolution y) (statements.Minimal n) p x kind e d r = absurd e
+  done_not_refused (statements.Hilbert y) (statements.Minimal n) p x kind e d r = absurd e
+  done_not_refused (statements.Betti y) (statements.Minimal n) p x kind e d r = absurd e
+  done_not_refused (statements.Regularity y) (statements.Minimal n) p x kind e d r = absurd e
+  done_not_refused (statements.Betti m) (statements.Betti n) p x kind e d r =
+      tells_or_refuses IsBettiText (λ r v t k. betti_or_refused r v t k) before (string_bytes m) (string_bytes n) e x kind d.1 r
+  done_not_refused statements.Nothing (statements.Betti n) p x kind e d r = absurd e
+  done_not_refused (statements.Ring y) (statements.Betti n) p x kind e d r = absurd e
+  done_not_refused (statements.Show y) (statements.Betti n) p x kind e d r = absurd e
+  done_not_refused (statements.Ideal y z) (statements.Betti n) p x kind e d r = absurd e
+  done_not_refused (statements.Module y z w) (statements.Betti n) p x kind e d r = absurd e
+  done_not_refused (statements.Let y z) (statements.Betti n) p x kind e d r = absurd e
+  done_not_refused (statements.Gens y) (statements.Betti n) p x kind e d r = absurd e
+  done_not_refused (statements.Gb y) (statements.Betti n) p x kind e d r = absurd e
+  done_not_refused (statements.Size y) (statements.Betti n) p x kind e d r = absurd e
+  done_not_refused (statements.NormalForm y z) (statements.Betti n) p x kind e d r = absurd e
+  done_not_refused (statements.Member y z) (statements.Betti n) p x kind e d r = absurd e
+  done_not_refused (statements.Lift y z) (statements.Betti n) p x kind e d r = absurd e
+  done_not_refused (statements.Equal y z) (statements.Betti n) p x kind e d r = absurd e
+  done_not_refused (statements.Change y z) (statements.Betti n) p x kind e d r = absurd e
+  done_not_refused (statements.Resolution y) (statements.Betti n) p x kind e d r = absurd e
+  done_not_refused (statements.Hilbert y) (statements.Betti n) p x kind e d r = absurd e
+  done_not_refused (statements.Minimal y) (statements.Betti n) p x kind e d r = absurd e
+  done_not_refused (statements.Regularity y) (statements.Betti n) p x kind e d r = absurd e
+  done_not_refused (statements.Regularity m) (statements.Regularity n) p x kind e d r =
+      tells_or_refuses IsRegularityText (λ r v t k. regularity_or_refused r v t k) before (string_bytes m) (string_bytes n) e x kind d.1 r
+  done_not_refused statements.Nothing (statements.Regularity n) p x kind e d r = absurd e
+  done_not_refused (statements.Ring y) (statements.Regularity n) p x kind e d r = absurd e
+  done_not_refused (statements.Show y) (statements.Regularity n) p x kind e d r = absurd e
+  done_not_refused (statements.Ideal y z) (statements.Regularity n) p x kind e d r = absurd e
+  done_not_refused (statements.Module y z w) (statements.Regularity n) p x kind e d r = absurd e
+  done_not_refused (statements.Let y z) (statements.Regularity n) p x kind e d r = absurd e
+  done_not_refused (statements.Gens y) (statements.Regularity n) p x kind e d r = absurd e
+  done_not_refused (statements.Gb y) (statements.Regularity n) p x kind e d r = absurd e
+  done_not_refused (statements.Size y) (statements.Regularity n) p x kind e d r = absurd e
+  done_not_refused (statements.NormalForm y z) (statements.Regularity n) p x kind e d r = absurd e
+  done_not_refused (statements.Member y z) (statements.Regularity n) p x kind e d r = absurd e
+  done_not_refused (statements.Lift y z) (statements.Regularity n) p x kind e d r = absurd e
+  done_not_refused (statements.Equal y z) (statements.Regularity n) p x kind e d r = absurd e
+  done_not_refused (statements.Change y z) (statements.Regularity n) p x kind e d r = absurd e
+  done_not_refused (statements.Resolution y) (statements.Regularity n) p x kind e d r = absurd e
+  done_not_refused (statements.Hilbert y) (statements.Regularity n) p x kind e d r = absurd e
+  done_not_refused (statements.Minimal y) (statements.Regularity n) p x kind e d r = absurd e
+  done_not_refused (statements.Betti y) (statements.Regularity n) p x kind e d r = absurd e
   done_not_refused s statements.Nothing p x kind e d r = absurd r
   done_not_refused s (statements.Ring y) p x kind e d r = absurd r
   done_not_refused s (statements.Show y) p x kind e d r = absurd r
@@ -89,6 +157,12 @@ module _ (before : State) where
   stated_once (statements.Hilbert m) _ j k e g h = absurd e
   stated_once (statements.Change m o) (statements.Change n q) j k e g h = reordering_refused_once before (string_bytes m) (string_bytes n) e.0 j k g h
   stated_once (statements.Change m o) _ j k e g h = absurd e
+  stated_once (statements.Minimal m) (statements.Minimal n) j k e g h = minimal_refused_once g.0 h.0 g.1 h.1 j k g.3 h.3
+  stated_once (statements.Minimal m) _ j k e g h = absurd e
+  stated_once (statements.Betti m) (statements.Betti n) j k e g h = minimal_refused_once g.0 h.0 g.1 h.1 j k g.3 h.3
+  stated_once (statements.Betti m) _ j k e g h = absurd e
+  stated_once (statements.Regularity m) (statements.Regularity n) j k e g h = minimal_refused_once g.0 h.0 g.1 h.1 j k g.3 h.3
+  stated_once (statements.Regularity m) _ j k e g h = absurd e
   stated_once statements.Nothing t j k e g h = absurd g
   stated_once (statements.Ring y) t j k e g h = absurd g
   stated_once (statements.Show y) t j k e g h = absurd g

@@ -112,6 +112,7 @@ module _ (ring : Ring) (value : Value) where
   printed_not_refused x kinds.Degree g h = absurd h
   printed_not_refused x kinds.Infinite g h = absurd h
   printed_not_refused x kinds.Many g h = absurd h
+  printed_not_refused x kinds.Homogeneous g h = absurd h
 
   -- too many leads, and not too many
   many_and_few : RefusesNumbers ring value kinds.Leads → RefusesNumbers ring value kinds.Large → ⊥
@@ -130,6 +131,7 @@ module _ (ring : Ring) (value : Value) where
   kind_of_leads kinds.Degree g h = absurd h
   kind_of_leads kinds.Infinite g h = absurd h
   kind_of_leads kinds.Many g h = absurd h
+  kind_of_leads kinds.Homogeneous g h = absurd h
 
   kind_of_large : (k : Kind) → RefusesNumbers ring value kinds.Large → RefusesNumbers ring value k → kinds.Large ≡ k
   kind_of_large kinds.Large g h = refl
@@ -144,6 +146,7 @@ module _ (ring : Ring) (value : Value) where
   kind_of_large kinds.Degree g h = absurd h
   kind_of_large kinds.Infinite g h = absurd h
   kind_of_large kinds.Many g h = absurd h
+  kind_of_large kinds.Homogeneous g h = absurd h
 
   -- the numbers are refused for one kind
   kind_once : (j k : Kind) → RefusesNumbers ring value j → RefusesNumbers ring value k → j ≡ k
@@ -159,6 +162,7 @@ module _ (ring : Ring) (value : Value) where
   kind_once kinds.Degree k g h = absurd g
   kind_once kinds.Infinite k g h = absurd g
   kind_once kinds.Many k g h = absurd g
+  kind_once kinds.Homogeneous k g h = absurd g
 
 -- the same of a value by its name
 abbrev pub RefusesNamed : State → List ℕ → Kind → Type 0

@@ -28,7 +28,7 @@ use Rattle.session_lang.specs.Parts.{IsRunOf}
 use Rattle.session_lang.specs.Performing.{Performed, Performs, asking}
 use Rattle.session_lang.specs.Reporting.{HasReport, IsReport, IsReportTrail, KeepsAs, RefusesReport, ReportsAs, reporting}
 use Rattle.session_lang.specs.declared.reports.Report.{Report}
-use Rattle.session_lang.specs.declared.reports.Report.TheVariants.{InOrder, Numbers, Resolution}
+use Rattle.session_lang.specs.declared.reports.Report.TheVariants.{Betti, InOrder, Minimal, Numbers, Regularity, Resolution}
 use Rattle.session_lang.specs.Stops.{IsTrailFor, IsTrailOf, IsTrailOfLift, Meets, Steps}
 use Rattle.session_lang.specs.declared.step.Step.{Step}
 use Rattle.session_lang.specs.declared.step.Step.TheVariants as steps
@@ -208,12 +208,18 @@ module _ (before : State) (name : String Global) where
   report_given Numbers f = f
   report_given (InOrder order) f = (f.0, f.1, f.2)
   report_given Resolution f = f
+  report_given Minimal f = f
+  report_given Betti f = f
+  report_given Regularity f = f
 
   pub has_report :
       (report : Report) → IsFit before (reporting name report) → (ring : Ring) (value : Value) → HasValue before (string_bytes name) ring value
       → HasReport value.rank report
   has_report Numbers f ring value h = tt
   has_report Resolution f ring value h = tt
+  has_report Minimal f ring value h = tt
+  has_report Betti f ring value h = tt
+  has_report Regularity f ring value h = tt
   has_report (InOrder order) f ring value h = subst (λ v. v.rank ≡ 1) (same_Some _ _ (sym f.2.named ∙ h.named)) f.3
 
   report_does :
@@ -223,6 +229,9 @@ module _ (before : State) (name : String Global) where
   report_does Numbers after text over value has d r = (d, (over, value, has, r))
   report_does (InOrder order) after text over value has d r = (d, (over, value, has, r))
   report_does Resolution after text over value has d r = (d, (over, value, has, r))
+  report_does Minimal after text over value has d r = (d, (over, value, has, r))
+  report_does Betti after text over value has d r = (d, (over, value, has, r))
+  report_does Regularity after text over value has d r = (d, (over, value, has, r))
 
   report_refused :
       (report : Report) (over : Ring) (value : Value) (kind : Kind) → HasValue before (string_bytes name) over value → RefusesReport over value report kind
@@ -230,6 +239,9 @@ module _ (before : State) (name : String Global) where
   report_refused Numbers over value kind has r = (over, value, has, r)
   report_refused (InOrder order) over value kind has r = (over, value, has, r)
   report_refused Resolution over value kind has r = absurd r
+  report_refused Minimal over value kind has r = (over, value, has, r)
+  report_refused Betti over value kind has r = (over, value, has, r)
+  report_refused Regularity over value kind has r = (over, value, has, r)
 
   report_needs :
       (report : Report) (ring : Ring) (rank : ℕ) (list : Terms) → IsRunFor before (string_bytes name) ring rank list
@@ -237,6 +249,9 @@ module _ (before : State) (name : String Global) where
   report_needs Numbers ring rank list h = h
   report_needs (InOrder order) ring rank list h = h
   report_needs Resolution ring rank list h = h
+  report_needs Minimal ring rank list h = h
+  report_needs Betti ring rank list h = h
+  report_needs Regularity ring rank list h = h
 
   report_meets :
       (report : Report) (over : Ring) (value : Value) (t : KeptTrail) → HasValue before (string_bytes name) over value → IsReportTrail over value report t
@@ -244,6 +259,9 @@ module _ (before : State) (name : String Global) where
   report_meets Numbers over value t has h = absurd h
   report_meets (InOrder order) over value t has h = absurd h
   report_meets Resolution over value t has h = (over, value, has, h)
+  report_meets Minimal over value t has h = (over, value, has, h)
+  report_meets Betti over value t has h = (over, value, has, h)
+  report_meets Regularity over value t has h = (over, value, has, h)
 
 -- the report of a value
 pub reported_performed :

@@ -143,6 +143,7 @@ module _ (ring : Option Ring) (infos more : List NameInfo) (line : List ℕ) (sa
   holds_alike kinds.Large h = h
   holds_alike kinds.Infinite h = h
   holds_alike kinds.Many h = h
+  holds_alike kinds.Homogeneous h = h
 
 module _ (values : List Value) (infos more : List NameInfo) (told : AreInfosOf values infos) (told' : AreInfosOf values more) where
   ranks_alike : (text : List ℕ) → rank_named infos text ≡ rank_named more text
@@ -396,6 +397,12 @@ module _ (values : List Value) (infos : List NameInfo) (line : List ℕ) (told :
   fit ring (ask_line questions.Hilbert t) _ is free h = absurd h
   fit ring (ask_line questions.Resolution t) (statements.Resolution name) is free h = asked_of ring questions.Resolution t (string_bytes name) is free h
   fit ring (ask_line questions.Resolution t) _ is free h = absurd h
+  fit ring (ask_line questions.Minimal t) (statements.Minimal name) is free h = asked_of ring questions.Minimal t (string_bytes name) is free h
+  fit ring (ask_line questions.Minimal t) _ is free h = absurd h
+  fit ring (ask_line questions.Betti t) (statements.Betti name) is free h = asked_of ring questions.Betti t (string_bytes name) is free h
+  fit ring (ask_line questions.Betti t) _ is free h = absurd h
+  fit ring (ask_line questions.Regularity t) (statements.Regularity name) is free h = asked_of ring questions.Regularity t (string_bytes name) is free h
+  fit ring (ask_line questions.Regularity t) _ is free h = absurd h
   fit (Some r) (divide_line divisions.NormalForm t ps) (statements.NormalForm name v) is free h =
       divided_by r divisions.NormalForm t ps (string_bytes name) v is free h.0 h.1.0
   fit (Some r) (divide_line divisions.NormalForm t ps) _ is free h = absurd h

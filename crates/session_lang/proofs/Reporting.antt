@@ -31,13 +31,14 @@ use Rattle.schreyer_resolution.specs.declared.maps.Resolution.{Resolution as Res
 use Rattle.script_parse.specs.declared.named.NameInfo.{NameInfo}
 use Rattle.syzygy_engine.proofs.Standing.{ranks_of_positions}
 use Rattle.session_lang.proofs.Finding.{listed}
+use Rattle.session_lang.specs.Cancelling.{StopsAsMinimal}
 use Rattle.session_lang.specs.Names.{Value}
 use Rattle.session_lang.specs.Reporting.{IsReportTrail, ReportStops}
 use Rattle.session_lang.specs.Resolving.{IsResolutionText, map_text, maps_text}
 use Rattle.session_lang.specs.Texts.{heading}
 use Rattle.session_lang.specs.Writing.{AreOverVariables, resolution_written, written_maps}
 use Rattle.session_lang.specs.declared.reports.Report.{Report}
-use Rattle.session_lang.specs.declared.reports.Report.TheVariants.{InOrder, Numbers, Resolution}
+use Rattle.session_lang.specs.declared.reports.Report.TheVariants.{Betti, InOrder, Minimal, Numbers, Regularity, Resolution}
 
 abbrev Terms : Type 0
 Terms = List (List (Key × ℕ))
@@ -94,6 +95,12 @@ through_variables ring below [] h = tt
 through_variables ring below (m ∷ maps) h =
     (listed_by ring (tower_comparison (over ring below)) m.columns h.0, through_variables ring (below ++ m.columns ∷ []) maps h.1)
 
+-- the same of maps in the ring's own order
+pub maps_variables :
+    (ring : Ring) (maps : List Map) → Each (λ F. AreVectorsOver ring (ring_comparison ring) F) (map (λ m. m.columns) maps) → Each (AreOverVariables ring) maps
+maps_variables ring [] h = tt
+maps_variables ring (m ∷ maps) h = (listed_by ring (ring_comparison ring) m.columns h.0, maps_variables ring maps h.1)
+
 -- maps that are joined are written by their columns alone
 pub written_joined :
     (ring : Ring) (number : ℕ) (rows : List ℕ) (maps : List Map) → AreJoined ring rows maps
@@ -112,6 +119,28 @@ resolving_stops ring rank basis (Ok t) h = tt
 resolving_stops ring rank basis (Err Memory) h = tt
 resolving_stops ring rank basis (Err (Degree t)) h = h
 
+-- the stop of a minimal resolution, as that of a report
+pub minimal_stops :
+    {T : Type 0} (ring : Ring) (rank : ℕ) (basis : Terms) (r : Result T WorkStop) → IfErr r (StopsAsMinimal ring rank basis)
+    → IfErr r (ReportStops ring rank basis Minimal)
+minimal_stops ring rank basis (Ok t) h = tt
+minimal_stops ring rank basis (Err Memory) h = tt
+minimal_stops ring rank basis (Err (Degree t)) h = h
+
+pub betti_stops :
+    {T : Type 0} (ring : Ring) (rank : ℕ) (basis : Terms) (r : Result T WorkStop) → IfErr r (StopsAsMinimal ring rank basis)
+    → IfErr r (ReportStops ring rank basis Betti)
+betti_stops ring rank basis (Ok t) h = tt
+betti_stops ring rank basis (Err Memory) h = tt
+betti_stops ring rank basis (Err (Degree t)) h = h
+
+pub regularity_stops :
+    {T : Type 0} (ring : Ring) (rank : ℕ) (basis : Terms) (r : Result T WorkStop) → IfErr r (StopsAsMinimal ring rank basis)
+    → IfErr r (ReportStops ring rank basis Regularity)
+regularity_stops ring rank basis (Ok t) h = tt
+regularity_stops ring rank basis (Err Memory) h = tt
+regularity_stops ring rank basis (Err (Degree t)) h = h
+
 -- the stop of a report that was made for a value with this reduced basis, as one of the call
 pub report_stops :
     (old new : ℕ) (kept kept' : Option StoppedRun) (Runs : Ring → ℕ → Terms → Type 0) (ring : Ring) (value : Value) (basis : Terms) (report : Report) (stop : WorkStop)
@@ -121,6 +150,9 @@ report_stops old new kept kept' Runs ring value basis report Memory reduced h sa
 report_stops old new kept kept' Runs ring value basis Numbers (Degree t) reduced h same = absurd h
 report_stops old new kept kept' Runs ring value basis (InOrder order) (Degree t) reduced h same = absurd h
 report_stops old new kept kept' Runs ring value basis Resolution (Degree t) reduced h same = (same.0, same.1, (basis, reduced, h))
+report_stops old new kept kept' Runs ring value basis Minimal (Degree t) reduced h same = (same.0, same.1, (basis, reduced, h))
+report_stops old new kept kept' Runs ring value basis Betti (Degree t) reduced h same = (same.0, same.1, (basis, reduced, h))
+report_stops old new kept kept' Runs ring value basis Regularity (Degree t) reduced h same = (same.0, same.1, (basis, reduced, h))
 
 -- what stands behind a front stands behind a longer one
 pub front_more : (a b c x : List ℕ) → IsFront a b → c ≡ b ++ x → IsFront a c
@@ -137,7 +169,7 @@ pub resolution_shown :
     (maps_of (variables ring) (columns_of r))
     → AreVectorsThrough ring [] (columns_of r) → AreJoined ring r.positions.items r.maps.items → r.positions.items ≡ replicate rank 0
     → IsResolutionText ring (record { name = string_bytes info.name; rank = info.rank; list = list; kept = kept })
-    (resolution_written ring (string_bytes info.name) r.maps.items)
+    (resolution_written ring (codes "res") (string_bytes info.name) r.maps.items)
 resolution_shown ring info list basis kept rank r same reduced canonical vectors joined places = record {
   basis = basis;
   reduced = reduced;

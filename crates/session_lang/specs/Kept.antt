@@ -108,6 +108,9 @@ IsFit before (statements.Member name v) = IsOfValue before (string_bytes name) v
 IsFit before (statements.Lift name v) = IsOfValueRank before (string_bytes name) v
 IsFit before (statements.Hilbert name) = IsGiven before (string_bytes name)
 IsFit before (statements.Resolution name) = IsGiven before (string_bytes name)
+IsFit before (statements.Minimal name) = IsGiven before (string_bytes name)
+IsFit before (statements.Betti name) = IsGiven before (string_bytes name)
+IsFit before (statements.Regularity name) = IsGiven before (string_bytes name)
 IsFit before (statements.Change name order) = IsIdealGiven before (string_bytes name)
 IsFit before (statements.Equal first second) = AreGiven before (string_bytes first) (string_bytes second) (λ r s. r ≡ s)
 

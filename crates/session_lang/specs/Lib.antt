@@ -7,6 +7,7 @@ pub mod Lifting
 pub mod Numbers
 pub mod Reordering
 pub mod Resolving
+pub mod Minimising
 pub mod Lines
 pub mod Stops
 -- what private clauses cite
@@ -16,6 +17,7 @@ pub mod Tasks
 pub mod Counting
 pub mod Reporting
 pub mod Writing
+pub mod Cancelling
 pub mod Asking
 pub mod Parts
 pub mod Performing

@@ -17,6 +17,7 @@ use Rattle.session_lang.specs.Lifting.{IsLiftText}
 use Rattle.session_lang.specs.Names.{AreInfosOf, HasValue, State, Value, after_giving, after_run}
 use Rattle.session_lang.specs.Numbers.{IsNumbersText, RefusesNumbers}
 use Rattle.session_lang.specs.Reordering.{IsReorderedText, RefusesReordering}
+use Rattle.session_lang.specs.Minimising.{IsBettiText, IsMinimalText, IsRegularityText, RefusesMinimal}
 use Rattle.session_lang.specs.Resolving.{IsResolutionText}
 use Rattle.session_lang.specs.Operations.{AreRunsOf, IsResult, Work, WorksOn, result_rank}
 use Rattle.session_lang.specs.Texts.{listing}
@@ -29,12 +30,20 @@ States before line statement = (infos : List NameInfo) × AreInfosOf before.valu
 abbrev pub RefusesReading : State → List ℕ → Kind → Type 0
 RefusesReading before line kind = (infos : List NameInfo) × AreInfosOf before.values infos × refusals.Refuses before.ring infos line kind
 
--- the statement is refused for this kind once its run is done: it asks for the numbers of a value, or for its basis in another order
+-- the minimal resolution of the value with this name is refused
+abbrev pub RefusesAsMinimal : State → List ℕ → Kind → Type 0
+RefusesAsMinimal before name kind = (ring : Ring) × (value : Value) × HasValue before name ring value × RefusesMinimal ring value kind
+
+-- the statement is refused for this kind once its run is done: it asks for the numbers of a value, for its basis in another order, or
+-- for its minimal resolution and what is read off that
 abbrev pub RefusesStated : State → Statement → Kind → Type 0
 RefusesStated before (statements.Hilbert name) kind =
     (ring : Ring) × (value : Value) × HasValue before (string_bytes name) ring value × RefusesNumbers ring value kind
 RefusesStated before (statements.Change name order) kind =
     (ring : Ring) × (value : Value) × HasValue before (string_bytes name) ring value × RefusesReordering ring value kind
+RefusesStated before (statements.Minimal name) kind = RefusesAsMinimal before (string_bytes name) kind
+RefusesStated before (statements.Betti name) kind = RefusesAsMinimal before (string_bytes name) kind
+RefusesStated before (statements.Regularity name) kind = RefusesAsMinimal before (string_bytes name) kind
 RefusesStated before _ kind = ⊥
 
 -- the line is refused for this kind
@@ -65,6 +74,10 @@ Reorders before name order text = (ring : Ring) × (value : Value) × HasValue b
 abbrev pub Resolves : State → List ℕ → List ℕ → Type 0
 Resolves before name text = (ring : Ring) × (value : Value) × HasValue before name ring value × IsResolutionText ring value text
 
+-- what is printed of the value with this name holds of the text
+abbrev pub Tells : State → List ℕ → (Ring → Value → List ℕ → Type 0) → List ℕ → Type 0
+Tells before name Is text = (ring : Ring) × (value : Value) × HasValue before name ring value × Is ring value text
+
 -- From a state, the statement leads to this state and has this text: a blank line changes nothing, a ring is stated anew
 -- and takes all names away, a polynomial is printed, an ideal, a module or the result of an operation gets a name, the others
 -- print what they ask for. A line that needs the reduced basis of a value leaves it kept; a result is its own, and kept.
@@ -89,6 +102,9 @@ Does before (statements.Member name v) after text = (after ≡ after_run (string
 Does before (statements.Lift name v) after text = (after ≡ before) × Lifts before (string_bytes name) v text
 Does before (statements.Hilbert name) after text = (after ≡ after_run (string_bytes name) before) × Counts before (string_bytes name) text
 Does before (statements.Resolution name) after text = (after ≡ after_run (string_bytes name) before) × Resolves before (string_bytes name) text
+Does before (statements.Minimal name) after text = (after ≡ after_run (string_bytes name) before) × Tells before (string_bytes name) IsMinimalText text
+Does before (statements.Betti name) after text = (after ≡ after_run (string_bytes name) before) × Tells before (string_bytes name) IsBettiText text
+Does before (statements.Regularity name) after text = (after ≡ after_run (string_bytes name) before) × Tells before (string_bytes name) IsRegularityText text
 Does before (statements.Change name order) after text = (after ≡ after_run (string_bytes name) before) × Reorders before (string_bytes name) order text
 Does before (statements.Equal first second) after text =
     (after ≡ after_run (string_bytes second) (after_run (string_bytes first) before))
@@ -124,6 +140,9 @@ Needs before (statements.NormalForm name v) ring rank list = IsRunFor before (st
 Needs before (statements.Member name v) ring rank list = IsRunFor before (string_bytes name) ring rank list
 Needs before (statements.Hilbert name) ring rank list = IsRunFor before (string_bytes name) ring rank list
 Needs before (statements.Resolution name) ring rank list = IsRunFor before (string_bytes name) ring rank list
+Needs before (statements.Minimal name) ring rank list = IsRunFor before (string_bytes name) ring rank list
+Needs before (statements.Betti name) ring rank list = IsRunFor before (string_bytes name) ring rank list
+Needs before (statements.Regularity name) ring rank list = IsRunFor before (string_bytes name) ring rank list
 Needs before (statements.Change name order) ring rank list = IsRunFor before (string_bytes name) ring rank list
 Needs before (statements.Let name operation) ring rank list = IsRunOfWork before operation ring rank list
 Needs before (statements.Lift name v) ring rank list = IsLiftRun before (string_bytes name) ring rank list

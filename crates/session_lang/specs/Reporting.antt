@@ -18,9 +18,10 @@ use Rattle.session_lang.specs.Held.{Held}
 use Rattle.session_lang.specs.Names.{Value}
 use Rattle.session_lang.specs.Numbers.{IsNumbersText, RefusesNumbers}
 use Rattle.session_lang.specs.Reordering.{IsReorderedText, RefusesReordering}
+use Rattle.session_lang.specs.Minimising.{IsBettiText, IsMinimalText, IsMinimalTrail, IsRegularityText, RefusesMinimal}
 use Rattle.session_lang.specs.Resolving.{IsResolutionText, IsResolvingTrail}
 use Rattle.session_lang.specs.declared.reports.Report.{Report}
-use Rattle.session_lang.specs.declared.reports.Report.TheVariants.{InOrder, Numbers, Resolution}
+use Rattle.session_lang.specs.declared.reports.Report.TheVariants.{Betti, InOrder, Minimal, Numbers, Regularity, Resolution}
 use Rattle.session_lang.specs.declared.step.Step.{Step}
 use Rattle.session_lang.specs.declared.step.Step.TheVariants as steps
 
@@ -29,30 +30,37 @@ abbrev pub reporting : String Global → Report → Statement
 reporting name Numbers = statements.Hilbert name
 reporting name (InOrder order) = statements.Change name order
 reporting name Resolution = statements.Resolution name
+reporting name Minimal = statements.Minimal name
+reporting name Betti = statements.Betti name
+reporting name Regularity = statements.Regularity name
 
 -- a value of this rank has such a report
 abbrev pub HasReport : ℕ → Report → Type 0
-HasReport rank Numbers = ⊤
 HasReport rank (InOrder order) = rank ≡ 1
-HasReport rank Resolution = ⊤
+HasReport rank _ = ⊤
 
 -- the text is the report
 abbrev pub IsReport : Ring → Value → Report → List ℕ → Type 0
 IsReport ring value Numbers text = IsNumbersText ring value text
 IsReport ring value (InOrder order) text = IsReorderedText ring value order text
 IsReport ring value Resolution text = IsResolutionText ring value text
+IsReport ring value Minimal text = IsMinimalText ring value text
+IsReport ring value Betti text = IsBettiText ring value text
+IsReport ring value Regularity text = IsRegularityText ring value text
 
 -- the report is refused for this kind
 abbrev pub RefusesReport : Ring → Value → Report → Kind → Type 0
 RefusesReport ring value Numbers kind = RefusesNumbers ring value kind
 RefusesReport ring value (InOrder order) kind = RefusesReordering ring value kind
 RefusesReport ring value Resolution kind = ⊥
+RefusesReport ring value _ kind = RefusesMinimal ring value kind
 
 -- a trail that the report meets
 abbrev pub IsReportTrail : Ring → Value → Report → KeptTrail → Type 0
 IsReportTrail ring value Numbers t = ⊥
 IsReportTrail ring value (InOrder order) t = ⊥
 IsReportTrail ring value Resolution t = IsResolvingTrail ring value t
+IsReportTrail ring value _ t = (G : List (List (Key × ℕ))) × IsReducedBasisOf ring value.rank value.list G × IsMinimalTrail ring value.rank G t
 
 -- why there is no report from this reduced basis of a value of this rank
 abbrev pub ReportStops : Ring → ℕ → List (List (Key × ℕ)) → Report → WorkStop → Type 0
@@ -60,6 +68,7 @@ ReportStops ring rank basis report Memory = ⊤
 ReportStops ring rank basis Numbers (Degree t) = ⊥
 ReportStops ring rank basis (InOrder order) (Degree t) = ⊥
 ReportStops ring rank basis Resolution (Degree t) = IsResolutionTrail ring rank basis t
+ReportStops ring rank basis _ (Degree t) = IsMinimalTrail ring rank basis t
 
 -- the report is appended, or it is refused
 abbrev pub ReportsAs : Ring → Value → Report → (out out' : List ℕ) → Step → Type 0

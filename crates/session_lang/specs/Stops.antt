@@ -11,6 +11,7 @@ use Rattle.script_parse.specs.declared.stated.Statement.TheVariants as statement
 use Rattle.session_lang.specs.Answers.{Asked, basis, member, normal_form, sizes_of_basis}
 use Rattle.session_lang.specs.Lines.{Line, Refuses, States}
 use Rattle.session_lang.specs.Names.{HasValue, State, Value}
+use Rattle.session_lang.specs.Minimising.{IsMinimalTrail}
 use Rattle.session_lang.specs.Resolving.{IsResolvingTrail}
 use Rattle.session_lang.specs.Operations.{AreTrailsOf, Work, WorksOn}
 use Rattle.syzygy_engine.specs.Lifts.{IsLiftTrail}
@@ -50,6 +51,12 @@ IsTrailOfLift before name v t = (ring : Ring) × (value : Value) × HasValue bef
 abbrev pub IsTrailOfResolving : State → List ℕ → KeptTrail → Type 0
 IsTrailOfResolving before name t = (ring : Ring) × (value : Value) × HasValue before name ring value × IsResolvingTrail ring value t
 
+-- a trail of the minimal resolution of the value with this name
+abbrev pub IsTrailOfMinimal : State → List ℕ → KeptTrail → Type 0
+IsTrailOfMinimal before name t =
+    (ring : Ring) × (value : Value) × HasValue before name ring value
+    × ((G : List (List (Key × ℕ))) × IsReducedBasisOf ring value.rank value.list G × IsMinimalTrail ring value.rank G t)
+
 -- the trails that a statement can meet outside of its runs
 abbrev pub Meets : State → Statement → KeptTrail → Type 0
 Meets before (statements.NormalForm name v) t = IsTrailFor before (string_bytes name) (normal_form v) t
@@ -57,6 +64,9 @@ Meets before (statements.Member name v) t = IsTrailFor before (string_bytes name
 Meets before (statements.Let name operation) t = IsTrailOfWork before operation t
 Meets before (statements.Lift name v) t = IsTrailOfLift before (string_bytes name) v t
 Meets before (statements.Resolution name) t = IsTrailOfResolving before (string_bytes name) t
+Meets before (statements.Minimal name) t = IsTrailOfMinimal before (string_bytes name) t
+Meets before (statements.Betti name) t = IsTrailOfMinimal before (string_bytes name) t
+Meets before (statements.Regularity name) t = IsTrailOfMinimal before (string_bytes name) t
 Meets before _ t = ⊥
 
 -- a trail of a line that is not refused as it is read, met outside of its runs

@@ -1,5 +1,5 @@
 -- The maps of a resolution as they are written
-use Rattle.std.specs.Prelude.{List, [], codes, length, ℕ, ◌+◌, ◌++◌, ◌∷◌}
+use Rattle.std.specs.Prelude.{List, [], length, ℕ, ◌+◌, ◌++◌, ◌∷◌}
 use Rattle.formal_sums.specs.FormalSums.{Each}
 use Rattle.module_vectors.specs.Rings.{variables}
 use Rattle.module_vectors.specs.Vectors.{HasVariables}
@@ -18,5 +18,5 @@ written_maps ring number [] = []
 written_maps ring number (m ∷ maps) = map_text ring number m.rows m.columns ++ written_maps ring (number + 1) maps
 
 -- the same with the heading
-abbrev pub resolution_written : Ring → List ℕ → List Map → List ℕ
-resolution_written ring name maps = heading (codes "res") name (length maps) ++ written_maps ring 1 maps
+abbrev pub resolution_written : Ring → (word name : List ℕ) → List Map → List ℕ
+resolution_written ring word name maps = heading word name (length maps) ++ written_maps ring 1 maps

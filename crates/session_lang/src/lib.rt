@@ -11,6 +11,7 @@ mod answers;
 mod kept_bases;
 mod lifts;
 mod line_laws;
+mod minimising;
 mod names;
 mod numbers;
 mod operate;

@@ -9,6 +9,7 @@ ghost use Rattle.session_lang.specs.Parts.{IsRunOf};
 ghost use Rattle.session_lang.specs.Reporting.{HasReport, IsReportTrail, KeepsAs, ReportStops, Reports, ReportsAs};
 
 use crate::kept_bases::{forget, keep_basis};
+use crate::minimising::{push_betti, push_minimal, push_regularity};
 use crate::numbers::push_numbers;
 use crate::reordering::push_reordered;
 use crate::resolving::push_resolution;
@@ -31,6 +32,12 @@ pub enum Report {
     InOrder(Order),
     /// Its canonical resolution.
     Resolution,
+    /// Its minimal resolution.
+    Minimal,
+    /// Its Betti numbers.
+    Betti,
+    /// Its projective dimension and its regularity.
+    Regularity,
 }
 
 // Appends the report of a value with this reduced basis, or says for which kind it is refused; then, and after an error, nothing
@@ -54,6 +61,9 @@ fn push_report(
         Report::Numbers => Ok(push_numbers(alloc, out, ring, info, basis)?),
         Report::InOrder(order) => Ok(push_reordered(alloc, out, ring, info, basis, order)?),
         Report::Resolution => push_resolution(alloc, out, ring, info, basis),
+        Report::Minimal => push_minimal(alloc, out, ring, info, basis),
+        Report::Betti => push_betti(alloc, out, ring, info, basis),
+        Report::Regularity => push_regularity(alloc, out, ring, info, basis),
     }
 }
 

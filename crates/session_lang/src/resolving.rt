@@ -102,19 +102,20 @@ fn append_maps(alloc: Global, out: &mut Vec<u8>, ring: &Ring, maps: &[Map]) -> R
     Ok(())
 }
 
-// Appends a resolution with its heading. After an error what was written so far stands there.
-fn append_resolution(
+/// Appends a resolution with its heading. After an error what was written so far stands there.
+pub fn append_resolution(
     alloc: Global,
     out: &mut Vec<u8>,
     ring: &Ring,
+    word: &[u8],
     name: &[u8],
     resolution: &Resolution,
 ) -> Result<(), NoMemory>
     requires { Each (AreOverVariables ring.now) resolution.now.maps.items }
-    ensures ok { OnOk result (out.new.items ≡ out.old.items ++ resolution_written ring.now name.now resolution.now.maps.items) }
+    ensures ok { OnOk result (out.new.items ≡ out.old.items ++ resolution_written ring.now word.now name.now resolution.now.maps.items) }
     ensures err { OnErr result (IsFront out.old.items out.new.items) }
 {
-    append_heading(out, b"res", name, resolution.maps.len())?;
+    append_heading(out, word, name, resolution.maps.len())?;
     append_maps(alloc, out, ring, &resolution.maps)
 }
 
@@ -138,7 +139,8 @@ pub fn push_resolution(
         Err(stop) => return Err(stop),
     };
     let before = out.len();
-    let written = append_resolution(alloc, out, ring, info.name.as_bytes(), &resolution);
+    let name = info.name.as_bytes();
+    let written = append_resolution(alloc, out, ring, b"res", name, &resolution);
     match whole_or_none(out, before, written) {
         Ok(()) => Ok(Step::Done),
         Err(_) => Err(WorkStop::Memory),

@@ -434,6 +434,13 @@ impl Session {
             Statement::Resolution(name) => {
                 self.report(rt, alloc, engine, &name, Report::Resolution, out)
             }
+            Statement::Minimal(name) => {
+                self.report(rt, alloc, engine, &name, Report::Minimal, out)
+            }
+            Statement::Betti(name) => { self.report(rt, alloc, engine, &name, Report::Betti, out) }
+            Statement::Regularity(name) => {
+                self.report(rt, alloc, engine, &name, Report::Regularity, out)
+            }
             Statement::Change(name, order) => {
                 self.report(rt, alloc, engine, &name, Report::InOrder(order), out)
             }

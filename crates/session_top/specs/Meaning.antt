@@ -28,6 +28,7 @@ kind_word kind.Degree = codes "degree"
 kind_word kind.Leads = codes "leads"
 kind_word kind.Large = codes "large"
 kind_word kind.Infinite = codes "infinite"
+kind_word kind.Homogeneous = codes "homogeneous"
 kind_word kind.Many = codes "many"
 
 abbrev pub refusal_word : Refusal → List ℕ

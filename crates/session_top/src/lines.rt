@@ -47,6 +47,7 @@ fn error_end(refusal: Refusal) -> &'static [u8]
         Refusal::OfLine(Kind::Leads) => b" leads\n",
         Refusal::OfLine(Kind::Large) => b" large\n",
         Refusal::OfLine(Kind::Infinite) => b" infinite\n",
+        Refusal::OfLine(Kind::Homogeneous) => b" homogeneous\n",
         Refusal::OfLine(Kind::Many) => b" many\n",
         Refusal::Length => b" length\n",
     }

@@ -30,6 +30,7 @@ fn kind_text(kind: Kind) -> &'static str {
         Kind::Leads => "  leads\n",
         Kind::Large => "  large\n",
         Kind::Infinite => "  infinite\n",
+        Kind::Homogeneous => "  homogeneous\n",
         Kind::Many => "  many\n",
     }
 }

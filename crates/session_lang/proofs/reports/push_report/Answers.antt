@@ -1,6 +1,6 @@
 use Rattle.std.proofs.Common.{subst, sym}
 use Rattle.std.specs.Prelude.{IfErr, IfOk}
-use Rattle.session_lang.proofs.Reporting.{resolving_stops}
+use Rattle.session_lang.proofs.Reporting.{betti_stops, minimal_stops, regularity_stops, resolving_stops}
 use Rattle.session_lang.specs.Reporting.{HasReport, ReportStops, Reports}
 use Rattle.session_lang.proofs.reports.push_report.Goals as goal
 
@@ -32,3 +32,33 @@ pub returns-in-Resolution-clause-stop : goal.returns-in-Resolution-clause-stop
 returns-in-Resolution-clause-stop c =
     subst (λ r. IfErr c.push_resolution.result (ReportStops c.args.ring.now c.args.info.now.rank c.args.basis.now r)) (sym c.in-Resolution.is)
     (resolving_stops c.args.ring.now c.args.info.now.rank c.args.basis.now c.push_resolution.result c.push_resolution.ensures.stop)
+
+pub returns-in-Minimal-clause-reports : goal.returns-in-Minimal-clause-reports
+returns-in-Minimal-clause-reports c =
+    subst (λ r. IfOk c.push_minimal.result (Reports c.args.ring.now c.args.info.now c.args.basis.now r c.args.out.now.items c.push_minimal.new.out.items))
+    (sym c.in-Minimal.is) c.push_minimal.ensures.reports
+
+pub returns-in-Minimal-clause-stop : goal.returns-in-Minimal-clause-stop
+returns-in-Minimal-clause-stop c =
+    subst (λ r. IfErr c.push_minimal.result (ReportStops c.args.ring.now c.args.info.now.rank c.args.basis.now r)) (sym c.in-Minimal.is)
+    (minimal_stops c.args.ring.now c.args.info.now.rank c.args.basis.now c.push_minimal.result c.push_minimal.ensures.stop)
+
+pub returns-in-Betti-clause-reports : goal.returns-in-Betti-clause-reports
+returns-in-Betti-clause-reports c =
+    subst (λ r. IfOk c.push_betti.result (Reports c.args.ring.now c.args.info.now c.args.basis.now r c.args.out.now.items c.push_betti.new.out.items))
+    (sym c.in-Betti.is) c.push_betti.ensures.reports
+
+pub returns-in-Betti-clause-stop : goal.returns-in-Betti-clause-stop
+returns-in-Betti-clause-stop c =
+    subst (λ r. IfErr c.push_betti.result (ReportStops c.args.ring.now c.args.info.now.rank c.args.basis.now r)) (sym c.in-Betti.is)
+    (betti_stops c.args.ring.now c.args.info.now.rank c.args.basis.now c.push_betti.result c.push_betti.ensures.stop)
+
+pub returns-in-Regularity-clause-reports : goal.returns-in-Regularity-clause-reports
+returns-in-Regularity-clause-reports c =
+    subst (λ r. IfOk c.push_regularity.result (Reports c.args.ring.now c.args.info.now c.args.basis.now r c.args.out.now.items c.push_regularity.new.out.items))
+    (sym c.in-Regularity.is) c.push_regularity.ensures.reports
+
+pub returns-in-Regularity-clause-stop : goal.returns-in-Regularity-clause-stop
+returns-in-Regularity-clause-stop c =
+    subst (λ r. IfErr c.push_regularity.result (ReportStops c.args.ring.now c.args.info.now.rank c.args.basis.now r)) (sym c.in-Regularity.is)
+    (regularity_stops c.args.ring.now c.args.info.now.rank c.args.basis.now c.push_regularity.result c.push_regularity.ensures.stop)

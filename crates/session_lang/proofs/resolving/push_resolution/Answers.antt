@@ -1,5 +1,5 @@
 use Rattle.std.proofs.Common.{[], rules, subst, sym}
-use Rattle.std.specs.Prelude.{string_bytes}
+use Rattle.std.specs.Prelude.{codes, string_bytes}
 use Rattle.bases.specs.Bases.{IsReducedBasis}
 use Rattle.module_vectors.specs.Rings.{ring_comparison, setting, variables}
 use Rattle.module_vectors.specs.Vectors.{sums_of}
@@ -21,7 +21,7 @@ pub returns-in-Ok-whole_or_none-clause-reports : goal.returns-in-Ok-whole_or_non
 returns-in-Ok-whole_or_none-clause-reports c = λ list positions reduced kept.
     let ring = c.args.ring.now in
     let n = variables ring in (
-      resolution_written ring (string_bytes c.args.info.now.name) c.in-Ok.resolution.maps.items,
+      resolution_written ring (codes "res") (string_bytes c.args.info.now.name) c.in-Ok.resolution.maps.items,
       resolution_shown ring c.args.info.now list c.args.basis.now kept c.from.result c.in-Ok.resolution c.from.ensures reduced
           c.in-Ok.ensures.canonical c.in-Ok.ensures.vectors c.in-Ok.ensures.joined c.in-Ok.ensures.places,
       search rules,

@@ -90,6 +90,24 @@ report-requires-in-Resolution-after_bounds g c κs within = subst (IsFit c.args.
 pub returns-in-Resolution-clause-performed : goal.returns-in-Resolution-clause-performed
 returns-in-Resolution-clause-performed g c = performed_as c.in-Resolution.is c.report-in-Resolution.ensures.performed
 
+pub report-requires-in-Minimal-after_bounds : goal.report-requires-in-Minimal-after_bounds
+report-requires-in-Minimal-after_bounds g c κs within = subst (IsFit c.args.self.now) c.in-Minimal.is c.requires.fit
+
+pub returns-in-Minimal-clause-performed : goal.returns-in-Minimal-clause-performed
+returns-in-Minimal-clause-performed g c = performed_as c.in-Minimal.is c.report-in-Minimal.ensures.performed
+
+pub report-requires-in-Betti-after_bounds : goal.report-requires-in-Betti-after_bounds
+report-requires-in-Betti-after_bounds g c κs within = subst (IsFit c.args.self.now) c.in-Betti.is c.requires.fit
+
+pub returns-in-Betti-clause-performed : goal.returns-in-Betti-clause-performed
+returns-in-Betti-clause-performed g c = performed_as c.in-Betti.is c.report-in-Betti.ensures.performed
+
+pub report-requires-in-Regularity-after_bounds : goal.report-requires-in-Regularity-after_bounds
+report-requires-in-Regularity-after_bounds g c κs within = subst (IsFit c.args.self.now) c.in-Regularity.is c.requires.fit
+
+pub returns-in-Regularity-clause-performed : goal.returns-in-Regularity-clause-performed
+returns-in-Regularity-clause-performed g c = performed_as c.in-Regularity.is c.report-in-Regularity.ensures.performed
+
 pub report-requires-in-Change-after_bounds : goal.report-requires-in-Change-after_bounds
 report-requires-in-Change-after_bounds g c κs within = subst (IsFit c.args.self.now) c.in-Change.is c.requires.fit
 

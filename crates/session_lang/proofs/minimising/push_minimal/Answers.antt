@@ -1,0 +1,16 @@
+use Rattle.std.proofs.Common.{rules}
+use Rattle.std.specs.Prelude.{codes, string_bytes}
+use Rattle.session_lang.proofs.MinimalMaps.{minimal_shown}
+use Rattle.session_lang.proofs.Reporting.{maps_variables}
+use Rattle.session_lang.specs.Writing.{resolution_written}
+use Rattle.session_lang.proofs.minimising.push_minimal.Goals as goal
+
+pub append_resolution-written-requires : goal.append_resolution-written-requires
+append_resolution-written-requires c = maps_variables c.args.ring.now c.in-Ok.resolution.maps.items c.in-Ok.ensures.cancelled.vectors
+
+pub returns-in-Ok-whole_or_none-clause-reports : goal.returns-in-Ok-whole_or_none-clause-reports
+returns-in-Ok-whole_or_none-clause-reports c = λ list positions reduced kept. (
+  resolution_written c.args.ring.now (codes "minres") (string_bytes c.args.info.now.name) c.in-Ok.resolution.maps.items,
+  minimal_shown c.args.ring.now c.args.info.now list c.args.basis.now kept c.in-Ok.resolution reduced c.in-Ok.ensures.cancelled,
+  search rules,
+)

@@ -1,0 +1,24 @@
+use Rattle.std.proofs.Common.{refl, rules, subst, sym}
+use Rattle.std.specs.Prelude.{string_bytes}
+use Rattle.betti_laws.specs.Tables.{step_count}
+use Rattle.minimal_betti.specs.Tables.{IsTable}
+use Rattle.session_lang.specs.Minimising.{regularity_text}
+use Rattle.session_lang.proofs.minimising.push_regularity.Goals as goal
+
+pub returns-in-Ok-whole_or_none-clause-reports : goal.returns-in-Ok-whole_or_none-clause-reports
+returns-in-Ok-whole_or_none-clause-reports c = λ list positions reduced kept.
+    let told = c.in-Ok.ensures.table in (
+      regularity_text (string_bytes c.args.info.now.name) c.measures_of-measures.result.dimension c.measures_of-measures.result.regularity,
+      record {
+        basis = c.args.basis.now;
+        reduced = reduced;
+        resolution = told.resolution;
+        resolved = told.resolved;
+        dimension = c.measures_of-measures.result.dimension;
+        regularity = c.measures_of-measures.result.regularity;
+        invariants = c.measures_of-measures.ensures (step_count told.resolution.positions told.resolution.maps)
+            (subst (IsTable (step_count told.resolution.positions told.resolution.maps)) (sym c.deref.ensures.value) told.table);
+        text_is = refl;
+      },
+      search rules,
+    )
