@@ -11,6 +11,7 @@ use Rattle.orders.specs.KeyOrders.{IsKeyOrder, KeyDivides}
 use Rattle.reduced_bases.proofs.Dropping.{KeyDivides_refl}
 use Rattle.module_vectors.specs.Trails.{lead_at}
 use Rattle.vector_division.proofs.Occurring.{Contains_here, Contains_later}
+use Rattle.vector_division.specs.Divisors.{AreEnough, IsDividedAt}
 use Rattle.interreduce.specs.Leads.{AreApart, AreNeeded, AreNeededSoFar, IsCoveredBy, Rises}
 use Rattle.interreduce.proofs.Leading.{Terms}
 
@@ -154,3 +155,10 @@ module _ (n : ℕ) (compare : Key n → Key n → Ordering) (list : List Terms) 
     apart = h.apart;
     covers = λ i lt some. each_contained (λ j. IsCoveredBy n list kept j) done i h.covers (all i lt some);
   }
+
+  -- those that are needed are enough divisors
+  pub needed_are_enough : (kept : List ℕ) → AreNeeded n compare list kept → AreEnough n list kept
+  needed_are_enough kept h j lt some = go (h.covers j lt some)
+    where
+      go : IsCoveredBy n list kept j → (i : ℕ) × Contains kept i × IsDividedAt n list j i
+      go (i, c, d) = (i, c, record { some = each_contained (λ k. 0 < length (get_or list k [])) kept i h.leads c; divides = d })

@@ -4,6 +4,7 @@ ghost use Rattle.formal_sums.specs.FormalSums.{Each, FormalSum};
 ghost use Rattle.bases.specs.Bases.{IsGroebnerBasis, IsReducedBasis};
 ghost use Rattle.module_vectors.specs.Rings.{setting, variables};
 ghost use Rattle.module_vectors.specs.Vectors.{AreVectorsOver, HasPositions, sums_of};
+ghost use Rattle.vector_division.specs.Divisors.{AreDivisors};
 ghost use Rattle.interreduce.specs.Leads.{HaveLeads};
 ghost use Rattle.interreduce.specs.Members.{AreReducedMembers, IsFirstRefusal, ReducesMember, StopsAtFirst};
 ghost use Rattle.interreduce.specs.Trails.{InterreductionStops};
@@ -14,6 +15,7 @@ use module_vectors::{Frame, Vect, VectList, Vectors, WorkStop, lawful_setting};
 use rayon::prelude::*;
 use std::alloc::Global;
 use std::thread::Threads;
+use vector_division::{Divisor, divisors_at};
 
 // So many terms make up for the threads that divide their tails.
 const WORTH_THREADS: usize = 2_048;
@@ -34,8 +36,10 @@ fn reduced_in_turn<F: Frame, L: Vectors>(
     alloc: Global,
     frame: &F,
     list: &L,
+    divisors: &[Divisor],
     indices: &[usize],
 ) -> Result<Vec<Vect>, WorkStop>
+    requires divisors { AreDivisors (variables (F.over frame.now)) (L.listed list.now) divisors.now }
     requires indices { Each (λ i. i < length (L.listed list.now)) indices.now }
     requires vectors { AreVectorsOver (F.over frame.now) (F.compare frame.now) (L.listed list.now) }
     requires leads { HaveLeads (L.listed list.now) indices.now }
@@ -44,7 +48,7 @@ fn reduced_in_turn<F: Frame, L: Vectors>(
 {
     let mut members = Vec::with_capacity(alloc, indices.len())?;
     for index in indices {
-        match reduced_member(alloc, frame, list, *index) {
+        match reduced_member(alloc, frame, list, divisors, *index) {
             Ok(member) => members.push_reserved(member),
             Err(stop) => return Err(stop),
         }
@@ -76,8 +80,10 @@ fn reduced_side_by_side<R: Threads + Sync, F: Frame + Sync, L: Vectors + Sync>(
     alloc: Global,
     frame: &F,
     list: &L,
+    divisors: &[Divisor],
     indices: &[usize],
 ) -> Result<Vec<Vect>, WorkStop>
+    requires divisors { AreDivisors (variables (F.over frame.now)) (L.listed list.now) divisors.now }
     requires indices { Each (λ i. i < length (L.listed list.now)) indices.now }
     requires vectors { AreVectorsOver (F.over frame.now) (F.compare frame.now) (L.listed list.now) }
     requires leads { HaveLeads (L.listed list.now) indices.now }
@@ -89,11 +95,12 @@ fn reduced_side_by_side<R: Threads + Sync, F: Frame + Sync, L: Vectors + Sync>(
         .with_min_len(1)
         .map(
             |index: &usize| -> Result<Vect, WorkStop>
+                requires divisors { AreDivisors (variables (F.over frame.now)) (L.listed list.now) divisors.now }
                 requires index { index.now < length (L.listed list.now) }
                 requires vectors { AreVectorsOver (F.over frame.now) (F.compare frame.now) (L.listed list.now) }
                 requires some { 0 < length (get_or (L.listed list.now) index.now []) }
                 ensures { ReducesMember (F.over frame.entry.now) (F.compare frame.entry.now) (L.listed list.entry.now) index.now result }
-            { reduced_member(alloc, frame, list, *index) },
+            { reduced_member(alloc, frame, list, divisors, *index) },
         )
         .collect::<Vec<Result<Vect, WorkStop>>>(rt, alloc)?;
     all_or_first_refusal(alloc, answers)
@@ -106,8 +113,10 @@ fn reduced_members<R: Threads + Sync, F: Frame + Sync, L: Vectors + Sync>(
     alloc: Global,
     frame: &F,
     list: &L,
+    divisors: &[Divisor],
     indices: &[usize],
 ) -> Result<Vec<Vect>, WorkStop>
+    requires divisors { AreDivisors (variables (F.over frame.now)) (L.listed list.now) divisors.now }
     requires indices { Each (λ i. i < length (L.listed list.now)) indices.now }
     requires vectors { AreVectorsOver (F.over frame.now) (F.compare frame.now) (L.listed list.now) }
     requires leads { HaveLeads (L.listed list.now) indices.now }
@@ -115,15 +124,16 @@ fn reduced_members<R: Threads + Sync, F: Frame + Sync, L: Vectors + Sync>(
     ensures stop { IfErr result (StopsAtFirst (F.over frame.now) (F.compare frame.now) (L.listed list.now) indices.now) }
 {
     if is_worth_threads(list, indices) {
-        reduced_side_by_side(rt, alloc, frame, list, indices)
+        reduced_side_by_side(rt, alloc, frame, list, divisors, indices)
     } else {
-        reduced_in_turn(alloc, frame, list, indices)
+        reduced_in_turn(alloc, frame, list, divisors, indices)
     }
 }
 
 /// The list without zero and without the members whose leads others divide, each other member monic and with its tail
-/// reduced by the list, by descending leads: of a Gröbner basis the reduced one (IVA chapter 2, section 7). Where there is
-/// much work the tails are divided side by side, in threads.
+/// reduced by the list, by descending leads: of a Gröbner basis the reduced one (IVA chapter 2, section 7). Of the members whose
+/// leads divide a key that with the smallest lead is taken, so that products stay small. Where there is much work the tails are
+/// divided side by side, in threads.
 ///
 /// `Degree` comes with a trail of the division of a member by the list, to a product of degree above 65,535;
 /// `Memory` where a growth was refused.
@@ -143,7 +153,8 @@ pub fn interreduce<R: Threads + Sync, F: Frame + Sync, L: Vectors + Sync>(
 {
     lawful_setting(frame);
     let kept = needed_members(alloc, frame, list)?;
-    let mut members = reduced_members(rt, alloc, frame, list, &kept)?;
+    let divisors = divisors_at(alloc, list, &kept)?;
+    let mut members = reduced_members(rt, alloc, frame, list, &divisors, &kept)?;
     members.reverse();
     Ok(VectList::from_vec(members))
 }

@@ -6,12 +6,13 @@ ghost use Rattle.bases.specs.Leads.{head_key};
 ghost use Rattle.module_vectors.specs.Rings.{variables};
 ghost use Rattle.module_vectors.specs.Vectors.{AreVectorsOver, IsVectorOver, sum_of};
 ghost use Rattle.vector_division.specs.Divisions.{IsDivisionTrail};
+ghost use Rattle.vector_division.specs.Divisors.{AreDivisors};
 ghost use Rattle.interreduce.specs.Members.{IsReducedMember};
 ghost use Rattle.interreduce.specs.Trails.{MemberStops};
 
 use module_vectors::{Frame, KeptTrail, NoMemory, Vect, Vectors, WorkStop, lawful_setting};
 use std::alloc::Global;
-use vector_division::reduce;
+use vector_division::{Divisor, reduce_by};
 
 // The vector without its greatest term.
 fn tail_of<F: Frame>(alloc: Global, frame: &F, v: &Vect) -> Result<Vect, NoMemory>
@@ -54,15 +55,18 @@ fn trail_of_member(
     Ok(trail)
 }
 
-/// Member `index`, monic and with its tail divided by the whole list. What the division leaves stands below the lead.
+/// Member `index`, monic and with its tail divided by the whole list, of which these divisors are tried. What the division
+/// leaves stands below the lead.
 ///
 /// `Degree` comes with a trail of the division of the member by the list, `Memory` where a growth was refused.
 pub(crate) fn reduced_member<F: Frame, L: Vectors>(
     alloc: Global,
     frame: &F,
     list: &L,
+    divisors: &[Divisor],
     index: usize,
 ) -> Result<Vect, WorkStop>
+    requires divisors { AreDivisors (variables (F.over frame.now)) (L.listed list.now) divisors.now }
     requires index { index < length (L.listed list.now) }
     requires vectors { AreVectorsOver (F.over frame.now) (F.compare frame.now) (L.listed list.now) }
     requires some { 0 < length (get_or (L.listed list.now) index []) }
@@ -72,7 +76,7 @@ pub(crate) fn reduced_member<F: Frame, L: Vectors>(
     lawful_setting(frame);
     let member = list.at(index);
     let tail = tail_of(alloc, frame, member)?;
-    match reduce(alloc, frame, &tail, list) {
+    match reduce_by(alloc, frame, &tail, list, divisors) {
         Ok(reduction) => {
             let mut reduced = with_lead_of(alloc, frame, member, reduction.rest)?;
             reduced.monic(frame);

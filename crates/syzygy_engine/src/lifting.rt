@@ -18,7 +18,7 @@ use monomial_orders::ModOrder;
 use std::alloc::Global;
 use std::sync::Wait;
 use std::thread::Threads;
-use vector_division::{Reduction, reduce};
+use vector_division::{Reduction, divisors_from_last, reduce_by};
 
 // What was left.
 fn rest_of(reduction: Reduction) -> Vect
@@ -27,7 +27,7 @@ fn rest_of(reduction: Reduction) -> Vect
     reduction.rest
 }
 
-// What a division of u by the list leaves.
+// What a division of u by the list leaves, where the last of its vectors are tried first.
 fn rest_after(alloc: Global, ring: &Ring, u: &Vect, list: &VectList) -> Result<Vect, WorkStop>
     requires vector { IsVectorOver ring.now (ring_comparison ring.now) u.now }
     requires list { AreVectorsOver ring.now (ring_comparison ring.now) list.now }
@@ -37,7 +37,8 @@ fn rest_after(alloc: Global, ring: &Ring, u: &Vect, list: &VectList) -> Result<V
     ensures reduced { let n = variables ring.now in IfOk result (λ rest. IsFreeOfLeads (sums_of n list.now) (sum_of n rest)) }
     ensures stop { IfErr result (DivisionStops ring.now u.now list.now) }
 {
-    match reduce(alloc, ring, u, list) {
+    let divisors = divisors_from_last(alloc, list)?;
+    match reduce_by(alloc, ring, u, list, &divisors) {
         Ok(reduction) => Ok(rest_of(reduction)),
         Err(stop) => Err(stop),
     }

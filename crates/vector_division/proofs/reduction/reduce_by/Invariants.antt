@@ -1,0 +1,19 @@
+use Rattle.std.proofs.Common.{[]}
+use Rattle.module_vectors.specs.Rings.{variables}
+use Rattle.vector_division.specs.Progress.{room_of}
+use Rattle.vector_division.specs.Runs.{IsSplit, IsNext, total, with_next}
+use Rattle.vector_division.proofs.reduction.reduce_by.Given as goal
+
+abbrev pub invariant-loop-next : goal.invariant-loop-next
+invariant-loop-next g l =
+    let ring = g.F.Frame.over l.frame in
+    let n = variables ring in
+    record {
+      next : IsNext n ring.weights ring.modulus.value (g.F.Frame.compare l.frame n) l.buckets l.next;
+      kept : IsSplit n ring.weights ring.modulus.value (g.F.Frame.compare l.frame n) l.v (g.L.Vectors.listed l.list) l.quotients.items l.rest.items l.buckets (with_next n l.next (total n l.buckets));
+    }
+
+abbrev pub decreases-loop-next : goal.decreases-loop-next
+decreases-loop-next g l =
+    let n = variables (g.F.Frame.over l.frame) in
+    room_of (g.F.Frame.compare l.frame n) (with_next n l.next [])

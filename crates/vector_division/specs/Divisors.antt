@@ -1,0 +1,42 @@
+-- The vectors of a list that a division tries as divisors
+use Rattle.std.specs.Prelude.{Contains, List, [], get_or, length, ℕ, ◌<◌, ◌≡◌}
+use Rattle.formal_sums.specs.FormalSums.{Key}
+use Rattle.orders.specs.KeyOrders.{KeyDivides}
+use Rattle.bases.specs.Leads.{head_key}
+use Rattle.module_vectors.specs.Trails.{lead_at}
+use Rattle.module_vectors.specs.Vectors.{sum_of}
+use Rattle.module_vectors.specs.declared.key.Key.{Key as CodeKey}
+use Rattle.vector_division.specs.Marks.{IsMarkOf}
+use Rattle.vector_division.specs.declared.divisors.Divisor.{Divisor}
+
+-- vector i has a lead, which divides that of vector j
+pub record IsDividedAt (n : ℕ) (list : List (List (CodeKey × ℕ))) (j i : ℕ) : Type 0 where
+  pub some : 0 < length (get_or list i [])
+  pub divides : KeyDivides (lead_at n list i) (lead_at n list j)
+
+-- the lead of each vector of the list is divisible by that of one with these indices
+abbrev pub AreEnough : ℕ → List (List (CodeKey × ℕ)) → List ℕ → Type 0
+AreEnough n list indices =
+    (j : ℕ) → j < length list → 0 < length (get_or list j []) → (i : ℕ) × Contains indices i × IsDividedAt n list j i
+
+-- the divisor is a vector of the list, with its mark
+pub record IsOf (list : List (List (CodeKey × ℕ))) (d : Divisor) : Type 0 where
+  pub within : d.index < length list
+  pub mark : IsMarkOf (get_or list d.index []) d.mark
+
+-- vectors of the list with their marks, and the lead of each vector of the list is divisible by that of one of them
+pub record AreDivisors (n : ℕ) (list : List (List (CodeKey × ℕ))) (divisors : List Divisor) : Type 0 where
+  pub each : (k : ℕ) (d : Divisor) → k < length divisors → d ≡ get_or divisors k d → IsOf list d
+  pub enough :
+      (j : ℕ) → j < length list → 0 < length (get_or list j []) → (d : Divisor) × Contains divisors d × IsDividedAt n list j d.index
+
+-- the leads of the first i divisors do not divide k
+abbrev pub AreTriedTo : (n : ℕ) → List (List (CodeKey × ℕ)) → Key n → List Divisor → ℕ → Type 0
+AreTriedTo n list k divisors i =
+    (m : ℕ) (d : Divisor) → m < i → d ≡ get_or divisors m d → 0 < length (get_or list d.index [])
+    → KeyDivides (head_key (sum_of n (get_or list d.index []))) k → ⊥
+
+-- divisor m is vector f m of the list, for m below this count
+pub record AreBy (f : ℕ → ℕ) (total : ℕ) (list : List (List (CodeKey × ℕ))) (divisors : List Divisor) : Type 0 where
+  pub count : length divisors ≡ total
+  pub each : (m : ℕ) (d : Divisor) → m < total → d ≡ get_or divisors m d → (d.index ≡ f m) × IsMarkOf (get_or list (f m) []) d.mark
