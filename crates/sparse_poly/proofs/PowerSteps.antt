@@ -1,5 +1,5 @@
--- The steps of a power by squaring: what the product of two powers is, where it fits, and why it stops
-use Rattle.std.proofs.Common.{List, Ordering, ap, arith, refl, subst, sym, ℕ, ◌%◌, ◌*◌, ◌+◌, ◌<◌, ◌≡◌, ◌≤◌}
+-- The steps of a power: what the product of two powers is, where it fits, and why it stops
+use Rattle.std.proofs.Common.{Err, IfErr, IfOk, List, Ok, OnErr, OnOk, Ordering, Result, ap, arith, refl, subst, sym, ℕ, ◌%◌, ◌*◌, ◌+◌, ◌<◌, ◌≡◌, ◌≤◌}
 use Rattle.std.proofs.Math.Nat.{mul-le-mul_right}
 use Rattle.residues.proofs.Congruences.{IsCongruent_add, IsCongruent_mod, IsCongruent_multiply, IsCongruent_refl}
 use Rattle.residues.specs.Residues.{IsCongruent, IsDomain}
@@ -10,16 +10,19 @@ use Rattle.formal_sums.proofs.Sameness.{IsSame_of, IsSame_sym, IsSame_trans}
 use Rattle.formal_sums.specs.FormalSums.{FormalSum, IsPolynomial, IsSame, Key, product}
 use Rattle.orders.specs.KeyOrders.{IsKeyOrder}
 use Rattle.module_vectors.specs.Stops.{Fits}
-use Rattle.module_vectors.specs.Vectors.{HasPositions, IsTerm, IsVector, sum_of}
+use Rattle.module_vectors.specs.Rings.{variables}
+use Rattle.module_vectors.specs.Vectors.{HasPositions, IsTerm, IsVector, IsVectorOver, StandsFor, sum_of}
 use Rattle.module_vectors.specs.declared.key.Key.{Key as CodeKey}
+use Rattle.module_vectors.specs.declared.ring.Ring.{Ring}
 use Rattle.module_vectors.specs.declared.stop.VectStop.{VectStop}
 use Rattle.module_vectors.specs.declared.stop.VectStop.TheVariants.{Degree, Memory}
 use Rattle.sparse_poly.proofs.Bounding.{HasDegreeWithin_constant, HasDegreeWithin_power, HasDegreeWithin_same}
 use Rattle.sparse_poly.proofs.Powering.{IsSame_product_both, power_add, product_one}
-use Rattle.sparse_poly.proofs.Products.{PolynomialProductStops_memory}
+use Rattle.sparse_poly.proofs.Results.{one_err}
 use Rattle.sparse_poly.proofs.Terms.{HasDegreeWithin_of, HasMonomial_of, IsPolynomial_of, IsWithinDegree_of, Occurs_of, each_at, each_weighed, weighed_of}
 use Rattle.sparse_poly.proofs.TopDegrees.{Occurs_within, PowersFit_of}
-use Rattle.sparse_poly.specs.Degrees.{IsWithinDegree}
+use Rattle.sparse_poly.specs.Degrees.{HasDegreeWithin, IsWithinDegree}
+use Rattle.sparse_poly.specs.PowerParts.{IsPower, IsPowerOver, PowerStopsOver}
 use Rattle.sparse_poly.specs.Powers.{constant, power}
 use Rattle.sparse_poly.specs.Stops.{Occurs, PowerStops, PowersFit, ProductFits, PolynomialProductStops}
 
@@ -36,12 +39,6 @@ PowerStops_higher n ws p v k l (Degree s t) le h =
 pub PowersFit_none : {n p : ℕ} (ws : List ℕ) → IsDomain p → (v : FormalSum n) (k : ℕ) → IsPolynomial v → k ≡ 0 → PowersFit ws p v k
 PowersFit_none {n} {p} ws domain v k h e =
     PowersFit_of ws domain v 0 0 k h (omega arith) (λ a b oa ob. (let left : weighted_degree ws a ≤ 0 = Occurs_within (constant n 1) a (HasDegreeWithin_constant n ws p 1) oa in let right : weighted_degree ws b ≤ 0 = Occurs_within (constant n 1) b (HasDegreeWithin_constant n ws p 1) ob in omega arith))
-
--- v is the power k of a polynomial
-pub record IsPower {n : ℕ} (ws : List ℕ) (p : ℕ) (compare : Key n → Key n → Ordering) (base : FormalSum n) (k : ℕ) (v : List (CodeKey × ℕ)) : Type 0 where
-  pub vector : IsVector n ws p compare v
-  pub positions : HasPositions 1 v
-  pub same : IsSame p (sum_of n v) (power base k)
 
 module _ {n r p : ℕ} {compare : Key n → Key n → Ordering} (order : IsKeyOrder r compare) (ws : List ℕ) (domain : IsDomain p) where
   -- a polynomial is its power 1
@@ -116,17 +113,80 @@ module _ {n r p : ℕ} {compare : Key n → Key n → Ordering} (order : IsKeyOr
 
   -- within small degrees it stops for want of memory alone
   pub power_memory :
-      (base : List (CodeKey × ℕ)) (i j k d : ℕ) (a b : List (CodeKey × ℕ)) (stop : VectStop)
-      → IsVector n ws p compare base → IsWithinDegree d base → i + j ≤ k → k * d ≤ 65535
-      → IsPower ws p compare (sum_of n base) i a → IsPower ws p compare (sum_of n base) j b → PolynomialProductStops a b stop
+      (base : List (CodeKey × ℕ)) (k d : ℕ) (stop : VectStop)
+      → IsVector n ws p compare base → IsWithinDegree d base → k * d ≤ 65535 → PowerStops n ws p (sum_of n base) k stop
       → stop ≡ Memory
-  power_memory base i j k d a b stop vector within le small ha hb h =
-      let most : (i + j) * d ≤ k * d = mul-le-mul_right d le in
+  power_memory base k d Memory vector within small h = refl
+  power_memory base k d (Degree s t) vector within small h =
+      let bound : HasDegreeWithin ws p d (sum_of n base) = HasDegreeWithin_of ws p base (each_weighed n ws p base vector.each) within in
+      let i : ℕ = h.0 in
+      let j : ℕ = h.1 in
+      let left : weighted_degree ws (exponents_of n s.exponents) ≤ i * d = Occurs_within (power (sum_of n base) i) (exponents_of n s.exponents) (HasDegreeWithin_power (sum_of n base) i bound) h.3 in
+      let right : weighted_degree ws (exponents_of n t.exponents) ≤ j * d = Occurs_within (power (sum_of n base) j) (exponents_of n t.exponents) (HasDegreeWithin_power (sum_of n base) j bound) h.4 in
+      let ds = h.6.degree in
+      let dt = h.7.degree in
+      let most : (i + j) * d ≤ k * d = mul-le-mul_right d h.2 in
       let split : (i + j) * d ≡ i * d + j * d = omega arith in
-      PolynomialProductStops_memory a b (i * d) (j * d)
-      (power_within base i d (i * d) a vector within refl ha.vector ha.same)
-      (power_within base j d (j * d) b vector within refl hb.vector hb.same)
-      (omega arith) stop h
+      let great : 65535 < s.degree + t.degree = h.5 in
+      absurd (omega arith)
+
+module _ (ring : Ring) (compare : (n : ℕ) → Key n → Key n → Ordering) {r : ℕ} (order : IsKeyOrder r (compare (variables ring))) (domain : IsDomain ring.modulus.value) (base : List (CodeKey × ℕ)) where
+  -- the power of a sum of exponents
+  pub IsPowerOver_product :
+      (i j k : ℕ) (a b v : List (CodeKey × ℕ))
+      → i + j ≡ k → HasPositions 1 base
+      → IsPower ring.weights ring.modulus.value (compare (variables ring)) (sum_of (variables ring) base) i a
+      → IsPower ring.weights ring.modulus.value (compare (variables ring)) (sum_of (variables ring) base) j b
+      → ProductFits a b → IsVectorOver ring compare v → HasPositions 1 v
+      → StandsFor ring v (product (sum_of (variables ring) a) (sum_of (variables ring) b))
+      → IsPowerOver ring compare base k v
+  IsPowerOver_product i j k a b v e polynomial ha hb fits vector positions same = record {
+    power_is = record {
+      vector = vector;
+      positions = positions;
+      same = power_product order ring.weights domain (sum_of (variables ring) base) i j k a b v e ha hb same;
+    };
+    fits = power_fits order ring.weights domain (sum_of (variables ring) base) i j k a b (IsPolynomial_of (variables ring) base polynomial) e ha hb fits;
+  }
+
+  -- the next power
+  pub IsPowerOver_next :
+      (k l : ℕ) (a v : List (CodeKey × ℕ))
+      → k + 1 ≡ l → IsVectorOver ring compare base → HasPositions 1 base → IsPowerOver ring compare base k a
+      → ProductFits a base → IsVectorOver ring compare v → HasPositions 1 v
+      → StandsFor ring v (product (sum_of (variables ring) a) (sum_of (variables ring) base))
+      → IsPowerOver ring compare base l v
+  IsPowerOver_next k l a v e vector polynomial h = IsPowerOver_product k 1 l a base v e polynomial h.power_is (IsPower_itself order ring.weights domain base vector polynomial)
+
+  -- why it is not made
+  pub next_stops :
+      (k l : ℕ) (a : List (CodeKey × ℕ)) (stop : VectStop)
+      → k + 1 ≤ l → IsVectorOver ring compare base → HasPositions 1 base → IsPowerOver ring compare base k a
+      → PolynomialProductStops a base stop → PowerStopsOver ring base l stop
+  next_stops k l a stop le vector polynomial h =
+      power_stops order ring.weights domain (sum_of (variables ring) base) k 1 l a base stop le h.power_is (IsPower_itself order ring.weights domain base vector polynomial)
+
+  -- the same of a result
+  pub next_result :
+      {E : Type 0} (k l : ℕ) (a : List (CodeKey × ℕ)) (r : Result (List (CodeKey × ℕ)) E)
+      → k + 1 ≡ l → IsVectorOver ring compare base → HasPositions 1 base → IsPowerOver ring compare base k a
+      → OnOk r (ProductFits a base) → IfOk r (IsVectorOver ring compare) → IfOk r (HasPositions 1)
+      → IfOk r (λ v. StandsFor ring v (product (sum_of (variables ring) a) (sum_of (variables ring) base)))
+      → IfOk r (IsPowerOver ring compare base l)
+  next_result k l a (Ok v) e vector polynomial h fits made positions same = IsPowerOver_next k l a v e vector polynomial h fits made positions same
+  next_result k l a (Err stop) e vector polynomial h fits made positions same = tt
+
+  -- the degrees of a result
+  pub result_within :
+      {E : Type 0} (k d : ℕ) (r : Result (List (CodeKey × ℕ)) E) → IsVectorOver ring compare base → IsWithinDegree d base → IfOk r (IsPowerOver ring compare base k)
+      → IfOk r (IsWithinDegree (k * d))
+  result_within k d (Ok v) vector within h = power_within order ring.weights domain base k d (k * d) v vector within refl h.power_is.vector h.power_is.same
+  result_within k d (Err stop) vector within h = tt
+
+  pub result_memory :
+      {A : Type 0} (k d : ℕ) (r : Result A VectStop) → IsVectorOver ring compare base → IsWithinDegree d base → k * d ≤ 65535
+      → IfErr r (PowerStopsOver ring base k) → OnErr r (r ≡ Err Memory)
+  result_memory k d r vector within small h = one_err (PowerStopsOver ring base k) r Memory (λ stop s. power_memory order ring.weights domain base k d stop vector within small s) h
 
 -- a residue stands for its number
 pub constant_residue :

@@ -4,3 +4,4 @@ pub mod Powers
 pub mod Stops
 -- invariants of loops
 pub mod Multiples
+pub mod PowerParts

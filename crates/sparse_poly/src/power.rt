@@ -1,8 +1,9 @@
 // Powers of a polynomial.
-ghost use Rattle.std.specs.Prelude.{◌≡◌, ◌*◌, ◌≤◌, ℕ, IfOk, IfErr, OnOk, OnErr, Err};
+ghost use Rattle.std.specs.Prelude.{◌≡◌, ◌*◌, ◌/◌, ◌≤◌, ℕ, IfOk, IfErr, OnOk, OnErr, Err};
 ghost use Rattle.module_vectors.specs.Rings.{variables};
 ghost use Rattle.module_vectors.specs.Vectors.{sum_of, IsVectorOver, StandsFor, HasPositions};
 ghost use Rattle.sparse_poly.specs.Degrees.{IsWithinDegree};
+ghost use Rattle.sparse_poly.specs.PowerParts.{IsPowerOver, PowerStopsOver};
 ghost use Rattle.sparse_poly.specs.Powers.{power};
 ghost use Rattle.sparse_poly.specs.Stops.{PowersFit, PowerStops};
 
@@ -10,8 +11,8 @@ use crate::{formal_constant, mul};
 use module_vectors::{Frame, Vect, VectStop};
 use std::alloc::Global;
 
-/// The power of a polynomial, by squaring; with n = 0 the constant 1. `Degree` exactly where monomials of two powers of `p`,
-/// with exponents that sum to at most n, have degrees that sum to more than 65,535; it carries two such.
+/// The power of a polynomial, from that of half the exponent; with n = 0 the constant 1. `Degree` exactly where monomials of
+/// two powers of `p`, with exponents that sum to at most n, have degrees that sum to more than 65,535; it carries two such.
 pub fn pow<F: Frame>(alloc: Global, frame: &F, p: &Vect, n: u128) -> Result<Vect, VectStop>
     requires vector { IsVectorOver (F.over frame.now) (F.compare frame.now) p.now }
     requires polynomial { HasPositions 1 p.now }
@@ -32,7 +33,30 @@ pub fn pow<F: Frame>(alloc: Global, frame: &F, p: &Vect, n: u128) -> Result<Vect
         Ok(half) => half,
         Err(stop) => return Err(stop),
     };
-    let square = match mul(alloc, frame, &half, &half) {
+    // Multiplying on makes at least (n - n / 2) |p| |half| products of terms, and squaring |half| |half|.
+    let factors = (n - n / 2).saturating_mul(p.terms().len() as u128);
+    if half.terms().len() as u128 <= factors {
+        squared(alloc, frame, p, n, &half)
+    } else {
+        multiplied_on(alloc, frame, p, n, half)
+    }
+}
+
+/// The power n of `p` as the square of the power n / 2, and once more by `p` where n is odd.
+fn squared<F: Frame>(
+    alloc: Global,
+    frame: &F,
+    p: &Vect,
+    n: u128,
+    half: &Vect,
+) -> Result<Vect, VectStop>
+    requires vector { IsVectorOver (F.over frame.now) (F.compare frame.now) p.now }
+    requires polynomial { HasPositions 1 p.now }
+    requires half { IsPowerOver (F.over frame.now) (F.compare frame.now) p.now (n / 2) half.now }
+    ensures power { IfOk result (IsPowerOver (F.over frame.now) (F.compare frame.now) p.now n) }
+    ensures stop { IfErr result (PowerStopsOver (F.over frame.now) p.now n) }
+{
+    let square = match mul(alloc, frame, half, half) {
         Ok(square) => square,
         Err(stop) => return Err(stop),
     };
@@ -41,4 +65,28 @@ pub fn pow<F: Frame>(alloc: Global, frame: &F, p: &Vect, n: u128) -> Result<Vect
     } else {
         mul(alloc, frame, &square, p)
     }
+}
+
+/// The power n of `p` as the power n / 2, multiplied by `p` as many times as are left.
+fn multiplied_on<F: Frame>(
+    alloc: Global,
+    frame: &F,
+    p: &Vect,
+    n: u128,
+    half: Vect,
+) -> Result<Vect, VectStop>
+    requires vector { IsVectorOver (F.over frame.now) (F.compare frame.now) p.now }
+    requires polynomial { HasPositions 1 p.now }
+    requires half { IsPowerOver (F.over frame.now) (F.compare frame.now) p.now (n / 2) half }
+    ensures power { IfOk result (IsPowerOver (F.over frame.now) (F.compare frame.now) p.now n) }
+    ensures stop { IfErr result (PowerStopsOver (F.over frame.now) p.now n) }
+{
+    let mut reached = half;
+    for _ in n / 2..n {
+        reached = match mul(alloc, frame, &reached, p) {
+            Ok(next) => next,
+            Err(stop) => return Err(stop),
+        };
+    }
+    Ok(reached)
 }
