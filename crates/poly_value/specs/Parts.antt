@@ -1,6 +1,5 @@
 -- Sums of terms that stand on the stack while a polynomial is worked out
-use Rattle.std.specs.Prelude.{List, Some, Vec, [], ◌*◌, ◌+◌, ◌<◌, ◌^◌, ◌∷◌, ◌≡◌, ◌≤◌, ℕ}
-use Rattle.std.specs.Global.{Global}
+use Rattle.std.specs.Prelude.{List, Some, [], ◌*◌, ◌+◌, ◌<◌, ◌^◌, ◌∷◌, ◌≡◌, ◌≤◌, ℕ}
 use Rattle.std.specs.List.{AllByRecursion}
 use Rattle.poly_grammar.specs.Algebras.{worth_step}
 use Rattle.poly_grammar.specs.Numerals.{value_of}
@@ -12,6 +11,7 @@ use Rattle.module_vectors.specs.Vectors.{AreTermsOver, HasPositions, StandsFor, 
 use Rattle.module_vectors.specs.declared.key.Key.{Key}
 use Rattle.module_vectors.specs.declared.ring.Ring.{Ring}
 use Rattle.sparse_poly.specs.Degrees.{HasDegreeWithin}
+use Rattle.poly_value.specs.declared.operands.Operand.{Operand}
 use Rattle.poly_value.specs.Values.{degrees_of, polynomials_of}
 
 -- terms of the ring at position 0, in any order and with repeats
@@ -34,9 +34,9 @@ abbrev pub PowerFits : Ring → List (Key × ℕ) → ℕ → Type 0
 PowerFits ring base n = (d : ℕ) × HasDegreeWithin ring.weights ring.modulus.value d (sum_of (variables ring) base) × (n * d ≤ 65535)
 
 -- the sums of a stack, the top first, are parts of these values
-abbrev pub AreParts : (ring : Ring) → List (Vec (Key × ℕ) Global) → List (FormalSum (variables ring)) → Type 0
+abbrev pub AreParts : (ring : Ring) → List (Operand) → List (FormalSum (variables ring)) → Type 0
 AreParts ring [] [] = Unit {0}
-AreParts ring (terms ∷ stack) (v ∷ vs) = IsPart ring v terms.items × AreParts ring stack vs
+AreParts ring (operand ∷ stack) (v ∷ vs) = IsPart ring v operand.terms.items × AreParts ring stack vs
 AreParts ring _ _ = ⊥
 
 -- the values have degrees of at most these
@@ -47,7 +47,7 @@ HaveDegreesWithin ws p _ _ = ⊥
 
 -- the step can be done on a stack of sums, the top first: it has a worth for their values, a formal degree for theirs, and
 -- its number is below 2^128
-pub record IsReady (ring : Ring) (line : List ℕ) (step : Step) (stack : List (Vec (Key × ℕ) Global)) : Type 0 where
+pub record IsReady (ring : Ring) (line : List ℕ) (step : Step) (stack : List (Operand)) : Type 0 where
   pub values : List (FormalSum (variables ring))
   pub parts : AreParts ring stack values
   pub worth : (left : List (FormalSum (variables ring))) × (worth_step (polynomials_of ring line) step values ≡ Some left)
@@ -57,6 +57,6 @@ pub record IsReady (ring : Ring) (line : List ℕ) (step : Step) (stack : List (
   pub numerals : AllByRecursion (λ t. value_of line t < 2 ^ 128) (numbers_of_steps (step ∷ []))
 
 -- the step leads from one stack of sums, the top first, to the other
-abbrev pub Advances : Ring → List ℕ → Step → List (Vec (Key × ℕ) Global) → List (Vec (Key × ℕ) Global) → Type 0
+abbrev pub Advances : Ring → List ℕ → Step → List (Operand) → List (Operand) → Type 0
 Advances ring line step old new = (vs left : List (FormalSum (variables ring)))
     → AreParts ring old vs → worth_step (polynomials_of ring line) step vs ≡ Some left → AreParts ring new left

@@ -1,9 +1,8 @@
 //! Sums of terms at position 0, in any order and with repeats, and what polynomials are made of them.
 //!
-//! A sum is only joined; it is brought to normal form where it is multiplied. Products and powers are those of a degree of
-//! at most 65,535.
+//! A sum is brought to normal form where it is multiplied. Products and powers are those of a degree of at most 65,535.
 
-ghost use Rattle.std.specs.Prelude.{◌≡◌, ◌-◌, ◌<◌, ◌++◌, IfOk};
+ghost use Rattle.std.specs.Prelude.{◌≡◌, ◌-◌, ◌<◌, IfOk};
 ghost use Rattle.monomials.specs.Exponents.{unit};
 ghost use Rattle.formal_sums.specs.FormalSums.{Each, FormalSum, product, scale};
 ghost use Rattle.module_vectors.specs.Multiples.{rescaled};
@@ -52,16 +51,6 @@ pub fn oppose<F: Frame>(frame: &F, terms: &mut Vec<(Key, u32)>)
     let modulus = &frame.ring().modulus;
     modulus.domain();
     negate(modulus, terms);
-}
-
-/// The terms of a sum: the right ones are moved behind the left ones.
-pub fn joined(left: Vec<(Key, u32)>, right: Vec<(Key, u32)>) -> Result<Vec<(Key, u32)>, NoMemory>
-    ensures { IfOk result (λ terms. terms.items ≡ left.items ++ right.items) }
-{
-    let mut terms = left;
-    let mut more = right;
-    terms.append(&mut more)?;
-    Ok(terms)
 }
 
 /// The answer to a stop that is want of memory.

@@ -8,24 +8,25 @@ ghost use Rattle.poly_grammar.specs.declared.step.Step.TheVariants as steps;
 ghost use Rattle.poly_value.specs.Parts.{Advances, IsReady};
 
 use crate::names::place;
-use crate::parts::{constant_part, joined, oppose, power_part, product_part, variable_part};
-use module_vectors::{Frame, Key, NoMemory};
+use crate::operands::{Operand, joined, operand_of};
+use crate::parts::{constant_part, oppose, power_part, product_part, variable_part};
+use module_vectors::{Frame, NoMemory};
 use poly_grammar::{Step, number, text};
 use script_tokens::Token;
 use std::alloc::Global;
 
 /// Takes what is on top.
-pub fn take_top(stack: &mut Vec<Vec<(Key, u32)>>) -> Option<Vec<(Key, u32)>>
-    ensures { MatchOption result (reverse stack.old.items ≡ []) (λ terms. reverse stack.old.items ≡ terms ∷ reverse stack.new.items) }
+pub fn take_top(stack: &mut Vec<Operand>) -> Option<Operand>
+    ensures { MatchOption result (reverse stack.old.items ≡ []) (λ operand. reverse stack.old.items ≡ operand ∷ reverse stack.new.items) }
 {
     stack.pop()
 }
 
-/// Puts terms on top.
-fn put_top(stack: &mut Vec<Vec<(Key, u32)>>, terms: Vec<(Key, u32)>) -> Result<(), NoMemory>
-    ensures { OnOk result (reverse stack.new.items ≡ terms ∷ reverse stack.old.items) }
+/// Puts an operand on top.
+fn put_top(stack: &mut Vec<Operand>, operand: Operand) -> Result<(), NoMemory>
+    ensures { OnOk result (reverse stack.new.items ≡ operand ∷ reverse stack.old.items) }
 {
-    stack.push(terms)?;
+    stack.push(operand)?;
     Ok(())
 }
 
@@ -35,7 +36,7 @@ fn put_number<F: Frame>(
     frame: &F,
     line: &[u8],
     token: Token,
-    stack: &mut Vec<Vec<(Key, u32)>>,
+    stack: &mut Vec<Operand>,
 ) -> Result<(), NoMemory>
     requires { IsReady (F.over frame.now) line.now (steps.Number token) (reverse stack.old.items) }
     ensures { OnOk result (Advances (F.over frame.now) line.now (steps.Number token) (reverse stack.old.items) (reverse stack.new.items)) }
@@ -44,7 +45,7 @@ fn put_number<F: Frame>(
         unreachable!()
     };
     let terms = constant_part(alloc, frame, n)?;
-    put_top(stack, terms)
+    put_top(stack, operand_of(terms))
 }
 
 /// Puts the variable of a name.
@@ -53,7 +54,7 @@ fn put_name<F: Frame>(
     frame: &F,
     line: &[u8],
     token: Token,
-    stack: &mut Vec<Vec<(Key, u32)>>,
+    stack: &mut Vec<Operand>,
 ) -> Result<(), NoMemory>
     requires { IsReady (F.over frame.now) line.now (steps.Name token) (reverse stack.old.items) }
     ensures { OnOk result (Advances (F.over frame.now) line.now (steps.Name token) (reverse stack.old.items) (reverse stack.new.items)) }
@@ -62,7 +63,7 @@ fn put_name<F: Frame>(
         unreachable!()
     };
     let terms = variable_part(alloc, frame, i)?;
-    put_top(stack, terms)
+    put_top(stack, operand_of(terms))
 }
 
 /// Raises the top to a power.
@@ -71,7 +72,7 @@ fn raise_top<F: Frame>(
     frame: &F,
     line: &[u8],
     token: Token,
-    stack: &mut Vec<Vec<(Key, u32)>>,
+    stack: &mut Vec<Operand>,
 ) -> Result<(), NoMemory>
     requires { IsReady (F.over frame.now) line.now (steps.Power token) (reverse stack.old.items) }
     ensures { OnOk result (Advances (F.over frame.now) line.now (steps.Power token) (reverse stack.old.items) (reverse stack.new.items)) }
@@ -82,8 +83,8 @@ fn raise_top<F: Frame>(
     let Some(n) = number(text(line, token)) else {
         unreachable!()
     };
-    let terms = power_part(alloc, frame, base, n)?;
-    put_top(stack, terms)
+    let terms = power_part(alloc, frame, base.terms, n)?;
+    put_top(stack, operand_of(terms))
 }
 
 /// Puts the product of the two on top in their place.
@@ -91,7 +92,7 @@ fn multiply_top<F: Frame>(
     alloc: Global,
     frame: &F,
     line: &[u8],
-    stack: &mut Vec<Vec<(Key, u32)>>,
+    stack: &mut Vec<Operand>,
 ) -> Result<(), NoMemory>
     requires { IsReady (F.over frame.now) line.now steps.Multiply (reverse stack.old.items) }
     ensures { OnOk result (Advances (F.over frame.now) line.now steps.Multiply (reverse stack.old.items) (reverse stack.new.items)) }
@@ -102,20 +103,20 @@ fn multiply_top<F: Frame>(
     let Some(left) = take_top(stack) else {
         unreachable!()
     };
-    let terms = product_part(alloc, frame, left, right)?;
-    put_top(stack, terms)
+    let terms = product_part(alloc, frame, left.terms, right.terms)?;
+    put_top(stack, operand_of(terms))
 }
 
 /// Puts the sum of the two on top in their place.
 fn add_top<F: Frame>(
+    alloc: Global,
     frame: &F,
     line: &[u8],
-    stack: &mut Vec<Vec<(Key, u32)>>,
+    stack: &mut Vec<Operand>,
 ) -> Result<(), NoMemory>
     requires { IsReady (F.over frame.now) line.now steps.Add (reverse stack.old.items) }
     ensures { OnOk result (Advances (F.over frame.now) line.now steps.Add (reverse stack.old.items) (reverse stack.new.items)) }
 {
-    let _ring = frame.ring();
     let _line = line;
     let Some(right) = take_top(stack) else {
         unreachable!()
@@ -123,15 +124,16 @@ fn add_top<F: Frame>(
     let Some(left) = take_top(stack) else {
         unreachable!()
     };
-    let terms = joined(left, right)?;
-    put_top(stack, terms)
+    let sum = joined(alloc, frame, left, right)?;
+    put_top(stack, sum)
 }
 
 /// Puts the difference of the two on top in their place.
 fn subtract_top<F: Frame>(
+    alloc: Global,
     frame: &F,
     line: &[u8],
-    stack: &mut Vec<Vec<(Key, u32)>>,
+    stack: &mut Vec<Operand>,
 ) -> Result<(), NoMemory>
     requires { IsReady (F.over frame.now) line.now steps.Subtract (reverse stack.old.items) }
     ensures { OnOk result (Advances (F.over frame.now) line.now steps.Subtract (reverse stack.old.items) (reverse stack.new.items)) }
@@ -143,26 +145,22 @@ fn subtract_top<F: Frame>(
     let Some(left) = take_top(stack) else {
         unreachable!()
     };
-    oppose(frame, &mut right);
-    let terms = joined(left, right)?;
-    put_top(stack, terms)
+    oppose(frame, &mut right.terms);
+    let sum = joined(alloc, frame, left, right)?;
+    put_top(stack, sum)
 }
 
 /// Turns the sign of the top.
-fn negate_top<F: Frame>(
-    frame: &F,
-    line: &[u8],
-    stack: &mut Vec<Vec<(Key, u32)>>,
-) -> Result<(), NoMemory>
+fn negate_top<F: Frame>(frame: &F, line: &[u8], stack: &mut Vec<Operand>) -> Result<(), NoMemory>
     requires { IsReady (F.over frame.now) line.now steps.Negate (reverse stack.old.items) }
     ensures { OnOk result (Advances (F.over frame.now) line.now steps.Negate (reverse stack.old.items) (reverse stack.new.items)) }
 {
     let _line = line;
-    let Some(mut terms) = take_top(stack) else {
+    let Some(mut operand) = take_top(stack) else {
         unreachable!()
     };
-    oppose(frame, &mut terms);
-    put_top(stack, terms)
+    oppose(frame, &mut operand.terms);
+    put_top(stack, operand)
 }
 
 /// Does one step on the stack.
@@ -171,7 +169,7 @@ pub fn do_step<F: Frame>(
     frame: &F,
     line: &[u8],
     step: Step,
-    stack: &mut Vec<Vec<(Key, u32)>>,
+    stack: &mut Vec<Operand>,
 ) -> Result<(), NoMemory>
     requires { IsReady (F.over frame.now) line.now step (reverse stack.old.items) }
     ensures { OnOk result (Advances (F.over frame.now) line.now step (reverse stack.old.items) (reverse stack.new.items)) }
@@ -181,8 +179,8 @@ pub fn do_step<F: Frame>(
         Step::Name(token) => put_name(alloc, frame, line, token, stack),
         Step::Power(token) => raise_top(alloc, frame, line, token, stack),
         Step::Multiply => multiply_top(alloc, frame, line, stack),
-        Step::Add => add_top(frame, line, stack),
-        Step::Subtract => subtract_top(frame, line, stack),
+        Step::Add => add_top(alloc, frame, line, stack),
+        Step::Subtract => subtract_top(alloc, frame, line, stack),
         Step::Negate => negate_top(frame, line, stack),
     }
 }

@@ -39,8 +39,8 @@ pub fn polynomial_value<F: Frame>(
     for step in steps {
         do_step(alloc, frame, line, *step, &mut stack)?;
     }
-    let Some(terms) = take_top(&mut stack) else {
+    let Some(sum) = take_top(&mut stack) else {
         unreachable!()
     };
-    normal(alloc, frame, terms)
+    normal(alloc, frame, sum.terms)
 }

@@ -5,4 +5,4 @@ use Rattle.poly_value.proofs.stack.add_top.Goals as goal
 pub returns : goal.returns
 returns g c =
     added (g.F.Frame.over c.args.frame.now) c.args.line.now (reverse c.args.stack.now.items) (reverse c.take_top.new.stack.items) (reverse c.take_top-2.new.stack.items) (reverse c.put_top.new.stack.items)
-    c.in-Some-take_top.left c.in-Some.right c.in_ok-terms.terms c.put_top.result c.in-Some.ensures c.in-Some-take_top.ensures c.in_ok-terms.ensures c.put_top.ensures
+    c.in-Some-take_top.left c.in-Some.right c.in_ok-sum.sum c.put_top.result c.in-Some.ensures c.in-Some-take_top.ensures c.in_ok-sum.ensures c.put_top.ensures

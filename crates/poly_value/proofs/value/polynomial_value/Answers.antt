@@ -26,7 +26,7 @@ unreachable-requires g c =
 pub returns-clause-value : goal.returns-clause-value
 returns-clause-value g c = λ x w.
     let ring = g.F.Frame.over c.args.frame.now in
-    normal_stands (λ v. v) ring x c.in-Some.terms.items c.normal.result
-    (working_ends ring c.args.line.now c.args.steps.now (drop c.loop-step.step-index c.args.steps.now) (reverse c.loop-step.stack.items) (reverse c.take_top.new.stack.items) c.in-Some.terms x
+    normal_stands (λ v. v) ring x c.in-Some.sum.terms.items c.normal.result
+    (working_ends ring c.args.line.now c.args.steps.now (drop c.loop-step.step-index c.args.steps.now) (reverse c.loop-step.stack.items) (reverse c.take_top.new.stack.items) c.in-Some.sum x
     (drop_all c.loop-step.step-index c.args.steps.now c.loop-step-test.false) c.in-Some.ensures w c.loop-step.invariant)
     c.normal.ensures.same
