@@ -200,7 +200,7 @@ module _ (ring : Ring) (lawful : IsLawful (setting ring (variables ring) (ring_c
   start_exact = same_exact ring.modulus.value pos (graded_of ring r).maps (map (graded_map (variables ring)) start) same given.exact
 
   all : IsCancelled ring.modulus.value (graded_maps ring r.positions.items start) (record { positions = rows; maps = map (graded_map (variables ring)) kept })
-  all = leads D (subst (λ ms. IsCancelled ring.modulus.value (graded_maps ring rows left) (record { positions = rows; maps = ms })) (trims (variables ring)) (done rows (map (graded_map (variables ring)) left) (none_at_all ring left under.none)))
+  all = leads.cancelled D (subst (λ ms. IsCancelled ring.modulus.value (graded_maps ring rows left) (record { positions = rows; maps = ms })) (trims (variables ring)) (done rows (map (graded_map (variables ring)) left) (none_at_all ring left under.none)))
 
   minimal_kept : IsMinimal ring.weights ring.modulus.value (record { positions = rows; maps = map (graded_map (variables ring)) kept })
   minimal_kept = (cancelled ring.modulus.value pos r.positions.items (first_columns Start.maps) Start D all start_graded start_exact (presents_itself pos ring.weights r.positions.items Start.maps start_graded)).0

@@ -5,6 +5,7 @@ pub mod Ending
 pub mod Entries
 pub mod Growing
 pub mod NoZeroColumns
+pub mod Reaching
 pub mod Reading
 pub mod Splittings
 pub mod Units

@@ -2,7 +2,7 @@
 use Rattle.std.specs.Prelude.{drop}
 use Rattle.std.proofs.Common.{List, [], ap, arith, get_or, inl, inr, length, map, refl, reverse, subst, suc, sym, take, zero, ℕ, ◌*◌, ◌++◌, ◌+◌, ◌<◌, ◌∙◌, ◌∷◌, ◌≡◌, ◌⊎◌}
 use Rattle.std.proofs.lemmas.List.{append_assoc, length-map, reverse-append}
-use Rattle.residues.specs.Residues.{IsCongruent}
+use Rattle.residues.specs.Residues.{IsCongruent, IsDomain}
 use Rattle.monomials.specs.Exponents.{unit}
 use Rattle.formal_sums.proofs.Sameness.{IsSame_of}
 use Rattle.formal_sums.specs.FormalSums.{Each, FormalSum, coefficient}
@@ -13,18 +13,22 @@ use Rattle.minimal_laws.proofs.SameMaps.{same_graded}
 use Rattle.minimal_laws.proofs.Searching.{same_maps_itself}
 use Rattle.minimal_laws.proofs.Splitting.{length-remove_at}
 use Rattle.minimal_laws.specs.Cancellation.{AreSameColumns, AreSameMaps, IsCancelled, IsFirstConstant, remove_at, split, step, without_column, without_rows}
-use Rattle.minimal_laws.specs.Gradings.{AreGraded, GradedMap, IsHomogeneous, first_columns}
+use Rattle.minimal_laws.specs.Gradings.{AreGraded, GradedMap, GradedMaps, IsHomogeneous, first_columns}
 use Rattle.minimal_laws.specs.Minimal.{HasConstant, IsConstantAt}
 use Rattle.module_vectors.specs.Rings.{ring_comparison, variables}
 use Rattle.module_vectors.specs.Vectors.{AreVectorsOver, sum_of, sums_of}
 use Rattle.module_vectors.specs.declared.key.Key.{Key as CodeKey}
 use Rattle.module_vectors.specs.declared.ring.Ring.{Ring}
+use Rattle.module_vectors.specs.declared.trail.WorkStop.{WorkStop}
+use Rattle.module_vectors.specs.declared.trail.WorkStop.TheVariants.{Degree, Memory}
 use Rattle.vector_division.specs.Progress.{AreWeighed}
 use Rattle.minimal_betti.specs.Carried.{AreOrdered, HasNone, IsFirst, IsGraded, LeadsTo, graded_map, graded_maps}
-use Rattle.minimal_betti.specs.Splitting.{AreWithout, IsFewer, IsNextLeft, IsRowLeft, IsSplit, IsUnderway, split_of}
+use Rattle.minimal_betti.specs.Minimising.{CancellationStops, IsReached}
+use Rattle.minimal_betti.specs.Splitting.{AreWithout, IsFewer, IsNextLeft, IsRowLeft, IsSplit, IsUnderway, SplittingStops, in_turn, split_of}
 use Rattle.minimal_betti.specs.declared.carried.Carried.{Carried}
 use Rattle.minimal_betti.specs.declared.constants.Constant.{Constant}
 use Rattle.minimal_betti.proofs.Growing.{all_append, all_map}
+use Rattle.minimal_betti.proofs.Reaching.{reached_itself}
 
 abbrev Terms : Type 0
 Terms = List (CodeKey × ℕ)
@@ -95,6 +99,54 @@ module _ (ring : Ring) (at : Constant) where
       (subst (λ z. AreSameMaps ring.modulus.value (without_rows at.column (map G (next ∷ after))) (map G z)) (sym e')
       (ap (λ z. z.items) (sym d), w.same, same_maps_itself ring.modulus.value (map G after)))
 
+  -- ---- the first constant
+  module _ (cur : Carried) (tail : List Carried) (first : IsFirst ring cur.columns at) where
+    to_here : (done : List Carried) (c r : ℕ) → HasConstant ring.modulus.value (map G (done ++ cur ∷ tail)) (length done) c r → IsConstantAt ring.modulus.value (get_or (sums_of (variables ring) cur.columns) c []) r
+    to_here [] c r h = h.1
+    to_here (m ∷ done) c r h = to_here done c r h
+
+    from_here : (done : List Carried) (c r : ℕ) → c < length (sums_of (variables ring) cur.columns) → IsConstantAt ring.modulus.value (get_or (sums_of (variables ring) cur.columns) c []) r → HasConstant ring.modulus.value (map G (done ++ cur ∷ tail)) (length done) c r
+    from_here [] c r lt h = (lt, h)
+    from_here (m ∷ done) c r lt h = from_here done c r lt h
+
+    none_before :
+        (done : List Carried) → Each (λ m. HasNone ring.modulus.value (sums_of (variables ring) m.columns)) done
+        → (l b q : ℕ) → l < length done → HasConstant ring.modulus.value (map G (done ++ cur ∷ tail)) l b q → ⊥
+    none_before [] none l b q lt h = omega (arith, lt)
+    none_before (m ∷ done) none zero b q lt h = none.0 b q h.1
+    none_before (m ∷ done) none (suc l) b q lt h = none_before done none.1 l b q (omega (arith, lt)) h
+
+    first_constant :
+        (done : List Carried) → Each (λ m. HasNone ring.modulus.value (sums_of (variables ring) m.columns)) done
+        → IsFirstConstant ring.modulus.value (map G (done ++ cur ∷ tail)) (length done) at.column at.row
+    first_constant done none = record {
+      constant = from_here done at.column at.row (let l = first.inside in omega (arith, l, length-map cur.columns (λ v. sum_of (variables ring) v))) first.constant;
+      first_map = λ l b q lt h. none_before done none l b q lt h;
+      first_column = λ b q lt h. first.first_column b q lt (to_here done b q h);
+      first_row = λ q lt h. first.first_row q lt (to_here done at.column q h);
+    }
+
+    columns_here : (done : List Carried) → first_columns (drop (length done) (map G (done ++ cur ∷ tail))) ≡ sums_of (variables ring) cur.columns
+    columns_here [] = refl
+    columns_here (m ∷ done) = columns_here done
+
+    -- where it stops, the cancellation came to these maps
+    pub stops_here :
+        IsDomain ring.modulus.value → (rows : List ℕ) (done : List Carried)
+        → Each (λ m. HasNone ring.modulus.value (sums_of (variables ring) m.columns)) done
+        → (stop : WorkStop) → SplittingStops ring cur.columns at stop → CancellationStops ring (graded_maps ring rows (done ++ cur ∷ tail)) stop
+    stops_here domain rows done none Memory h = tt
+    stops_here domain rows done none (Degree t) h = record {
+      maps = graded_maps ring rows (done ++ cur ∷ tail);
+      reached = reached_itself ring.modulus.value domain (graded_maps ring rows (done ++ cur ∷ tail));
+      place = length done;
+      column = at.column;
+      row = at.row;
+      first = first_constant done none;
+      same = columns_itself _ _ (columns_here done ∙ sym (ap (sums_of (variables ring)) h.1));
+      clearing = h.0;
+    }
+
   module _ (cur cur' : Carried) (tail tail' : List Carried) (first : IsFirst ring cur.columns at) (here : IsSplit ring at cur cur') (left : IsTailLeft tail tail') where
     abbrev s : ℕ
     s = here.inverse
@@ -143,47 +195,28 @@ module _ (ring : Ring) (at : Constant) where
         (subst (λ z. ((Split (length (before ++ last ∷ [])) rows (map G ((before ++ last ∷ []) ++ cur ∷ tail))).0 ≡ rows') × AreSameMaps ring.modulus.value (Split (length (before ++ last ∷ [])) rows (map G ((before ++ last ∷ []) ++ cur ∷ tail))).1 (map G (z ++ cur' ∷ tail'))) (sym e')
         (r.0 ∙ sym er, r.1))
 
-    -- ---- the first constant
-    to_here : (done : List Carried) (c r : ℕ) → HasConstant ring.modulus.value (map G (done ++ cur ∷ tail)) (length done) c r → IsConstantAt ring.modulus.value (get_or (sums_of (variables ring) cur.columns) c []) r
-    to_here [] c r h = h.1
-    to_here (m ∷ done) c r h = to_here done c r h
-
-    from_here : (done : List Carried) (c r : ℕ) → c < length (sums_of (variables ring) cur.columns) → IsConstantAt ring.modulus.value (get_or (sums_of (variables ring) cur.columns) c []) r → HasConstant ring.modulus.value (map G (done ++ cur ∷ tail)) (length done) c r
-    from_here [] c r lt h = (lt, h)
-    from_here (m ∷ done) c r lt h = from_here done c r lt h
-
-    none_before :
-        (done : List Carried) → Each (λ m. HasNone ring.modulus.value (sums_of (variables ring) m.columns)) done
-        → (l b q : ℕ) → l < length done → HasConstant ring.modulus.value (map G (done ++ cur ∷ tail)) l b q → ⊥
-    none_before [] none l b q lt h = omega (arith, lt)
-    none_before (m ∷ done) none zero b q lt h = none.0 b q h.1
-    none_before (m ∷ done) none (suc l) b q lt h = none_before done none.1 l b q (omega (arith, lt)) h
-
-    first_constant :
-        (done : List Carried) → Each (λ m. HasNone ring.modulus.value (sums_of (variables ring) m.columns)) done
-        → IsFirstConstant ring.modulus.value (map G (done ++ cur ∷ tail)) (length done) at.column at.row
-    first_constant done none = record {
-      constant = from_here done at.column at.row (let l = first.inside in omega (arith, l, length-map cur.columns (λ v. sum_of (variables ring) v))) first.constant;
-      first_map = λ l b q lt h. none_before done none l b q lt h;
-      first_column = λ b q lt h. first.first_column b q lt (to_here done b q h);
-      first_row = λ q lt h. first.first_row q lt (to_here done at.column q h);
-    }
-
-    columns_here : (done : List Carried) → first_columns (drop (length done) (map G (done ++ cur ∷ tail))) ≡ sums_of (variables ring) cur.columns
-    columns_here [] = refl
-    columns_here (m ∷ done) = columns_here done
-
     -- ---- the step
     pub step_leads :
         (rows rows' : List ℕ) (done done' : List Carried) → IsRowLeft at.row rows rows' done done'
         → Each (λ m. HasNone ring.modulus.value (sums_of (variables ring) m.columns)) done
         → LeadsTo ring.modulus.value (graded_maps ring rows (done ++ cur ∷ tail)) (graded_maps ring rows' (done' ++ cur' ∷ tail'))
-    step_leads rows rows' done done' left none D more =
+    step_leads rows rows' done done' left none =
+        let C = graded_maps ring rows (done ++ cur ∷ tail) in
+        let up = (Split (length done) rows C.maps).0 in
+        let others = map G (done' ++ cur' ∷ tail') in
         let q = split_same rows rows' done done' left in
-        step rows (map G (done ++ cur ∷ tail)) (map G (done' ++ cur' ∷ tail')) D (length done) at.column at.row here.inverse (first_constant done none)
-        (subst (λ F. IsCongruent ring.modulus.value (here.inverse * coefficient (get_or F at.column []) (at.row, unit (variables ring))) 1) (sym (columns_here done)) here.is_inverse)
-        q.1
-        (subst (λ z. IsCancelled ring.modulus.value (record { positions = z; maps = map G (done' ++ cur' ∷ tail') }) D) (sym q.0) more)
+        let first_is = first_constant cur tail first done none in
+        let inverse =
+        subst (λ F. IsCongruent ring.modulus.value (here.inverse * coefficient (get_or F at.column []) (at.row, unit (variables ring))) 1) (sym (columns_here cur tail first done)) here.is_inverse
+        in
+        record {
+          cancelled = λ D more.
+              step rows C.maps others D (length done) at.column at.row here.inverse first_is inverse q.1
+              (subst (λ z. IsCancelled ring.modulus.value (record { positions = z; maps = others }) D) (sym q.0) more);
+          reached = λ maps r.
+              let on : IsReached ring.modulus.value (record { positions = up; maps = others }) maps = subst (λ z. IsReached ring.modulus.value (record { positions = z; maps = others }) maps) (sym q.0) r in
+              (on.0, step rows C.maps others on.0 (length done) at.column at.row here.inverse first_is inverse q.1 on.1, inr on.2);
+        }
 
     pub step_graded :
         0 < ring.modulus.value → (rows rows' : List ℕ) (done done' : List Carried) → IsRowLeft at.row rows rows' done done'
@@ -194,7 +227,7 @@ module _ (ring : Ring) (at : Constant) where
         let q = split_same rows rows' done done' left in
         subst (λ z. AreGraded ring.weights ring.modulus.value z (map G (done' ++ cur' ∷ tail'))) q.0
         (same_graded ring.modulus.value pos ring.weights _ _ (map G (done' ++ cur' ∷ tail')) q.1
-        (split_graded ring.modulus.value (length done) at.column at.row here.inverse ring.weights rows (map G (done ++ cur ∷ tail)) (first_constant done none).constant graded))
+        (split_graded ring.modulus.value (length done) at.column at.row here.inverse ring.weights rows (map G (done ++ cur ∷ tail)) (first_constant cur tail first done none).constant graded))
 
     -- the maps are vectors again
     tail_ordered : AreOrdered ring tail → AreOrdered ring tail'
@@ -286,6 +319,20 @@ module _ (ring : Ring) where
     graded = subst (λ ms. AreGraded ring.weights ring.modulus.value rows (map (graded_map (variables ring)) ms)) (sym (append_assoc done (cur ∷ []) tail)) u.graded;
     none = all_append _ done (cur ∷ []) u.none (none, tt);
   }
+
+  -- the next map is at hand
+  pub leads_popped :
+      (start : GradedMaps (variables ring)) (rows : List ℕ) (done rest rest' : List Carried) (cur : Carried) → rest ≡ rest' ++ cur ∷ []
+      → LeadsTo ring.modulus.value start (graded_maps ring rows (done ++ reverse rest)) → LeadsTo ring.modulus.value start (graded_maps ring rows (in_turn done cur rest'))
+  leads_popped start rows done rest rest' cur e =
+      subst (λ z. LeadsTo ring.modulus.value start (graded_maps ring rows (done ++ z))) (ap reverse e ∙ reverse-append rest' (cur ∷ []))
+
+  -- and put behind those that are done
+  pub leads_pushed :
+      (start : GradedMaps (variables ring)) (rows : List ℕ) (done done' rest : List Carried) (cur : Carried) → done' ≡ done ++ cur ∷ []
+      → LeadsTo ring.modulus.value start (graded_maps ring rows (in_turn done cur rest)) → LeadsTo ring.modulus.value start (graded_maps ring rows (done' ++ reverse rest))
+  leads_pushed start rows done done' rest cur e =
+      subst (λ z. LeadsTo ring.modulus.value start (graded_maps ring rows z)) (sym (ap (λ d. d ++ reverse rest) e ∙ append_assoc done (cur ∷ []) (reverse rest)))
 
   -- a prefix of the maps
   pub graded_take :

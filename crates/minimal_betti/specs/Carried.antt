@@ -11,6 +11,7 @@ use Rattle.module_vectors.specs.declared.key.Key.{Key as CodeKey}
 use Rattle.module_vectors.specs.declared.ring.Ring.{Ring}
 use Rattle.schreyer_resolution.specs.Resolved.{degrees_of}
 use Rattle.schreyer_resolution.specs.declared.maps.Map.{Map}
+use Rattle.minimal_betti.specs.Minimising.{IsReached}
 use Rattle.minimal_betti.specs.declared.carried.Carried.{Carried}
 use Rattle.minimal_betti.specs.declared.constants.Constant.{Constant}
 
@@ -26,9 +27,10 @@ graded_maps ring rows ms = record { positions = rows; maps = map (graded_map (va
 abbrev pub AreOrdered : Ring → List Carried → Type 0
 AreOrdered ring ms = Each (λ m. AreVectorsOver ring (ring_comparison ring) m.columns) ms
 
--- each cancellation of E is one of C
-abbrev pub LeadsTo : {n : ℕ} → ℕ → GradedMaps n → GradedMaps n → Type 0
-LeadsTo {n} p C E = (D : GradedMaps n) → IsCancelled p E D → IsCancelled p C D
+-- each cancellation of E is one of C, and what one of E comes to, one of C does
+pub record LeadsTo {n : ℕ} (p : ℕ) (C E : GradedMaps n) : Type 0 where
+  pub cancelled : (D : GradedMaps n) → IsCancelled p E D → IsCancelled p C D
+  pub reached : (maps : GradedMaps n) → IsReached p E maps → IsReached p C maps
 
 -- the vector is homogeneous, whatever its degree
 abbrev pub IsGraded : Ring → List (CodeKey × ℕ) → Type 0

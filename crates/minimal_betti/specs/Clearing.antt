@@ -27,6 +27,10 @@ abbrev pub ClearingStops : ℕ → List (CodeKey × ℕ) → List (CodeKey × �
 ClearingStops r w v Memory = ⊤
 ClearingStops r w v (Degree a b) = IsMonomialAt r v a × HasMonomial w b × IsTooGreat a b
 
--- the term was put behind the others, where it stands in row r
+-- the term at position 0
+abbrev pub at_zero : CodeKey × ℕ → CodeKey × ℕ
+at_zero t = (record { position = 0; monomial = t.0.monomial }, t.1)
+
+-- the term was put behind the others, at position 0, where it stands in row r
 abbrev pub IsKeptInRow : ℕ → CodeKey × ℕ → List (CodeKey × ℕ) → List (CodeKey × ℕ) → Type 0
-IsKeptInRow r t old new = ((t.0.position ≡ r) × (new ≡ old ++ t ∷ [])) ⊎ ((t.0.position ≡ r → ⊥) × (new ≡ old))
+IsKeptInRow r t old new = ((t.0.position ≡ r) × (new ≡ old ++ at_zero t ∷ [])) ⊎ ((t.0.position ≡ r → ⊥) × (new ≡ old))

@@ -1,5 +1,5 @@
 -- A constant, its row and its column leave the maps in the code
-use Rattle.std.specs.Prelude.{List, [], get_or, map, reverse, ℕ, ◌*◌, ◌++◌, ◌∷◌, ◌≡◌, ◌⊎◌}
+use Rattle.std.specs.Prelude.{List, [], get_or, map, reverse, ⊤, ℕ, ◌*◌, ◌++◌, ◌∷◌, ◌≡◌, ◌⊎◌}
 use Rattle.residues.specs.Residues.{IsCongruent}
 use Rattle.monomials.specs.Exponents.{unit}
 use Rattle.formal_sums.specs.FormalSums.{Each, FormalSum, coefficient}
@@ -9,7 +9,10 @@ use Rattle.module_vectors.specs.Rings.{ring_comparison, variables}
 use Rattle.module_vectors.specs.Vectors.{AreVectorsOver, IsVectorOver, StandsFor, sum_of, sums_of}
 use Rattle.module_vectors.specs.declared.key.Key.{Key as CodeKey}
 use Rattle.module_vectors.specs.declared.ring.Ring.{Ring}
+use Rattle.module_vectors.specs.declared.trail.WorkStop.{WorkStop}
+use Rattle.module_vectors.specs.declared.trail.WorkStop.TheVariants.{Degree, Memory}
 use Rattle.minimal_betti.specs.Carried.{AreOrdered, HasNone, graded_map}
+use Rattle.minimal_betti.specs.Minimising.{IsClearingTrail}
 use Rattle.minimal_betti.specs.declared.carried.Carried.{Carried}
 use Rattle.minimal_betti.specs.declared.constants.Constant.{Constant}
 
@@ -24,6 +27,11 @@ IsOtherPut ring s at columns i old new =
     ((i ≡ at.column) × (new ≡ old))
     ⊎ ((i ≡ at.column → ⊥) × ((w : List (CodeKey × ℕ)) × (new ≡ old ++ w ∷ []) × IsVectorOver ring (ring_comparison ring) w
     × StandsFor ring w (split_of ring s at columns (sum_of (variables ring) (get_or columns i [])))))
+
+-- Degree comes with the trail of one product alone, of these columns and at this constant
+abbrev pub SplittingStops : Ring → List (List (CodeKey × ℕ)) → Constant → WorkStop → Type 0
+SplittingStops ring columns at Memory = ⊤
+SplittingStops ring columns at (Degree t) = IsClearingTrail ring at.column at.row t × (t.members ≡ columns)
 
 -- the other columns, cleared by the constant's column, without its row
 pub record AreSplit (ring : Ring) (s : ℕ) (at : Constant) (old new : List (List (CodeKey × ℕ))) : Type 0 where

@@ -76,7 +76,8 @@ fn cancelled_map(
         (graded_maps ring.now positions.old.items (in_turn done.old.items current rest.old.items))
         (graded_maps ring.now positions.new.items (in_turn done.new.items m rest.new.items))) }
     ensures rest { OnOk result (length rest.new.items ≡ length rest.old.items) }
-    ensures stop { IfErr result (CancellationStops ring.now) }
+    ensures stop { IfErr result (CancellationStops ring.now
+        (graded_maps ring.now positions.old.items (in_turn done.old.items current rest.old.items))) }
 {
     let mut map = current;
     loop {
@@ -101,7 +102,7 @@ fn cancelled_maps(
     ensures underway { IfOk result (λ done. IsUnderway ring.now positions.new.items done.items done.items) }
     ensures leads { IfOk result (λ done. LeadsTo ring.now.modulus.value
         (graded_maps ring.now positions.old.items (reverse maps.items)) (graded_maps ring.now positions.new.items done.items)) }
-    ensures stop { IfErr result (CancellationStops ring.now) }
+    ensures stop { IfErr result (CancellationStops ring.now (graded_maps ring.now positions.old.items (reverse maps.items))) }
 {
     let mut done = Vec::with_capacity(alloc, maps.len())?;
     let mut rest = maps;
@@ -167,7 +168,9 @@ fn resolution_of(
 /// it in the least column, in it in the least row (Eisenbud, section 20.1). It presents what the given one presents. Its columns
 /// are vectors in the ring's own order.
 ///
-/// `Degree` comes with a trail of one product; `Memory` where there is none, and where the degree of a column is 2^32 or more.
+/// `Degree` comes where a column is cleared of its entry in the row of the first constant, and a product of a monomial of that
+/// entry and the constant's column is too great, with the trail of that product; `Memory` where there is none, and where the
+/// degree of a column is 2^32 or more.
 pub fn minimal(alloc: Global, ring: &Ring, resolution: &Resolution) -> Result<Resolution, WorkStop>
     requires { IsGradedResolution ring.now resolution.now }
     ensures cancelled { IfOk result (IsCancellationOf ring.now resolution.now) }
@@ -177,7 +180,7 @@ pub fn minimal(alloc: Global, ring: &Ring, resolution: &Resolution) -> Result<Re
         → IfOk result (λ s. Presents ring.now.weights ring.now.modulus.value (graded_of ring.now s) places A) }
     ensures joined { IfOk result (λ s. AreJoined ring.now s.positions.items s.maps.items) }
     ensures vectors { IfOk result (AreMapsOver ring.now) }
-    ensures stop { IfErr result (CancellationStops ring.now) }
+    ensures stop { IfErr result (CancellationStops ring.now (graded_of ring.now resolution.now)) }
 {
     lawful_setting(ring);
     let mut positions = Vec::from_slice(alloc, &resolution.positions)?;

@@ -5,38 +5,41 @@ ghost use Rattle.module_vectors.specs.Rings.{ring_comparison, variables};
 ghost use Rattle.module_vectors.specs.Vectors.{AreVectorsOver, IsVectorOver, StandsFor, sum_of, sums_of};
 ghost use Rattle.minimal_betti.specs.Carried.{AreOrdered, IsFirst, LeadsTo, graded_maps};
 ghost use Rattle.minimal_betti.specs.Minimising.{CancellationStops};
-ghost use Rattle.minimal_betti.specs.Splitting.{AreSplit, AreWithout, IsOtherPut, IsNextLeft, IsRowLeft, IsSplit, IsUnderway, in_turn};
+ghost use Rattle.minimal_betti.specs.Splitting.{AreSplit, AreWithout, IsOtherPut, IsNextLeft, IsRowLeft, IsSplit, IsUnderway, SplittingStops, in_turn};
 
 use crate::carried::Carried;
 use crate::clearing::{cleared_vector, vector_without};
 use crate::constants::Constant;
-use crate::stopping::cancellation_stop;
+use crate::stopping::splitting_stop;
 use module_vectors::{NoMemory, Ring, Vect, VectList, WorkStop, lawful_setting};
 use std::alloc::Global;
 
-// Another column, cleared by the constant's column, without its row.
+// Column i, which is another, cleared by the constant's column, without its row.
 fn split_column(
     alloc: Global,
     ring: &Ring,
     columns: &VectList,
     at: Constant,
     inverse: u32,
-    v: &Vect,
+    i: usize,
 ) -> Result<Vect, WorkStop>
     requires inverse { inverse < ring.now.modulus.value }
     requires inside { at.column < length columns.now }
+    requires index { i < length columns.now }
+    requires apart { i ≡ at.column → ⊥ }
     requires columns { AreVectorsOver ring.now (ring_comparison ring.now) columns.now }
-    requires vector { IsVectorOver ring.now (ring_comparison ring.now) v.now }
     ensures vector { IfOk result (IsVectorOver ring.now (ring_comparison ring.now)) }
     ensures sum { let n = variables ring.now in IfOk result (λ u. StandsFor ring.now u
-        (without_row at.row (cleared ring.now.modulus.value at.row inverse (get_or (sums_of n columns.now) at.column []) (sum_of n v.now)))) }
-    ensures stop { IfErr result (CancellationStops ring.now) }
+        (without_row at.row (cleared ring.now.modulus.value at.row inverse (get_or (sums_of n columns.now) at.column [])
+        (sum_of n (get_or columns.now i []))))) }
+    ensures stop { IfErr result (SplittingStops ring.now columns.now at) }
 {
     lawful_setting(ring);
     let w = &columns.as_slice()[at.column];
+    let v = &columns.as_slice()[i];
     match cleared_vector(alloc, ring, w, at.row, inverse, v) {
         Ok(cleared) => Ok(vector_without(alloc, ring, at.row, &cleared)?),
-        Err(stop) => Err(cancellation_stop(alloc, ring, columns, at, v, stop)),
+        Err(stop) => Err(splitting_stop(alloc, ring, columns, at, i, stop)),
     }
 }
 
@@ -55,13 +58,12 @@ fn push_other(
     requires index { i < length columns.now }
     requires columns { AreVectorsOver ring.now (ring_comparison ring.now) columns.now }
     ensures put { OnOk result (IsOtherPut ring.now inverse at columns.now i others.old.items others.new.items) }
-    ensures stop { IfErr result (CancellationStops ring.now) }
+    ensures stop { IfErr result (SplittingStops ring.now columns.now at) }
 {
     if i == at.column {
         return Ok(());
     }
-    let v = &columns.as_slice()[i];
-    match split_column(alloc, ring, columns, at, inverse, v) {
+    match split_column(alloc, ring, columns, at, inverse, i) {
         Ok(split) => {
             others.push(split)?;
             Ok(())
@@ -82,7 +84,7 @@ fn split_columns(
     requires inside { at.column < length columns.now }
     requires columns { AreVectorsOver ring.now (ring_comparison ring.now) columns.now }
     ensures split { IfOk result (AreSplit ring.now inverse at columns.now) }
-    ensures stop { IfErr result (CancellationStops ring.now) }
+    ensures stop { IfErr result (SplittingStops ring.now columns.now at) }
 {
     lawful_setting(ring);
     let mut others = Vec::with_capacity(alloc, columns.len())?;
@@ -139,7 +141,7 @@ fn split_map(alloc: Global, ring: &Ring, map: Carried, at: Constant) -> Result<C
     requires columns { AreVectorsOver ring.now (ring_comparison ring.now) map.columns }
     requires first { IsFirst ring.now map.columns at }
     ensures split { IfOk result (IsSplit ring.now at map) }
-    ensures stop { IfErr result (CancellationStops ring.now) }
+    ensures stop { IfErr result (SplittingStops ring.now map.columns at) }
 {
     let inverse = match ring.modulus.invert(at.residue) {
         Some(inverse) => inverse,
@@ -205,7 +207,8 @@ pub(crate) fn cancel(
         (graded_maps ring.now positions.new.items (in_turn done.new.items m rest.new.items))) }
     ensures falls { IfOk result (λ m. length m.columns + 1 ≡ length current.columns) }
     ensures rest { OnOk result (length rest.new.items ≡ length rest.old.items) }
-    ensures stop { IfErr result (CancellationStops ring.now) }
+    ensures stop { IfErr result (CancellationStops ring.now
+        (graded_maps ring.now positions.old.items (in_turn done.old.items current rest.old.items))) }
 {
     lawful_setting(ring);
     let split = match split_map(alloc, ring, current, at) {

@@ -1,11 +1,13 @@
 // The trail of a column that is not cleared.
-ghost use Rattle.std.specs.Prelude.{◌<◌, [], IfOk, OnOk, get_or, length};
+ghost use Rattle.std.specs.Prelude.{◌<◌, ◌≡◌, [], IfOk, OnOk, get_or, length};
+ghost use Rattle.minimal_laws.specs.Cancellation.{component};
 ghost use Rattle.monomial_orders.specs.Kept.{Monomial};
-ghost use Rattle.module_vectors.specs.Rings.{ring_comparison};
+ghost use Rattle.module_vectors.specs.Rings.{ring_comparison, variables};
 ghost use Rattle.module_vectors.specs.Stops.{HasMonomial, IsTooGreat};
-ghost use Rattle.module_vectors.specs.Vectors.{AreVectorsOver, IsVectorOver};
+ghost use Rattle.module_vectors.specs.Vectors.{AreVectorsOver, IsVectorOver, sum_of};
 ghost use Rattle.minimal_betti.specs.Clearing.{ClearingStops, IsKeptInRow, IsMonomialAt};
-ghost use Rattle.minimal_betti.specs.Minimising.{CancellationStops, IsCancellationTrail};
+ghost use Rattle.minimal_betti.specs.Minimising.{IsClearingTrail};
+ghost use Rattle.minimal_betti.specs.Splitting.{SplittingStops};
 
 use crate::constants::Constant;
 use module_vectors::{
@@ -14,7 +16,7 @@ use module_vectors::{
 use monomial_orders::Mono;
 use std::alloc::Global;
 
-// Puts the term behind the others, where it stands in the row.
+// Puts the term behind the others, at position 0, where it stands in the row.
 fn push_in_row(
     alloc: Global,
     row: u64,
@@ -24,15 +26,21 @@ fn push_in_row(
     ensures { OnOk result (IsKeptInRow row term.now terms.old.items terms.new.items) }
 {
     if term.0.position == row {
-        terms.push((term.0.try_copy(alloc)?, term.1))?;
+        let key = Key {
+            position: 0,
+            monomial: term.0.monomial.try_copy(alloc)?,
+        };
+        terms.push((key, term.1))?;
     }
     Ok(())
 }
 
-// The terms of the vector in the row.
+// The entry of the vector in the row, as a polynomial.
 fn entry_of(alloc: Global, ring: &Ring, row: u64, v: &Vect) -> Result<Vect, NoMemory>
     requires { IsVectorOver ring.now (ring_comparison ring.now) v.now }
-    ensures { (m : Monomial) → IsMonomialAt row v.now m → IfOk result (λ entry. HasMonomial entry m) }
+    ensures vector { IfOk result (IsVectorOver ring.now (ring_comparison ring.now)) }
+    ensures entry { let n = variables ring.now in IfOk result (λ entry. sum_of n entry ≡ component row (sum_of n v.now)) }
+    ensures monomials { (m : Monomial) → IsMonomialAt row v.now m → IfOk result (λ entry. HasMonomial entry m) }
 {
     lawful_setting(ring);
     let mut terms = Vec::new(alloc);
@@ -42,26 +50,28 @@ fn entry_of(alloc: Global, ring: &Ring, row: u64, v: &Vect) -> Result<Vect, NoMe
     Ok(Vect::from_ordered(ring, terms))
 }
 
-// The trail of one product.
-fn cancellation_trail(
+// The trail of one product, of the constant's column and a monomial of column i.
+fn clearing_trail(
     alloc: Global,
     ring: &Ring,
     columns: &VectList,
     at: Constant,
-    v: &Vect,
+    i: usize,
     factor: Mono,
     last: Mono,
 ) -> Result<KeptTrail, NoMemory>
     requires inside { at.column < length columns.now }
+    requires index { i < length columns.now }
+    requires apart { i ≡ at.column → ⊥ }
     requires columns { AreVectorsOver ring.now (ring_comparison ring.now) columns.now }
-    requires vector { IsVectorOver ring.now (ring_comparison ring.now) v.now }
-    requires factor { IsMonomialAt at.row v.now factor }
+    requires factor { IsMonomialAt at.row (get_or columns.now i []) factor }
     requires last { HasMonomial (get_or columns.now at.column []) last }
     requires great { IsTooGreat factor last }
-    ensures { IfOk result (IsCancellationTrail ring.now) }
+    ensures trail { IfOk result (IsClearingTrail ring.now at.column at.row) }
+    ensures members { IfOk result (λ t. t.members ≡ columns.now) }
 {
     let mut products = Vec::new(alloc);
-    let vector = entry_of(alloc, ring, at.row, v)?;
+    let vector = entry_of(alloc, ring, at.row, &columns.as_slice()[i])?;
     products.push((at.column as u64, factor))?;
     Ok(KeptTrail {
         ring: ring.try_copy(alloc)?,
@@ -76,25 +86,26 @@ fn cancellation_trail(
     })
 }
 
-/// Why a column was not cleared: there was no memory, or a product's degree is too great, with the trail.
-pub(crate) fn cancellation_stop(
+/// Why column i was not cleared: there was no memory, or a product's degree is too great, with the trail.
+pub(crate) fn splitting_stop(
     alloc: Global,
     ring: &Ring,
     columns: &VectList,
     at: Constant,
-    v: &Vect,
+    i: usize,
     stop: VectStop,
 ) -> WorkStop
     requires inside { at.column < length columns.now }
+    requires index { i < length columns.now }
+    requires apart { i ≡ at.column → ⊥ }
     requires columns { AreVectorsOver ring.now (ring_comparison ring.now) columns.now }
-    requires vector { IsVectorOver ring.now (ring_comparison ring.now) v.now }
-    requires stop { ClearingStops at.row (get_or columns.now at.column []) v.now stop }
-    ensures { CancellationStops ring.now result }
+    requires stop { ClearingStops at.row (get_or columns.now at.column []) (get_or columns.now i []) stop }
+    ensures { SplittingStops ring.now columns.now at result }
 {
     match stop {
         VectStop::Memory => WorkStop::Memory,
         VectStop::Degree(factor, last) => {
-            match cancellation_trail(alloc, ring, columns, at, v, factor, last) {
+            match clearing_trail(alloc, ring, columns, at, i, factor, last) {
                 Ok(trail) => WorkStop::Degree(trail),
                 Err(_) => WorkStop::Memory,
             }

@@ -1,14 +1,17 @@
 -- The loop of a division by the last divisors
-use Rattle.std.proofs.Common.{List, None, Ordering, Some, [], ap, arith, drop, get_or, length, mod-eq_of_lt, refl, subst, subst₂, sym, ℕ, ◌%◌, ◌*◌, ◌++◌, ◌+◌, ◌-◌, ◌<◌, ◌∙◌, ◌∷◌, ◌≡◌}
-use Rattle.std.proofs.lemmas.List.{get_or_default, length-map}
-use Rattle.residues.proofs.Congruences.{IsCongruent_add, IsCongruent_equal, IsCongruent_minus, IsCongruent_of, IsCongruent_refl, IsCongruent_trans}
+use Rattle.std.proofs.Common.{Greater, Less, List, None, Option, Ordering, Some, inl, inr, ◌⊎◌, [], ap, arith, get_or, length, mod-eq_of_lt, refl, subst, subst₂, sym, ℕ, ◌%◌, ◌*◌, ◌++◌, ◌+◌, ◌-◌, ◌<◌, ◌∙◌, ◌∷◌, ◌≡◌, append-nil}
+use Rattle.std.proofs.lemmas.List.{map-append}
+use Rattle.std.proofs.lemmas.List.{length-map}
+use Rattle.residues.specs.Residues.{IsCongruent}
+use Rattle.residues.proofs.Congruences.{IsCongruent_add, IsCongruent_equal, IsCongruent_minus, IsCongruent_nonzero, IsCongruent_of, IsCongruent_refl, IsCongruent_sym, IsCongruent_trans}
 use Rattle.monomials.specs.Exponents.{exponents_of, unit}
-use Rattle.formal_sums.proofs.Combining.{IsMember_append, IsMember_same, IsMember_scale}
+use Rattle.formal_sums.proofs.Combining.{Each_map, IsMember_append, IsMember_same, IsMember_scale}
 use Rattle.formal_sums.proofs.OfRank.{IsMember_of}
-use Rattle.formal_sums.proofs.Sameness.{IsSame_refl, weighted_sum-minus}
-use Rattle.formal_sums.proofs.WeightedSums.{Each_append, coefficient-append}
+use Rattle.formal_sums.proofs.Sameness.{IsSame_append, IsSame_of, IsSame_trans, IsSame_refl, IsSame_sym, weighted_sum-minus}
+use Rattle.formal_sums.proofs.WeightedSums.{Each_append, coefficient-append, indicator_other, key_cases}
 use Rattle.formal_sums.specs.Combinations.{IsMember, combination}
-use Rattle.formal_sums.specs.FormalSums.{FormalSum, IsSame, Key, coefficient, indicator, scale, shift}
+use Rattle.formal_sums.specs.FormalSums.{Each, FormalSum, IsSame, Key, coefficient, indicator, scale, shift}
+use Rattle.orders.proofs.KeyOrdering.{less_of_greater, not_itself}
 use Rattle.orders.specs.KeyOrders.{IsKeyOrder, KeyDivides}
 use Rattle.bases.proofs.FreeTerms.{lead_of_zero}
 use Rattle.bases.proofs.Leading.{IsLead_of_monic, positive}
@@ -17,34 +20,34 @@ use Rattle.bases.specs.Bases.{IsCovered, IsGroebnerBasis}
 use Rattle.bases.specs.Leads.{IsLead, IsMonicList, head_key, leads}
 use Rattle.bases.specs.Settings.{IsLawful, Setting}
 use Rattle.monomial_orders.specs.Kept.{Monomial}
-use Rattle.module_vectors.proofs.NormalVectors.{vector_lead}
 use Rattle.module_vectors.proofs.SumsOfProducts.{Each_member}
 use Rattle.module_vectors.specs.Rings.{setting, variables}
-use Rattle.module_vectors.specs.Stops.{Fits, ScaledStops}
-use Rattle.module_vectors.specs.Trails.{KeptProduct, lead_at}
-use Rattle.module_vectors.specs.Vectors.{AreVectorsOver, IsMonomialOver, IsVectorOver, StandsFor, key_of, sum_of, sums_of}
+use Rattle.module_vectors.specs.Trails.{HasKey, KeptProduct, lead_at}
+use Rattle.module_vectors.specs.Vectors.{AreVectorsOver, IsMonomialOver, IsTerm, IsVectorOver, key_of, sum_of, sums_of}
 use Rattle.module_vectors.specs.declared.key.Key.{Key as CodeKey}
 use Rattle.module_vectors.specs.declared.ring.Ring.{Ring}
 use Rattle.module_vectors.specs.declared.stop.VectStop.{VectStop}
-use Rattle.module_vectors.specs.declared.stop.VectStop.TheVariants.{Degree, Memory}
-use Rattle.vector_division.proofs.Advancing.{advanced, failing_product, subtraction_is}
-use Rattle.vector_division.proofs.Looping.{started}
+use Rattle.module_vectors.specs.declared.stop.VectStop.TheVariants.{Degree}
+use Rattle.vector_division.proofs.Carrying.{below_total, carried, failing_product, not_in_total}
+use Rattle.vector_division.proofs.Keeping.{kept_first, kept_same}
+use Rattle.vector_division.proofs.Occurring.{at_key, occurs}
+use Rattle.vector_division.proofs.Topping.{total-push, with_zero}
 use Rattle.vector_division.proofs.Members.{sums_at}
-use Rattle.vector_division.specs.Progress.{HasBoundedHead, IsBelow, IsDivisor, IsFactor, IsProgress, IsSubtraction, SubtractionStops, room_of}
+use Rattle.division_laws.proofs.Remainders.{remainder_zero}
+use Rattle.vector_division.specs.Divisions.{IsFreeOfLeads, IsUncovered}
+use Rattle.vector_division.specs.Progress.{IsFactor, IsSubtraction, SubtractionStops}
 use Rattle.vector_division.specs.Reductions.{cofactors_of}
+use Rattle.vector_division.specs.Runs as divisions
+use Rattle.vector_division.specs.Runs.{AreBelow, IsNextTaken, IsOver, IsSplit, StandsWith, Supports, total, with_next}
 use Rattle.vector_division.specs.declared.reduction.ScaledProduct.{ScaledProduct}
 use Rattle.schreyer_resolution.specs.Chains.{IsFailing}
-use Rattle.schreyer_resolution.specs.Columns.{IsFoundLast, IsProductOf, IsUnderway}
+use Rattle.schreyer_resolution.specs.Columns.{IsDivided, IsFoundLast, IsProductOf, IsUnderway}
+use Rattle.schreyer_resolution.specs.Sifting.{IsSifting}
 use Rattle.schreyer_resolution.specs.Steps.{IsLast, IsPairKey}
 use Rattle.schreyer_resolution.proofs.Making.{v_member}
 
 abbrev pub Terms : Type 0
 Terms = List (CodeKey × ℕ)
-
--- a product that is too great, whatever its factor is
-pub scaled_stops : (c : ℕ) (t : Monomial) (v : Terms) (stop : VectStop) → ScaledStops c t v stop → SubtractionStops t v stop
-scaled_stops c t v Memory h = tt
-scaled_stops c t v (Degree a b) h = (h.1, h.2, h.3)
 
 -- what was taken away of v leaves the rest
 rest_is : {m : ℕ} (p : ℕ) (v a r : FormalSum m) → 0 < p → IsSame p v (a ++ r) → IsSame p (v ++ scale (p - 1) (unit m) a) r
@@ -57,6 +60,57 @@ rest_is {m} p v a r pos h = record {
   where
     shuffled : (x y z : ℕ) → x + y + z ≡ y + (x + z)
     shuffled x y z = omega arith
+
+-- a term above all others is the lead of the sum
+lead_of_next :
+    {m : ℕ} (S : Setting m) → IsLawful S → (k : Key m) (r : ℕ) (v : FormalSum m) → 0 < r → r < S.modulus → IsOver S.compare k v
+    → IsLead S ((k, r) ∷ v) k
+lead_of_next {m} S lawful k r v pos lt over = record { nonzero = λ q. here q (occurs v k); above = λ l less. other l less (occurs ((k, r) ∷ v) l) }
+  where
+    here : IsCongruent S.modulus (coefficient ((k, r) ∷ v) k) 0 → HasKey v k ⊎ (coefficient v k ≡ 0) → ⊥
+    here q (inl h) = not_itself lawful.order k (less_of_greater lawful.order k k (at_key (λ l. S.compare k l ≡ Greater) v k over h))
+    here q (inr z) =
+        let first : coefficient ((k, r) ∷ []) k ≡ r = at_head S lawful (k, r) [] (tt, tt) in
+        let one : coefficient ((k, r) ∷ v) k ≡ coefficient ((k, r) ∷ []) k + coefficient v k = coefficient-append ((k, r) ∷ []) v k in
+        let two : coefficient ((k, r) ∷ v) k ≡ r = omega (arith, one, first, z) in
+        IsCongruent_nonzero S.modulus r pos lt (IsCongruent_trans (IsCongruent_of S.modulus _ _ (sym two)) q)
+
+    not_less : (l : Key m) → S.compare k l ≡ Greater → S.compare k l ≡ Less → ⊥
+    not_less l g e = let x : Greater ≡ Less = sym g ∙ e in cc
+
+    other : (l : Key m) → S.compare k l ≡ Less → HasKey ((k, r) ∷ v) l ⊎ (coefficient ((k, r) ∷ v) l ≡ 0) → IsCongruent S.modulus (coefficient ((k, r) ∷ v) l) 0
+    other l less (inl h) =
+        absurd (at_key (λ y. S.compare k y ≡ Less → ⊥) ((k, r) ∷ v) l (not_itself lawful.order k, Each_map _ _ v (λ u g. not_less u.0 g) over) h less)
+    other l less (inr z) = IsCongruent_of S.modulus _ _ z
+
+-- the term that was taken is at no key of what is left
+with_key :
+    (n p : ℕ) (compare : Key n → Key n → Ordering) → IsKeyOrder 0 compare → (k : Key n) (r : ℕ) (runs : List Terms) → AreBelow n compare k runs
+    → (l : Key n) → (IsCongruent p (coefficient (total n runs) l) 0 → ⊥) → IsCongruent p (coefficient ((k, r) ∷ total n runs) l) 0 → ⊥
+with_key n p compare order k r runs below l nz z = go (key_cases l k) (occurs (total n runs) k)
+  where
+    go : (l ≡ k) ⊎ (l ≡ k → ⊥) → HasKey (total n runs) k ⊎ (coefficient (total n runs) k ≡ 0) → ⊥
+    go (inl e) (inl h) = not_in_total n compare order k runs below h
+    go (inl e) (inr c) = nz (IsCongruent_of p _ _ (ap (coefficient (total n runs)) e ∙ c))
+    go (inr ne) o =
+        let same : coefficient ((k, r) ∷ total n runs) l ≡ coefficient (total n runs) l = ap (λ y. r * y + coefficient (total n runs) l) (indicator_other l k ne) ∙ omega arith in
+        nz (IsCongruent_trans (IsCongruent_of p _ _ (sym same)) z)
+
+-- what holds at its keys holds where a sum is not 0
+supported : {n : ℕ} (p : ℕ) (P : Key n → Type 0) (v : FormalSum n) → Each (λ t. P t.0) v → (k : Key n) → (IsCongruent p (coefficient v k) 0 → ⊥) → P k
+supported {n} p P v h k nz = go (occurs v k)
+  where
+    go : HasKey v k ⊎ (coefficient v k ≡ 0) → P k
+    go (inl i) = at_key P v k h i
+    go (inr z) = absurd (nz (IsCongruent_of p _ _ z))
+
+-- a residue is itself over 1
+pub factor_of_one : (p a b : ℕ) → 0 < a → a < p → b ≡ 1 → IsFactor p a b a
+factor_of_one p a b pos lt one = record {
+  nonzero = pos;
+  reduced = lt;
+  product = ap (λ z. (a * z) % p) one ∙ ap (λ z. z % p) (omega arith) ∙ mod-eq_of_lt lt;
+}
 
 module _ (ring : Ring) (compare : (n : ℕ) → Key n → Key n → Ordering) (rank : ℕ) (lawful : IsLawful (setting ring (variables ring) (compare (variables ring)) rank)) (order : IsKeyOrder 0 (compare (variables ring)))
     (cols : List Terms) (vectors : AreVectorsOver ring compare cols)
@@ -106,122 +160,254 @@ module _ (ring : Ring) (compare : (n : ℕ) → Key n → Key n → Ordering) (r
 
   module _ (basis : IsGroebnerBasis (setting ring (variables ring) (compare (variables ring)) rank) (sums_of (variables ring) cols) (sums_of (variables ring) cols))
       (key : CodeKey) (pair : IsPairKey (sums_of (variables ring) cols) (key_of (variables ring) key)) where
+    -- terms that no lead divides have no part in what is left
+    covered_same :
+        (x y e : FormalSum (variables ring)) → IsSame ring.modulus.value x (y ++ e) → Each (λ q. IsUncovered F q.0) e
+        → Supports ring.modulus.value y (λ k. IsUncovered F k → ⊥)
+        → (k : Key (variables ring)) → (IsCongruent ring.modulus.value (coefficient y k) 0 → ⊥) → IsCongruent ring.modulus.value (coefficient x k) 0 → ⊥
+    covered_same x y e same free cov k nz z = go (occurs e k)
+      where
+        go : HasKey e k ⊎ (coefficient e k ≡ 0) → ⊥
+        go (inl h) = cov k nz (at_key (IsUncovered F) e k free h)
+        go (inr n) = nz (IsCongruent_trans (IsCongruent_sym (IsCongruent_trans (same.by_key k) (IsCongruent_of ring.modulus.value _ _ (coefficient-append y e k ∙ ap (λ q. coefficient y k + q) n ∙ omega arith)))) z)
+
+    parted :
+        (v : Terms) (qs : List ScaledProduct) (dropped more : Terms) (old new : List Terms) (x y : FormalSum (variables ring))
+        → IsSplit (variables ring) ring.weights ring.modulus.value (compare (variables ring)) v cols qs dropped old x
+        → AreVectorsOver ring compare new → IsSame ring.modulus.value x (y ++ sum_of (variables ring) more)
+        → Each (IsTerm (variables ring) ring.weights ring.modulus.value) more → IsFreeOfLeads F (sum_of (variables ring) more)
+        → Supports ring.modulus.value y (λ k. IsUncovered F k → ⊥)
+        → IsSplit (variables ring) ring.weights ring.modulus.value (compare (variables ring)) v cols qs (dropped ++ more) new y
+    parted v qs dropped more old new x y h lists same terms free cov =
+        let R = sum_of (variables ring) dropped in
+        let E = sum_of (variables ring) more in
+        let c = combination F (cofactors_of (variables ring) qs) in
+        let joined : sum_of (variables ring) (dropped ++ more) ≡ R ++ E = map-append (λ t. (key_of (variables ring) t.0, t.1)) dropped more in
+        record {
+          lists = lists;
+          underway = record {
+            quotients = h.underway.quotients;
+            met = h.underway.met;
+            bounded = h.underway.bounded;
+            keys = λ k nz. h.underway.keys k (covered_same x y E same free cov k nz);
+            up_to = λ k nz. h.underway.up_to k (covered_same x y E same free cov k nz);
+          };
+          stay = Each_append (IsTerm (variables ring) ring.weights ring.modulus.value) dropped more h.stay terms;
+          reduced = subst (IsFreeOfLeads F) (sym joined) (Each_append (λ q. IsUncovered F q.0) R E h.reduced free);
+          sum = IsSame_trans h.sum (IsSame_append (IsSame_refl ring.modulus.value c) (record {
+            by_key = λ k.
+                let r = coefficient R k in
+                let e = coefficient E k in
+                let z = coefficient y k in
+                let one = IsCongruent_add (IsCongruent_refl ring.modulus.value r) (IsCongruent_trans (same.by_key k) (IsCongruent_of ring.modulus.value _ _ (coefficient-append y E k))) in
+                let two : coefficient (sum_of (variables ring) (dropped ++ more) ++ y) k ≡ (r + e) + z = coefficient-append (sum_of (variables ring) (dropped ++ more)) y k ∙ ap (λ q. q + z) (ap (λ q. coefficient q k) joined ∙ coefficient-append R E k) in
+                IsCongruent_trans (IsCongruent_of ring.modulus.value _ _ (coefficient-append R x k)) (IsCongruent_trans one (IsCongruent_of ring.modulus.value _ _ (turned r z e ∙ sym two)));
+          }));
+        }
+      where
+        turned : (r z e : ℕ) → r + (z + e) ≡ (r + e) + z
+        turned r z e = omega arith
+
     -- the start
-    pub underway_start : (v : Terms) → IsProductOf ring compare cols key v → IsUnderway ring compare cols key [] v
-    underway_start v h = record {
-      product = v;
-      of_column = h;
-      progress = started (variables ring) ring.weights ring.modulus.value (compare (variables ring)) order v v cols h.vector refl;
-      last = tt;
+    pub underway_start :
+        (v kept : Terms) (runs : List Terms) → IsProductOf ring compare cols key v → IsSifting ring compare cols v kept [] → runs ≡ kept ∷ []
+        → IsUnderway ring compare cols key [] runs (total (variables ring) runs)
+    underway_start v kept runs h s is =
+        let e : kept ++ [] ≡ kept = append-nil kept in
+        let K = sum_of (variables ring) kept in
+        let all : total (variables ring) runs ≡ K = ap (total (variables ring)) is ∙ append-nil K in
+        let cov : Supports ring.modulus.value K (λ k. IsUncovered F k → ⊥) = λ k nz. supported ring.modulus.value (λ l. IsUncovered F l → ⊥) K s.covered k nz in
+        let same : IsSame ring.modulus.value (total (variables ring) (v ∷ [])) (total (variables ring) runs ++ sum_of (variables ring) s.dropped) =
+        subst₂ (λ x y. IsSame ring.modulus.value x (y ++ sum_of (variables ring) s.dropped)) (sym (append-nil (sum_of (variables ring) v))) (ap (sum_of (variables ring)) e ∙ sym all) s.same in
+        let here : Supports ring.modulus.value (total (variables ring) runs) (λ k. IsUncovered F k → ⊥) = subst (λ z. Supports ring.modulus.value z (λ k. IsUncovered F k → ⊥)) (sym all) cov in
+        record {
+          product = v;
+          of_column = h;
+          dropped = s.dropped;
+          progress = parted v [] [] s.dropped (v ∷ []) runs (total (variables ring) (v ∷ [])) (total (variables ring) runs)
+              (kept_first (variables ring) ring.weights ring.modulus.value (compare (variables ring)) order v cols (v ∷ []) v refl refl h.vector)
+              (subst (AreVectorsOver ring compare) (sym is) (subst (IsVectorOver ring compare) e s.vector, tt)) same s.terms s.free here;
+          covered = here;
+          last = tt;
+        }
+
+    -- other lists with the same sum
+    pub underway_same :
+        (qs : List ScaledProduct) (old new : List Terms) (x y : FormalSum (variables ring))
+        → IsUnderway ring compare cols key qs old x → AreVectorsOver ring compare new → IsSame ring.modulus.value x y
+        → IsUnderway ring compare cols key qs new y
+    underway_same qs old new x y u lists e = record {
+      product = u.product;
+      of_column = u.of_column;
+      dropped = u.dropped;
+      progress = kept_same (variables ring) ring.weights ring.modulus.value (compare (variables ring)) order u.product cols qs u.dropped old new x y u.progress lists e;
+      covered = λ k nz. u.covered k (λ z. nz (IsCongruent_trans (IsCongruent_sym (e.by_key k)) z));
+      last = u.last;
     }
 
-    module _ (qs : List ScaledProduct) (work : Terms) (u : IsUnderway ring compare cols key qs work) where
-      work_member : IsMember S.modulus F (sum_of (variables ring) work)
-      work_member =
-          let c = combination F (cofactors_of (variables ring) qs) in
-          let v = sum_of (variables ring) u.product in
-          let m = v_member ring compare rank lawful cols monic key pair u.product u.of_column in
-          IsMember_same F (v ++ scale (S.modulus - 1) (unit (variables ring)) c) (sum_of (variables ring) work) (rest_is S.modulus v c (sum_of (variables ring) work) (positive S lawful) u.progress.sum)
-          (IsMember_append F v _ m (IsMember_scale (positive S lawful) F (S.modulus - 1) (unit (variables ring)) c (IsMember_of F (cofactors_of (variables ring) qs) c (IsSame_refl S.modulus c))))
+    -- the next term is taken
+    pub underway_taken :
+        (qs : List ScaledProduct) (old new : List Terms) (next : Option (CodeKey × ℕ))
+        → IsUnderway ring compare cols key qs old (total (variables ring) old) → AreVectorsOver ring compare new
+        → IsNextTaken (variables ring) ring.weights ring.modulus.value (compare (variables ring)) old new next
+        → IsUnderway ring compare cols key qs new (with_next (variables ring) next (total (variables ring) new))
+    underway_taken qs old new next u lists t = underway_same qs old new (total (variables ring) old) (with_next (variables ring) next (total (variables ring) new)) u lists t.sum
 
-      -- the first key of what is left
-      pub at_work : (t : CodeKey × ℕ) → 0 < length work → t ≡ get_or work 0 t → head_key (sum_of (variables ring) work) ≡ key_of (variables ring) t.0
-      at_work t lt is = go work refl
-        where
-          go : (w : Terms) → work ≡ w → head_key (sum_of (variables ring) work) ≡ key_of (variables ring) t.0
-          go [] e = absurd (omega (arith, subst (λ z. 0 < length z) e lt))
-          go (x ∷ w) e = ap (λ z. head_key (sum_of (variables ring) z)) e ∙ ap (λ z. key_of (variables ring) z.0) (sym (is ∙ ap (λ z. get_or z 0 t) e))
+    -- its residue is 0
+    pub underway_zero :
+        (qs : List ScaledProduct) (runs : List Terms) (k : Key (variables ring)) (r : ℕ) → r ≡ 0
+        → IsUnderway ring compare cols key qs runs ((k, r) ∷ total (variables ring) runs)
+        → IsUnderway ring compare cols key qs runs (total (variables ring) runs)
+    underway_zero qs runs k r none u =
+        underway_same qs runs runs ((k, r) ∷ total (variables ring) runs) (total (variables ring) runs) u u.progress.lists
+        (subst (λ z. IsSame ring.modulus.value ((k, z) ∷ total (variables ring) runs) (total (variables ring) runs)) (sym none)
+        (IsSame_sym (with_zero (variables ring) ring.weights ring.modulus.value compare order k (total (variables ring) runs))))
 
-      -- and it is a monomial of the ring
-      pub work_weighed : (t : CodeKey × ℕ) → 0 < length work → t ≡ get_or work 0 t → IsMonomialOver ring t.0.monomial
-      work_weighed t lt is = go work refl
-        where
-          go : (w : Terms) → work ≡ w → IsMonomialOver ring t.0.monomial
-          go [] e = absurd (omega (arith, subst (λ z. 0 < length z) e lt))
-          go (x ∷ w) e =
-              let v : IsVectorOver ring compare (x ∷ w) = subst (IsVectorOver ring compare) e u.progress.vector in
-              subst (λ z. IsMonomialOver ring z.0.monomial) (sym (is ∙ ap (λ z. get_or z 0 t) e)) v.each.0.weighed
+    -- the end: what was dropped is a member without a covered key, so that it is 0
+    pub underway_end :
+        (qs : List ScaledProduct) (runs : List Terms) → total (variables ring) runs ≡ []
+        → IsUnderway ring compare cols key qs runs (total (variables ring) runs) → IsDivided ring compare cols key qs
+    underway_end qs runs none u = record {
+      product = u.product;
+      of_column = u.of_column;
+      progress = record {
+        lists = tt;
+        underway = record {
+          quotients = u.progress.underway.quotients;
+          met = u.progress.underway.met;
+          bounded = u.progress.underway.bounded;
+          keys = λ k nz. absurd (nz (IsCongruent_refl ring.modulus.value 0));
+          up_to = λ k nz. absurd (nz (IsCongruent_refl ring.modulus.value 0));
+        };
+        stay = tt;
+        reduced = tt;
+        sum = IsSame_trans whole (IsSame_append (IsSame_refl ring.modulus.value c) zero);
+      };
+      last = u.last;
+    }
+      where
+        c : FormalSum (variables ring)
+        c = combination F (cofactors_of (variables ring) qs)
 
-      -- some lead divides what is left
-      pub divisible : (t : CodeKey × ℕ) → 0 < length work → t ≡ get_or work 0 t → IsFoundLast (variables ring) ring.weights cols (key_of (variables ring) t.0) None → ⊥
-      divisible t lt is none = go work refl
-        where
-          go : (w : Terms) → work ≡ w → ⊥
-          go [] e = omega (arith, subst (λ z. 0 < length z) e lt)
-          go (x ∷ w) e =
-              let v : IsVectorOver ring compare (x ∷ w) = subst (IsVectorOver ring compare) e u.progress.vector in
-              let c = basis.covers (sum_of (variables ring) (x ∷ w)) (key_of (variables ring) x.0) (subst (λ z. IsMember S.modulus F (sum_of (variables ring) z)) e work_member) (vector_lead ring compare rank x w lawful v) in
-              let here : t ≡ x = is ∙ ap (λ z. get_or z 0 t) e in
-              covered (subst (λ z. IsCovered S F (key_of (variables ring) z.0)) (sym here) c)
-            where
-              covered : IsCovered S F (key_of (variables ring) t.0) → ⊥
-              covered (i, l, ld, d) = none i l (λ z. lead_of_zero S (get_or F i []) (leads F i) z ld) d
+        D : FormalSum (variables ring)
+        D = sum_of (variables ring) u.dropped
 
-      module _ (s : KeptProduct) (t : CodeKey × ℕ) (lt : 0 < length work) (is : t ≡ get_or work 0 t) (found : IsFoundLast (variables ring) ring.weights cols (head_key (sum_of (variables ring) work)) (Some s)) where
-        divisor : IsDivisor (variables ring) ring.weights cols (head_key (drop 0 (sum_of (variables ring) work))) s
-        divisor = found.0
+        whole : IsSame ring.modulus.value (sum_of (variables ring) u.product) (combination F (cofactors_of (variables ring) qs) ++ sum_of (variables ring) u.dropped)
+        whole = subst (λ z. IsSame ring.modulus.value (sum_of (variables ring) u.product) (combination F (cofactors_of (variables ring) qs) ++ z))
+            (ap (λ z. sum_of (variables ring) u.dropped ++ z) none ∙ append-nil (sum_of (variables ring) u.dropped)) u.progress.sum
 
-        is_last : IsLast F (s.0, exponents_of (variables ring) s.1.exponents)
-        is_last j after inside d =
-            let there : j < length cols = in_cols j inside in
-            found.1 j (omega (arith, after)) there (some j there)
-            (subst₂ KeyDivides (lead_is j) (ap (shift (exponents_of (variables ring) s.1.exponents)) (lead_is s.0) ∙ found.0.lead) d)
+        member : IsMember S.modulus F (sum_of (variables ring) u.dropped)
+        member =
+            let a = combination F (cofactors_of (variables ring) qs) in
+            let v = sum_of (variables ring) u.product in
+            let m = v_member ring compare rank lawful cols monic key pair u.product u.of_column in
+            IsMember_same F (v ++ scale (S.modulus - 1) (unit (variables ring)) a) (sum_of (variables ring) u.dropped) (rest_is S.modulus v a (sum_of (variables ring) u.dropped) (positive S lawful) whole)
+            (IsMember_append F v _ m (IsMember_scale (positive S lawful) F (S.modulus - 1) (unit (variables ring)) a (IsMember_of F (cofactors_of (variables ring) qs) a (IsSame_refl S.modulus a))))
 
-        -- one product less
-        module _ (new : Terms) (negative : ℕ) (ne : negative ≡ (ring.modulus.value - t.1) % ring.modulus.value) (hv : IsVectorOver ring compare new)
-            (hs : StandsFor ring new (sum_of (variables ring) work ++ scale negative (exponents_of (variables ring) s.1.exponents) (sum_of (variables ring) (get_or cols s.0 []))))
-            (hf : 0 < negative → Fits s.1 (get_or cols s.0 [])) (hb : HasBoundedHead (sum_of (variables ring) new)) where
-          factor : (y : CodeKey × ℕ) → y ≡ get_or (get_or cols s.0 []) 0 y → IsFactor ring.modulus.value t.1 y.1 t.1
-          factor y e =
-              let term = go work refl in
-              record {
-                nonzero = term.0;
-                reduced = term.1;
-                product = ap (λ z. (t.1 * z) % ring.modulus.value) (one_first s.0 y found.0.index e) ∙ ap (λ z. z % ring.modulus.value) (omega arith) ∙ mod-eq_of_lt term.1;
-              }
-            where
-              go : (w : Terms) → work ≡ w → (0 < t.1) × (t.1 < ring.modulus.value)
-              go [] e = absurd (omega (arith, subst (λ z. 0 < length z) e lt))
-              go (x ∷ w) e =
-                  let v : IsVectorOver ring compare (x ∷ w) = subst (IsVectorOver ring compare) e u.progress.vector in
-                  let here : x ≡ t = sym (is ∙ ap (λ z. get_or z 0 t) e) in
-                  subst (λ z. (0 < z.1) × (z.1 < ring.modulus.value)) here (v.each.0.nonzero, v.each.0.reduced)
+        zero : IsSame ring.modulus.value (sum_of (variables ring) u.dropped) []
+        zero = remainder_zero S lawful F F basis (sum_of (variables ring) u.dropped) member (λ k lead cov. uncovered_lead k lead cov (occurs (sum_of (variables ring) u.dropped) k))
+          where
+            uncovered_lead :
+                (k : Key (variables ring)) → IsLead S (sum_of (variables ring) u.dropped) k → IsCovered S F k
+                → HasKey (sum_of (variables ring) u.dropped) k ⊎ (coefficient (sum_of (variables ring) u.dropped) k ≡ 0) → ⊥
+            uncovered_lead k lead (i, l, ld, d) (inl h) = at_key (IsUncovered F) (sum_of (variables ring) u.dropped) k u.progress.reduced h i l (λ z. lead_of_zero S (get_or F i []) (leads F i) z ld) d
+            uncovered_lead k lead cov (inr z) = lead.nonzero (IsCongruent_of S.modulus _ _ z)
 
-          first : CodeKey × ℕ
-          first = get_or (get_or cols s.0 []) 0 t
+    module _
+        (qs : List ScaledProduct) (t : CodeKey × ℕ) (runs : List Terms) (weighed : IsMonomialOver ring t.0.monomial) (pos : 0 < t.1)
+        (lt : t.1 < ring.modulus.value) (below : AreBelow (variables ring) (compare (variables ring)) (key_of (variables ring) t.0) runs)
+        (u : IsUnderway ring compare cols key qs runs ((key_of (variables ring) t.0, t.1) ∷ total (variables ring) runs))
+      where
+        abbrev K : Key (variables ring)
+        K = key_of (variables ring) t.0
 
-          first_is : get_or (get_or cols s.0 []) 0 t ≡ get_or (get_or cols s.0 []) 0 (get_or (get_or cols s.0 []) 0 t)
-          first_is = get_or_default (get_or cols s.0 []) 0 t (get_or (get_or cols s.0 []) 0 t) (some s.0 found.0.index)
+        abbrev left : FormalSum (variables ring)
+        left = (key_of (variables ring) t.0, t.1) ∷ total (variables ring) runs
 
-          taken : IsSubtraction (variables ring) ring.weights ring.modulus.value (compare (variables ring)) s.1 (get_or cols s.0 []) 0 work new t.1
-          taken =
-              subtraction_is (variables ring) ring.weights ring.modulus.value (compare (variables ring)) s.1 (get_or cols s.0 []) 0 work new t.1 negative ring.modulus.value t (get_or (get_or cols s.0 []) 0 t)
-              refl (factor (get_or (get_or cols s.0 []) 0 t) first_is) lt is (some s.0 found.0.index) first_is ne hv hs hf hb
+        -- the term is the lead of what is left
+        left_led : IsLead S ((key_of (variables ring) t.0, t.1) ∷ total (variables ring) runs) (key_of (variables ring) t.0)
+        left_led = lead_of_next S lawful K t.1 (total (variables ring) runs) pos lt (below_total (variables ring) (compare (variables ring)) K runs below)
 
-          both :
-              IsProgress (variables ring) ring.weights ring.modulus.value (compare (variables ring)) u.product cols (qs ++ (record { index = s.0; residue = t.1; monomial = s.1 }) ∷ []) new
-              × IsBelow (variables ring) (compare (variables ring)) work new 0
-          both = advanced (variables ring) ring.weights ring.modulus.value (compare (variables ring)) order lawful.domain u.product cols qs work new 0 s t.1 vectors divisor taken u.progress lt
+        -- so some lead divides it
+        pub divisible : IsFoundLast (variables ring) ring.weights cols (key_of (variables ring) t.0) None → ⊥
+        divisible none = u.covered K left_led.nonzero none
 
-          pub underway_next : IsUnderway ring compare cols key (qs ++ (record { index = s.0; residue = t.1; monomial = s.1 }) ∷ []) new
-          unfolding both
-          underway_next = record {
+        module _ (s : KeptProduct) (found : IsFoundLast (variables ring) ring.weights cols (key_of (variables ring) t.0) (Some s)) where
+          is_last : IsLast F (s.0, exponents_of (variables ring) s.1.exponents)
+          is_last j after inside d =
+              let there : j < length cols = in_cols j inside in
+              found.1 j (omega (arith, after)) there (some j there)
+              (subst₂ KeyDivides (lead_is j) (ap (shift (exponents_of (variables ring) s.1.exponents)) (lead_is s.0) ∙ found.0.lead) d)
+
+          -- one product less
+          module _ (new : List Terms) (rest kept : Terms) (lists : AreVectorsOver ring compare new)
+              (taken : IsSubtraction (variables ring) ring.weights ring.modulus.value (compare (variables ring)) s.1 (get_or cols s.0 []) 0 (t ∷ []) rest t.1)
+              (sifted : IsSifting ring compare cols rest kept [])
+              (added : IsSame ring.modulus.value (total (variables ring) new) (total (variables ring) runs ++ sum_of (variables ring) kept)) where
+            abbrev more : FormalSum (variables ring)
+            more = sum_of (variables ring) sifted.dropped
+
+            kept_nil : kept ++ [] ≡ kept
+            kept_nil = append-nil kept
+
+            rest_same : IsSame ring.modulus.value (sum_of (variables ring) rest) (sum_of (variables ring) kept ++ sum_of (variables ring) sifted.dropped)
+            rest_same = subst (λ z. IsSame ring.modulus.value (sum_of (variables ring) rest) (sum_of (variables ring) z ++ sum_of (variables ring) sifted.dropped)) kept_nil sifted.same
+
+            -- with what was dropped the lists have the whole product
+            with_dropped : IsSame ring.modulus.value (total (variables ring) (new ++ sifted.dropped ∷ [])) (total (variables ring) runs ++ sum_of (variables ring) rest)
+            with_dropped = record {
+              by_key = λ k.
+                  let T = total (variables ring) runs in
+                  let x = coefficient T k in
+                  let y = coefficient (sum_of (variables ring) kept) k in
+                  let e = coefficient (sum_of (variables ring) sifted.dropped) k in
+                  let one : coefficient (total (variables ring) (new ++ sifted.dropped ∷ [])) k ≡ coefficient (total (variables ring) new) k + e =
+                  ap (λ z. coefficient z k) (total-push (variables ring) new sifted.dropped) ∙ coefficient-append (total (variables ring) new) (sum_of (variables ring) sifted.dropped) k in
+                  let two = IsCongruent_add (IsCongruent_trans (added.by_key k) (IsCongruent_of ring.modulus.value _ _ (coefficient-append T (sum_of (variables ring) kept) k))) (IsCongruent_refl ring.modulus.value e) in
+                  let three = IsCongruent_add (IsCongruent_refl ring.modulus.value x) (IsCongruent_trans (rest_same.by_key k) (IsCongruent_of ring.modulus.value _ _ (coefficient-append (sum_of (variables ring) kept) (sum_of (variables ring) sifted.dropped) k))) in
+                  IsCongruent_trans (IsCongruent_of ring.modulus.value _ _ one) (IsCongruent_trans two (IsCongruent_trans (IsCongruent_of ring.modulus.value _ _ (grouped x y e)) (IsCongruent_trans (IsCongruent_sym three) (IsCongruent_of ring.modulus.value _ _ (sym (coefficient-append T (sum_of (variables ring) rest) k))))));
+            }
+              where
+                grouped : (x y e : ℕ) → (x + y) + e ≡ x + (y + e)
+                grouped x y e = omega arith
+
+            all :
+                IsOver (compare (variables ring)) K (sum_of (variables ring) rest)
+                × divisions.IsUnderway (variables ring) ring.weights ring.modulus.value (compare (variables ring)) u.product cols (qs ++ (record { index = s.0; residue = t.1; monomial = s.1 }) ∷ []) (total (variables ring) (new ++ sifted.dropped ∷ []))
+                × ((x : FormalSum (variables ring)) → StandsWith (variables ring) ring.modulus.value u.product cols qs x left → StandsWith (variables ring) ring.modulus.value u.product cols (qs ++ (record { index = s.0; residue = t.1; monomial = s.1 }) ∷ []) x (total (variables ring) (new ++ sifted.dropped ∷ [])))
+            all = carried (variables ring) ring.weights ring.modulus.value (compare (variables ring)) order lawful.domain u.product cols qs t.0 t.1 runs weighed pos lt below u.progress.underway (new ++ sifted.dropped ∷ []) rest s t.1 vectors found.0 taken with_dropped
+
+            pub rest_below : IsOver (compare (variables ring)) (key_of (variables ring) t.0) (sum_of (variables ring) kept)
+            unfolding all
+            rest_below = subst (λ z. IsOver (compare (variables ring)) (key_of (variables ring) t.0) (sum_of (variables ring) z)) kept_nil (sifted.over (key_of (variables ring) t.0) all.0)
+
+            -- what is left has covered keys alone
+            covered_next : Supports ring.modulus.value (total (variables ring) new) (λ k. IsUncovered F k → ⊥)
+            covered_next k nz = go (occurs (sum_of (variables ring) kept) k)
+              where
+                go : HasKey (sum_of (variables ring) kept) k ⊎ (coefficient (sum_of (variables ring) kept) k ≡ 0) → IsUncovered F k → ⊥
+                go (inl h) = at_key (λ l. IsUncovered F l → ⊥) (sum_of (variables ring) kept) k sifted.covered h
+                go (inr z) = u.covered k (with_key (variables ring) ring.modulus.value (compare (variables ring)) order K t.1 runs below k (λ q. nz (IsCongruent_trans (IsCongruent_trans (added.by_key k) (IsCongruent_of ring.modulus.value _ _ (coefficient-append (total (variables ring) runs) (sum_of (variables ring) kept) k ∙ ap (λ y. coefficient (total (variables ring) runs) k + y) z ∙ omega arith))) q)))
+
+            pub underway_next : IsUnderway ring compare cols key (qs ++ (record { index = s.0; residue = t.1; monomial = s.1 }) ∷ []) new (total (variables ring) new)
+            unfolding all
+            underway_next = record {
+              product = u.product;
+              of_column = u.of_column;
+              dropped = u.dropped ++ sifted.dropped;
+              progress = parted u.product (qs ++ (record { index = s.0; residue = t.1; monomial = s.1 }) ∷ []) u.dropped sifted.dropped [] new (total (variables ring) (new ++ sifted.dropped ∷ [])) (total (variables ring) new)
+                  (record { lists = tt; underway = all.1; stay = u.progress.stay; reduced = u.progress.reduced; sum = all.2 (sum_of (variables ring) u.dropped) u.progress.sum })
+                  lists (IsSame_of ring.modulus.value _ _ (total-push (variables ring) new sifted.dropped)) sifted.terms sifted.free covered_next;
+              covered = covered_next;
+              last = Each_append _ qs (record { index = s.0; residue = t.1; monomial = s.1 } ∷ []) u.last (is_last, tt);
+            }
+
+          -- or it cannot be made
+          pub failing_is : (g : Terms) (stop : VectStop) (a last : Monomial) → g ≡ get_or cols s.0 [] → stop ≡ Degree a last → SubtractionStops s.1 g stop → IsFailing ring compare cols key qs s last
+          failing_is g stop a last eg es h = record {
             product = u.product;
             of_column = u.of_column;
-            progress = both.0;
-            last = Each_append _ qs (record { index = s.0; residue = t.1; monomial = s.1 } ∷ []) u.last (is_last, tt);
+            quotients = u.progress.underway.quotients;
+            met = u.progress.underway.met;
+            due = failing_product (variables ring) ring.weights ring.modulus.value (compare (variables ring)) order lawful.domain u.product cols qs t.0 t.1 runs weighed pos lt below u.progress.underway s g stop a last vectors found.0 eg es h;
           }
-
-          pub room_less : room_of (compare (variables ring)) (sum_of (variables ring) new) < room_of (compare (variables ring)) (sum_of (variables ring) work)
-          unfolding both
-          room_less = both.1.falls
-
-        -- or it cannot be made
-        pub failing_is : (g : Terms) (stop : VectStop) (a last : Monomial) → g ≡ get_or cols s.0 [] → stop ≡ Degree a last → SubtractionStops s.1 g stop → IsFailing ring compare cols key qs s last
-        failing_is g stop a last eg es h = record {
-          product = u.product;
-          of_column = u.of_column;
-          quotients = u.progress.quotients;
-          met = u.progress.met;
-          due = failing_product (variables ring) ring.weights ring.modulus.value (compare (variables ring)) u.product cols qs work 0 s g stop a last lt vectors divisor u.progress eg es h;
-        }

@@ -12,5 +12,7 @@ pub mod FirstMaps
 pub mod Starting
 pub mod Places
 pub mod Joining
+pub mod Lengths
 pub mod Finding
 pub mod Pairing
+pub mod Dropping

@@ -30,7 +30,7 @@ use Rattle.vector_division.proofs.Members.{sums_at}
 use Rattle.vector_division.specs.Reductions.{HaveLeadsUpTo, IsScaledProduct, cofactors_of, unscaled}
 use Rattle.vector_division.specs.declared.reduction.ScaledProduct.{ScaledProduct}
 use Rattle.schreyer_resolution.proofs.Canonical.{column_of}
-use Rattle.schreyer_resolution.specs.Columns.{IsColumnOf, IsProductOf, IsUnderway, negated_term}
+use Rattle.schreyer_resolution.specs.Columns.{IsColumnOf, IsDivided, IsProductOf, negated_term}
 use Rattle.schreyer_resolution.specs.Inducing.{Tower, tower_comparison}
 use Rattle.schreyer_resolution.specs.Steps.{IsLast, IsPairKey}
 
@@ -189,7 +189,7 @@ module _ (ring : Ring) (compare : (n : ℕ) → Key n → Key n → Ordering) (r
   cof_reduced (q ∷ xs) h = (h.0.reduced, cof_reduced xs h.1)
 
   -- nothing is left
-  module _ (qs : List ScaledProduct) (u : IsUnderway ring compare cols key qs []) where
+  module _ (qs : List ScaledProduct) (u : IsDivided ring compare cols key qs) where
     abbrev v : Terms
     v = u.product
 
@@ -199,10 +199,10 @@ module _ (ring : Ring) (compare : (n : ℕ) → Key n → Key n → Ordering) (r
         (subst (IsSame S.modulus (sum_of (variables ring) v)) (append-nil (combination F (cofactors_of (variables ring) qs))) u.progress.sum)
 
     ranked : HasRank (length F) ((kk, 1) ∷ negated S.modulus (cofactors_of (variables ring) qs))
-    ranked = whole_rank S lawful F monic kk pair (cofactors_of (variables ring) qs) (cof_rank qs u.progress.quotients) (cof_reduced qs u.progress.quotients) quotients
+    ranked = whole_rank S lawful F monic kk pair (cofactors_of (variables ring) qs) (cof_rank qs u.progress.underway.quotients) (cof_reduced qs u.progress.underway.quotients) quotients
 
     is_syzygy : IsSyzygy S.modulus F ((kk, 1) ∷ negated S.modulus (cofactors_of (variables ring) qs))
-    is_syzygy = whole_syzygy S lawful F monic kk pair (cofactors_of (variables ring) qs) (cof_rank qs u.progress.quotients) (cof_reduced qs u.progress.quotients) quotients
+    is_syzygy = whole_syzygy S lawful F monic kk pair (cofactors_of (variables ring) qs) (cof_rank qs u.progress.underway.quotients) (cof_reduced qs u.progress.underway.quotients) quotients
 
     one_below :
         (q : ScaledProduct) → IsLast F (q.index, exponents_of (variables ring) q.monomial.exponents)
@@ -241,7 +241,7 @@ module _ (ring : Ring) (compare : (n : ℕ) → Key n → Key n → Ordering) (r
         let normal : IsNormal (induced_setting S F) (sum_of (variables ring) w) =
         record { descends = subst (λ o. Descends o (sum_of (variables ring) w)) above hw.descends; residues = residues_of (variables ring) ring.weights ring.modulus.value w hw.each } in
         let same = stands w items is sw in
-        let c = column_of S lawful F monic kk (negated S.modulus (cofactors_of (variables ring) qs)) (all_below qs u.last u.progress.bounded) (sum_of (variables ring) w) normal same
+        let c = column_of S lawful F monic kk (negated S.modulus (cofactors_of (variables ring) qs)) (all_below qs u.last u.progress.underway.bounded) (sum_of (variables ring) w) normal same
         (IsSyzygy_same (positive S lawful) F _ (sum_of (variables ring) w) (IsSame_sym same) is_syzygy) in
         record { lead = c.lead; one = c.one; normal = c.normal; syzygy = c.syzygy; last = c.last }
 

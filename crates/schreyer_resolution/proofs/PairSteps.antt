@@ -27,6 +27,8 @@ use Rattle.module_vectors.specs.Vectors.{key_of, sum_of, sums_of}
 use Rattle.module_vectors.specs.declared.key.Key.{Key as CodeKey}
 use Rattle.vector_division.proofs.Members.{sums_at}
 use Rattle.schreyer_resolution.specs.Pairs.{AreLeastSoFar, ArePairMonomials, HaveLeads, IsPairMonomial, IsPushed, IsTaken, Rises}
+use Rattle.module_vectors.proofs.SumsOfProducts.{Each_member}
+use Rattle.schreyer_resolution.specs.Spans.{ArePast}
 use Rattle.schreyer_resolution.proofs.LeastLeads.{contains_cases, contains_left, contains_one, contains_only, contains_right, each_all, each_at, least_push, least_skip}
 
 abbrev pub Terms : Type 0
@@ -173,3 +175,28 @@ base_leads n S lawful cols monic = each_index cols (λ k lt. go k (omega (arith,
 
 pub monomials_weighed : (n : ℕ) (ws : List ℕ) (cols : List Terms) (i j : ℕ) (ms : List Monomial) → ArePairMonomials n ws cols i j ms → Each (IsWeighed n ws) ms
 monomials_weighed n ws cols i j ms h = each_all _ ms (λ m c. (h.each m c).3.weighed)
+
+-- no later member stands at the position
+pub monomials_end :
+    (n : ℕ) (ws : List ℕ) (cols : List Terms) (i j end position : ℕ) (ms : List Monomial)
+    → ArePairMonomials n ws cols i j ms → j ≤ length cols → end ≤ j → HaveLeads cols → (lead_at n cols i).0 ≡ position → ArePast cols position end
+    → ArePairMonomials n ws cols i (length cols) ms
+monomials_end n ws cols i j end position ms h inside le leads at past = record {
+  each = λ m c. (let x = h.each m c in (x.0, x.1, (let l = x.2 in omega (arith, l, inside)), x.3));
+  all = λ l lt in_l same. go l lt in_l same (cases_lt l j);
+}
+  where
+    go :
+        (l : ℕ) → i < l → l < length cols → (lead_at n cols i).0 ≡ (lead_at n cols l).0 → (l < j) ⊎ (j ≤ l)
+        → (m : Monomial) × Contains ms m × IsPairMonomial n ws cols i l m
+    go l lt in_l same (inl x) = h.all l lt x same
+    go l lt in_l same (inr x) = absurd (past n l (omega (arith, le, x)) in_l (Each_member (λ v. 0 < length v) cols l [] leads in_l) (sym same ∙ at))
+
+-- and the member itself does
+pub before_end :
+    (n : ℕ) (cols : List Terms) (i end position : ℕ) → i < length cols → HaveLeads cols → (lead_at n cols i).0 ≡ position → ArePast cols position end → i + 1 ≤ end
+before_end n cols i end position lt leads at past = go (cases_lt i end)
+  where
+    go : (i < end) ⊎ (end ≤ i) → i + 1 ≤ end
+    go (inl l) = omega (arith, l)
+    go (inr g) = absurd (past n i g lt (Each_member (λ v. 0 < length v) cols i [] leads lt) at)

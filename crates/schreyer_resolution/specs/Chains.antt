@@ -14,7 +14,8 @@ use Rattle.vector_division.specs.declared.reduction.ScaledProduct.{ScaledProduct
 use Rattle.schreyer_resolution.specs.Columns.{IsProductOf}
 
 -- products of these columns, each behind the first met by the products before it, and the last one too great for a monomial of its column
-pub record IsColumnChain (n : ℕ) (ws : List ℕ) (columns : List (List (CodeKey × ℕ))) (first : KeptProduct) (later : List KeptProduct) (last : Monomial) : Type 0 where
+pub record IsColumnChain (n : ℕ) (ws : List ℕ) (columns : List (List (CodeKey × ℕ)))
+    (first : KeptProduct) (later : List KeptProduct) (last : Monomial) : Type 0 where
   pub known : Each (λ s. s.0 < length columns) (first ∷ later)
   pub weighed : Each (λ s. IsWeighed n ws s.1) (first ∷ later)
   pub met : AreMet n [] columns (first ∷ []) later

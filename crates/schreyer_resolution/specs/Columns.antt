@@ -2,7 +2,7 @@
 use Rattle.std.specs.Prelude.{Bool, IsTrue, List, Option, None, Some, [], get_or, length, ⊤, ℕ, ◌%◌, ◌+◌, ◌-◌, ◌<◌, ◌≡◌, ◌≤◌}
 use Rattle.std.specs.declared.cmp.Ordering.{Ordering}
 use Rattle.monomials.specs.Exponents.{exponents_of, lcm, quotient}
-use Rattle.formal_sums.specs.FormalSums.{Each, Key, scale}
+use Rattle.formal_sums.specs.FormalSums.{Each, FormalSum, Key, scale}
 use Rattle.orders.specs.KeyOrders.{KeyDivides, induced}
 use Rattle.bases.specs.Bases.{IsGroebnerBasis}
 use Rattle.bases.specs.Leads.{IsMonicList, leads}
@@ -17,7 +17,8 @@ use Rattle.module_vectors.specs.declared.trail.TrailStart.TheVariants.{Pair}
 use Rattle.module_vectors.specs.declared.trail.WorkStop.{WorkStop}
 use Rattle.module_vectors.specs.declared.trail.WorkStop.TheVariants.{Memory, Degree}
 use Rattle.vector_division.specs.Divisions.{IsUncovered}
-use Rattle.vector_division.specs.Progress.{IsDivisor, IsProgress}
+use Rattle.vector_division.specs.Progress.{IsDivisor}
+use Rattle.vector_division.specs.Runs.{IsSplit, Supports}
 use Rattle.vector_division.specs.declared.reduction.ScaledProduct.{ScaledProduct}
 use Rattle.schreyer_resolution.specs.Inducing.{Columns, Tower, tower_comparison}
 use Rattle.schreyer_resolution.specs.Steps.{IsColumn, IsLast}
@@ -46,20 +47,38 @@ IsFoundLast n ws list k None = IsUncovered (sums_of n list) k
 IsFoundLast n ws list k (Some s) = IsDivisor n ws list k s × AreTriedFrom n list k (s.0 + 1)
 
 -- v is the product of the key's monomial and its column
-pub record IsProductOf (ring : Ring) (compare : (n : ℕ) → Key n → Key n → Ordering) (columns : List (List (CodeKey × ℕ))) (k : CodeKey) (v : List (CodeKey × ℕ)) : Type 0 where
+pub record IsProductOf (ring : Ring) (compare : (n : ℕ) → Key n → Key n → Ordering) (columns : List (List (CodeKey × ℕ)))
+    (k : CodeKey) (v : List (CodeKey × ℕ)) : Type 0 where
   pub vector : IsVectorOver ring compare v
   pub is :
       let n = variables ring in
       StandsFor ring v (scale 1 (exponents_of n k.monomial.exponents) (sum_of n (get_or columns k.position [])))
 
--- quotients of this product were taken away, each of the last column that could be, and this is left
+-- quotients of this product were taken away, each of the last column that could be; this is left of it in these lists, and
+-- terms were dropped that no lead divides, while what is left has none
 pub record IsUnderway (ring : Ring) (compare : (n : ℕ) → Key n → Key n → Ordering) (columns : List (List (CodeKey × ℕ))) (k : CodeKey)
-    (qs : List ScaledProduct) (work : List (CodeKey × ℕ)) : Type 0 where
+    (qs : List ScaledProduct) (runs : List (List (CodeKey × ℕ))) (left : FormalSum (variables ring)) : Type 0 where
+  pub product : List (CodeKey × ℕ)
+  pub of_column : IsProductOf ring compare columns k product
+  pub dropped : List (CodeKey × ℕ)
+  pub progress :
+      let n = variables ring in
+      IsSplit n ring.weights ring.modulus.value (compare n) product columns qs dropped runs left
+  pub covered :
+      let n = variables ring in
+      Supports ring.modulus.value left (λ k. IsUncovered (sums_of n columns) k → ⊥)
+  pub last :
+      let n = variables ring in
+      Each (λ q. IsLast (sums_of n columns) (q.index, exponents_of n q.monomial.exponents)) qs
+
+-- these quotients of the key's product, each of the last column that could be taken, leave nothing
+pub record IsDivided (ring : Ring) (compare : (n : ℕ) → Key n → Key n → Ordering) (columns : List (List (CodeKey × ℕ))) (k : CodeKey)
+    (qs : List ScaledProduct) : Type 0 where
   pub product : List (CodeKey × ℕ)
   pub of_column : IsProductOf ring compare columns k product
   pub progress :
       let n = variables ring in
-      IsProgress n ring.weights ring.modulus.value (compare n) product columns qs work
+      IsSplit n ring.weights ring.modulus.value (compare n) product columns qs [] [] []
   pub last :
       let n = variables ring in
       Each (λ q. IsLast (sums_of n columns) (q.index, exponents_of n q.monomial.exponents)) qs
@@ -75,8 +94,8 @@ IsColumnOf ring compare columns k v =
     IsColumn (setting ring n (compare n) 0) (sums_of n columns) (key_of n k) (sum_of n v)
 
 -- the first k columns of the next map, at the keys in their order: vectors in the order above, each the column with its lead
-pub record AreColumnsTo (ring : Ring) (compare : (n : ℕ) → Key n → Key n → Ordering) (columns : List (List (CodeKey × ℕ))) (t : Tower) (keys : List CodeKey) (k : ℕ)
-    (next : List (List (CodeKey × ℕ))) : Type 0 where
+pub record AreColumnsTo (ring : Ring) (compare : (n : ℕ) → Key n → Key n → Ordering) (columns : List (List (CodeKey × ℕ)))
+    (t : Tower) (keys : List CodeKey) (k : ℕ) (next : List (List (CodeKey × ℕ))) : Type 0 where
   pub count : length next ≡ k
   pub vectors : AreVectorsOver ring (tower_comparison t) next
   pub ranked : Each (HasPositions (length columns)) next
@@ -96,10 +115,13 @@ pub record IsWhetherPair (n : ℕ) (a b : CodeKey) (m : Monomial) (answer : Bool
   pub position : IsTrue answer → a.position ≡ b.position
   pub is :
       IsTrue answer
-      → exponents_of n m.exponents ≡ quotient (lcm (exponents_of n a.monomial.exponents) (exponents_of n b.monomial.exponents)) (exponents_of n a.monomial.exponents)
+      → exponents_of n m.exponents
+      ≡ quotient (lcm (exponents_of n a.monomial.exponents) (exponents_of n b.monomial.exponents)) (exponents_of n a.monomial.exponents)
   pub other :
       (IsTrue answer → ⊥) → a.position ≡ b.position
-      → exponents_of n m.exponents ≡ quotient (lcm (exponents_of n a.monomial.exponents) (exponents_of n b.monomial.exponents)) (exponents_of n a.monomial.exponents) → ⊥
+      → exponents_of n m.exponents
+      ≡ quotient (lcm (exponents_of n a.monomial.exponents) (exponents_of n b.monomial.exponents)) (exponents_of n a.monomial.exponents)
+      → ⊥
 
 -- the trail is over this ring and of no run; its members are these columns, above those, and it begins with a pair of them
 pub record IsColumnTrail (ring : Ring) (below : Columns) (columns : List (List (CodeKey × ℕ))) (t : KeptTrail) : Type 0 where

@@ -11,3 +11,5 @@ pub mod Pairs
 pub mod Sorting
 pub mod Progress
 pub mod Joining
+pub mod Spans
+pub mod Sifting

@@ -34,7 +34,8 @@ Rises n (m ∷ ms) = Each (λ l. lex (exponents_of n m.exponents) (exponents_of 
 abbrev pub AreApart : ℕ → List Monomial → Type 0
 AreApart n [] = ⊤
 AreApart n (m ∷ ms) =
-    Each (λ l. (lex (exponents_of n m.exponents) (exponents_of n l.exponents) ≡ Less) × (Divides (exponents_of n m.exponents) (exponents_of n l.exponents) → ⊥)) ms
+    Each (λ l. (lex (exponents_of n m.exponents) (exponents_of n l.exponents) ≡ Less)
+    × (Divides (exponents_of n m.exponents) (exponents_of n l.exponents) → ⊥)) ms
     × AreApart n ms
 
 -- of those that are done the choice has a divisor of each; the others, which are still to come, are not below it
@@ -74,7 +75,8 @@ abbrev pub IsPushed : ℕ → List ℕ → CodeKey → CodeKey → List Monomial
 IsPushed n ws a b old new =
     ((a.position ≡ b.position → ⊥) × (new ≡ old))
     ⊎ ((a.position ≡ b.position) × ((m : Monomial) × (new ≡ old ++ m ∷ []) × IsWeighed n ws m
-    × (exponents_of n m.exponents ≡ quotient (lcm (exponents_of n a.monomial.exponents) (exponents_of n b.monomial.exponents)) (exponents_of n a.monomial.exponents))))
+    × (exponents_of n m.exponents
+    ≡ quotient (lcm (exponents_of n a.monomial.exponents) (exponents_of n b.monomial.exponents)) (exponents_of n a.monomial.exponents))))
 
 -- the monomial was put behind the others, unless one of them divides it
 abbrev pub IsTaken : ℕ → Monomial → List Monomial → List Monomial → Type 0

@@ -1,23 +1,31 @@
 // A column of the next map.
-ghost use Rattle.std.specs.Prelude.{◌≡◌, ◌<◌, ◌≤◌, ◌∷◌, ℕ, [], IfErr, IfOk, OnOk, Some, length, map};
+ghost use Rattle.std.specs.Prelude.{◌≡◌, ◌<◌, ◌≤◌, ◌+◌, ◌∷◌, ℕ, [], IfErr, IfOk, OnOk, Some, get_or, length, map};
+ghost use Rattle.monomials.specs.Exponents.{exponents_of};
 ghost use Rattle.bases.specs.Leads.{head_key};
-ghost use Rattle.formal_sums.specs.FormalSums.{Each};
+ghost use Rattle.formal_sums.specs.FormalSums.{Each, shift};
+ghost use Rattle.module_vectors.specs.Multiples.{MonomialProductStops};
 ghost use Rattle.module_vectors.specs.Rings.{variables};
 ghost use Rattle.module_vectors.specs.Vectors.{AreVectorsOver, HasPositions, IsMonomialOver, IsVectorOver, key_of, sum_of, sums_of};
-ghost use Rattle.vector_division.specs.Progress.{HasBoundedHead, last_position, room_of};
-ghost use Rattle.schreyer_resolution.specs.Columns.{ColumnStops, IsAbove, IsBase, IsColumnOf, IsFoundLast, IsProductOf, IsUnderway, negated_term};
+ghost use Rattle.vector_division.specs.Progress.{HasBoundedHead, IsSubtraction, SubtractionStops, last_position};
+ghost use Rattle.vector_division.specs.Runs.{AreBelow, total};
+ghost use Rattle.schreyer_resolution.specs.Columns.{ColumnStops, IsAbove, IsBase, IsColumnOf, IsDivided, IsFoundLast, IsProductOf, IsUnderway, negated_term};
 ghost use Rattle.schreyer_resolution.specs.Inducing.{tower_comparison};
+ghost use Rattle.schreyer_resolution.specs.Spans.{IsIndexOf};
 ghost use Rattle.schreyer_resolution.specs.Steps.{IsPairKey};
 
 use crate::Induced;
-use crate::divisors::last_divisor;
+use crate::divisors::{LeadIndex, last_divisor};
+use crate::sifting::covered_terms;
 use crate::trails::{first_stop, later_stop};
-use module_vectors::{Frame, Key, NoMemory, Vect, VectList, WorkStop, lawful_setting};
+use module_vectors::{Frame, Key, NoMemory, Vect, VectList, VectStop, WorkStop, lawful_setting};
 use monomial_orders::Mono;
 use std::alloc::Global;
 use std::collections::VecDeque;
-use vector_division::ScaledProduct;
+use vector_division::{Buckets, Run, ScaledProduct};
 use zp_field::Modulus;
+
+// The greatest degree of a product of two monomials.
+const MAX_DEGREE: u128 = 65535;
 
 // The product of the key's monomial and its column.
 fn first_product<F: Frame>(
@@ -60,76 +68,136 @@ fn bound_head(v: &Vect)
     }
 }
 
-// The last column whose lead divides that of what is left, by its index, and the quotient. There is one, since what is left
-// is a member of the columns' module.
+// The last column whose lead divides that of what is left, by its index, and the quotient. There is one, since no other terms
+// were kept.
 fn next_divisor<F: Frame>(
     alloc: Global,
     frame: &F,
     columns: &VectList,
+    index: &LeadIndex,
     key: &Key,
     quotients: &[ScaledProduct],
-    work: &Vect,
+    term: &(Key, u32),
+    buckets: &Buckets,
 ) -> Result<(u64, Mono), NoMemory>
     requires vectors { AreVectorsOver (F.over frame.now) (F.compare frame.now) columns.now }
     requires base { IsBase (F.over frame.now) (F.compare frame.now) columns.now }
+    requires index { IsIndexOf columns.now index.now }
     requires pair { let n = variables (F.over frame.now) in IsPairKey (sums_of n columns.now) (key_of n key.now) }
-    requires some { 0 < length work.now }
-    requires underway { IsUnderway (F.over frame.now) (F.compare frame.now) columns.now key.now quotients.now work.now }
+    requires variables { IsMonomialOver (F.over frame.now) term.now.0.monomial }
+    requires nonzero { 0 < term.now.1 }
+    requires reduced { term.now.1 < (F.over frame.now).modulus.value }
+    requires below { let n = variables (F.over frame.now) in AreBelow n (F.compare frame.now n) (key_of n term.now.0) buckets.now }
+    requires underway { let n = variables (F.over frame.now) in
+        IsUnderway (F.over frame.now) (F.compare frame.now) columns.now key.now quotients.now buckets.now
+        ((key_of n term.now.0, term.now.1) ∷ total n buckets.now) }
     ensures { let n = variables (F.over frame.now) in
-        IfOk result (λ s. IsFoundLast n (F.over frame.now).weights columns.now (head_key (sum_of n work.now)) (Some s)) }
+        IfOk result (λ s. IsFoundLast n (F.over frame.now).weights columns.now (key_of n term.now.0) (Some s)) }
 {
     lawful_setting(frame);
     let _key = key;
     let _quotients = quotients;
-    let ring = frame.ring();
-    let lead = &work.terms()[0];
-    match last_divisor(alloc, ring, columns.as_slice(), &lead.0)? {
+    let _buckets = buckets;
+    match last_divisor(alloc, frame.ring(), columns.as_slice(), index, &term.0)? {
         Some(divisor) => Ok(divisor),
         None => unreachable!(),
     }
 }
 
-// Takes away the product of the last column of which the lead divides what is left. After an error both lists are lost.
+// Stops where this product of two monomials, which is at hand, has too great a degree.
+fn test_degree(alloc: Global, a: &Mono, b: &Mono, product: &Mono) -> Result<(), VectStop>
+    requires { product.now.degree ≡ a.now.degree + b.now.degree }
+    ensures fits { OnOk result (a.now.degree + b.now.degree ≤ 65535) }
+    ensures stop { IfErr result (MonomialProductStops a.now b.now) }
+{
+    if product.degree() > MAX_DEGREE {
+        return Err(VectStop::Degree(a.try_copy(alloc)?, b.try_copy(alloc)?));
+    }
+    Ok(())
+}
+
+// What the term becomes where that multiple of a monic column is taken away of which it is the lead. The lead's product
+// cancels the term, so that the others alone are made.
+fn subtract_lead<F: Frame>(
+    alloc: Global,
+    frame: &F,
+    t: &Mono,
+    g: &Vect,
+    term: &(Key, u32),
+) -> Result<Vect, VectStop>
+    requires variables { IsMonomialOver (F.over frame.now) t.now }
+    requires divisor { IsVectorOver (F.over frame.now) (F.compare frame.now) g.now }
+    requires some { 0 < length g.now }
+    requires monic { (x : _ × ℕ) → x ≡ get_or g.now 0 x → x.1 ≡ 1 }
+    requires term_variables { IsMonomialOver (F.over frame.now) term.now.0.monomial }
+    requires nonzero { 0 < term.now.1 }
+    requires reduced { term.now.1 < (F.over frame.now).modulus.value }
+    requires lead { let n = variables (F.over frame.now) in shift (exponents_of n t.now.exponents) (head_key (sum_of n g.now)) ≡ key_of n term.now.0 }
+    ensures taken { let n = variables (F.over frame.now) in
+        IfOk result (λ r. IsSubtraction n (F.over frame.now).weights (F.over frame.now).modulus.value (F.compare frame.now n) t.now g.now 0
+        (term.now ∷ []) r term.now.1) }
+    ensures stop { IfErr result (SubtractionStops t.now g.now) }
+{
+    let modulus = &frame.ring().modulus;
+    modulus.domain();
+    let lead = &g.terms()[0];
+    test_degree(alloc, t, &lead.0.monomial, &term.0.monomial)?;
+    let rest = Vect::scaled_tail(alloc, frame, modulus.neg(term.1), t, g)?;
+    bound_head(&rest);
+    Ok(rest)
+}
+
+// Takes away the product of the last column whose lead divides the key of this term, which is the greatest of what is left
+// and not in the lists any more. After an error the lists are lost.
 fn take_last<F: Frame>(
     alloc: Global,
     frame: &F,
     below: &[VectList],
     columns: &VectList,
+    index: &LeadIndex,
     key: &Key,
+    term: (Key, u32),
     quotients: &mut Vec<ScaledProduct>,
-    work: &mut Vect,
+    buckets: &mut Buckets,
 ) -> Result<(), WorkStop>
     requires vectors { AreVectorsOver (F.over frame.now) (F.compare frame.now) columns.now }
     requires base { IsBase (F.over frame.now) (F.compare frame.now) columns.now }
+    requires index { IsIndexOf columns.now index.now }
     requires monomial { IsMonomialOver (F.over frame.now) key.now.monomial }
     requires pair { let n = variables (F.over frame.now) in IsPairKey (sums_of n columns.now) (key_of n key.now) }
-    requires some { 0 < length work.old }
-    requires underway { IsUnderway (F.over frame.now) (F.compare frame.now) columns.now key.now quotients.old.items work.old }
-    ensures underway { OnOk result (IsUnderway (F.over frame.now) (F.compare frame.now) columns.now key.now quotients.new.items work.new) }
-    ensures falls { let n = variables (F.over frame.now) in
-        OnOk result (room_of (F.compare frame.now n) (sum_of n work.new) < room_of (F.compare frame.now n) (sum_of n work.old)) }
+    requires variables { IsMonomialOver (F.over frame.now) term.0.monomial }
+    requires nonzero { 0 < term.1 }
+    requires reduced { term.1 < (F.over frame.now).modulus.value }
+    requires below { let n = variables (F.over frame.now) in AreBelow n (F.compare frame.now n) (key_of n term.0) buckets.old }
+    requires underway { let n = variables (F.over frame.now) in
+        IsUnderway (F.over frame.now) (F.compare frame.now) columns.now key.now quotients.old.items buckets.old
+        ((key_of n term.0, term.1) ∷ total n buckets.old) }
+    ensures below { let n = variables (F.over frame.now) in OnOk result (AreBelow n (F.compare frame.now n) (key_of n term.0) buckets.new) }
+    ensures underway { let n = variables (F.over frame.now) in
+        OnOk result (IsUnderway (F.over frame.now) (F.compare frame.now) columns.now key.now quotients.new.items buckets.new (total n buckets.new)) }
     ensures stop { IfErr result (ColumnStops (F.over frame.now) below.now columns.now) }
 {
     lawful_setting(frame);
-    let divisor = next_divisor(alloc, frame, columns, key, quotients, work)?;
-    let ring = frame.ring();
-    let lead = &work.terms()[0];
-    let residue = lead.1;
-    let (index, monomial) = divisor;
-    let at = index as usize;
-    let g = &columns.as_slice()[at];
-    match work.add_scaled(alloc, frame, ring.modulus.neg(residue), &monomial, g) {
-        Ok(()) => {
-            bound_head(work);
+    let (at, monomial) = next_divisor(
+        alloc, frame, columns, index, key, quotients, &term, buckets,
+    )?;
+    let g = &columns.as_slice()[at as usize];
+    let taken = subtract_lead(alloc, frame, &monomial, g, &term);
+    let residue = term.1;
+    drop(term);
+    match taken {
+        Ok(rest) => {
+            let kept = covered_terms(alloc, frame, columns, index, rest)?;
+            buckets.add(alloc, frame, Run::from_vect(kept))?;
             quotients.push(ScaledProduct {
-                index,
+                index: at,
                 residue,
                 monomial,
             })?;
             Ok(())
         }
         Err(stop) => {
-            let failing = (index, monomial);
+            let failing = (at, monomial);
             Err(later_stop(alloc, frame, below, columns, key, quotients, failing, stop))
         }
     }
@@ -145,7 +213,7 @@ fn column_terms(
     requires { Each (λ q. q.residue < modulus.now.value) quotients.items }
     ensures { IfOk result (λ terms. terms.items ≡ (key.now, 1) ∷ map (negated_term modulus.now.value) quotients.items) }
 {
-    let mut terms = Vec::with_capacity(alloc, quotients.len())?;
+    let mut terms = Vec::with_capacity(alloc, quotients.len() + 1)?;
     terms.push((key.try_copy(alloc)?, 1))?;
     let mut rest = VecDeque::from_vec(quotients);
     while let Some(quotient) = rest.pop_front() {
@@ -158,34 +226,88 @@ fn column_terms(
     Ok(terms)
 }
 
+// Deals with the term that was taken from the lists, whose residue may be 0.
+fn advance<F: Frame>(
+    alloc: Global,
+    frame: &F,
+    below: &[VectList],
+    columns: &VectList,
+    index: &LeadIndex,
+    key: &Key,
+    term: (Key, u32),
+    quotients: &mut Vec<ScaledProduct>,
+    buckets: &mut Buckets,
+) -> Result<(), WorkStop>
+    requires vectors { AreVectorsOver (F.over frame.now) (F.compare frame.now) columns.now }
+    requires base { IsBase (F.over frame.now) (F.compare frame.now) columns.now }
+    requires index { IsIndexOf columns.now index.now }
+    requires monomial { IsMonomialOver (F.over frame.now) key.now.monomial }
+    requires pair { let n = variables (F.over frame.now) in IsPairKey (sums_of n columns.now) (key_of n key.now) }
+    requires variables { IsMonomialOver (F.over frame.now) term.0.monomial }
+    requires reduced { term.1 < (F.over frame.now).modulus.value }
+    requires below { let n = variables (F.over frame.now) in AreBelow n (F.compare frame.now n) (key_of n term.0) buckets.old }
+    requires underway { let n = variables (F.over frame.now) in
+        IsUnderway (F.over frame.now) (F.compare frame.now) columns.now key.now quotients.old.items buckets.old
+        ((key_of n term.0, term.1) ∷ total n buckets.old) }
+    ensures below { let n = variables (F.over frame.now) in OnOk result (AreBelow n (F.compare frame.now n) (key_of n term.0) buckets.new) }
+    ensures underway { let n = variables (F.over frame.now) in
+        OnOk result (IsUnderway (F.over frame.now) (F.compare frame.now) columns.now key.now quotients.new.items buckets.new (total n buckets.new)) }
+    ensures stop { IfErr result (ColumnStops (F.over frame.now) below.now columns.now) }
+{
+    lawful_setting(frame);
+    if term.1 == 0 {
+        return Ok(());
+    }
+    take_last(
+        alloc, frame, below, columns, index, key, term, quotients, buckets,
+    )
+}
+
 // The quotients of the key's product by the columns, each of the last one that divides the lead. Nothing is left.
 fn divided<F: Frame>(
     alloc: Global,
     frame: &F,
     below: &[VectList],
     columns: &VectList,
+    index: &LeadIndex,
     key: &Key,
 ) -> Result<Vec<ScaledProduct>, WorkStop>
     requires vectors { AreVectorsOver (F.over frame.now) (F.compare frame.now) columns.now }
     requires base { IsBase (F.over frame.now) (F.compare frame.now) columns.now }
+    requires index { IsIndexOf columns.now index.now }
     requires monomial { IsMonomialOver (F.over frame.now) key.now.monomial }
     requires pair { let n = variables (F.over frame.now) in IsPairKey (sums_of n columns.now) (key_of n key.now) }
-    ensures done { IfOk result (λ quotients. IsUnderway (F.over frame.now) (F.compare frame.now) columns.now key.now quotients.items []) }
+    ensures done { IfOk result (λ quotients. IsDivided (F.over frame.now) (F.compare frame.now) columns.now key.now quotients.items) }
     ensures stop { IfErr result (ColumnStops (F.over frame.now) below.now columns.now) }
 {
     lawful_setting(frame);
-    let mut work = match first_product(alloc, frame, below, columns, key) {
+    let product = match first_product(alloc, frame, below, columns, key) {
         Ok(product) => product,
         Err(stop) => return Err(stop),
     };
+    let kept = covered_terms(alloc, frame, columns, index, product)?;
+    let mut buckets = Buckets::from_run(alloc, Run::from_vect(kept))?;
     let mut quotients = Vec::new(alloc);
-    while !work.terms().is_empty() {
-        match take_last(alloc, frame, below, columns, key, &mut quotients, &mut work) {
-            Ok(()) => {}
-            Err(stop) => return Err(stop),
+    let mut next = buckets.take_top(alloc, frame)?;
+    loop {
+        match next {
+            None => return Ok(quotients),
+            Some(term) => {
+                advance(
+                    alloc,
+                    frame,
+                    below,
+                    columns,
+                    index,
+                    key,
+                    term,
+                    &mut quotients,
+                    &mut buckets,
+                )?;
+                next = buckets.take_top(alloc, frame)?;
+            }
         }
     }
-    Ok(quotients)
 }
 
 /// The column of the next map with this lead, which is that of a pair: its monomial times its column, from which products of
@@ -200,12 +322,14 @@ pub(crate) fn column<F: Frame>(
     induced: &Induced<'_>,
     below: &[VectList],
     columns: &VectList,
+    index: &LeadIndex,
     key: &Key,
 ) -> Result<Vect, WorkStop>
     requires over { induced.now.ring ≡ F.over frame.now }
     requires above { IsAbove (F.over frame.now) (F.compare frame.now) columns.now induced.now }
     requires vectors { AreVectorsOver (F.over frame.now) (F.compare frame.now) columns.now }
     requires base { IsBase (F.over frame.now) (F.compare frame.now) columns.now }
+    requires index { IsIndexOf columns.now index.now }
     requires monomial { IsMonomialOver (F.over frame.now) key.now.monomial }
     requires pair { let n = variables (F.over frame.now) in IsPairKey (sums_of n columns.now) (key_of n key.now) }
     ensures vector { IfOk result (IsVectorOver (F.over frame.now) (tower_comparison induced.now)) }
@@ -214,7 +338,7 @@ pub(crate) fn column<F: Frame>(
     ensures stop { IfErr result (ColumnStops (F.over frame.now) below.now columns.now) }
 {
     lawful_setting(frame);
-    let quotients = match divided(alloc, frame, below, columns, key) {
+    let quotients = match divided(alloc, frame, below, columns, index, key) {
         Ok(quotients) => quotients,
         Err(stop) => return Err(stop),
     };

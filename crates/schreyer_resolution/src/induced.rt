@@ -1,5 +1,5 @@
 // The order that the columns of maps induce.
-ghost use Rattle.std.specs.Prelude.{◌≡◌, ◌<◌, IfOk, length};
+ghost use Rattle.std.specs.Prelude.{◌≡◌, ◌<◌, ◌++◌, ◌∷◌, [], IfOk, length};
 ghost use Rattle.monomials.specs.Exponents.{exponents_of};
 ghost use Rattle.module_vectors.specs.Rings.{ring_comparison, variables};
 ghost use Rattle.module_vectors.specs.Vectors.{IsMonomialOver};
@@ -87,6 +87,23 @@ impl<'a> Induced<'a> {
         for k in 1..maps.len() {
             heads = next_heads(alloc, ring, &heads, &maps[k])?;
         }
+        Ok(Induced { ring, maps, heads })
+    }
+
+    /// The order that these columns induce above this one, by whose heads theirs are made; the maps are all of them.
+    pub(crate) fn above(
+        alloc: Global,
+        ring: &'a Ring,
+        maps: &'a [VectList],
+        below: &Induced<'_>,
+        columns: &VectList,
+    ) -> Result<Induced<'a>, NoMemory>
+        requires over { below.now.ring ≡ ring.now }
+        requires maps { maps.now ≡ below.now.maps ++ columns.now ∷ [] }
+        ensures ring { IfOk result (λ f. f.ring ≡ ring.now) }
+        ensures maps { IfOk result (λ f. f.maps ≡ maps.now) }
+    {
+        let heads = next_heads(alloc, ring, &below.heads, columns)?;
         Ok(Induced { ring, maps, heads })
     }
 }

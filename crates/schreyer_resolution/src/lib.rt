@@ -3,7 +3,8 @@
 //! The leads of a map's columns induce an order of the next map's rows, and by it the syzygies of the pairs are a Gröbner basis of
 //! the kernel. Of each column the minimal leads of its pairs with later ones are found by their monomials alone, and one division
 //! makes the column of the next map at each of them. Where each step takes the last column that can be taken, the columns come
-//! out reduced (Schreyer's theorem; Eisenbud, section 15.5).
+//! out reduced (Schreyer's theorem; Eisenbud, section 15.5). What is divided is a member of the columns' module, so that terms
+//! which no lead divides cancel, and are not kept.
 #![tactic(auto)]
 
 mod column;
@@ -14,6 +15,7 @@ mod induced;
 mod maps;
 mod pair_leads;
 mod resolving;
+mod sifting;
 mod sorting;
 mod trails;
 

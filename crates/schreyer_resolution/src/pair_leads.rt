@@ -9,8 +9,10 @@ ghost use Rattle.module_vectors.specs.Vectors.{AreVectorsOver, IsMonomialOver, k
 ghost use Rattle.vector_division.specs.Progress.{AreWeighed};
 ghost use Rattle.schreyer_resolution.specs.Columns.{IsBase};
 ghost use Rattle.schreyer_resolution.specs.Pairs.{AreLeastSoFar, ArePairMonomials, HaveLeads, IsPushed, IsTaken, key_at_position};
+ghost use Rattle.schreyer_resolution.specs.Spans.{IsIndexOf};
 ghost use Rattle.schreyer_resolution.specs.Steps.{ArePairLeads};
 
+use crate::divisors::{LeadIndex, index_leads};
 use module_vectors::{Frame, Key, NoMemory, Ring, Vect, VectList, lawful_setting};
 use monomial_orders::Mono;
 use std::alloc::Global;
@@ -71,16 +73,19 @@ fn pair_monomials(
     alloc: Global,
     ring: &Ring,
     columns: &[Vect],
+    leads: &LeadIndex,
     index: usize,
 ) -> Result<Vec<Mono>, NoMemory>
     requires index { index < length columns.now }
+    requires indexed { IsIndexOf columns.now leads.now }
     requires leads { HaveLeads columns.now }
     requires weighed { AreWeighed (variables ring.now) ring.now.weights columns.now }
     ensures { IfOk result (λ found. ArePairMonomials (variables ring.now) ring.now.weights columns.now index (length columns.now) found.items) }
 {
     let mut found = Vec::new(alloc);
     let left = lead_key(ring, columns, index);
-    for j in index + 1..columns.len() {
+    let end = leads.end(columns, left.position);
+    for j in index + 1..end {
         let right = lead_key(ring, columns, j);
         push_pair(alloc, ring, left, right, &mut found)?;
     }
@@ -154,9 +159,10 @@ pub(crate) fn pair_leads<F: Frame>(
 {
     lawful_setting(frame);
     let ring = frame.ring();
+    let leads = index_leads(alloc, columns.as_slice())?;
     let mut keys = Vec::new(alloc);
     for i in 0..columns.len() {
-        let candidates = pair_monomials(alloc, ring, columns.as_slice(), i)?;
+        let candidates = pair_monomials(alloc, ring, columns.as_slice(), &leads, i)?;
         let monomials = least(alloc, ring, candidates)?;
         push_keys(i as u64, monomials, &mut keys)?;
     }

@@ -13,6 +13,7 @@ ghost use Rattle.schreyer_resolution.specs.Resolved.{AreJoined, AreVectorsThroug
 ghost use Rattle.schreyer_resolution.specs.Steps.{ArePairLeads};
 
 use crate::column::column;
+use crate::divisors::index_leads;
 use crate::maps::{joined_maps, positions_of_zero};
 use crate::pair_leads::pair_leads;
 use crate::sorting::sorted_columns;
@@ -38,9 +39,10 @@ fn columns_at<F: Frame>(
     ensures columns { IfOk result (AreColumnsTo (F.over frame.now) (F.compare frame.now) columns.now induced.now keys.now (length keys.now)) }
     ensures stop { IfErr result (ColumnStops (F.over frame.now) below.now columns.now) }
 {
+    let index = index_leads(alloc, columns.as_slice())?;
     let mut next = Vec::new(alloc);
     for key in keys {
-        let made = match column(alloc, frame, induced, below, columns, key) {
+        let made = match column(alloc, frame, induced, below, columns, &index, key) {
             Ok(made) => made,
             Err(stop) => return Err(stop),
         };
@@ -84,7 +86,7 @@ fn later_map(
     let frame = Induced::through(alloc, ring, below)?;
     lawful_setting(&frame);
     let keys = pair_leads(alloc, &frame, columns)?;
-    let induced = Induced::through(alloc, ring, maps)?;
+    let induced = Induced::above(alloc, ring, maps, &frame, columns)?;
     columns_at(alloc, &frame, &induced, below, columns, &keys)
 }
 
@@ -164,7 +166,7 @@ fn complete_maps(
     let _rank = rank;
     let _reduced = reduced;
     let mut maps = first;
-    for _ in 0..u64::MAX {
+    loop {
         let next = match next_map(alloc, ring, &maps) {
             Ok(next) => next,
             Err(stop) => return Err(stop),
@@ -174,7 +176,6 @@ fn complete_maps(
         }
         maps.push(next)?;
     }
-    Err(WorkStop::Memory)
 }
 
 // The columns of the maps.

@@ -1,6 +1,8 @@
 pub mod Answering
+pub mod Chains
 pub mod LetLines
 pub mod Lines
+pub mod NamePlaces
 pub mod OneAnswer
 pub mod Pieces
 pub mod Ranks

@@ -7,7 +7,8 @@ ghost use Rattle.script_parse.specs.Refusals.{length_named, rank_named};
 ghost use Rattle.script_parse.specs.Tests.{IsPolynomial, elimination_fits, factor_fits, given_name, has_width, is_known, is_no_value, is_no_variable, length_fits, low_degree, low_rank, module_fits, names_pass, operand_places, operands_fit, places, rank_fits, same_rank};
 
 use crate::form::Head;
-use crate::named::{NameInfo, length_named, rank_named};
+use crate::name_table::NameTable;
+use crate::named::{length_named, rank_named};
 use crate::numbers::{is_within, number_within};
 use crate::operands::{Binary, Operands};
 use crate::ring_words::OrderName;
@@ -25,14 +26,14 @@ const GENERATORS: usize = 1000;
 const RANK: u32 = 64;
 
 /// Whether the text is a variable or the name of a value.
-fn is_known(vars: &Names, names: &[NameInfo], text: &[u8]) -> bool
+fn is_known(vars: &Names, names: &NameTable, text: &[u8]) -> bool
     ensures { result ≡ is_known vars.now names.now text.now }
 {
     place(vars, text).is_some() || rank_named(names, text).is_some()
 }
 
 /// Whether each name among the steps is a variable or a value.
-fn steps_known(line: &[u8], vars: &Names, names: &[NameInfo], steps: &[Step]) -> bool
+fn steps_known(line: &[u8], vars: &Names, names: &NameTable, steps: &[Step]) -> bool
     ensures { result ≡ names_pass (is_known vars.now names.now) line.now steps.now }
 {
     for step in steps {
@@ -46,7 +47,7 @@ fn steps_known(line: &[u8], vars: &Names, names: &[NameInfo], steps: &[Step]) ->
 }
 
 /// Whether no variable has the name of a value.
-fn variables_apart(vars: &Names, names: &[NameInfo]) -> bool
+fn variables_apart(vars: &Names, names: &NameTable) -> bool
     ensures { result ≡ list_all (is_no_value names.now) vars.now }
 {
     let all = vars.as_slice();
@@ -59,7 +60,7 @@ fn variables_apart(vars: &Names, names: &[NameInfo]) -> bool
 }
 
 /// Whether the text is not the name of a value. Where no variable is, a variable is not searched for among the values.
-fn is_no_value(vars: &Names, names: &[NameInfo], apart: bool, text: &[u8]) -> bool
+fn is_no_value(vars: &Names, names: &NameTable, apart: bool, text: &[u8]) -> bool
     requires { apart ≡ list_all (is_no_value names.now) vars.now }
     ensures { result ≡ is_no_value names.now text.now }
 {
@@ -70,7 +71,7 @@ fn is_no_value(vars: &Names, names: &[NameInfo], apart: bool, text: &[u8]) -> bo
 }
 
 /// Whether no name among the steps is a value.
-fn steps_free(line: &[u8], vars: &Names, names: &[NameInfo], apart: bool, steps: &[Step]) -> bool
+fn steps_free(line: &[u8], vars: &Names, names: &NameTable, apart: bool, steps: &[Step]) -> bool
     requires { apart ≡ list_all (is_no_value names.now) vars.now }
     ensures { result ≡ names_pass (is_no_value names.now) line.now steps.now }
 {
@@ -88,7 +89,7 @@ fn steps_free(line: &[u8], vars: &Names, names: &[NameInfo], apart: bool, steps:
 pub fn polynomials_known(
     line: &[u8],
     vars: &Names,
-    names: &[NameInfo],
+    names: &NameTable,
     polynomials: &[Vec<Step>],
 ) -> bool
     ensures { result ≡ list_all (λ v. names_pass (is_known vars.now names.now) line.now v.items) polynomials.now }
@@ -105,7 +106,7 @@ pub fn polynomials_known(
 pub fn polynomials_free(
     line: &[u8],
     vars: &Names,
-    names: &[NameInfo],
+    names: &NameTable,
     polynomials: &[Vec<Step>],
 ) -> bool
     ensures { result ≡ list_all (λ v. names_pass (is_no_value names.now) line.now v.items) polynomials.now }
@@ -120,7 +121,7 @@ pub fn polynomials_free(
 }
 
 /// Whether each name of an operation in a value's place is a variable or a value.
-fn operands_known(line: &[u8], vars: &Names, names: &[NameInfo], operands: Operands) -> bool
+fn operands_known(line: &[u8], vars: &Names, names: &NameTable, operands: Operands) -> bool
     ensures { result ≡ list_all (λ t. is_known vars.now names.now (text_of line.now t)) (operand_places operands) }
 {
     match operands {
@@ -148,7 +149,7 @@ fn operands_free(line: &[u8], vars: &Names, operands: Operands) -> bool
 }
 
 /// Whether each name in a value's place is a variable or a value.
-pub fn places_known(line: &[u8], vars: &Names, names: &[NameInfo], head: Head) -> bool
+pub fn places_known(line: &[u8], vars: &Names, names: &NameTable, head: Head) -> bool
     ensures { result ≡ list_all (λ t. is_known vars.now names.now (text_of line.now t)) (places head) }
 {
     match head {
@@ -211,7 +212,7 @@ pub fn elimination_fits(line: &[u8], vars: &Names, head: Head) -> bool
 }
 
 /// Whether the first operand of `product` has no rank above 1.
-pub fn factor_fits(line: &[u8], names: &[NameInfo], head: Head) -> bool
+pub fn factor_fits(line: &[u8], names: &NameTable, head: Head) -> bool
     ensures { result ≡ factor_fits names.now line.now head }
 {
     match head {
@@ -226,7 +227,7 @@ pub fn factor_fits(line: &[u8], names: &[NameInfo], head: Head) -> bool
 }
 
 /// Whether two values have the same rank, where both are there.
-fn ranks_agree(line: &[u8], names: &[NameInfo], left: Token, right: Token) -> bool
+fn ranks_agree(line: &[u8], names: &NameTable, left: Token, right: Token) -> bool
     ensures { result ≡ same_rank (rank_named names.now (text_of line.now left)) (rank_named names.now (text_of line.now right)) }
 {
     let Some(first) = rank_named(names, text(line, left)) else {
@@ -239,7 +240,7 @@ fn ranks_agree(line: &[u8], names: &[NameInfo], left: Token, right: Token) -> bo
 }
 
 /// Whether a value's stored list is neither empty nor longer than 64, where the value is there.
-fn list_fits(line: &[u8], names: &[NameInfo], value: Token) -> bool
+fn list_fits(line: &[u8], names: &NameTable, value: Token) -> bool
     ensures { result ≡ length_fits (length_named names.now (text_of line.now value)) }
 {
     match length_named(names, text(line, value)) {
@@ -249,7 +250,7 @@ fn list_fits(line: &[u8], names: &[NameInfo], value: Token) -> bool
 }
 
 /// Whether the ranks and lengths of operands fit.
-fn operands_fit(line: &[u8], names: &[NameInfo], operands: Operands) -> bool
+fn operands_fit(line: &[u8], names: &NameTable, operands: Operands) -> bool
     ensures { result ≡ operands_fit names.now line.now operands }
 {
     match operands {
@@ -283,7 +284,7 @@ fn module_fits(line: &[u8], rank: Token, shape: Shape, count: usize) -> bool
 
 /// Whether the ranks fit: those of two values, or the rank of a value or a module and how many entries the vectors have, which
 /// are as many as the polynomials; and whether an ideal or a module has few enough vectors.
-pub fn rank_fits(line: &[u8], names: &[NameInfo], head: Head, count: usize) -> bool
+pub fn rank_fits(line: &[u8], names: &NameTable, head: Head, count: usize) -> bool
     ensures { result ≡ rank_fits names.now line.now head count }
 {
     match head {

@@ -7,6 +7,7 @@ mod checks;
 mod form;
 mod kind;
 mod line_laws;
+mod name_table;
 mod named;
 mod numbers;
 mod operands;
@@ -24,6 +25,7 @@ mod words;
 
 pub use kind::{Kind, ParseStop};
 pub use line_laws::one_answer;
+pub use name_table::NameTable;
 pub use named::NameInfo;
 pub use operation::Operation;
 pub use reading::statement;

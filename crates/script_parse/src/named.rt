@@ -3,6 +3,8 @@
 ghost use Rattle.std.specs.Prelude.{◌≡◌};
 ghost use Rattle.script_parse.specs.Refusals.{length_named, rank_named};
 
+use crate::name_table::NameTable;
+
 /// What is known of a value: its name, its rank, and the length of its stored list.
 #[derive(Debug, Drop)]
 pub struct NameInfo {
@@ -12,25 +14,21 @@ pub struct NameInfo {
 }
 
 /// The rank of the value with this name; none exactly where there is no such value.
-pub fn rank_named(names: &[NameInfo], text: &[u8]) -> Option<u64>
+pub fn rank_named(names: &NameTable, text: &[u8]) -> Option<u64>
     ensures { result ≡ rank_named names.now text.now }
 {
-    for value in names {
-        if value.name.as_bytes() == text {
-            return Some(value.rank);
-        }
+    match names.place_of(text) {
+        Some(i) => Some(names.info_at(i).rank),
+        None => None,
     }
-    None
 }
 
 /// The length of the stored list of the value with this name; none exactly where there is no such value.
-pub fn length_named(names: &[NameInfo], text: &[u8]) -> Option<u64>
+pub fn length_named(names: &NameTable, text: &[u8]) -> Option<u64>
     ensures { result ≡ length_named names.now text.now }
 {
-    for value in names {
-        if value.name.as_bytes() == text {
-            return Some(value.length);
-        }
+    match names.place_of(text) {
+        Some(i) => Some(names.info_at(i).length),
+        None => None,
     }
-    None
 }

@@ -6,7 +6,7 @@ ghost use Rattle.script_parse.specs.Tests.{IsFormed};
 
 use crate::form::{Form, read_form};
 use crate::kind::{Kind, ParseStop};
-use crate::named::NameInfo;
+use crate::name_table::NameTable;
 use crate::ring_line::ring_statement;
 use crate::ring_needed::line_statement;
 use crate::stated::Statement;
@@ -51,7 +51,7 @@ pub fn statement(
     alloc: Global,
     line: &[u8],
     ring: Option<&Ring>,
-    names: &[NameInfo],
+    names: &NameTable,
 ) -> Result<Statement, ParseStop>
     ensures { Answers (option_copied ring.entry) names.now line.now result }
 {

@@ -20,7 +20,7 @@ use crate::checks::{
 };
 use crate::form::{Division, Head, Question};
 use crate::kind::{Kind, ParseStop};
-use crate::named::NameInfo;
+use crate::name_table::NameTable;
 use crate::numbers::{number_within, small_number};
 use crate::operation_line::let_statement;
 use crate::ring_words::OrderName;
@@ -39,7 +39,7 @@ use std::alloc::Global;
 fn names_known(
     line: &[u8],
     ring: &Ring,
-    names: &[NameInfo],
+    names: &NameTable,
     head: Head,
     polynomials: &[Vec<Step>],
 ) -> bool
@@ -54,7 +54,7 @@ fn names_known(
 fn kinds_right(
     line: &[u8],
     ring: &Ring,
-    names: &[NameInfo],
+    names: &NameTable,
     head: Head,
     polynomials: &[Vec<Step>],
 ) -> bool
@@ -228,7 +228,7 @@ fn stated(
     alloc: Global,
     ring: &Ring,
     line: &[u8],
-    names: &[NameInfo],
+    names: &NameTable,
     head: Head,
     polynomials: &[Vec<Step>],
 ) -> Result<Statement, ParseStop>
@@ -262,7 +262,7 @@ pub fn line_statement(
     alloc: Global,
     line: &[u8],
     ring: Option<&Ring>,
-    names: &[NameInfo],
+    names: &NameTable,
     head: Head,
     polynomials: &[Vec<Step>],
 ) -> Result<Statement, ParseStop>

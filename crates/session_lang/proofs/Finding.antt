@@ -13,7 +13,8 @@ use Rattle.session_lang.proofs.Stopping.{run_for}
 use Rattle.session_lang.proofs.Values.{found_value, kept_values, no_value}
 use Rattle.session_lang.specs.Answers.{Asked}
 use Rattle.session_lang.specs.Asking.{IsAskedOver}
-use Rattle.session_lang.specs.Kept.{AreKept, AreSound, IsGiven, place_named, value_of, values_of}
+use Rattle.script_parse.specs.Places.{place_named}
+use Rattle.session_lang.specs.Kept.{AreKept, AreSound, IsGiven, value_of, values_of}
 use Rattle.session_lang.specs.Names.{HasValue, State, after_run, value_named}
 use Rattle.session_lang.specs.Lines.{IsRunForEither}
 use Rattle.session_lang.specs.Parts.{IsRunAtEither, Keeps}

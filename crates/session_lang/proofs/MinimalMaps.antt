@@ -28,13 +28,13 @@ use Rattle.std.proofs.Common.{
   ◌⊎◌,
 }
 use Rattle.std.proofs.lemmas.List.{length-map, take_more}
-use Rattle.residues.proofs.Congruences.{IsCongruent_of, IsCongruent_refl}
+use Rattle.residues.proofs.Congruences.{IsCongruent_refl}
 use Rattle.residues.specs.Residues.{IsCongruent}
 use Rattle.monomials.specs.Weights.{weighted_degree}
 use Rattle.formal_sums.proofs.Combining.{Each_map}
 use Rattle.formal_sums.proofs.OfRank.{IsOfRank_of}
 use Rattle.formal_sums.proofs.WeightedSums.{Each_append, indicator_other, key_cases}
-use Rattle.formal_sums.specs.FormalSums.{Each, FormalSum, IsOfRank, Key as FormalKey, coefficient, indicator}
+use Rattle.formal_sums.specs.FormalSums.{Each, IsOfRank, Key as FormalKey, coefficient, indicator}
 use Rattle.module_vectors.specs.Rings.{ring_comparison, setting, variables}
 use Rattle.module_vectors.specs.Vectors.{AreTermsOver, AreVectorsOver, HasPositions, IsVectorOver, key_of, sum_of, sums_of}
 use Rattle.module_vectors.specs.declared.key.Key.{Key}
@@ -49,9 +49,9 @@ use Rattle.minimal_laws.specs.Cancellation.{AreSameMaps, IsCancelled}
 use Rattle.minimal_laws.specs.Gradings.{AreExact, AreGraded, AreHomogeneous, GradedMaps, IsHomogeneous, graded_by_leads}
 use Rattle.minimal_laws.specs.Minimal.{IsMinimal, Presents}
 use Rattle.minimal_betti.specs.Graded.{AreMapsOver, IsGradedResolution, graded_of}
-use Rattle.minimal_betti.specs.Minimising.{CancellationStops, IsCancellationOf}
+use Rattle.minimal_betti.specs.Minimising.{CancellationStops, IsCancellationOf, IsCancellationTrail}
 use Rattle.schreyer_resolution.proofs.Joining.{length-zeros}
-use Rattle.schreyer_resolution.specs.Inducing.{Columns, maps_of, over, tower_comparison}
+use Rattle.schreyer_resolution.specs.Inducing.{Columns, maps_of}
 use Rattle.schreyer_resolution.specs.Resolved.{AreJoined, AreVectorsThrough, IsResolutionTrail, ResolutionStops, columns_of}
 use Rattle.schreyer_resolution.specs.declared.maps.Map.{Map}
 use Rattle.schreyer_resolution.specs.declared.maps.Resolution.{Resolution as Resolved}
@@ -62,7 +62,6 @@ use Rattle.vector_division.specs.Progress.{AreWeighed}
 use Rattle.session_lang.proofs.Reporting.{written_joined}
 use Rattle.session_lang.specs.Cancelling.{IsCancelledAs, StopsAsMinimal}
 use Rattle.session_lang.specs.Minimising.{HasTwoDegrees, IsInhomogeneous, IsMinimalText}
-use Rattle.session_lang.specs.Names.{Value}
 use Rattle.session_lang.specs.Resolving.{maps_text}
 use Rattle.session_lang.specs.Texts.{heading}
 use Rattle.session_lang.specs.Writing.{resolution_written}
@@ -258,14 +257,15 @@ module _ (ring : Ring) (rank m : ℕ) (same : m ≡ rank) (list basis : List Ter
   }
   cancelled_as (Err stop) c minimal presents joins own = tt
 
--- ---- stops
-pub cancellation_stops :
-    {T : Type 0} (ring : Ring) (rank : ℕ) (basis : List Terms) (r : Result T WorkStop) → IfErr r (CancellationStops ring)
-    → IfErr r (StopsAsMinimal ring rank basis)
-cancellation_stops ring rank basis (Ok t) h = tt
-cancellation_stops ring rank basis (Err Memory) h = tt
-cancellation_stops ring rank basis (Err (Degree t)) h = inr h
+  -- a stop of its cancellation, as one of the basis
+  pub cancellation_stops :
+      {T : Type 0} (left : Result T WorkStop) → IfErr left (CancellationStops ring (graded_of ring r)) → IfErr left (StopsAsMinimal ring rank basis)
+  cancellation_stops (Ok s) h = tt
+  cancellation_stops (Err Memory) h = tt
+  cancellation_stops (Err (Degree t)) h =
+      inr (record { homogeneous = one; maps = columns_of r; canonical = canonical; cancellation = subst (λ C. IsCancellationTrail ring C t) (sym start_is) h })
 
+-- ---- stops
 pub resolution_stops :
     (ring : Ring) (rank m : ℕ) (basis : List Terms) (stop : WorkStop) → m ≡ rank → ResolutionStops ring m basis stop → StopsAsMinimal ring rank basis stop
 resolution_stops ring rank m basis Memory e h = tt

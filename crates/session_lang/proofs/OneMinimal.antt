@@ -1,30 +1,6 @@
 -- A minimal resolution of a value has one text, and so have its Betti numbers and its regularity
-use Rattle.std.specs.Prelude.{Contains, codes, negsuc, pos, replicate, ℤ, ◌-ℤ◌, ◌≤ℤ◌}
-use Rattle.std.proofs.Common.{
-  List,
-  [],
-  ap,
-  ap₂,
-  arith,
-  get_or,
-  inl,
-  inr,
-  length,
-  refl,
-  subst,
-  suc,
-  sym,
-  zero,
-  ℕ,
-  ◌+◌,
-  ◌++◌,
-  ◌<◌,
-  ◌∙◌,
-  ◌∷◌,
-  ◌≡◌,
-  ◌≤◌,
-  ◌⊎◌,
-}
+use Rattle.std.specs.Prelude.{Contains, codes, pos, replicate, ℤ, ◌≤ℤ◌}
+use Rattle.std.proofs.Common.{List, [], ap, ap₂, arith, get_or, inl, inr, length, refl, subst, suc, sym, zero, ℕ, ◌++◌, ◌<◌, ◌∙◌, ◌∷◌, ◌≡◌, ◌⊎◌}
 use Rattle.std.proofs.lemmas.Int.{ints}
 use Rattle.formal_sums.proofs.OfRank.{IsOfRank_of}
 use Rattle.formal_sums.proofs.Sameness.{IsSame_refl}
@@ -44,7 +20,7 @@ use Rattle.betti_laws.proofs.Tables.{betti}
 use Rattle.betti_laws.specs.Tables.{step_count}
 use Rattle.minimal_betti.proofs.Counts.{table_same}
 use Rattle.minimal_betti.proofs.Growing.{each_in}
-use Rattle.minimal_betti.specs.Tables.{Ascends, ComesBefore, IsCounted, IsLastStep, IsNone, IsRegularity, IsTable, entry_at}
+use Rattle.minimal_betti.specs.Tables.{Ascends, ComesBefore, IsCounted, IsLastStep, IsRegularity, IsTable}
 use Rattle.minimal_betti.specs.declared.tables.Entry.{Entry}
 use Rattle.schreyer_resolution.specs.Inducing.{Columns, maps_of}
 use Rattle.script_parse.proofs.Working.{lawful}

@@ -4,29 +4,12 @@ use Rattle.std.proofs.lemmas.Option.{same_Some}
 use Rattle.std.specs.Prelude.{is_some, option_map, string_bytes}
 use Rattle.std.specs.Cmp.Lexicographic.{pointwise}
 use Rattle.module_vectors.specs.declared.ring.Ring.{Ring}
+use Rattle.script_parse.proofs.NamePlaces.{later_place, no_later_place}
 use Rattle.script_parse.specs.declared.named.NameInfo.{NameInfo}
-use Rattle.session_lang.specs.Kept.{AreKept, AreSound, IsSound, place_named, value_of, values_of}
+use Rattle.script_parse.specs.Places.{place_named}
+use Rattle.session_lang.specs.Kept.{AreKept, AreSound, IsSound, value_of, values_of}
 use Rattle.session_lang.specs.Names.{AreInfosOf, value_named, with_basis, with_value}
 use Rattle.session_lang.specs.Held.{Held}
-
--- a place behind the first
-later_place : (o : Option ℕ) (i : ℕ) → option_map suc o ≡ Some i → (k : ℕ) × (o ≡ Some k) × (suc k ≡ i)
-later_place None i h = absurd cc
-later_place (Some k) i h = (k, refl, same_Some _ _ h)
-
-no_later_place : (o : Option ℕ) → option_map suc o ≡ None → o ≡ None
-no_later_place None h = refl
-no_later_place (Some k) h = absurd cc
-
-pub place_bound : (infos : List NameInfo) (name : List ℕ) (i : ℕ) → place_named infos name ≡ Some i → i < length infos
-place_bound [] name i e = absurd cc
-place_bound (j ∷ infos) name i e = by_test (pointwise nat_eq (string_bytes j.name) name) e (λ k h. place_bound infos name k h)
-  where
-    by_test :
-        (b : Bool) → cond b (Some 0) (option_map suc (place_named infos name)) ≡ Some i
-        → ((k : ℕ) → place_named infos name ≡ Some k → k < length infos) → i < suc (length infos)
-    by_test true h later = let z : 0 ≡ i = same_Some _ _ h in omega arith
-    by_test false h later = let r = later_place (place_named infos name) i h in let lt = later r.0 r.1 in let z = r.2 in omega arith
 
 -- the values are sound, so there is a list for each name
 pub as_many : (ring : Ring) (infos : List NameInfo) (stored : List Held) → AreSound ring infos stored → length infos ≡ length stored

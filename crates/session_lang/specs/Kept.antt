@@ -1,6 +1,5 @@
 -- What the code keeps of values, and what it is to the state
-use Rattle.std.specs.Prelude.{IfSome, List, None, Option, Some, [], if◌then◌else◌, is_some, length, nat_eq, option_map, string_bytes, suc, ℕ, ◌∷◌, ◌≡◌, ◌≤◌}
-use Rattle.std.specs.Cmp.Lexicographic.{pointwise}
+use Rattle.std.specs.Prelude.{IfSome, List, None, Option, Some, [], is_some, length, string_bytes, ℕ, ◌∷◌, ◌≡◌, ◌≤◌}
 use Rattle.formal_sums.specs.FormalSums.{Each}
 use Rattle.module_vectors.specs.Rings.{ring_comparison}
 use Rattle.module_vectors.specs.Vectors.{AreVectorsOver, HasPositions, IsVectorOver}
@@ -45,11 +44,6 @@ AreSound ring _ _ = ⊥
 abbrev pub AreKept : Option Ring → List NameInfo → List Held → Type 0
 AreKept None infos stored = (infos ≡ []) × (stored ≡ [])
 AreKept (Some ring) infos stored = AreSound ring infos stored
-
--- the place of the first with this name
-abbrev pub place_named : List NameInfo → List ℕ → Option ℕ
-place_named [] name = None
-place_named (i ∷ infos) name = if pointwise nat_eq (string_bytes i.name) name then Some 0 else option_map suc (place_named infos name)
 
 -- a value has this name
 abbrev pub IsGiven : State → List ℕ → Type 0

@@ -32,6 +32,13 @@ HasTwoDegrees v = (s t : Key × ℕ) × Contains v s × Contains v t × (s.0.mon
 abbrev pub IsInhomogeneous : List (List (Key × ℕ)) → Type 0
 IsInhomogeneous G = (v : List (Key × ℕ)) × Contains G v × HasTwoDegrees v
 
+-- the maps of a resolution with positions at degree 0, each column with the degree of its lead
+abbrev pub graded_from_zero : (ring : Ring) → ℕ → Columns → GradedMaps (variables ring)
+graded_from_zero ring rank maps = record {
+  positions = replicate rank 0;
+  maps = graded_by_leads ring.weights (replicate rank 0) (maps_of (variables ring) maps);
+}
+
 -- a basis with positions at degree 0 is homogeneous, and these are its canonical resolution, with the degrees of the leads, and what
 -- is left of that when its constants have gone
 pub record IsCancelledBasis (ring : Ring) (rank : ℕ) (basis : List (List (Key × ℕ))) (left : GradedMaps (variables ring)) : Type 0 where
@@ -40,11 +47,7 @@ pub record IsCancelledBasis (ring : Ring) (rank : ℕ) (basis : List (List (Key 
   pub canonical :
       let n = variables ring in
       IsCanonical (setting ring n (ring_comparison ring n) rank) (sums_of n basis) (maps_of n maps)
-  pub cancelled :
-      let n = variables ring in
-      IsCancelled ring.modulus.value
-      (record { positions = replicate rank 0; maps = graded_by_leads ring.weights (replicate rank 0) (maps_of n maps) })
-      left
+  pub cancelled : IsCancelled ring.modulus.value (graded_from_zero ring rank maps) left
 
 -- the text has the maps that are left of the canonical resolution of the value's reduced basis, each in the ring's own order
 pub record IsMinimalText (ring : Ring) (value : Value) (text : List ℕ) : Type 0 where
@@ -110,6 +113,15 @@ RefusesMinimal ring value kinds.Homogeneous =
     (G : List (List (Key × ℕ))) × IsReducedBasisOf ring value.rank value.list G × IsInhomogeneous G
 RefusesMinimal ring value _ = ⊥
 
+-- a basis is homogeneous, and this is a trail of the cancellation of its canonical resolution
+pub record IsCancellingTrail (ring : Ring) (rank : ℕ) (basis : List (List (Key × ℕ))) (t : KeptTrail) : Type 0 where
+  pub homogeneous : IsInhomogeneous basis → ⊥
+  pub maps : Columns
+  pub canonical :
+      let n = variables ring in
+      IsCanonical (setting ring n (ring_comparison ring n) rank) (sums_of n basis) (maps_of n maps)
+  pub cancellation : IsCancellationTrail ring (graded_from_zero ring rank maps) t
+
 -- a trail that a minimal resolution meets, of the resolution of this basis or of the cancellation
 abbrev pub IsMinimalTrail : Ring → ℕ → List (List (Key × ℕ)) → KeptTrail → Type 0
-IsMinimalTrail ring rank basis t = IsResolutionTrail ring rank basis t ⊎ IsCancellationTrail ring t
+IsMinimalTrail ring rank basis t = IsResolutionTrail ring rank basis t ⊎ IsCancellingTrail ring rank basis t

@@ -16,7 +16,7 @@ use crate::stored::Stored;
 use crate::texts::{push_line, push_listing, push_verdict};
 use groebner_iface::{Groebner, OpStop};
 use module_vectors::{Ring, Vect, VectList};
-use script_parse::NameInfo;
+use script_parse::{NameInfo, NameTable};
 use std::alloc::Global;
 use std::sync::Wait;
 use std::thread::Threads;
@@ -119,16 +119,16 @@ fn compare_with<R: Threads + Wait + Sync, B: Groebner>(
     alloc: Global,
     engine: &mut B,
     ring: &Ring,
-    names: &Vec<NameInfo>,
+    names: &NameTable,
     stored: &mut Vec<Stored>,
     places: (usize, usize),
     out: &mut Vec<u8>,
 ) -> Result<(), OpStop>
-    requires sound { AreSound ring.now names.now.items stored.old.items }
-    requires within { (places.0 < length names.now.items) × (places.1 < length names.now.items) }
-    requires rank { (d : NameValue) → (get_or names.now.items places.0 d).rank ≡ (get_or names.now.items places.1 d).rank }
+    requires sound { AreSound ring.now names.now stored.old.items }
+    requires within { (places.0 < length names.now) × (places.1 < length names.now) }
+    requires rank { (d : NameValue) → (get_or names.now places.0 d).rank ≡ (get_or names.now places.1 d).rank }
     requires first { (e : Held) → IsSome (get_or stored.old.items places.0 e).basis }
-    ensures sound { OnOk result (AreSound ring.now names.now.items stored.new.items) }
+    ensures sound { OnOk result (AreSound ring.now names.now stored.new.items) }
     ensures kept { OnOk result (Keeps stored.old.items places.1 stored.new.items) }
     ensures as_before { OnErr result (stored.new.items ≡ stored.old.items) }
     ensures text { OnOk result ((e : Held) → (text : List ℕ)
@@ -137,14 +137,21 @@ fn compare_with<R: Threads + Wait + Sync, B: Groebner>(
     ensures unwritten { OnErr result (out.new.items ≡ out.old.items) }
     ensures same { OnOk result ((B.stops engine.new ≡ B.stops engine.old) × (B.stopped engine.new ≡ B.stopped engine.old)) }
     ensures stop { IfErr result (λ stop. (d : NameValue) (e : Held)
-        → CallStops (IsRunAt ring.now names.now.items stored.old.items places.1 d e) NoTrail
+        → CallStops (IsRunAt ring.now names.now stored.old.items places.1 d e) NoTrail
         (B.stops engine.old) (B.stops engine.new) (B.stopped engine.old) (B.stopped engine.new) stop) }
     ensures later { B.stops engine.old ≤ B.stops engine.new }
     ensures settings { B.settings engine.new ≡ B.settings engine.old }
 {
     let (i, j) = places;
     let fresh = stored[j].lacks_basis();
-    match keep_basis(rt, alloc, engine, ring, names[j].rank, &mut stored[j]) {
+    match keep_basis(
+        rt,
+        alloc,
+        engine,
+        ring,
+        names.info_at(j).rank,
+        &mut stored[j],
+    ) {
         Ok(()) => {}
         Err(stop) => return Err(OpStop::from(stop)),
     }
@@ -165,15 +172,15 @@ pub fn compare_values<R: Threads + Wait + Sync, B: Groebner>(
     alloc: Global,
     engine: &mut B,
     ring: &Ring,
-    names: &Vec<NameInfo>,
+    names: &NameTable,
     stored: &mut Vec<Stored>,
     places: (usize, usize),
     out: &mut Vec<u8>,
 ) -> Result<(), OpStop>
-    requires sound { AreSound ring.now names.now.items stored.old.items }
-    requires within { (places.0 < length names.now.items) × (places.1 < length names.now.items) }
-    requires rank { (d : NameValue) → (get_or names.now.items places.0 d).rank ≡ (get_or names.now.items places.1 d).rank }
-    ensures sound { OnOk result (AreSound ring.now names.now.items stored.new.items) }
+    requires sound { AreSound ring.now names.now stored.old.items }
+    requires within { (places.0 < length names.now) × (places.1 < length names.now) }
+    requires rank { (d : NameValue) → (get_or names.now places.0 d).rank ≡ (get_or names.now places.1 d).rank }
+    ensures sound { OnOk result (AreSound ring.now names.now stored.new.items) }
     ensures kept { OnOk result ((middle : List Held) × Keeps stored.old.items places.0 middle × Keeps middle places.1 stored.new.items) }
     ensures as_before { OnErr result (stored.new.items ≡ stored.old.items) }
     ensures text { OnOk result ((e : Held) → (text : List ℕ)
@@ -182,14 +189,21 @@ pub fn compare_values<R: Threads + Wait + Sync, B: Groebner>(
     ensures unwritten { OnErr result (out.new.items ≡ out.old.items) }
     ensures same { OnOk result ((B.stops engine.new ≡ B.stops engine.old) × (B.stopped engine.new ≡ B.stopped engine.old)) }
     ensures stop { IfErr result (λ stop. (d : NameValue) (e : Held)
-        → CallStops (IsRunAtEither ring.now names.now.items stored.old.items places d e) NoTrail
+        → CallStops (IsRunAtEither ring.now names.now stored.old.items places d e) NoTrail
         (B.stops engine.old) (B.stops engine.new) (B.stopped engine.old) (B.stopped engine.new) stop) }
     ensures later { B.stops engine.old ≤ B.stops engine.new }
     ensures settings { B.settings engine.new ≡ B.settings engine.old }
 {
     let i = places.0;
     let fresh = stored[i].lacks_basis();
-    match keep_basis(rt, alloc, engine, ring, names[i].rank, &mut stored[i]) {
+    match keep_basis(
+        rt,
+        alloc,
+        engine,
+        ring,
+        names.info_at(i).rank,
+        &mut stored[i],
+    ) {
         Ok(()) => {}
         Err(stop) => return Err(OpStop::from(stop)),
     }

@@ -15,7 +15,7 @@ use module_vectors::{Ring, Vect, VectList, WorkStop, lawful_setting};
 use std::alloc::Global;
 use std::sync::Wait;
 use std::thread::Threads;
-use vector_division::{Reduction, reduce};
+use vector_division::{Reduction, divisors_from_last, reduce_by};
 
 /// Keeps the reduced basis of a value, by a run if there is none yet.
 pub fn keep_basis<R: Threads + Wait + Sync, B: Groebner>(
@@ -78,7 +78,8 @@ fn rest_of(reduction: Reduction) -> Vect
     reduction.rest
 }
 
-/// The normal form of a vector modulo a list with this reduced basis.
+/// The normal form of a vector modulo a list with this reduced basis. Of the members whose leads divide a key that with the
+/// smallest lead is taken, so that products stay small.
 pub fn normal_form(alloc: Global, ring: &Ring, v: &Vect, basis: &VectList) -> Result<Vect, WorkStop>
     requires vector { IsVectorOver ring.now (ring_comparison ring.now) v.now }
     requires basis { (rank : ℕ) × (list : List _) × IsReducedBasisOf ring.now rank list basis.now }
@@ -87,7 +88,8 @@ pub fn normal_form(alloc: Global, ring: &Ring, v: &Vect, basis: &VectList) -> Re
     ensures stop { IfErr result (DivisionStops ring.now v.now basis.now) }
 {
     lawful_setting(ring);
-    match reduce(alloc, ring, v, basis) {
+    let divisors = divisors_from_last(alloc, basis)?;
+    match reduce_by(alloc, ring, v, basis, &divisors) {
         Ok(reduction) => Ok(rest_of(reduction)),
         Err(stop) => Err(stop),
     }

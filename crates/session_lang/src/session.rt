@@ -7,7 +7,7 @@ ghost use Rattle.session_lang.specs.declared.step.Step.TheVariants as steps;
 
 use crate::answers::{Question, answer_value, compare_values};
 use crate::lifts::push_lift;
-use crate::names::{give_name, place_of};
+use crate::names::give_name;
 use crate::operate::{Task, operate, rank_of_result};
 use crate::reports::{Report, report_value};
 use crate::step::Step;
@@ -15,7 +15,7 @@ use crate::stored::Stored;
 use crate::texts::{push_line, push_listing};
 use groebner_iface::{Groebner, OpStop};
 use module_vectors::{NoMemory, Ring, Vect, VectList};
-use script_parse::{NameInfo, Operation, ParseStop, Statement, statement};
+use script_parse::{NameInfo, NameTable, Operation, ParseStop, Statement, statement};
 use std::alloc::Global;
 use std::marker::Model;
 use std::sync::Wait;
@@ -41,7 +41,7 @@ struct Operand<'a> {
 #[derive(Drop)]
 pub struct Session {
     ring: Option<Ring>,
-    names: Vec<NameInfo>,
+    names: NameTable,
     stored: Vec<Stored>,
 }
 
@@ -62,9 +62,9 @@ impl Model for Session {
 
     ghost Value = { State };
 
-    ghost view = { λ s. record { ring = s.ring; values = values_of s.names.items s.stored.items } };
+    ghost view = { λ s. record { ring = s.ring; values = values_of s.names s.stored.items } };
 
-    ghost invariant = { λ s. AreKept s.ring s.names.items s.stored.items };
+    ghost invariant = { λ s. AreKept s.ring s.names s.stored.items };
 }
 
 impl Session {
@@ -85,7 +85,7 @@ impl Session {
     {
         Session {
             ring: None,
-            names: Vec::new(alloc),
+            names: NameTable::new(alloc),
             stored: Vec::new(alloc),
         }
     }
@@ -143,7 +143,7 @@ impl Session {
         let Some(ring) = &self.ring else {
             unreachable!()
         };
-        let Some(i) = place_of(&self.names, name.as_bytes()) else {
+        let Some(i) = self.names.place_of(name.as_bytes()) else {
             unreachable!()
         };
         done(answer_value(
@@ -151,7 +151,7 @@ impl Session {
             alloc,
             engine,
             ring,
-            &self.names[i],
+            self.names.info_at(i),
             &mut self.stored[i],
             question,
             out,
@@ -177,10 +177,10 @@ impl Session {
         let Some(ring) = &self.ring else {
             unreachable!()
         };
-        let Some(i) = place_of(&self.names, first.as_bytes()) else {
+        let Some(i) = self.names.place_of(first.as_bytes()) else {
             unreachable!()
         };
-        let Some(j) = place_of(&self.names, second.as_bytes()) else {
+        let Some(j) = self.names.place_of(second.as_bytes()) else {
             unreachable!()
         };
         done(compare_values(
@@ -213,12 +213,12 @@ impl Session {
         let Some(ring) = &self.ring else {
             unreachable!()
         };
-        let Some(i) = place_of(&self.names, name) else {
+        let Some(i) = self.names.place_of(name) else {
             unreachable!()
         };
         Found {
             ring,
-            info: &self.names[i],
+            info: self.names.info_at(i),
             stored: &self.stored[i],
         }
     }
@@ -378,7 +378,7 @@ impl Session {
         let Some(ring) = &self.ring else {
             unreachable!()
         };
-        let Some(i) = place_of(&self.names, name.as_bytes()) else {
+        let Some(i) = self.names.place_of(name.as_bytes()) else {
             unreachable!()
         };
         report_value(
@@ -386,7 +386,7 @@ impl Session {
             alloc,
             engine,
             ring,
-            &self.names[i],
+            self.names.info_at(i),
             &mut self.stored[i],
             report,
             out,

@@ -1,14 +1,14 @@
 // What lines state where values have ranks above 1, or the name of a variable, which no script reaches.
 use check_texts::{NoValue, Sheet, setting_of};
 use module_vectors::{Ring, Vect};
-use script_parse::{Kind, NameInfo, ParseStop, Statement, statement};
+use script_parse::{Kind, NameInfo, NameTable, ParseStop, Statement, statement};
 use std::alloc::Global;
 
 // Values `A`, `B` and `C` of ranks 1, 2 and 3, with stored lists of 0, 2 and 65 vectors.
-fn names(alloc: Global) -> Result<Vec<NameInfo>, NoValue> {
-    let mut names = Vec::new(alloc);
+fn names(alloc: Global) -> Result<NameTable, NoValue> {
+    let mut names = NameTable::new(alloc);
     for (name, rank, length) in [("A", 1, 0), ("B", 2, 2), ("C", 3, 65)] {
-        names.push(NameInfo {
+        names.give(NameInfo {
             name: String::from_str(alloc, name)?,
             rank,
             length,

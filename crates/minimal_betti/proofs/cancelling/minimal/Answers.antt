@@ -3,7 +3,9 @@ use Rattle.formal_sums.specs.FormalSums.{Each}
 use Rattle.module_vectors.specs.Vectors.{AreTermsOver}
 use Rattle.schreyer_resolution.specs.declared.maps.Map.{Map}
 use Rattle.minimal_betti.specs.Carried.{AreCarried, LeadsTo, graded_maps}
-use Rattle.minimal_betti.proofs.Ending.{cancellation_result, each_unmapped, minimal_result, presents_result, start_underway, vectors_result}
+use Rattle.minimal_betti.specs.Graded.{graded_of}
+use Rattle.minimal_betti.proofs.Ending.{cancellation_result, each_unmapped, minimal_result, presents_result, start_same, start_underway, vectors_result}
+use Rattle.minimal_betti.proofs.Reaching.{stops_there}
 use Rattle.minimal_betti.proofs.cancelling.minimal.Goals as goal
 
 pub carried_maps-requires : goal.carried_maps-requires
@@ -66,3 +68,15 @@ returns-in_ok-resolution_of-in-Ok-clause-vectors c =
     let x = c.in_ok-resolution_of-in-Ok.ensures.columns in
     vectors_result ring (c.lawful_setting.ensures 0) c.args.resolution.now c.requires start carried rows left x.0 leads c.in-Ok.ensures.underway x.3 x.2
     c.in_ok-resolution_of-in-Ok.field-0 c.in_ok-resolution_of-in-Ok.ensures.positions x.1
+
+pub returns-in-Err-clause-stop : goal.returns-in-Err-clause-stop
+returns-in-Err-clause-stop c =
+    let ring = c.args.ring.now in
+    let domain = (c.lawful_setting.ensures 0).domain in
+    let above : 1 < ring.modulus.value = domain.above_one in
+    let r = c.args.resolution.now in
+    let start = reverse c.in_ok-maps.maps.items in
+    let carried = subst (λ z. AreCarried ring z start) c.deref-2.ensures.value c.in_ok-maps.ensures in
+    stops_there ring (graded_of ring r) (graded_maps ring c.in_ok-positions.positions.items start) (omega (arith, above)) domain
+    (sym (c.in_ok-positions.ensures.items ∙ c.deref.ensures.value)) (start_same ring r.positions.items r.maps.items start c.requires.joined carried)
+    c.in-Err.stop c.in-Err.ensures.stop

@@ -1,5 +1,5 @@
 use Rattle.std.proofs.Common.{arith, reverse, ◌<◌}
-use Rattle.minimal_betti.proofs.Splittings.{next_count, ordered_here, ordered_rest, step_falls, step_leads, step_underway, turned}
+use Rattle.minimal_betti.proofs.Splittings.{next_count, ordered_here, ordered_rest, step_falls, step_leads, step_underway, stops_here, turned}
 use Rattle.minimal_betti.proofs.splitting.cancel.Goals as goal
 
 pub split_map-requires-clause-columns : goal.split_map-requires-clause-columns
@@ -31,3 +31,8 @@ returns-clause-falls c =
 
 pub returns-clause-rest : goal.returns-clause-rest
 returns-clause-rest c = next_count c.args.ring.now c.args.at.column c.args.rest.now.items c.leave_next.new.rest.items c.in_ok-leave_next.ensures
+
+pub returns-in-Err-clause-stop : goal.returns-in-Err-clause-stop
+returns-in-Err-clause-stop c =
+    stops_here c.args.ring.now c.args.at c.args.current (reverse c.args.rest.now.items) c.requires.first (c.lawful_setting.ensures 0).domain
+    c.args.positions.now.items c.args.done.now.items c.requires.underway.none c.in-Err.stop c.in-Err.ensures.stop

@@ -1,4 +1,4 @@
-use Rattle.std.proofs.Common.{[], ap, arith, get_or, subst, sym, ◌<◌, ◌∙◌}
+use Rattle.std.proofs.Common.{[], ap, arith, get_or, subst₂, sym, ◌<◌, ◌∙◌}
 use Rattle.std.proofs.lemmas.List.{get_or_default}
 use Rattle.formal_sums.proofs.Linear.{linear_same}
 use Rattle.formal_sums.proofs.Sameness.{IsSame_trans}
@@ -19,5 +19,7 @@ returns-in_ok-vector_without-in-Ok-clause-sum c =
     let columns = c.args.columns.now in
     let at = c.index-as_slice-at.is ∙ ap (λ l. get_or l c.args.at.column x) c.as_slice.ensures ∙ get_or_default columns c.args.at.column x [] c.requires.inside in
     let w = ap (sum_of n) at ∙ sym (sums_at n columns c.args.at.column) in
-    let h = subst (λ z. StandsFor ring c.in-Ok.cleared (cleared p c.args.at.row c.args.inverse z (sum_of n c.args.v.now))) w c.in-Ok.ensures.sum in
+    let y = c.index-as_slice-i.result in
+    let other = c.index-as_slice-i.is ∙ ap (λ l. get_or l c.args.i y) c.as_slice-2.ensures ∙ get_or_default columns c.args.i y [] c.requires.index in
+    let h = subst₂ (λ z v. StandsFor ring c.in-Ok.cleared (cleared p c.args.at.row c.args.inverse z (sum_of n v))) w other c.in-Ok.ensures.sum in
     IsSame_trans c.in_ok-vector_without-in-Ok.ensures.sum (linear_same (omega (arith, above)) (linear_without_row c.args.at.row) h)

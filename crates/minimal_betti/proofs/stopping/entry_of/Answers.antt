@@ -2,8 +2,8 @@ use Rattle.std.proofs.Common.{ap, arith, subst, sym, ◌∙◌, ◌≡◌}
 use Rattle.std.proofs.lemmas.List.{take_all}
 use Rattle.module_vectors.specs.Rings.{ring_comparison, variables}
 use Rattle.module_vectors.specs.Stops.{HasMonomial}
-use Rattle.module_vectors.specs.Vectors.{IsVectorOver}
-use Rattle.minimal_betti.proofs.Entries.{in_row, monomial_row, row_more, vector_row}
+use Rattle.module_vectors.specs.Vectors.{IsVectorOver, sum_of}
+use Rattle.minimal_betti.proofs.Entries.{entry_is, in_row, monomial_row, row_more, vector_row}
 use Rattle.minimal_betti.proofs.stopping.entry_of.Goals as goal
 
 pub loop-term-preserved : goal.loop-term-preserved
@@ -14,14 +14,29 @@ loop-term-preserved c =
 pub from_ordered-requires : goal.from_ordered-requires
 from_ordered-requires c =
     let ring = c.args.ring.now in
-    let n = variables ring in
     let all : c.loop-term.terms.items ≡ in_row c.args.row c.args.v.now =
     c.loop-term.invariant ∙ ap (in_row c.args.row) (take_all c.loop-term.term-index c.terms-term-items.result.now (omega arith) ∙ c.terms-term-items.ensures)
     in
-    subst (IsVectorOver ring (ring_comparison ring)) (sym all) (vector_row n ring.weights ring.modulus.value (ring_comparison ring n) c.args.row c.args.v.now c.requires)
+    subst (IsVectorOver ring (ring_comparison ring)) (sym all) (vector_row ring c.args.row c.args.v.now c.requires)
 
-pub returns : goal.returns
-returns c = λ m h.
+pub returns-clause-vector : goal.returns-clause-vector
+returns-clause-vector c =
+    let ring = c.args.ring.now in
+    let all : c.loop-term.terms.items ≡ in_row c.args.row c.args.v.now =
+    c.loop-term.invariant ∙ ap (in_row c.args.row) (take_all c.loop-term.term-index c.terms-term-items.result.now (omega arith) ∙ c.terms-term-items.ensures)
+    in
+    subst (IsVectorOver ring (ring_comparison ring)) (sym (c.from_ordered.ensures ∙ all)) (vector_row ring c.args.row c.args.v.now c.requires)
+
+pub returns-clause-entry : goal.returns-clause-entry
+returns-clause-entry c =
+    let n = variables c.args.ring.now in
+    let all : c.loop-term.terms.items ≡ in_row c.args.row c.args.v.now =
+    c.loop-term.invariant ∙ ap (in_row c.args.row) (take_all c.loop-term.term-index c.terms-term-items.result.now (omega arith) ∙ c.terms-term-items.ensures)
+    in
+    ap (sum_of n) (c.from_ordered.ensures ∙ all) ∙ entry_is n c.args.row c.args.v.now
+
+pub returns-clause-monomials : goal.returns-clause-monomials
+returns-clause-monomials c = λ m h.
     let all : c.loop-term.terms.items ≡ in_row c.args.row c.args.v.now =
     c.loop-term.invariant ∙ ap (in_row c.args.row) (take_all c.loop-term.term-index c.terms-term-items.result.now (omega arith) ∙ c.terms-term-items.ensures)
     in

@@ -14,7 +14,7 @@ use Rattle.schreyer_resolution.proofs.column.column.Goals as goal
 pub column_terms-requires : goal.column_terms-requires
 column_terms-requires g c =
     let qs = c.in-Ok.quotients.items in
-    subst (λ r. Each (λ (q : ScaledProduct). q.residue < r.modulus.value) qs) (sym c.ring.ensures) (Each_map _ _ qs (λ q h. h.reduced) c.in-Ok.ensures.done.progress.quotients)
+    subst (λ r. Each (λ (q : ScaledProduct). q.residue < r.modulus.value) qs) (sym c.ring.ensures) (Each_map _ _ qs (λ q h. h.reduced) c.in-Ok.ensures.done.progress.underway.quotients)
 
 pub from_terms-requires : goal.from_terms-requires
 from_terms-requires g c =
@@ -23,7 +23,7 @@ from_terms-requires g c =
     let qs = c.in-Ok.quotients.items in
     let items = c.in_ok-terms.terms.items in
     let e = subst (λ r. items ≡ (key, 1) ∷ map (negated_term r.modulus.value) qs) c.ring.ensures c.in_ok-terms.ensures in
-    let all = terms_over (variables ring) ring.weights ring.modulus.value key qs c.args.columns.now (c.lawful_setting.ensures 0).domain.above_one c.requires.monomial c.in-Ok.ensures.done.progress.quotients in
+    let all = terms_over (variables ring) ring.weights ring.modulus.value key qs c.args.columns.now (c.lawful_setting.ensures 0).domain.above_one c.requires.monomial c.in-Ok.ensures.done.progress.underway.quotients in
     subst (λ r. AreTermsOver r items) (sym c.requires.over) (subst (AreTermsOver ring) (sym e) all)
 
 pub returns-clause-vector : goal.returns-clause-vector

@@ -1,22 +1,65 @@
-use Rattle.std.proofs.Common.{length, subst, sym, true, ◌==◌, ◌∙◌, ◌≡◌}
+use Rattle.std.proofs.Common.{ap, ◌∷◌, ◌∙◌, [], subst, sym, ◌<◌}
 use Rattle.module_vectors.specs.Rings.{variables}
+use Rattle.vector_division.specs.Progress.{room_of}
+use Rattle.vector_division.specs.Runs.{IsNext, total, with_next}
+use Rattle.vector_division.proofs.Keeping.{room_taken}
 use Rattle.schreyer_resolution.specs.Columns.{IsUnderway}
-use Rattle.schreyer_resolution.proofs.Dividing.{underway_start}
-use Rattle.schreyer_resolution.proofs.Making.{no_terms}
+use Rattle.schreyer_resolution.proofs.Dividing.{underway_end, underway_start, underway_taken}
 use Rattle.schreyer_resolution.proofs.column.divided.Goals as goal
 
-pub loop-alloc-init : goal.loop-alloc-init
-loop-alloc-init g c =
+pub loop-next-init : goal.loop-next-init
+loop-next-init g c =
     let ring = g.F.Frame.over c.args.frame.now in
+    let n = variables ring in
+    let compare = g.F.Frame.compare c.args.frame.now in
+    let order = g.met.F.Frame.laws c.args.frame.now n 0 in
+    let base = c.requires.base in
+    let lawful = c.lawful_setting.ensures base.rank in
+    let cols = c.args.columns.now in
+    let key = c.args.key.now in
+    let old = c.in_ok-buckets.buckets in
+    let next = c.in_ok-next.next in
+    record {
+      next = c.in_ok-next.ensures.taken.next;
+      underway = subst (λ qs. IsUnderway ring compare cols key qs c.take_top.new.self (with_next n next (total n c.take_top.new.self))) (sym c.new-quotients.ensures.items)
+          (underway_taken ring compare base.rank lawful order cols c.requires.vectors base.monic base.basis key c.requires.pair [] old c.take_top.new.self next
+          (underway_start ring compare base.rank lawful order cols c.requires.vectors base.monic base.basis key c.requires.pair c.in-Ok.product c.in_ok-kept.kept old
+          c.in-Ok.ensures.product c.in_ok-kept.ensures (c.in_ok-buckets.ensures ∙ ap (λ v. v ∷ []) c.from_vect.ensures))
+          c.in_ok-next.ensures.runs c.in_ok-next.ensures.taken);
+    }
+
+pub returns-in-None-clause-done : goal.returns-in-None-clause-done
+returns-in-None-clause-done g c =
+    let ring = g.F.Frame.over c.args.frame.now in
+    let n = variables ring in
     let compare = g.F.Frame.compare c.args.frame.now in
     let base = c.requires.base in
+    let cols = c.args.columns.now in
     let key = c.args.key.now in
-    subst (λ q. IsUnderway ring compare c.args.columns.now key q c.in-Ok.product) (sym c.new-quotients.ensures.items)
-    (underway_start ring compare base.rank (c.lawful_setting.ensures base.rank) (g.met.F.Frame.laws c.args.frame.now (variables ring) 0) c.args.columns.now c.requires.vectors base.monic base.basis key c.requires.pair c.in-Ok.product c.in-Ok.ensures.product)
+    let runs = c.loop-next.buckets in
+    let qs = c.loop-next.quotients.items in
+    underway_end ring compare base.rank (c.lawful_setting.ensures base.rank) (g.met.F.Frame.laws c.args.frame.now n 0) cols c.requires.vectors base.monic base.basis key c.requires.pair qs runs
+    (subst (IsNext n ring.weights ring.modulus.value (compare n) runs) c.in-None.is c.loop-next.invariant.next)
+    (subst (λ x. IsUnderway ring compare cols key qs runs (with_next n x (total n runs))) c.in-None.is c.loop-next.invariant.underway)
 
-pub returns-clause-done : goal.returns-clause-done
-returns-clause-done g c =
+pub loop-next-smaller : goal.loop-next-smaller
+loop-next-smaller g c =
     let ring = g.F.Frame.over c.args.frame.now in
-    let compare = g.F.Frame.compare c.args.frame.now in
-    subst (IsUnderway ring compare c.args.columns.now c.args.key.now c.loop-alloc.quotients.items)
-    (no_terms c.loop-alloc.work (subst (λ v. (length v == 0) ≡ true) c.terms.ensures (sym c.is_empty.ensures ∙ c.loop-alloc-test.false))) c.loop-alloc.invariant
+    let n = variables ring in
+    let compare = g.F.Frame.compare c.args.frame.now n in
+    let next = c.in_ok-next-in-Some.next in
+    let term = c.in-Some.term in
+    subst (λ x. room_of compare (with_next n next []) < room_of compare (with_next n x [])) (sym c.in-Some.is)
+    (room_taken n ring.weights ring.modulus.value compare (g.met.F.Frame.laws c.args.frame.now n 0) [] c.args.columns.now term.0 term.1 c.advance.new.buckets c.take_top-in-Some.new.self next c.in_ok-advance-in-Some.ensures.below c.in_ok-next-in-Some.ensures.taken)
+
+pub loop-next-preserved : goal.loop-next-preserved
+loop-next-preserved g c =
+    let ring = g.F.Frame.over c.args.frame.now in
+    let n = variables ring in
+    let base = c.requires.base in
+    record {
+      next = c.in_ok-next-in-Some.ensures.taken.next;
+      underway = underway_taken ring (g.F.Frame.compare c.args.frame.now) base.rank (c.lawful_setting.ensures base.rank) (g.met.F.Frame.laws c.args.frame.now n 0) c.args.columns.now c.requires.vectors base.monic base.basis
+          c.args.key.now c.requires.pair c.advance.new.quotients.items c.advance.new.buckets c.take_top-in-Some.new.self c.in_ok-next-in-Some.next
+          c.in_ok-advance-in-Some.ensures.underway c.in_ok-next-in-Some.ensures.runs c.in_ok-next-in-Some.ensures.taken;
+    }

@@ -1,13 +1,20 @@
+use Rattle.std.proofs.Common.{[]}
 use Rattle.module_vectors.specs.Rings.{variables}
-use Rattle.module_vectors.specs.Vectors.{sum_of}
 use Rattle.vector_division.specs.Progress.{room_of}
+use Rattle.vector_division.specs.Runs.{IsNext, total, with_next}
 use Rattle.schreyer_resolution.specs.Columns.{IsUnderway}
 use Rattle.schreyer_resolution.proofs.column.divided.Given as goal
 
-abbrev pub invariant-loop-alloc : goal.invariant-loop-alloc
-invariant-loop-alloc g l = IsUnderway (g.F.Frame.over l.frame) (g.F.Frame.compare l.frame) l.columns l.key l.quotients.items l.work
+abbrev pub invariant-loop-next : goal.invariant-loop-next
+invariant-loop-next g l =
+    let ring = g.F.Frame.over l.frame in
+    let n = variables ring in
+    record {
+      next : IsNext n ring.weights ring.modulus.value (g.F.Frame.compare l.frame n) l.buckets l.next;
+      underway : IsUnderway ring (g.F.Frame.compare l.frame) l.columns l.key l.quotients.items l.buckets (with_next n l.next (total n l.buckets));
+    }
 
-abbrev pub decreases-loop-alloc : goal.decreases-loop-alloc
-decreases-loop-alloc g l =
+abbrev pub decreases-loop-next : goal.decreases-loop-next
+decreases-loop-next g l =
     let n = variables (g.F.Frame.over l.frame) in
-    room_of (g.F.Frame.compare l.frame n) (sum_of n l.work)
+    room_of (g.F.Frame.compare l.frame n) (with_next n l.next [])

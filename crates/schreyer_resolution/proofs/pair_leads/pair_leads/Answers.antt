@@ -13,25 +13,25 @@ pair_monomials-requires-clause-leads g c =
     let ring = g.F.Frame.over c.args.frame.now in
     let n = variables ring in
     let base = c.requires.base in
-    subst HaveLeads (sym c.as_slice.ensures) (base_leads n (setting ring n (g.F.Frame.compare c.args.frame.now n) base.rank) (c.lawful_setting.ensures base.rank) c.args.columns.now base.monic)
+    subst HaveLeads (sym c.as_slice-in-loop-i.ensures) (base_leads n (setting ring n (g.F.Frame.compare c.args.frame.now n) base.rank) (c.lawful_setting.ensures base.rank) c.args.columns.now base.monic)
 
 pub pair_monomials-requires-clause-weighed : goal.pair_monomials-requires-clause-weighed
 pair_monomials-requires-clause-weighed g c =
     let ring = g.F.Frame.over c.args.frame.now in
     let n = variables ring in
-    subst₂ (λ r z. AreWeighed (variables r) r.weights z) (sym c.ring-ring.ensures) (sym c.as_slice.ensures) (are_weighed n ring.weights ring.modulus.value (g.F.Frame.compare c.args.frame.now n) c.args.columns.now c.requires.vectors)
+    subst₂ (λ r z. AreWeighed (variables r) r.weights z) (sym c.ring-ring.ensures) (sym c.as_slice-in-loop-i.ensures) (are_weighed n ring.weights ring.modulus.value (g.F.Frame.compare c.args.frame.now n) c.args.columns.now c.requires.vectors)
 
 pub least-requires : goal.least-requires
 least-requires g c =
     let ring = c.ring-ring.result.now in
-    monomials_weighed (variables ring) ring.weights c.as_slice.result.now c.loop-i.i (length c.as_slice.result.now) c.in_ok-candidates.candidates.items c.in_ok-candidates.ensures
+    monomials_weighed (variables ring) ring.weights c.as_slice-in-loop-i.result.now c.loop-i.i (length c.as_slice-in-loop-i.result.now) c.in_ok-candidates.candidates.items c.in_ok-candidates.ensures
 
 pub loop-i-preserved : goal.loop-i-preserved
 loop-i-preserved g c =
     let ring = g.F.Frame.over c.args.frame.now in
     let n = variables ring in
     let cols = c.args.columns.now in
-    let there = subst₂ (λ r z. ArePairMonomials (variables r) r.weights z c.loop-i.i (length z) c.in_ok-candidates.candidates.items) c.ring-ring.ensures c.as_slice.ensures c.in_ok-candidates.ensures in
+    let there = subst₂ (λ r z. ArePairMonomials (variables r) r.weights z c.loop-i.i (length z) c.in_ok-candidates.candidates.items) c.ring-ring.ensures c.as_slice-in-loop-i.ensures c.in_ok-candidates.ensures in
     let least = subst (λ r. AreLeastSoFar (variables r) c.in_ok-candidates.candidates.items [] c.in_ok-monomials.monomials.items) c.ring-ring.ensures c.in_ok-monomials.ensures in
     subst (ArePairLeadsTo n ring.weights cols (c.loop-i.i + 1)) (sym c.in_ok-push_keys.ensures)
     (pairs_next n ring.weights cols c.loop-i.i c.loop-i.keys.items c.in_ok-candidates.candidates.items c.in_ok-monomials.monomials.items c.loop-i.invariant there least)

@@ -1,5 +1,4 @@
 use Rattle.std.proofs.Common.{length, subst}
-use Rattle.monomials.specs.Exponents.{lcm}
 use Rattle.monomial_orders.specs.Monomials.{IsQuotient}
 use Rattle.module_vectors.specs.Rings.{variables}
 use Rattle.schreyer_resolution.proofs.PairSteps.{pair_divides, pair_quotient}

@@ -1,7 +1,6 @@
-use Rattle.std.proofs.Common.{arith, length, subst, ◌≡◌}
+use Rattle.std.proofs.Common.{ap, arith}
 use Rattle.module_vectors.specs.Rings.{variables}
-use Rattle.schreyer_resolution.specs.Pairs.{ArePairMonomials}
-use Rattle.schreyer_resolution.proofs.PairSteps.{monomials_next}
+use Rattle.schreyer_resolution.proofs.PairSteps.{before_end, monomials_end, monomials_next}
 use Rattle.schreyer_resolution.proofs.pair_leads.pair_monomials.Goals as goal
 
 pub loop-j-preserved : goal.loop-j-preserved
@@ -12,5 +11,13 @@ loop-j-preserved c =
 
 pub returns : goal.returns
 returns c =
-    let e : c.loop-j.j ≡ length c.args.columns.now = omega arith in
-    subst (λ z. ArePairMonomials (variables c.args.ring.now) c.args.ring.now.weights c.args.columns.now c.args.index z c.loop-j.found.items) e c.loop-j.invariant
+    let n = variables c.args.ring.now in
+    let cols = c.args.columns.now in
+    let i = c.args.index in
+    let end = c.end-end.result in
+    let position = c.lead_key-left.result.now.position in
+    let at = ap (λ z. z.0) (c.lead_key-left.ensures.lead n) in
+    let room = before_end n cols i end position c.requires.index c.requires.leads at c.end-end.ensures.past in
+    let inside = c.end-end.ensures.inside in
+    monomials_end n c.args.ring.now.weights cols i c.loop-j.j end position c.loop-j.found.items
+    c.loop-j.invariant (omega (arith, room, inside)) (omega (arith, room)) c.requires.leads at c.end-end.ensures.past

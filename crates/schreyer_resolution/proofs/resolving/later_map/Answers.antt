@@ -1,5 +1,5 @@
 use Rattle.std.specs.Prelude.{IfErr}
-use Rattle.std.proofs.Common.{[], arith, length, map, subst, sym, ◌++◌, ◌<◌, ◌∙◌, ◌∷◌}
+use Rattle.std.proofs.Common.{[], length, map, subst, sym, ◌++◌, ◌∙◌, ◌∷◌, ◌≡◌}
 use Rattle.formal_sums.specs.FormalSums.{Each}
 use Rattle.module_vectors.specs.Rings.{variables}
 use Rattle.module_vectors.specs.Vectors.{IsMonomialOver, key_of, sums_of}
@@ -8,12 +8,11 @@ use Rattle.schreyer_resolution.specs.Inducing.{tower_comparison}
 use Rattle.schreyer_resolution.specs.Progress.{IsNext}
 use Rattle.schreyer_resolution.specs.Steps.{ArePairLeads}
 use Rattle.schreyer_resolution.proofs.FirstMaps.{above_by, if_more, next_by, tower_is}
-use Rattle.schreyer_resolution.proofs.Pushing.{length-pushed}
 use Rattle.schreyer_resolution.proofs.Starting.{base_at, vectors_at}
 use Rattle.schreyer_resolution.proofs.resolving.later_map.Goals as goal
 
-pub through-requires-2 : goal.through-requires-2
-through-requires-2 c = subst (λ z. 0 < length z) (sym c.requires.maps) (omega (arith, length-pushed c.args.below.now c.args.columns.now))
+pub above-requires-clause-maps : goal.above-requires-clause-maps
+above-requires-clause-maps c = subst (λ z. c.args.maps.now ≡ z ++ c.args.columns.now ∷ []) (sym c.in_ok-frame.ensures.maps) c.requires.maps
 
 pub pair_leads-requires-clause-vectors : goal.pair_leads-requires-clause-vectors
 pair_leads-requires-clause-vectors c =

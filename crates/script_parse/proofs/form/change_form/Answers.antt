@@ -1,6 +1,6 @@
 use Rattle.std.proofs.Common.{map}
 use Rattle.poly_grammar.specs.Lexemes.{lexeme}
-use Rattle.script_parse.proofs.Lines.{change_none, change_read}
+use Rattle.script_parse.proofs.Lines.{change_read}
 use Rattle.script_parse.proofs.form.change_form.Goals as goal
 
 pub returns : goal.returns

@@ -12,47 +12,47 @@ use Rattle.session_lang.proofs.answers.compare_values.Goals as goal
 
 pub index-requires : goal.index-requires
 index-requires g c =
-    let same = as_many c.args.ring.now c.args.names.now.items c.args.stored.now.items c.requires.sound in
+    let same = as_many c.args.ring.now c.args.names.now c.args.stored.now.items c.requires.sound in
     let below : c.args.places.0 < length c.args.stored.now.items = omega (arith, c.requires.within.0, same) in
     search rules
 
 pub index_mut-requires : goal.index_mut-requires
 index_mut-requires g c =
-    let same = as_many c.args.ring.now c.args.names.now.items c.args.stored.now.items c.requires.sound in
+    let same = as_many c.args.ring.now c.args.names.now c.args.stored.now.items c.requires.sound in
     let below : c.args.places.0 < length c.args.stored.now.items = omega (arith, c.requires.within.0, same) in
     search rules
 
 pub keep_basis-requires-clause-sound : goal.keep_basis-requires-clause-sound
 keep_basis-requires-clause-sound g c κs within =
-    subst₂ (λ d s. IsSound c.args.ring.now d.rank s) (sym c.index-2.ensures) (sym c.index_mut.ensures.value)
-    (sound_at c.args.ring.now c.args.names.now.items c.args.stored.now.items c.args.places.0 c.index_mut.result.now c.index-2.result.now c.requires.sound c.requires.within.0)
+    subst₂ (λ d s. IsSound c.args.ring.now d.rank s) (sym c.info_at.ensures) (sym c.index_mut.ensures.value)
+    (sound_at c.args.ring.now c.args.names.now c.args.stored.now.items c.args.places.0 c.index_mut.result.now c.info_at.result.now c.requires.sound c.requires.within.0)
 
 pub returns-in-Err-clause-stop : goal.returns-in-Err-clause-stop
 returns-in-Err-clause-stop g c = λ d e.
-    let same = as_many c.args.ring.now c.args.names.now.items c.args.stored.now.items c.requires.sound in
+    let same = as_many c.args.ring.now c.args.names.now c.args.stored.now.items c.requires.sound in
     let below : c.args.places.0 < length c.args.stored.now.items = omega (arith, c.requires.within.0, same) in
     rw c.from.ensures
     (call_stops _ _ _ _
-    (λ r m l h. inl (placed_run c.args.ring.now c.args.names.now.items c.args.stored.now.items c.args.places.0 d e c.index-2.result.now c.index_mut.result.now
-    c.requires.within.0 below c.index-2.ensures c.index_mut.ensures.value r m l h))
+    (λ r m l h. inl (placed_run c.args.ring.now c.args.names.now c.args.stored.now.items c.args.places.0 d e c.info_at.result.now c.index_mut.result.now
+    c.requires.within.0 below c.info_at.ensures c.index_mut.ensures.value r m l h))
     (no_trail NoTrail) (op_stop_of_run c.in-Err.stop)
-    (run_fails _ _ _ _ NoTrail c.args.ring.now c.index-2.result.now c.index_mut.result.now c.in-Err.stop c.in-Err.ensures.none.0 c.in-Err.ensures.stop))
+    (run_fails _ _ _ _ NoTrail c.args.ring.now c.info_at.result.now c.index_mut.result.now c.in-Err.stop c.in-Err.ensures.none.0 c.in-Err.ensures.stop))
 
 pub compare_with-requires-clause-sound : goal.compare_with-requires-clause-sound
 compare_with-requires-clause-sound g c κs within =
-    kept_sound c.args.ring.now c.args.names.now.items c.args.stored.now.items c.args.places.0 c.keep_basis.new.stored c.index_mut.result.now c.index-2.result.now c.requires.sound
-    (subst (λ d. IsSound c.args.ring.now d.rank c.keep_basis.new.stored) c.index-2.ensures c.in-Ok.ensures.sound)
+    kept_sound c.args.ring.now c.args.names.now c.args.stored.now.items c.args.places.0 c.keep_basis.new.stored c.index_mut.result.now c.info_at.result.now c.requires.sound
+    (subst (λ d. IsSound c.args.ring.now d.rank c.keep_basis.new.stored) c.info_at.ensures c.in-Ok.ensures.sound)
     (c.in-Ok.ensures.list ∙ ap (λ s. s.list) c.index_mut.ensures.value)
 
 pub compare_with-requires-clause-first : goal.compare_with-requires-clause-first
 compare_with-requires-clause-first g c κs within = λ e.
-    let same = as_many c.args.ring.now c.args.names.now.items c.args.stored.now.items c.requires.sound in
+    let same = as_many c.args.ring.now c.args.names.now c.args.stored.now.items c.requires.sound in
     let below : c.args.places.0 < length c.args.stored.now.items = omega (arith, c.requires.within.0, same) in
     written_basis c.args.stored.now.items c.args.places.0 c.keep_basis.new.stored e below c.in-Ok.ensures.kept
 
 pub index_mut-requires-in-Err-compare_with : goal.index_mut-requires-in-Err-compare_with
 index_mut-requires-in-Err-compare_with g c =
-    let same = as_many c.args.ring.now c.args.names.now.items c.args.stored.now.items c.requires.sound in
+    let same = as_many c.args.ring.now c.args.names.now c.args.stored.now.items c.requires.sound in
     let below : c.args.places.0 < length c.args.stored.now.items = omega (arith, c.requires.within.0, same) in
     let more : length c.compare_with.new.stored.items ≡ length c.args.stored.now.items = ap length c.in-Err-compare_with.ensures.as_before ∙ length_written c.args.stored.now.items c.args.places.0 c.keep_basis.new.stored in
     let within : c.args.places.0 < length c.compare_with.new.stored.items = omega (arith, below, more) in
@@ -60,7 +60,7 @@ index_mut-requires-in-Err-compare_with g c =
 
 pub returns-in-Ok-compare_with-clause-kept : goal.returns-in-Ok-compare_with-clause-kept
 returns-in-Ok-compare_with-clause-kept g c =
-    let same = as_many c.args.ring.now c.args.names.now.items c.args.stored.now.items c.requires.sound in
+    let same = as_many c.args.ring.now c.args.names.now c.args.stored.now.items c.requires.sound in
     let below : c.args.places.0 < length c.args.stored.now.items = omega (arith, c.requires.within.0, same) in (
       slice_set c.args.stored.now.items c.args.places.0 c.keep_basis.new.stored,
       record {
@@ -74,7 +74,7 @@ returns-in-Ok-compare_with-clause-kept g c =
 
 pub returns-in-Ok-compare_with-clause-text : goal.returns-in-Ok-compare_with-clause-text
 returns-in-Ok-compare_with-clause-text g c = λ e.
-    let same = as_many c.args.ring.now c.args.names.now.items c.args.stored.now.items c.requires.sound in
+    let same = as_many c.args.ring.now c.args.names.now c.args.stored.now.items c.requires.sound in
     let below : c.args.places.0 < length c.args.stored.now.items = omega (arith, c.requires.within.0, same) in
     let lists : (k : ℕ) → (get_or (slice_set c.args.stored.now.items c.args.places.0 c.keep_basis.new.stored) k e).list ≡ (get_or c.args.stored.now.items k e).list =
     λ k. written_lists c.args.stored.now.items c.args.places.0 k c.keep_basis.new.stored e
@@ -84,7 +84,7 @@ returns-in-Ok-compare_with-clause-text g c = λ e.
 
 pub returns-in-Err-compare_with-clause-as_before : goal.returns-in-Err-compare_with-clause-as_before
 returns-in-Err-compare_with-clause-as_before g c =
-    let same = as_many c.args.ring.now c.args.names.now.items c.args.stored.now.items c.requires.sound in
+    let same = as_many c.args.ring.now c.args.names.now c.args.stored.now.items c.requires.sound in
     let below : c.args.places.0 < length c.args.stored.now.items = omega (arith, c.requires.within.0, same) in
     let item = c.keep_basis.new.stored in
     let again = c.index_mut-in-Err-compare_with.result.now in
@@ -96,7 +96,7 @@ returns-in-Err-compare_with-clause-as_before g c =
 
 pub returns-in-Err-compare_with-clause-stop : goal.returns-in-Err-compare_with-clause-stop
 returns-in-Err-compare_with-clause-stop g c = λ d e.
-    let same = as_many c.args.ring.now c.args.names.now.items c.args.stored.now.items c.requires.sound in
+    let same = as_many c.args.ring.now c.args.names.now c.args.stored.now.items c.requires.sound in
     let below : c.args.places.0 < length c.args.stored.now.items = omega (arith, c.requires.within.0, same) in
     let keeps : Keeps c.args.stored.now.items c.args.places.0 (slice_set c.args.stored.now.items c.args.places.0 c.keep_basis.new.stored) = record {
       item = c.keep_basis.new.stored;
@@ -105,7 +105,7 @@ returns-in-Err-compare_with-clause-stop g c = λ d e.
       list = λ e'. c.in-Ok.ensures.list ∙ ap (λ s. s.list) (at_place c.args.stored.now.items c.args.places.0 c.index_mut.result.now e' below c.index_mut.ensures.value);
     } in
     subst₂
-    (λ a b. CallStops (IsRunAtEither c.args.ring.now c.args.names.now.items c.args.stored.now.items c.args.places d e) NoTrail
+    (λ a b. CallStops (IsRunAtEither c.args.ring.now c.args.names.now c.args.stored.now.items c.args.places d e) NoTrail
     a (g.B.Groebner.stops c.compare_with.new.engine) b (g.B.Groebner.stopped c.compare_with.new.engine) c.in-Err-compare_with.stop)
     c.in-Ok.ensures.same.0 c.in-Ok.ensures.same.1
     (call_stops _ _ _ _ (λ r m l h. inr (slice_set c.args.stored.now.items c.args.places.0 c.keep_basis.new.stored, keeps, h)) (no_trail NoTrail)

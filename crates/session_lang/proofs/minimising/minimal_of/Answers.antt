@@ -2,7 +2,7 @@ use Rattle.std.proofs.Common.{replicate, subst, sym}
 use Rattle.bases.specs.Bases.{IsReducedBasis}
 use Rattle.module_vectors.specs.Rings.{ring_comparison, setting, variables}
 use Rattle.module_vectors.specs.Vectors.{sums_of}
-use Rattle.session_lang.proofs.MinimalMaps.{cancelled_as, graded_resolution, presents_basis}
+use Rattle.session_lang.proofs.MinimalMaps.{cancellation_stops, cancelled_as, graded_resolution, presents_basis}
 use Rattle.session_lang.proofs.Reporting.{own_basis}
 use Rattle.session_lang.proofs.minimising.minimal_of.Goals as goal
 
@@ -31,3 +31,9 @@ returns-clause-cancelled c =
     cancelled_as ring c.args.rank c.from.result c.from.ensures list basis reduced one r told.canonical told.vectors told.places told.joined c.minimal.result
     c.minimal.ensures.cancelled c.minimal.ensures.minimal (c.minimal.ensures.presents (replicate c.args.rank 0) (sums_of (variables ring) basis) presented)
     c.minimal.ensures.joined c.minimal.ensures.vectors
+
+pub returns-clause-stop : goal.returns-clause-stop
+returns-clause-stop c =
+    let told = c.in-Ok.ensures in
+    cancellation_stops c.args.ring.now c.args.rank c.from.result c.from.ensures c.requires.basis.0 c.args.basis.now c.requires.basis.2 c.requires.homogeneous
+    c.in-Ok.resolution told.canonical told.vectors told.places told.joined c.minimal.result c.minimal.ensures.stop

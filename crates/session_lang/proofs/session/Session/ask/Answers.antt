@@ -1,28 +1,30 @@
 use Rattle.std.proofs.Common.{None, Some, arith, length, rules, subst, sym, ◌<◌, ◌≡◌}
 use Rattle.std.proofs.lemmas.Result.{on_err_weaker, on_ok_weaker}
 use Rattle.session_lang.specs.Asking.{asked_of}
-use Rattle.session_lang.specs.Kept.{IsGiven, place_named, value_of}
+use Rattle.script_parse.specs.Places.{place_named}
+use Rattle.session_lang.specs.Kept.{IsGiven, value_of}
 use Rattle.session_lang.proofs.Finding.{asked_over, place_given}
 use Rattle.session_lang.proofs.Performing.{asked_fit, asked_given, asked_performed}
 use Rattle.session_lang.proofs.Placing.{is_placed, placed_after, placed_has, placed_keeps, placed_same, placed_sound}
-use Rattle.session_lang.proofs.Values.{kept_as_many, place_bound}
+use Rattle.script_parse.proofs.NamePlaces.{place_bound}
+use Rattle.session_lang.proofs.Values.{kept_as_many}
 use Rattle.session_lang.proofs.session.Session.ask.Goals as goal
 
 pub unreachable-requires-in_default-place_of : goal.unreachable-requires-in_default-place_of
 unreachable-requires-in_default-place_of g c =
-    let none : place_named c.self.inside.names.items c.as_bytes.result.now ≡ None = search rules in
-    place_given c.args.self.now c.self.inside.ring c.self.inside.names.items c.self.inside.stored.items c.self.view_is c.as_bytes.result.now
+    let none : place_named c.self.inside.names c.as_bytes.result.now ≡ None = search rules in
+    place_given c.args.self.now c.self.inside.ring c.self.inside.names c.self.inside.stored.items c.self.view_is c.as_bytes.result.now
     (subst (IsGiven c.args.self.now) (sym c.as_bytes.ensures.value) (asked_given c.args.self.now c.args.name.now (asked_of c.args.question) c.requires)) none
 
-pub index-requires : goal.index-requires
-index-requires g c =
-    let found : place_named c.self.inside.names.items c.as_bytes.result.now ≡ Some c.in-Some-place_of.i = search rules in
-    let below = place_bound c.self.inside.names.items c.as_bytes.result.now c.in-Some-place_of.i found in
+pub info_at-requires : goal.info_at-requires
+info_at-requires g c =
+    let found : place_named c.self.inside.names c.as_bytes.result.now ≡ Some c.in-Some-place_of.i = search rules in
+    let below = place_bound c.self.inside.names c.as_bytes.result.now c.in-Some-place_of.i found in
     search rules
 
 pub index_mut-requires : goal.index_mut-requires
 index_mut-requires g c =
-    let infos = c.self.inside.names.items in
+    let infos = c.self.inside.names in
     let stored = c.self.inside.stored.items in
     let same = kept_as_many c.self.inside.ring infos stored c.self.invariant in
     let found : place_named infos c.as_bytes.result.now ≡ Some c.in-Some-place_of.i = search rules in
@@ -31,33 +33,33 @@ index_mut-requires g c =
 
 pub answer_value-requires-clause-sound : goal.answer_value-requires-clause-sound
 answer_value-requires-clause-sound g c κs within =
-    let infos = c.self.inside.names.items in
+    let infos = c.self.inside.names in
     let found : place_named infos c.as_bytes.result.now ≡ Some c.in-Some-place_of.i = search rules in
-    let placed = is_placed infos c.self.inside.stored.items c.self.view_is c.self.invariant c.in-Some.is found c.index.ensures c.index_mut.ensures.value in
+    let placed = is_placed infos c.self.inside.stored.items c.self.view_is c.self.invariant c.in-Some.is found c.info_at.ensures c.index_mut.ensures.value in
     placed_sound placed
 
 pub answer_value-requires-clause-over : goal.answer_value-requires-clause-over
 answer_value-requires-clause-over g c κs within =
     let asked = asked_of c.args.question in
-    asked_over c.args.self.now c.self.inside.ring c.self.inside.names.items c.self.inside.stored.items c.self.view_is asked c.in-Some.ring
+    asked_over c.args.self.now c.self.inside.ring c.self.inside.names c.self.inside.stored.items c.self.view_is asked c.in-Some.ring
     (asked_fit c.args.self.now c.args.name.now asked c.requires) c.in-Some.is
 
 pub invariant_of-self : goal.invariant_of-self
 invariant_of-self g c =
-    let infos = c.self.inside.names.items in
+    let infos = c.self.inside.names in
     let found : place_named infos c.as_bytes.result.now ≡ Some c.in-Some-place_of.i = search rules in
-    let placed = is_placed infos c.self.inside.stored.items c.self.view_is c.self.invariant c.in-Some.is found c.index.ensures c.index_mut.ensures.value in
+    let placed = is_placed infos c.self.inside.stored.items c.self.view_is c.self.invariant c.in-Some.is found c.info_at.ensures c.index_mut.ensures.value in
     placed_keeps placed c.answer_value.new.stored c.answer_value.ensures.list c.answer_value.ensures.sound
 
 pub returns-clause-performed : goal.returns-clause-performed
 returns-clause-performed g c =
-    let infos = c.self.inside.names.items in
+    let infos = c.self.inside.names in
     let found : place_named infos c.as_bytes.result.now ≡ Some c.in-Some-place_of.i = search rules in
-    let placed = is_placed infos c.self.inside.stored.items c.self.view_is c.self.invariant c.in-Some.is found c.index.ensures c.index_mut.ensures.value in
+    let placed = is_placed infos c.self.inside.stored.items c.self.view_is c.self.invariant c.in-Some.is found c.info_at.ensures c.index_mut.ensures.value in
     let called = c.answer_value.result in
     let e = c.answer_value.ensures in
     asked_performed called c.done.result c.done.ensures.ok c.done.ensures.err
     (on_err_weaker called (placed_same placed c.answer_value.new.stored) e.as_before) e.unwritten e.same
-    c.args.name.now (asked_of c.args.question) c.as_bytes.result.now c.in-Some.ring (value_of c.index.result.now c.index_mut.result.now)
+    c.args.name.now (asked_of c.args.question) c.as_bytes.result.now c.in-Some.ring (value_of c.info_at.result.now c.index_mut.result.now)
     c.as_bytes.ensures.value (placed_has placed)
     (on_ok_weaker called (placed_after placed c.answer_value.new.stored e.list) e.kept) e.text e.stop

@@ -1,38 +1,40 @@
 use Rattle.std.proofs.Common.{None, Some, ap, get_or, rules, subst, subst₂, sym, ◌∙◌, ◌≡◌}
 use Rattle.std.proofs.lemmas.Result.{IfErr-weaker, on_err_weaker, on_ok_weaker}
 use Rattle.groebner_iface.specs.Calls.{NoTrail}
-use Rattle.session_lang.specs.Kept.{AreGiven, IsGiven, place_named, value_of, values_of}
+use Rattle.script_parse.specs.Places.{place_named}
+use Rattle.session_lang.specs.Kept.{AreGiven, IsGiven, value_of, values_of}
 use Rattle.session_lang.proofs.OneAnswer.{one_value}
 use Rattle.session_lang.proofs.Finding.{as_many_after, has_value, kept_after, no_stored, place_given, run_for_either, some_info}
 use Rattle.session_lang.proofs.Performing.{compared_performed}
 use Rattle.session_lang.proofs.Stopping.{call_stops, no_trail}
-use Rattle.session_lang.proofs.Values.{kept_as_many, place_bound}
+use Rattle.script_parse.proofs.NamePlaces.{place_bound}
+use Rattle.session_lang.proofs.Values.{kept_as_many}
 use Rattle.session_lang.proofs.session.Session.compare.Goals as goal
 
 pub unreachable-requires-in_default-place_of : goal.unreachable-requires-in_default-place_of
 unreachable-requires-in_default-place_of g c =
-    let none : place_named c.self.inside.names.items c.as_bytes.result.now ≡ None = search rules in
+    let none : place_named c.self.inside.names c.as_bytes.result.now ≡ None = search rules in
     let h = c.requires in
-    place_given c.args.self.now c.self.inside.ring c.self.inside.names.items c.self.inside.stored.items c.self.view_is c.as_bytes.result.now
+    place_given c.args.self.now c.self.inside.ring c.self.inside.names c.self.inside.stored.items c.self.view_is c.as_bytes.result.now
     (subst (IsGiven c.args.self.now) (sym c.as_bytes.ensures.value) (h.0, h.1, h.3)) none
 
 pub unreachable-requires-in_default-place_of-2 : goal.unreachable-requires-in_default-place_of-2
 unreachable-requires-in_default-place_of-2 g c =
-    let none : place_named c.self.inside.names.items c.as_bytes-2.result.now ≡ None = search rules in
+    let none : place_named c.self.inside.names c.as_bytes-2.result.now ≡ None = search rules in
     let h = c.requires in
-    place_given c.args.self.now c.self.inside.ring c.self.inside.names.items c.self.inside.stored.items c.self.view_is c.as_bytes-2.result.now
+    place_given c.args.self.now c.self.inside.ring c.self.inside.names c.self.inside.stored.items c.self.view_is c.as_bytes-2.result.now
     (subst (IsGiven c.args.self.now) (sym c.as_bytes-2.ensures.value) (h.0, h.2, h.4)) none
 
 pub compare_values-requires-clause-within : goal.compare_values-requires-clause-within
 compare_values-requires-clause-within g c κs within =
-    let infos = c.self.inside.names.items in
+    let infos = c.self.inside.names in
     let found : place_named infos c.as_bytes.result.now ≡ Some c.in-Some-place_of.i = search rules in
     let found' : place_named infos c.as_bytes-2.result.now ≡ Some c.in-Some-place_of-2.j = search rules in
     (place_bound infos c.as_bytes.result.now c.in-Some-place_of.i found, place_bound infos c.as_bytes-2.result.now c.in-Some-place_of-2.j found')
 
 pub compare_values-requires-clause-rank : goal.compare_values-requires-clause-rank
 compare_values-requires-clause-rank g c κs within = λ d.
-    let infos = c.self.inside.names.items in
+    let infos = c.self.inside.names in
     let stored = c.self.inside.stored.items in
     let before = c.args.self.now in
     let same = kept_as_many c.self.inside.ring infos stored c.self.invariant in
@@ -46,7 +48,7 @@ compare_values-requires-clause-rank g c κs within = λ d.
 
 pub returns-clause-performed : goal.returns-clause-performed
 returns-clause-performed g c =
-    let infos = c.self.inside.names.items in
+    let infos = c.self.inside.names in
     let stored = c.self.inside.stored.items in
     let before = c.args.self.now in
     let own = c.self.inside.ring in

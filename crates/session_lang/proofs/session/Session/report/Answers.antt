@@ -1,27 +1,29 @@
 use Rattle.std.proofs.Common.{None, Some, arith, length, rules, subst, sym, ◌<◌, ◌≡◌}
-use Rattle.session_lang.specs.Kept.{IsGiven, place_named, value_of}
+use Rattle.script_parse.specs.Places.{place_named}
+use Rattle.session_lang.specs.Kept.{IsGiven, value_of}
 use Rattle.session_lang.proofs.Finding.{place_given}
 use Rattle.session_lang.proofs.Performing.{has_report, report_given, reported_performed}
 use Rattle.session_lang.specs.Names.{HasValue}
 use Rattle.session_lang.proofs.Placing.{is_placed, placed_after, placed_has, placed_keeps, placed_same, placed_sound}
-use Rattle.session_lang.proofs.Values.{kept_as_many, place_bound}
+use Rattle.script_parse.proofs.NamePlaces.{place_bound}
+use Rattle.session_lang.proofs.Values.{kept_as_many}
 use Rattle.session_lang.proofs.session.Session.report.Goals as goal
 
 pub unreachable-requires-in_default-place_of : goal.unreachable-requires-in_default-place_of
 unreachable-requires-in_default-place_of g c =
-    let none : place_named c.self.inside.names.items c.as_bytes.result.now ≡ None = search rules in
-    place_given c.args.self.now c.self.inside.ring c.self.inside.names.items c.self.inside.stored.items c.self.view_is c.as_bytes.result.now
+    let none : place_named c.self.inside.names c.as_bytes.result.now ≡ None = search rules in
+    place_given c.args.self.now c.self.inside.ring c.self.inside.names c.self.inside.stored.items c.self.view_is c.as_bytes.result.now
     (subst (IsGiven c.args.self.now) (sym c.as_bytes.ensures.value) (report_given c.args.self.now c.args.name.now c.args.report c.requires)) none
 
-pub index-requires : goal.index-requires
-index-requires g c =
-    let found : place_named c.self.inside.names.items c.as_bytes.result.now ≡ Some c.in-Some-place_of.i = search rules in
-    let below = place_bound c.self.inside.names.items c.as_bytes.result.now c.in-Some-place_of.i found in
+pub info_at-requires : goal.info_at-requires
+info_at-requires g c =
+    let found : place_named c.self.inside.names c.as_bytes.result.now ≡ Some c.in-Some-place_of.i = search rules in
+    let below = place_bound c.self.inside.names c.as_bytes.result.now c.in-Some-place_of.i found in
     search rules
 
 pub index_mut-requires : goal.index_mut-requires
 index_mut-requires g c =
-    let infos = c.self.inside.names.items in
+    let infos = c.self.inside.names in
     let stored = c.self.inside.stored.items in
     let same = kept_as_many c.self.inside.ring infos stored c.self.invariant in
     let found : place_named infos c.as_bytes.result.now ≡ Some c.in-Some-place_of.i = search rules in
@@ -30,33 +32,33 @@ index_mut-requires g c =
 
 pub report_value-requires-clause-sound : goal.report_value-requires-clause-sound
 report_value-requires-clause-sound g c κs within =
-    let infos = c.self.inside.names.items in
+    let infos = c.self.inside.names in
     let found : place_named infos c.as_bytes.result.now ≡ Some c.in-Some-place_of.i = search rules in
-    let placed = is_placed infos c.self.inside.stored.items c.self.view_is c.self.invariant c.in-Some.is found c.index.ensures c.index_mut.ensures.value in
+    let placed = is_placed infos c.self.inside.stored.items c.self.view_is c.self.invariant c.in-Some.is found c.info_at.ensures c.index_mut.ensures.value in
     placed_sound placed
 
 pub report_value-requires-clause-has : goal.report_value-requires-clause-has
 report_value-requires-clause-has g c κs within =
-    let infos = c.self.inside.names.items in
+    let infos = c.self.inside.names in
     let found : place_named infos c.as_bytes.result.now ≡ Some c.in-Some-place_of.i = search rules in
-    let placed = is_placed infos c.self.inside.stored.items c.self.view_is c.self.invariant c.in-Some.is found c.index.ensures c.index_mut.ensures.value in
-    has_report c.args.self.now c.args.name.now c.args.report c.requires c.in-Some.ring (value_of c.index.result.now c.index_mut.result.now)
-    (subst (λ m. HasValue c.args.self.now m c.in-Some.ring (value_of c.index.result.now c.index_mut.result.now)) c.as_bytes.ensures.value (placed_has placed))
+    let placed = is_placed infos c.self.inside.stored.items c.self.view_is c.self.invariant c.in-Some.is found c.info_at.ensures c.index_mut.ensures.value in
+    has_report c.args.self.now c.args.name.now c.args.report c.requires c.in-Some.ring (value_of c.info_at.result.now c.index_mut.result.now)
+    (subst (λ m. HasValue c.args.self.now m c.in-Some.ring (value_of c.info_at.result.now c.index_mut.result.now)) c.as_bytes.ensures.value (placed_has placed))
 
 pub invariant_of-self : goal.invariant_of-self
 invariant_of-self g c =
-    let infos = c.self.inside.names.items in
+    let infos = c.self.inside.names in
     let found : place_named infos c.as_bytes.result.now ≡ Some c.in-Some-place_of.i = search rules in
-    let placed = is_placed infos c.self.inside.stored.items c.self.view_is c.self.invariant c.in-Some.is found c.index.ensures c.index_mut.ensures.value in
+    let placed = is_placed infos c.self.inside.stored.items c.self.view_is c.self.invariant c.in-Some.is found c.info_at.ensures c.index_mut.ensures.value in
     placed_keeps placed c.report_value.new.stored c.report_value.ensures.list c.report_value.ensures.sound
 
 pub returns-clause-performed : goal.returns-clause-performed
 returns-clause-performed g c =
-    let infos = c.self.inside.names.items in
+    let infos = c.self.inside.names in
     let found : place_named infos c.as_bytes.result.now ≡ Some c.in-Some-place_of.i = search rules in
-    let placed = is_placed infos c.self.inside.stored.items c.self.view_is c.self.invariant c.in-Some.is found c.index.ensures c.index_mut.ensures.value in
+    let placed = is_placed infos c.self.inside.stored.items c.self.view_is c.self.invariant c.in-Some.is found c.info_at.ensures c.index_mut.ensures.value in
     let item = c.report_value.new.stored in
     let e = c.report_value.ensures in
-    reported_performed c.report_value.result c.args.name.now c.args.report c.as_bytes.result.now c.in-Some.ring (value_of c.index.result.now c.index_mut.result.now)
+    reported_performed c.report_value.result c.args.name.now c.args.report c.as_bytes.result.now c.in-Some.ring (value_of c.info_at.result.now c.index_mut.result.now)
     c.index_mut.result.now item c.as_bytes.ensures.value (placed_has placed)
     (placed_after placed item e.list) (placed_same placed item) e.kept e.as_before e.reports e.unwritten e.same e.stop

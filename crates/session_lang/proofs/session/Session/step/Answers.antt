@@ -9,22 +9,22 @@ use Rattle.session_lang.proofs.session.Session.step.Goals as goal
 
 pub perform-requires-clause-fit : goal.perform-requires-clause-fit
 perform-requires-clause-fit g c κs within =
-    fits c.args.self.now c.self.inside.ring c.self.inside.names.items c.self.inside.stored.items c.self.view_is c.self.invariant
-    (option_copied c.as_ref.result) c.deref.result.now c.as_ref.ensures.value c.deref.ensures.value c.args.line.now c.in-Ok.stated c.in-Ok.ensures
+    fits c.args.self.now c.self.inside.ring c.self.inside.names c.self.inside.stored.items c.self.view_is c.self.invariant
+    (option_copied c.as_ref.result) c.self.inside.names c.as_ref.ensures.value refl c.args.line.now c.in-Ok.stated c.in-Ok.ensures
 
 pub returns-in-Ok-clause-steps : goal.returns-in-Ok-clause-steps
 returns-in-Ok-clause-steps g c =
     let stated =
-    states c.args.self.now c.self.inside.ring c.self.inside.names.items c.self.inside.stored.items c.self.view_is c.self.invariant
-    (option_copied c.as_ref.result) c.deref.result.now c.as_ref.ensures.value c.deref.ensures.value c.args.line.now c.in-Ok.stated c.in-Ok.ensures in
+    states c.args.self.now c.self.inside.ring c.self.inside.names c.self.inside.stored.items c.self.view_is c.self.invariant
+    (option_copied c.as_ref.result) c.self.inside.names c.as_ref.ensures.value refl c.args.line.now c.in-Ok.stated c.in-Ok.ensures in
     performed_line c.args.self.now c.args.line.now c.in-Ok.stated c.perform.new.self c.args.out.now.items c.perform.new.out.items c.perform.result stated
     c.perform.ensures.performed.done
 
 pub returns-in-Ok-clause-stop : goal.returns-in-Ok-clause-stop
 returns-in-Ok-clause-stop g c =
     let stated =
-    states c.args.self.now c.self.inside.ring c.self.inside.names.items c.self.inside.stored.items c.self.view_is c.self.invariant
-    (option_copied c.as_ref.result) c.deref.result.now c.as_ref.ensures.value c.deref.ensures.value c.args.line.now c.in-Ok.stated c.in-Ok.ensures in
+    states c.args.self.now c.self.inside.ring c.self.inside.names c.self.inside.stored.items c.self.view_is c.self.invariant
+    (option_copied c.as_ref.result) c.self.inside.names c.as_ref.ensures.value refl c.args.line.now c.in-Ok.stated c.in-Ok.ensures in
     IfErr-weaker c.perform.result _ _
     (call_stops _ _ _ _ (λ r m l h. (c.in-Ok.stated, stated, h)) (λ t h. (c.in-Ok.stated, stated, h))) c.perform.ensures.performed.stop
 
@@ -40,8 +40,8 @@ returns-in-Ok-clause-engine g c = c.perform.ensures.performed.engine
 pub returns-in-Err-Refused-clause-steps : goal.returns-in-Err-Refused-clause-steps
 returns-in-Err-Refused-clause-steps g c = (
   subst (λ kind. Refuses c.args.self.now c.args.line.now kind) (sym c.in-Err-Refused.kind-is)
-      (refuses c.args.self.now c.self.inside.ring c.self.inside.names.items c.self.inside.stored.items c.self.view_is c.self.invariant
-      (option_copied c.as_ref.result) c.deref.result.now c.as_ref.ensures.value c.deref.ensures.value c.args.line.now c.in-Err-Refused.kind
+      (refuses c.args.self.now c.self.inside.ring c.self.inside.names c.self.inside.stored.items c.self.view_is c.self.invariant
+      (option_copied c.as_ref.result) c.self.inside.names c.as_ref.ensures.value refl c.args.line.now c.in-Err-Refused.kind
       (rw c.in-Err-Refused.field-0-is at c.in-Err-Refused.ensures)),
   refl,
   refl,

@@ -1,0 +1,28 @@
+use Rattle.std.proofs.Common.{subst, subst₂, sym}
+use Rattle.module_vectors.specs.Rings.{variables}
+use Rattle.module_vectors.specs.Vectors.{IsMonomialOver}
+use Rattle.vector_division.proofs.Looping.{are_weighed}
+use Rattle.vector_division.specs.Progress.{AreWeighed}
+use Rattle.schreyer_resolution.specs.Sifting.{IsSifting, IsTermSifted}
+use Rattle.schreyer_resolution.proofs.Dropping.{next_weighed, sift_next}
+use Rattle.schreyer_resolution.proofs.sifting.covered_terms.Goals as goal
+
+pub sift_term-requires-clause-key : goal.sift_term-requires-clause-key
+sift_term-requires-clause-key g c =
+    let ring = g.F.Frame.over c.args.frame.now in
+    subst (λ r. IsMonomialOver r c.in-Some.term.0.monomial) (sym c.ring-ring.ensures)
+    (next_weighed ring (g.F.Frame.compare c.args.frame.now) c.args.columns.now c.args.v c.loop-term.kept.items c.pop_front.new.self.items c.in-Some.term
+    (subst (IsSifting ring (g.F.Frame.compare c.args.frame.now) c.args.columns.now c.args.v c.loop-term.kept.items) c.in-Some.ensures.items c.loop-term.invariant))
+
+pub sift_term-requires-clause-columns : goal.sift_term-requires-clause-columns
+sift_term-requires-clause-columns g c =
+    let ring = g.F.Frame.over c.args.frame.now in
+    let n = variables ring in
+    subst₂ (λ r z. AreWeighed (variables r) r.weights z) (sym c.ring-ring.ensures) (sym c.as_slice.ensures) (are_weighed n ring.weights ring.modulus.value (g.F.Frame.compare c.args.frame.now n) c.args.columns.now c.requires.vectors)
+
+pub loop-term-preserved : goal.loop-term-preserved
+loop-term-preserved g c =
+    let ring = g.F.Frame.over c.args.frame.now in
+    sift_next ring (g.F.Frame.compare c.args.frame.now) c.args.columns.now c.args.v c.loop-term.kept.items c.pop_front.new.self.items c.sift_term.new.kept.items c.in-Some.term
+    (subst (IsSifting ring (g.F.Frame.compare c.args.frame.now) c.args.columns.now c.args.v c.loop-term.kept.items) c.in-Some.ensures.items c.loop-term.invariant)
+    (subst₂ (λ r z. IsTermSifted (variables r) z c.in-Some.term c.loop-term.kept.items c.sift_term.new.kept.items) c.ring-ring.ensures c.as_slice.ensures c.in_ok-sift_term.ensures)

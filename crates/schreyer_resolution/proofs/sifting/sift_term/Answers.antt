@@ -1,0 +1,15 @@
+use Rattle.std.proofs.Common.{inr, subst}
+use Rattle.module_vectors.specs.Rings.{variables}
+use Rattle.module_vectors.specs.Vectors.{key_of}
+use Rattle.schreyer_resolution.specs.Columns.{IsFoundLast}
+use Rattle.schreyer_resolution.proofs.Finding.{not_uncovered}
+use Rattle.schreyer_resolution.proofs.sifting.sift_term.Goals as goal
+
+pub returns-in_ok-push-in-Some : goal.returns-in_ok-push-in-Some
+returns-in_ok-push-in-Some c =
+    let ring = c.args.ring.now in
+    inr (
+      not_uncovered (variables ring) ring.weights c.args.columns.now (key_of (variables ring) c.args.term.0) c.in-Some.field-0
+          (subst (IsFoundLast (variables ring) ring.weights c.args.columns.now (key_of (variables ring) c.args.term.0)) c.in-Some.is c.in_ok-last_divisor.ensures),
+      c.in_ok-push-in-Some.ensures.items,
+    )

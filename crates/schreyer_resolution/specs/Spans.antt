@@ -1,0 +1,36 @@
+-- Between which columns of a map the leads at one position stand
+use Rattle.std.specs.Prelude.{List, [], get_or, length, ℕ, ◌<◌, ◌≡◌, ◌≤◌}
+use Rattle.module_vectors.specs.Trails.{lead_at}
+use Rattle.module_vectors.specs.declared.key.Key.{Key as CodeKey}
+use Rattle.vector_division.specs.Marks.{IsMarkOf}
+use Rattle.vector_division.specs.declared.marks.Mark.{Mark}
+use Rattle.schreyer_resolution.specs.declared.divisors.LeadIndex.{LeadIndex}
+use Rattle.schreyer_resolution.specs.declared.divisors.Span.{Span}
+
+-- j stands in the span of this position
+pub record IsSpanned (spans : List Span) (position j : ℕ) : Type 0 where
+  pub span : Span
+  pub known : position < length spans
+  pub is : span ≡ get_or spans position span
+  pub from : span.from ≤ j
+  pub to : j < span.to
+
+-- what stood in a span still does, and all of this one stands in that of the position
+pub record IsWidened (position : ℕ) (more : Span) (old new : List Span) : Type 0 where
+  pub kept : (p j : ℕ) → IsSpanned old p j → IsSpanned new p j
+  pub added : (j : ℕ) → more.from ≤ j → j < more.to → IsSpanned new position j
+
+-- a mark for each column
+pub record AreMarks (columns : List (List (CodeKey × ℕ))) (marks : List Mark) : Type 0 where
+  pub count : length marks ≡ length columns
+  pub each : (i : ℕ) (m : Mark) → i < length columns → m ≡ get_or marks i m → IsMarkOf (get_or columns i []) m
+
+-- the marks are those of the columns, and each column stands in the span of its lead's position
+pub record IsIndexOf (columns : List (List (CodeKey × ℕ))) (index : LeadIndex) : Type 0 where
+  pub marks : AreMarks columns index.marks.items
+  pub spans : (n j : ℕ) → j < length columns → 0 < length (get_or columns j []) → IsSpanned index.spans.items (lead_at n columns j).0 j
+
+-- none of the columns from `end` on has its lead at this position
+abbrev pub ArePast : List (List (CodeKey × ℕ)) → ℕ → ℕ → Type 0
+ArePast columns position end =
+    (n j : ℕ) → end ≤ j → j < length columns → 0 < length (get_or columns j []) → (lead_at n columns j).0 ≡ position → ⊥

@@ -1,0 +1,148 @@
+-- One more name is chained
+use Rattle.std.proofs.Common.{List, [], ap, ap₂, arith, get_or, get_or-set_other, get_or-set_same, inl, inr, length, set, sym, refl, subst, ℕ, ◌+◌, ◌++◌, ◌-◌, ◌<◌, ◌∙◌, ◌∷◌, ◌≡◌, ◌≤◌}
+use Rattle.std.proofs.lemmas.List.{get_or_append_left, get_or_default, get_or_push, length-map, length-set, length_push, map_push}
+use Rattle.std.proofs.lemmas.Bool.{cases_eq}
+use Rattle.script_parse.specs.Hashes.{AreApart, IsChained, IsLink, IsTable, Lacks, bucket_at, bucket_of, hash_of}
+
+-- a link to fewer keys is one to more
+link_more : (count a b : ℕ) (hashes : List ℕ) (bucket link : ℕ) → a ≤ b → IsLink count a hashes bucket link → IsLink count b hashes bucket link
+link_more count a b hashes bucket link le h = record { within = omega (arith, h.within); together = h.together }
+
+-- the hash after the chained ones is put into its bucket
+pub chained_more :
+    (count i : ℕ) (hashes earlier last earlier' last' : List ℕ)
+    → IsChained count i hashes earlier last
+    → bucket_at count hashes i < count
+    → ((j : ℕ) → j < i → get_or earlier' j 0 ≡ get_or earlier j 0)
+    → get_or earlier' i 0 ≡ get_or last (bucket_at count hashes i) 0
+    → ((b : ℕ) → (b ≡ bucket_at count hashes i → ⊥) → get_or last' b 0 ≡ get_or last b 0)
+    → get_or last' (bucket_at count hashes i) 0 ≡ i + 1
+    → IsChained count (i + 1) hashes earlier' last'
+chained_more count i hashes earlier last earlier' last' h lt kept at others here = record {
+  last_all = all;
+  last_link = link;
+  earlier_all = before;
+  earlier_link = before_link;
+}
+  where
+    B : ℕ
+    B = bucket_at count hashes i
+
+    all : (j : ℕ) → j < i + 1 → j < get_or last' (bucket_at count hashes j) 0
+    all j l = elim (cases_eq (bucket_at count hashes j) (bucket_at count hashes i)) [
+      | inl e ↦ let f : get_or last' (bucket_at count hashes j) 0 ≡ i + 1 = ap (λ b. get_or last' b 0) e ∙ here in omega arith
+      | inr ne ↦ elim (cases_eq j i) [
+        | inl e ↦ absurd (ne (ap (bucket_at count hashes) e))
+        | inr nj ↦ let f = h.last_all j (omega arith) in let g = others (bucket_at count hashes j) ne in omega arith
+      ]
+    ]
+
+    link : (b : ℕ) → b < count → IsLink count (i + 1) hashes b (get_or last' b 0)
+    link b l = elim (cases_eq b (bucket_at count hashes i)) [
+      | inl e ↦
+          let f : get_or last' b 0 ≡ i + 1 = ap (λ b. get_or last' b 0) e ∙ here in
+          record {
+            within = omega arith;
+            together = λ _. ap (bucket_at count hashes) (let g : get_or last' b 0 - 1 ≡ i = omega arith in g) ∙ sym e;
+          }
+      | inr ne ↦ subst (IsLink count (i + 1) hashes b) (sym (others b ne)) (link_more count i (i + 1) hashes b (get_or last b 0) (omega arith) (h.last_link b l))
+    ]
+
+    before : (k j : ℕ) → k < i + 1 → j < k → bucket_at count hashes j ≡ bucket_at count hashes k → j < get_or earlier' k 0
+    before k j l m e = elim (cases_eq k i) [
+      | inl f ↦
+          let d : bucket_at count hashes j ≡ bucket_at count hashes i = e ∙ ap (bucket_at count hashes) f in
+          let g : get_or earlier' k 0 ≡ get_or last (bucket_at count hashes j) 0 = ap (λ x. get_or earlier' x 0) f ∙ at ∙ ap (λ b. get_or last b 0) (sym d) in
+          let r = h.last_all j (omega arith) in
+          omega arith
+      | inr ne ↦ let lt' : k < i = omega arith in let r = h.earlier_all k j lt' m e in let g = kept k lt' in omega arith
+    ]
+
+    before_link : (k : ℕ) → k < i + 1 → IsLink count k hashes (bucket_at count hashes k) (get_or earlier' k 0)
+    before_link k l = elim (cases_eq k i) [
+      | inl f ↦ subst (λ x. IsLink count x hashes (bucket_at count hashes x) (get_or earlier' x 0)) (sym f) (subst (IsLink count i hashes (bucket_at count hashes i)) (sym at) (h.last_link (bucket_at count hashes i) lt))
+      | inr ne ↦ let lt' : k < i = omega arith in subst (IsLink count k hashes (bucket_at count hashes k)) (sym (kept k lt')) (h.earlier_link k lt')
+    ]
+
+-- a link by hashes that agree before it
+link_same :
+    (count limit : ℕ) (hashes hashes' : List ℕ) (b b' link : ℕ)
+    → ((j : ℕ) → j < limit → get_or hashes' j 0 ≡ get_or hashes j 0) → b ≡ b' → IsLink count limit hashes b link
+    → IsLink count limit hashes' b' link
+link_same count limit hashes hashes' b b' link same e h = record {
+  within = h.within;
+  together = λ pos. ap (bucket_of count) (same (link - 1) (omega (arith, h.within))) ∙ h.together pos ∙ e;
+}
+
+-- places are chained by hashes that agree on them
+pub chained_same :
+    (count limit : ℕ) (hashes hashes' earlier last : List ℕ)
+    → ((j : ℕ) → j < limit → get_or hashes' j 0 ≡ get_or hashes j 0) → IsChained count limit hashes earlier last
+    → IsChained count limit hashes' earlier last
+chained_same count limit hashes hashes' earlier last same h = record {
+  last_all = λ j l. rw (ap (bucket_of count) (same j l)) (h.last_all j l);
+  last_link = λ b l. link_same count limit hashes hashes' b b (get_or last b 0) same refl (h.last_link b l);
+  earlier_all = λ i j l m e. h.earlier_all i j l m (ap (bucket_of count) (sym (same j (omega arith))) ∙ e ∙ ap (bucket_of count) (same i l));
+  earlier_link = λ i l. link_same count i hashes hashes' (bucket_at count hashes i) (bucket_at count hashes' i) (get_or earlier i 0) (λ j m. same j (omega arith)) (ap (bucket_of count) (sym (same i l))) (h.earlier_link i l);
+}
+
+-- a name that the list lacks stays apart from its names
+apart_more : (names : List (List ℕ)) (name : List ℕ) → AreApart names → Lacks names name → AreApart (names ++ name ∷ [])
+apart_more names name h lacks i j l m e = elim (cases_eq j (length names)) [
+  | inl at ↦
+      lacks i (omega arith)
+      (sym (get_or_append_left names (name ∷ []) [] i (omega arith)) ∙ e ∙ get_or_push names name [] j (sym at))
+  | inr ne ↦
+      let lt : j < length names = omega (arith, length_push names name) in
+      h i j l lt (sym (get_or_append_left names (name ∷ []) [] i (omega arith)) ∙ e ∙ get_or_append_left names (name ∷ []) [] j lt)
+]
+
+-- a name is put at the end of a table that lacks it
+pub table_more :
+    (names : List (List ℕ)) (hashes earlier last : List ℕ) (name : List ℕ) (hash : ℕ)
+    → IsTable names hashes earlier last → hash ≡ hash_of name → Lacks names name → bucket_of (length last) hash < length last
+    → IsTable (names ++ name ∷ []) (hashes ++ hash ∷ []) (earlier ++ get_or last (bucket_of (length last) hash) 0 ∷ [])
+    (set last (bucket_of (length last) hash) (length names + 1))
+table_more names hashes earlier last name hash h is lacks lt = record {
+  apart = apart_more names name h.apart lacks;
+  hashed = ap₂ (λ xs x. xs ++ x ∷ []) h.hashed is ∙ sym (map_push hash_of names name);
+  lengths = length_push earlier _ ∙ ap (λ x. x + 1) h.lengths ∙ sym (length_push names name);
+  some = λ _. subst (λ m. 0 < m) (sym (length-set last B (length names + 1))) (omega (arith, lt));
+  chained =
+      subst (λ m. IsChained m (length (names ++ name ∷ [])) (hashes ++ hash ∷ []) (earlier ++ get_or last B 0 ∷ []) (set last B (length names + 1))) (sym (length-set last B (length names + 1)))
+      (subst (λ m. IsChained (length last) m (hashes ++ hash ∷ []) (earlier ++ get_or last B 0 ∷ []) (set last B (length names + 1))) (sym (length_push names name)) more);
+}
+  where
+    B : ℕ
+    B = bucket_of (length last) hash
+
+    sized : length hashes ≡ length names
+    sized = ap length h.hashed ∙ length-map names hash_of
+
+    at : get_or (hashes ++ hash ∷ []) (length names) 0 ≡ hash
+    at = get_or_push hashes hash 0 (length names) sized
+
+    here : bucket_at (length last) (hashes ++ hash ∷ []) (length names) ≡ bucket_of (length last) hash
+    here = ap (bucket_of (length last)) at
+
+    more : IsChained (length last) (length names + 1) (hashes ++ hash ∷ []) (earlier ++ get_or last (bucket_of (length last) hash) 0 ∷ []) (set last (bucket_of (length last) hash) (length names + 1))
+    more =
+        chained_more (length last) (length names) (hashes ++ hash ∷ []) earlier last _ _
+        (chained_same (length last) (length names) hashes (hashes ++ hash ∷ []) earlier last (λ j l. get_or_append_left hashes (hash ∷ []) 0 j (omega (arith, sized))) h.chained)
+        (subst (λ b. b < length last) (sym here) lt)
+        (λ j l. get_or_append_left earlier _ 0 j (omega (arith, h.lengths)))
+        (get_or_push earlier _ 0 (length names) h.lengths ∙ ap (λ b. get_or last b 0) (sym here))
+        (λ b ne. get_or-set_other last (bucket_of (length last) hash) b (length names + 1) 0 (λ e. ne (e ∙ sym here)))
+        (ap (λ b. get_or (set last (bucket_of (length last) hash) (length names + 1)) b 0) here ∙ get_or-set_same last (bucket_of (length last) hash) (length names + 1) 0 lt)
+
+-- the same, by equations
+pub table_more_by :
+    (names names' : List (List ℕ)) (hashes hashes' earlier earlier' last : List ℕ) (name : List ℕ) (hash at before top : ℕ)
+    → IsTable names hashes earlier last → hash ≡ hash_of name → Lacks names name → at ≡ bucket_of (length last) hash
+    → at < length last → before ≡ get_or last at before → top ≡ length names → names' ≡ names ++ name ∷ []
+    → hashes' ≡ hashes ++ hash ∷ [] → earlier' ≡ earlier ++ before ∷ []
+    → IsTable names' hashes' earlier' (set last at (top + 1))
+table_more_by names names' hashes hashes' earlier earlier' last name hash at before top h is lacks e lt b t k hs es =
+    let r : before ≡ get_or last (bucket_of (length last) hash) 0 = b ∙ get_or_default last at before 0 lt ∙ ap (λ x. get_or last x 0) e in
+    let base = table_more names hashes earlier last name hash h is lacks (subst (λ x. x < length last) e lt) in
+    rw (k, hs, es, e, r, t) base
