@@ -31,7 +31,7 @@ use Rattle.symbolic_prep.specs.Prepared.{IsPrepared}
 use Rattle.symbolic_prep.specs.Traces.{IsOfEarlier, IsOfPair}
 use Rattle.vector_division.proofs.Occurring.{at_key, occurs}
 use Rattle.f4_job.proofs.Flagging.{unflagged_from}
-use Rattle.f4_job.proofs.News.{lead, row_good}
+use Rattle.f4_job.proofs.News.{row_good}
 use Rattle.f4_job.specs.Flags.{AreFlags, unflagged}
 use Rattle.f4_job.specs.Solved.{IsBelowPairs}
 

@@ -1,5 +1,5 @@
 -- The rows of an echelon form whose lead no row of the matrix has
-use Rattle.std.proofs.Common.{Bool, List, [], ap, arith, false, get_or, inl, inr, length, set, sym, true, true≢false, ℕ, ◌<◌, ◌∙◌, ◌≡◌}
+use Rattle.std.proofs.Common.{Bool, List, [], ap, arith, false, get_or, inl, inr, length, sym, true, true≢false, ℕ, ◌<◌, ◌∙◌, ◌≡◌}
 use Rattle.std.proofs.lemmas.List.{get_or-map, get_or_default, length-map}
 use Rattle.formal_sums.specs.FormalSums.{Each}
 use Rattle.bases.specs.Leads.{head_key, leads}

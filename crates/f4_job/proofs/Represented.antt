@@ -1,5 +1,5 @@
 -- The new rows with the members represent the pairs
-use Rattle.std.proofs.Common.{Bool, List, [], ap, append-nil, arith, get_or, inl, inr, length, map, subst, sym, ℕ, ◌+◌, ◌++◌, ◌<◌, ◌∙◌, ◌∷◌, ◌≡◌}
+use Rattle.std.proofs.Common.{Bool, List, [], ap, append-nil, arith, get_or, inl, inr, length, map, subst, sym, ℕ, ◌++◌, ◌<◌, ◌∙◌, ◌∷◌, ◌≡◌}
 use Rattle.std.proofs.lemmas.Bool.{cases_lt}
 use Rattle.std.proofs.lemmas.List.{get_or-map, get_or_default, length-map}
 use Rattle.residues.proofs.Congruences.{IsCongruent_sym, IsCongruent_trans}

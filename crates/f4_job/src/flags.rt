@@ -17,7 +17,7 @@ pub(crate) fn flags_of(alloc: Global, columns: usize, rows: &[Row]) -> Result<Ve
 {
     let mut flags = vec![in alloc; false; columns]?;
     for row in rows {
-        flags[row.entries()[0].0] = true;
+        flags[row.entries()[0].0 as usize] = true;
     }
     Ok(flags)
 }
@@ -34,7 +34,7 @@ pub(crate) fn unflagged_rows(
     let mut left = Vec::new(alloc);
     let mut rest = VecDeque::from_vec(rows);
     while let Some(row) = rest.pop_front() {
-        if !flags[row.entries()[0].0] {
+        if !flags[row.entries()[0].0 as usize] {
             left.push(row)?;
         }
     }

@@ -17,15 +17,15 @@ use vector_division::ScaledProduct;
 fn row_terms(
     alloc: Global,
     columns: &[Key],
-    entries: &[(usize, u32)],
+    entries: &[(u32, u32)],
 ) -> Result<Vec<(Key, u32)>, NoMemory>
     requires { Each (λ e. e.0 < length columns.now) entries.now }
     ensures { IfOk result (λ terms. terms.items ≡ map (λ e. entry_term columns.now e) entries.now) }
 {
-    let mut terms = Vec::new(alloc);
+    let mut terms = Vec::with_capacity(alloc, entries.len())?;
     for entry in entries {
-        let key = columns[entry.0].try_copy(alloc)?;
-        terms.push((key, entry.1))?;
+        let key = columns[entry.0 as usize].try_copy(alloc)?;
+        terms.push_reserved((key, entry.1));
     }
     Ok(terms)
 }
@@ -34,20 +34,20 @@ fn row_terms(
 fn row_parts(
     alloc: Global,
     products: &[(u64, Mono)],
-    sources: &[(usize, u32)],
+    sources: &[(u32, u32)],
 ) -> Result<Vec<ScaledProduct>, NoMemory>
     requires { Each (λ e. e.0 < length products.now) sources.now }
     ensures { IfOk result (λ parts. parts.items ≡ source_parts products.now sources.now) }
 {
-    let mut parts = Vec::new(alloc);
+    let mut parts = Vec::with_capacity(alloc, sources.len())?;
     for source in sources {
-        let product = &products[source.0];
+        let product = &products[source.0 as usize];
         let monomial = product.1.try_copy(alloc)?;
-        parts.push(ScaledProduct {
+        parts.push_reserved(ScaledProduct {
             index: product.0,
             residue: source.1,
             monomial,
-        })?;
+        });
     }
     Ok(parts)
 }

@@ -3,7 +3,7 @@ use Rattle.std.proofs.Common.{Contains, List, [], ap, ap₂, arith, get_or, inl,
 use Rattle.std.proofs.lemmas.List.{append_assoc, get_or_append_left, length-append, length_push, map-append, map_push}
 use Rattle.std.proofs.lemmas.List.Elements.{Contains-append_left, Contains-push}
 use Rattle.std.proofs.lemmas.Bool.{cases_eq}
-use Rattle.monomials.specs.Exponents.{Exponents, exponents_of, times}
+use Rattle.monomials.specs.Exponents.{exponents_of}
 use Rattle.formal_sums.proofs.Sameness.{scale-append}
 use Rattle.formal_sums.proofs.WeightedSums.{Each_append}
 use Rattle.formal_sums.specs.FormalSums.{Each, FormalSum, Key, scale, shift}

@@ -1,22 +1,35 @@
 -- Keys that are found by their hashes
 use Rattle.std.specs.Prelude.{List, [], fold, get_or, length, map, ℕ, ◌%◌, ◌*◌, ◌+◌, ◌++◌, ◌-◌, ◌/◌, ◌<◌, ◌∷◌, ◌^◌, ◌≡◌, ◌≤◌, ◌⊎◌}
+use Rattle.std.specs.Simd.Lanes.{zip2}
+use Rattle.monomial_orders.specs.Kept.{Monomial}
 use Rattle.module_vectors.specs.declared.key.Key.{Key}
 
 -- the monomial 1 of no variables, where a list has no key
 abbrev pub no_key : Key
 no_key = record { position = 0; monomial = record { exponents = []; degree = 0 } }
 
--- one exponent after another
+-- the sums of two lists of exponents, place by place
+abbrev pub sums : List ℕ → List ℕ → List ℕ
+sums left right = zip2 (λ a b. a + b) left right
+
+-- the product of a monomial and a key
+abbrev pub key_product : Monomial → Key → Key
+key_product t key = record {
+  position = key.position;
+  monomial = record { exponents = sums t.exponents key.monomial.exponents; degree = t.degree + key.monomial.degree };
+}
+
+-- one exponent after another, as digits
 abbrev pub hash_step : ℕ → ℕ → ℕ
-hash_step hash exponent = ((hash + exponent) % 2 ^ 64 * 11400714819323198485) % 2 ^ 64
+hash_step hash exponent = ((hash * 31) % 2 ^ 64 + exponent) % 2 ^ 64
 
 -- the hash of a key
 abbrev pub hash_of : Key → ℕ
 hash_of key = fold hash_step key.position key.monomial.exponents
 
--- the bucket of a hash, of so many
+-- the bucket of a hash, of so many: its bits are spread
 abbrev pub bucket_of : ℕ → ℕ → ℕ
-bucket_of count hash = hash * count / 2 ^ 64
+bucket_of count hash = (hash * 11400714819323198485) % 2 ^ 64 * count / 2 ^ 64
 
 -- the bucket of the key with this number
 abbrev pub bucket_at : ℕ → List ℕ → ℕ → ℕ

@@ -1,9 +1,11 @@
 // Numbers for module monomials.
-ghost use Rattle.std.specs.Prelude.{◌≡◌, ◌<◌, ◌≤◌, ◌+◌, ◌++◌, [], ◌∷◌, ◌⊎◌, ℕ, length, get_or, IfOk, IfSome, IfNone, OnOk, OnErr};
+ghost use Rattle.std.specs.Prelude.{◌≡◌, ◌<◌, ◌≤◌, ◌+◌, ◌++◌, ◌↔◌, [], ◌∷◌, ◌⊎◌, ℕ, length, get_or, IfErr, IfOk, IfSome, IfNone, IsTrue, OnOk, OnErr};
 ghost use Rattle.std.specs.Vec.{vec_len, vec_capacity};
-ghost use Rattle.row_matrix.specs.Hashes.{AreApart, Lacks, IsChained, IsTable, IsNumbered, bucket_of, hash_of, no_key};
+ghost use Rattle.monomial_orders.specs.Monomials.{StopsAbove};
+ghost use Rattle.row_matrix.specs.Hashes.{AreApart, Lacks, IsChained, IsTable, IsNumbered, bucket_of, hash_of, no_key, key_product, sums};
 
 use module_vectors::{Key, NoMemory};
+use monomial_orders::{Mono, MonoStop};
 use std::alloc::Global;
 use std::marker::Model;
 
@@ -11,17 +13,90 @@ use std::marker::Model;
 // 3, section 6.4).
 const SPREAD: u64 = 11400714819323198485;
 
+// Exponents are hashed as digits to this base, by which a multiplication is a shift and a subtraction.
+const DIGIT: u64 = 31;
+
+// So many digits behind a position below this one have 64 bits: of keys with such exponents the hash tells the key.
+const MOST_DIGITS: usize = 12;
+
+const POSITIONS: u64 = 16;
+
 const FIRST_BUCKETS: usize = 64;
 
-// A number for the key, the same for equal keys.
-fn hash_key(key: &Key) -> u64
-    ensures { result ≡ hash_of key.now }
+// The greatest degree of a product.
+const MAX_DEGREE: u128 = 65535;
+
+// A number for the product of the monomial and the key, the same for equal products.
+fn hash_product(t: &Mono, key: &Key) -> u64
+    requires { length t.now.exponents ≡ length key.now.monomial.exponents }
+    ensures { result ≡ hash_of (key_product t.now key.now) }
 {
+    let left = t.exponents();
+    let right = key.monomial.exponents();
     let mut hash = key.position;
-    for exponent in key.monomial.exponents() {
-        hash = hash.wrapping_add(u64::from(*exponent)).wrapping_mul(SPREAD);
+    for k in 0..left.len() {
+        let exponent = u64::from(left[k]) + u64::from(right[k]);
+        hash = hash.wrapping_mul(DIGIT).wrapping_add(exponent);
     }
     hash
+}
+
+// Are these the sums of the others, place by place?
+fn are_sums(places: &[u16], left: &[u16], right: &[u16]) -> bool
+    requires { length left.now ≡ length right.now }
+    ensures { IsTrue result ↔ (places.now ≡ sums left.now right.now) }
+{
+    if places.len() != left.len() {
+        return false;
+    }
+    for k in 0..left.len() {
+        if u32::from(places[k]) != u32::from(left[k]) + u32::from(right[k]) {
+            return false;
+        }
+    }
+    true
+}
+
+// Does the hash alone tell a key of this degree and position, in so many variables?
+fn is_told(position: u64, degree: u128, n: usize) -> bool
+    ensures { IsTrue result → (position < 16) × (degree < 31) × (n ≤ 12) }
+{
+    if position < POSITIONS {
+        if n <= MOST_DIGITS {
+            return degree < u128::from(DIGIT);
+        }
+    }
+    false
+}
+
+// Is the first one, which has the hash of the product of the monomial and the other key, that product?
+fn is_product(product: &Key, t: &Mono, key: &Key) -> bool
+    requires variables { length t.now.exponents ≡ length key.now.monomial.exponents }
+    requires hash { hash_of product.now ≡ hash_of (key_product t.now key.now) }
+    ensures { IsTrue result ↔ (product.now ≡ key_product t.now key.now) }
+{
+    if product.position != key.position {
+        return false;
+    }
+    let degree = t.degree() + key.monomial.degree();
+    if product.monomial.degree() != degree {
+        return false;
+    }
+    let n = t.variables();
+    if product.monomial.variables() != n {
+        return false;
+    }
+    product.monomial.bounds();
+    t.bounds();
+    key.monomial.bounds();
+    if is_told(key.position, degree, n) {
+        return true;
+    }
+    are_sums(
+        product.monomial.exponents(),
+        t.exponents(),
+        key.monomial.exponents(),
+    )
 }
 
 // The bucket of a hash.
@@ -30,7 +105,8 @@ fn bucket(count: usize, hash: u64) -> usize
     ensures value { result ≡ bucket_of count hash }
     ensures within { result < count }
 {
-    ((u128::from(hash) * count as u128) >> 64) as usize
+    let spread = hash.wrapping_mul(SPREAD);
+    ((u128::from(spread) * count as u128) >> 64) as usize
 }
 
 /// Module monomials, each with its number, from 0. No key has two numbers.
@@ -72,25 +148,27 @@ fn chain_all(hashes: &[u64], earlier: &mut Vec<usize>, last: &mut Vec<usize>)
     }
 }
 
-// The number of the key, which has this hash.
+// The number of the product of the monomial and the key, which has this hash.
 fn find(
     keys: &[Key],
     hashes: &[u64],
     earlier: &[usize],
     last: &[usize],
     hash: u64,
+    t: &Mono,
     key: &Key,
 ) -> Option<usize>
     requires table { IsTable keys.now hashes.now earlier.now last.now }
-    requires hash { hash ≡ hash_of key.now }
-    ensures some { IfSome result (λ i. (i < length keys.now) × (get_or keys.now i no_key ≡ key.now)) }
-    ensures none { IfNone result (Lacks keys.now key.now) }
+    requires variables { length t.now.exponents ≡ length key.now.monomial.exponents }
+    requires hash { hash ≡ hash_of (key_product t.now key.now) }
+    ensures some { IfSome result (λ i. (i < length keys.now) × (get_or keys.now i no_key ≡ key_product t.now key.now)) }
+    ensures none { IfNone result (Lacks keys.now (key_product t.now key.now)) }
 {
     let mut cursor = last[bucket(last.len(), hash)];
     while cursor > 0 {
         let i = cursor - 1;
         if hashes[i] == hash {
-            if keys[i].equal(key) {
+            if is_product(&keys[i], t, key) {
                 return Some(i);
             }
         }
@@ -183,22 +261,13 @@ impl KeyTable {
         self.keys.len()
     }
 
-    /// The number of the key, which is put at the end where it has none yet. After an error the table is as before.
-    pub fn number_of(&mut self, alloc: Global, key: Key) -> Result<usize, NoMemory>
+    // Puts a key with this hash at the end, and gives its number. After an error the table is as before.
+    fn put(&mut self, alloc: Global, hash: u64, key: Key) -> Result<usize, NoMemory>
+        requires hash { hash ≡ hash_of key }
+        requires lacks { Lacks self.old key }
         ensures ok { IfOk result (IsNumbered self.old self.new key) }
         ensures err { OnErr result (self.new ≡ self.old) }
     {
-        let hash = hash_key(&key);
-        if let Some(i) = find(
-            &self.keys,
-            &self.hashes,
-            &self.earlier,
-            &self.last,
-            hash,
-            &key,
-        ) {
-            return Ok(i);
-        }
         widen(
             alloc,
             &self.keys,
@@ -216,5 +285,44 @@ impl KeyTable {
             key,
         )?;
         Ok(i)
+    }
+
+    /// The number of the product of the monomial and the key, which is made and put at the end only where it has none
+    /// yet. `Degree` where its degree is above 65,535. After an error the table is as before.
+    pub fn number_of_product(
+        &mut self,
+        alloc: Global,
+        t: &Mono,
+        key: &Key,
+    ) -> Result<usize, MonoStop>
+        requires { length t.now.exponents ≡ length key.now.monomial.exponents }
+        ensures ok { IfOk result (IsNumbered self.old self.new (key_product t.now key.now)) }
+        ensures small { OnOk result (t.now.degree + key.now.monomial.degree ≤ 65535) }
+        ensures err { OnErr result (self.new ≡ self.old) }
+        ensures stop { IfErr result (StopsAbove (t.now.degree + key.now.monomial.degree)) }
+    {
+        if t.degree() + key.monomial.degree() > MAX_DEGREE {
+            return Err(MonoStop::Degree);
+        }
+        let hash = hash_product(t, key);
+        if let Some(i) = find(
+            &self.keys,
+            &self.hashes,
+            &self.earlier,
+            &self.last,
+            hash,
+            t,
+            key,
+        ) {
+            return Ok(i);
+        }
+        let product = Key {
+            position: key.position,
+            monomial: Mono::mul(alloc, t, &key.monomial)?,
+        };
+        match self.put(alloc, hash, product) {
+            Ok(i) => Ok(i),
+            Err(_) => Err(MonoStop::Memory),
+        }
     }
 }

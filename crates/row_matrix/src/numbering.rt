@@ -7,6 +7,7 @@ ghost use Rattle.row_matrix.specs.Hashes.{IsNumbered, no_key};
 ghost use Rattle.row_matrix.specs.Naming.{Falls, IsNumbering, by_descent};
 ghost use Rattle.row_matrix.specs.Rows.{AreKeys};
 
+use crate::kept_number;
 use module_vectors::{Frame, Key, NoMemory};
 use std::alloc::Global;
 use std::cmp::Ordering;
@@ -15,7 +16,7 @@ use std::cmp::Ordering;
 #[derive(Drop)]
 pub struct Numbering {
     pub columns: Vec<Key>,
-    pub places: Vec<usize>,
+    pub places: Vec<u32>,
 }
 
 // Compares two numbers for a sort with the greatest key first. Numbers without a key, of which there are none, come last.
@@ -89,7 +90,8 @@ pub fn number_columns<F: Frame>(
     let mut columns = Vec::with_capacity(alloc, keys.len())?;
     let mut places = vec![in alloc; 0; keys.len()]?;
     for number in &numbers {
-        places[*number] = column_of(alloc, &mut columns, &keys[*number])?;
+        let column = column_of(alloc, &mut columns, &keys[*number])?;
+        places[*number] = kept_number(column)?;
     }
     Ok(Numbering { columns, places })
 }

@@ -15,21 +15,21 @@ use std::collections::VecDeque;
 // The entries with the places of their numbers.
 fn place_entries(
     alloc: Global,
-    places: &[usize],
-    entries: &[(usize, u32)],
-) -> Result<Vec<(usize, u32)>, NoMemory>
+    places: &[u32],
+    entries: &[(u32, u32)],
+) -> Result<Vec<(u32, u32)>, NoMemory>
     requires { Each (λ e. e.0 < length places.now) entries.now }
     ensures { IfOk result (λ es. es.items ≡ placed_entries places.now entries.now) }
 {
     let mut out = Vec::with_capacity(alloc, entries.len())?;
     for entry in entries {
-        out.push_reserved((places[entry.0], entry.1));
+        out.push_reserved((places[entry.0 as usize], entry.1));
     }
     Ok(out)
 }
 
 // The row with the places of its numbers.
-fn place_row(alloc: Global, places: &[usize], row: Row) -> Result<Row, NoMemory>
+fn place_row(alloc: Global, places: &[u32], row: Row) -> Result<Row, NoMemory>
     requires { Each (λ e. e.0 < length places.now) row.entries }
     ensures entries { IfOk result (λ r. r.entries ≡ placed_entries places.now row.entries) }
     ensures sources { IfOk result (λ r. r.sources ≡ row.sources) }
@@ -40,7 +40,7 @@ fn place_row(alloc: Global, places: &[usize], row: Row) -> Result<Row, NoMemory>
 }
 
 // The rows with the places of their numbers.
-fn place_rows(alloc: Global, places: &[usize], rows: Vec<Row>) -> Result<Vec<Row>, NoMemory>
+fn place_rows(alloc: Global, places: &[u32], rows: Vec<Row>) -> Result<Vec<Row>, NoMemory>
     requires { Each (λ r. Each (λ e. e.0 < length places.now) r.entries) rows.items }
     ensures { IfOk result (λ placed. placed.items ≡ map (λ r. placed_row places.now r) rows.items) }
 {

@@ -10,7 +10,7 @@ ghost use Rattle.row_matrix.specs.Rows.{AreKeys};
 ghost use Rattle.row_matrix.specs.Products.{ProductStops};
 ghost use Rattle.row_matrix.specs.declared.products.ProductStop.TheVariants.{Memory};
 
-use crate::KeyTable;
+use crate::{KeyTable, kept_number};
 use module_vectors::{Key, NoMemory};
 use monomial_orders::{Mono, MonoStop};
 use std::alloc::{AllocError, Global};
@@ -46,7 +46,7 @@ pub fn product_row(
     keys: &mut KeyTable,
     t: &Mono,
     v: &[(Key, u32)],
-) -> Result<Vec<(usize, u32)>, ProductStop>
+) -> Result<Vec<(u32, u32)>, ProductStop>
     requires { Each (HasVariables (length t.now.exponents)) v.now }
     ensures named { let n = length t.now.exponents in
         IfOk result (λ entries. AreNamed n keys.new entries.items (scale 1 (exponents_of n t.now.exponents) (sum_of n v.now))) }
@@ -58,16 +58,11 @@ pub fn product_row(
 {
     let mut entries = Vec::with_capacity(alloc, v.len())?;
     for (i, term) in v.iter().enumerate() {
-        let monomial = match Mono::mul(alloc, t, &term.0.monomial) {
-            Ok(monomial) => monomial,
+        match keys.number_of_product(alloc, t, &term.0) {
+            Ok(number) => entries.push_reserved((kept_number(number)?, term.1)),
             Err(MonoStop::Memory) => return Err(ProductStop::Memory),
             Err(MonoStop::Degree) => return Err(ProductStop::Degree(i)),
-        };
-        let key = Key {
-            position: term.0.position,
-            monomial,
-        };
-        entries.push_reserved((keys.number_of(alloc, key)?, term.1));
+        }
     }
     Ok(entries)
 }

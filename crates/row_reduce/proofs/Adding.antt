@@ -1,6 +1,6 @@
 -- One product more in a sum with a number for each column
-use Rattle.std.proofs.Common.{List, [], ap, append-nil, arith, get_or, get_or-set_other, length, refl, set, subst, suc, sym, take, zero, ℕ, ◌*◌, ◌+◌, ◌++◌, ◌<◌, ◌∙◌, ◌∷◌, ◌≡◌}
-use Rattle.std.proofs.lemmas.List.{append_assoc, get_or_default, length-set, map-append}
+use Rattle.std.proofs.Common.{List, [], ap, append-nil, arith, drop, get_or, get_or-set_other, length, mul-le-mul, refl, set, subst, suc, sym, take, zero, ℕ, ◌*◌, ◌+◌, ◌++◌, ◌<◌, ◌∙◌, ◌∷◌, ◌^◌, ◌≡◌, ◌≤◌}
+use Rattle.std.proofs.lemmas.List.{append_assoc, drop_more, get_or_default, length-set, map-append}
 use Rattle.residues.proofs.Congruences.{IsCongruent_add, IsCongruent_cancel, IsCongruent_multiply, IsCongruent_of, IsCongruent_refl, IsCongruent_trans}
 use Rattle.residues.specs.Residues.{IsCongruent}
 use Rattle.monomials.specs.Exponents.{unit}
@@ -8,8 +8,9 @@ use Rattle.formal_sums.proofs.Sameness.{IsSame_append, IsSame_of, IsSame_refl, I
 use Rattle.formal_sums.proofs.WeightedSums.{coefficient-append}
 use Rattle.formal_sums.specs.FormalSums.{Each, IsSame, Key, coefficient, indicator, scale, weighted_sum}
 use Rattle.module_vectors.proofs.Scaling.{Each_at, take_item}
-use Rattle.row_matrix.specs.Rows.{Entry, row_sum}
-use Rattle.row_reduce.specs.Dense.{AddsMultiple, AreWithin, IsDense, dense_sum}
+use Rattle.row_matrix.specs.Rows.{AreEntries, Entry, row_sum}
+use Rattle.row_reduce.proofs.Entries.{entries_from, entries_within}
+use Rattle.row_reduce.specs.Dense.{AddsMultiple, AreWithin, HasRoom, IsDense, dense_sum}
 
 -- a number is written over another one
 pub weighted_sum-dense_set :
@@ -61,10 +62,9 @@ Each_back P [] ys h = h
 Each_back P (x ∷ xs) ys h = Each_back P xs ys h.1
 
 -- nothing is added yet
-pub adds_nothing : (p factor : ℕ) (acc : List ℕ) → IsDense p acc → AddsMultiple p factor [] acc acc
-adds_nothing p factor acc h = record {
+pub adds_nothing : (p factor : ℕ) (acc : List ℕ) → AddsMultiple p factor [] acc acc
+adds_nothing p factor acc = record {
   count = refl;
-  small = h;
   sum = λ n key. IsSame_of p _ _ (sym (append-nil (dense_sum key 0 acc)));
   before = λ j _. refl;
 }
@@ -72,12 +72,11 @@ adds_nothing p factor acc h = record {
 -- one entry more
 pub adds_more :
     (p factor : ℕ) (done : List Entry) (e : Entry) (start acc : List ℕ) (b : ℕ)
-    → 0 < p → AddsMultiple p factor done start acc → e.0 < length start → b < p * p
+    → 0 < p → AddsMultiple p factor done start acc → e.0 < length start
     → IsCongruent p b (get_or acc e.0 0 + factor * e.1)
     → AddsMultiple p factor (done ++ e ∷ []) start (set acc e.0 b)
-adds_more p factor done e start acc b pos h lt small c = record {
+adds_more p factor done e start acc b pos h lt c = record {
   count = length-set acc e.0 b ∙ h.count;
-  small = Each_set (λ a. a < p * p) acc e.0 b h.small small;
   sum = λ n key.
       let one : IsSame p (dense_sum key 0 (set acc e.0 b)) (dense_sum key 0 acc ++ (key e.0, factor * e.1) ∷ []) = dense_add pos key e.0 b (factor * e.1) acc (omega (arith, h.count)) c in
       let back : scale factor (unit n) (row_sum key (done ++ e ∷ [])) ≡ scale factor (unit n) (row_sum key done) ++ (key e.0, factor * e.1) ∷ [] =
@@ -94,12 +93,82 @@ adds_more p factor done e start acc b pos h lt small c = record {
 pub adds_step :
     (p factor : ℕ) (entries : List Entry) (i : ℕ) (e : Entry) (start acc : List ℕ) (a b : ℕ)
     → 0 < p → AddsMultiple p factor (take i entries) start acc → i < length entries → e ≡ get_or entries i e
-    → AreWithin p (length start) entries → b < p * p → a ≡ get_or acc e.0 a
+    → AreWithin p (length start) entries → a ≡ get_or acc e.0 a
     → IsCongruent p b (a + factor * e.1)
     → AddsMultiple p factor (take (i + 1) entries) start (set acc e.0 b)
-adds_step p factor entries i e start acc a b pos h lt at within small is c =
+adds_step p factor entries i e start acc a b pos h lt at within is c =
     let q = Each_at _ entries i e within lt at in
     let l : e.0 < length acc = omega (arith, q.0, h.count) in
     let r : a ≡ get_or acc e.0 0 = is ∙ get_or_default acc e.0 a 0 l in
     subst (λ xs. AddsMultiple p factor xs start (set acc e.0 b)) (sym (take_item entries i e lt at))
-    (adds_more p factor (take i entries) e start acc b pos h q.0 small (subst (λ x. IsCongruent p b (x + factor * e.1)) r c))
+    (adds_more p factor (take i entries) e start acc b pos h q.0 (subst (λ x. IsCongruent p b (x + factor * e.1)) r c))
+
+-- all are below the limit with one square more, and what is still to be added to is below the limit
+pub record AreAddedTo (square limit : ℕ) (rest : List Entry) (acc : List ℕ) : Type 0 where
+  pub small : IsDense (limit + square) acc
+  pub ahead : Each (λ e. get_or acc e.0 0 < limit) rest
+
+pub added_start :
+    (p square limit low : ℕ) (es : List Entry) (acc : List ℕ) → AreEntries p low (length acc) es → IsDense limit acc
+    → AreAddedTo square limit es acc
+added_start p square limit low es acc h small = record {
+  small = more acc small;
+  ahead = ahead es (entries_within p low (length acc) es h);
+}
+  where
+    more : (xs : List ℕ) → IsDense limit xs → IsDense (limit + square) xs
+    more [] h = tt
+    more (x ∷ xs) h = (omega (arith, h.0), more xs h.1)
+
+    ahead : (es : List Entry) → AreWithin p (length acc) es → Each (λ e. get_or acc e.0 0 < limit) es
+    ahead [] h = tt
+    ahead (e ∷ es) h =
+        (Each_at (λ a. a < limit) acc e.0 (get_or acc e.0 0) small h.0.0 (get_or_default acc e.0 0 (get_or acc e.0 0) h.0.0), ahead es h.1)
+
+pub added_step :
+    (p square limit high b : ℕ) (e : Entry) (rest : List Entry) (acc : List ℕ) → AreEntries p (e.0 + 1) high rest
+    → b < limit + square → AreAddedTo square limit (e ∷ rest) acc → AreAddedTo square limit rest (set acc e.0 b)
+added_step p square limit high b e rest acc es lt h = record {
+  small = Each_set (λ a. a < limit + square) acc e.0 b h.small lt;
+  ahead = ahead rest (entries_from p (e.0 + 1) high e.0 rest es (omega arith)) h.ahead.1;
+}
+  where
+    ahead : (xs : List Entry) → Each (λ x. e.0 < x.0) xs → Each (λ x. get_or acc x.0 0 < limit) xs
+        → Each (λ x. get_or (set acc e.0 b) x.0 0 < limit) xs
+    ahead [] g k = tt
+    ahead (x ∷ xs) g k =
+        let ne : x.0 ≡ e.0 → ⊥ = λ f. (let l : e.0 < x.0 = g.0 in omega arith) in
+        (subst (λ a. a < limit) (sym (get_or-set_other acc e.0 x.0 b 0 ne)) k.0, ahead xs g.1 k.1)
+
+-- the entries from the one at i on
+pub entries_drop :
+    (p low high i : ℕ) (es : List Entry) → AreEntries p low high es → i < length es
+    → AreEntries p ((get_or es i (0, 0)).0 + 1) high (drop (i + 1) es)
+entries_drop p low high i [] h lt = absurd (omega arith)
+entries_drop p low high zero (e ∷ es) h lt = h.3
+entries_drop p low high (suc i) (e ∷ es) h lt =
+    let r : suc i + 1 ≡ suc (i + 1) = omega arith in
+    rw r (entries_drop p (e.0 + 1) high i es h.3 (omega arith))
+
+-- the number to which the entry at i is added
+pub added_at :
+    (square limit : ℕ) (es : List Entry) (i : ℕ) (acc : List ℕ) → AreAddedTo square limit (drop i es) acc → i < length es
+    → get_or acc (get_or es i (0, 0)).0 0 < limit
+added_at square limit es i acc h lt =
+    let g : Each (λ e. get_or acc e.0 0 < limit) (get_or es i (0, 0) ∷ drop (i + 1) es) =
+    subst (Each (λ e. get_or acc e.0 0 < limit)) (drop_more es i (0, 0) lt) h.ahead in
+    g.0
+
+pub product_below : (p a b : ℕ) → a < p → b < p → a * b < p * p
+product_below zero a b lt below = absurd (omega arith)
+product_below (suc q) a b lt below =
+    let h : a * b ≤ q * q = mul-le-mul (omega (arith, lt)) (omega (arith, below)) in
+    omega (arith, h)
+
+pub room_more : (p limit : ℕ) → HasRoom p limit → limit + p * p + p * p < 2 ^ 64 → HasRoom p (limit + p * p)
+room_more p limit h lt = record {
+  times = h.times + 1;
+  multiple = ap (λ x. x + p * p) h.multiple ∙ omega arith;
+  some = omega arith;
+  room = lt;
+}

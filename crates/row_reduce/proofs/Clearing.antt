@@ -17,7 +17,7 @@ use Rattle.row_matrix.specs.Rows.{AreEntries, Entry, IsRow, RowShown, first_colu
 use Rattle.module_vectors.proofs.Scaling.{Each_at}
 use Rattle.row_reduce.proofs.Adding.{Each_set, dense_add}
 use Rattle.row_reduce.proofs.Entries.{entries_from, entries_push, entries_widen, monic_entries}
-use Rattle.row_reduce.specs.Dense.{AddsMultiple, AreWithin, IsDense, dense_sum}
+use Rattle.row_reduce.specs.Dense.{AddsMultiple, AreWithin, HasRoom, IsDense, dense_sum}
 use Rattle.row_reduce.specs.Pivots.{ArePivots, lead_column, no_row, row_at, row_vectors}
 use Rattle.row_reduce.specs.Underway.{AreCombined, IsReducedTo, IsUnderway, sources_sum, taken_sum}
 
@@ -169,22 +169,23 @@ combined_more {n} p pos F key rows row pivot taken taken' number factor t t' mor
     (IsSame_trans (IsSame_append h (IsSame_scale pos factor (unit n) from)) (IsSame_sym e))
 
 -- ---- the record of the way
-module _ (p c columns count : ℕ) (pivots : List ℕ) (left : List Entry) (numbers : List ℕ) (taken : List Entry) (h : IsUnderway p c columns count pivots left numbers taken) (lt : c < length numbers) where
+module _ (p limit c columns count : ℕ) (pivots : List ℕ) (left : List Entry) (numbers : List ℕ) (taken : List Entry) (h : IsUnderway p limit c columns count pivots left numbers taken) (lt : c < length numbers) where
   cleared_more : (j : ℕ) → j < c + 1 → get_or (set numbers c 0) j 0 ≡ 0
   cleared_more j l = elim (cases_eq j c) [
     | inl e ↦ ap (λ k. get_or (set numbers c 0) k 0) e ∙ get_or-set_same numbers c 0 0 lt
     | inr ne ↦ get_or-set_other numbers c j 0 0 ne ∙ h.cleared j (omega arith)
   ]
 
-  small_set : IsDense p (set numbers c 0)
+  small_set : IsDense limit (set numbers c 0)
   small_set =
-      let a : get_or numbers c 0 < p * p = Each_at (λ a. a < p * p) numbers c (get_or numbers c 0) h.small lt (get_or_default numbers c 0 (get_or numbers c 0) lt) in
-      Each_set (λ a. a < p * p) numbers c 0 h.small (omega arith)
+      let a : get_or numbers c 0 < limit = Each_at (λ a. a < limit) numbers c (get_or numbers c 0) h.small lt (get_or_default numbers c 0 (get_or numbers c 0) lt) in
+      Each_set (λ a. a < limit) numbers c 0 h.small (omega arith)
 
   -- nothing stands there
-  pub underway_skip : get_or numbers c 0 ≡ 0 → IsUnderway p (c + 1) columns count pivots left numbers taken
+  pub underway_skip : get_or numbers c 0 ≡ 0 → IsUnderway p limit (c + 1) columns count pivots left numbers taken
   underway_skip zero = record {
     numbered = h.numbered;
+    room = h.room;
     small = h.small;
     known = h.known;
     cleared = λ j l. elim (cases_eq j c) [
@@ -195,9 +196,10 @@ module _ (p c columns count : ℕ) (pivots : List ℕ) (left : List Entry) (numb
     free = h.free;
   }
 
-  pub underway_none : IsUnderway p (c + 1) columns count pivots left (set numbers c 0) taken
+  pub underway_none : IsUnderway p limit (c + 1) columns count pivots left (set numbers c 0) taken
   underway_none = record {
     numbered = length-set numbers c 0 ∙ h.numbered;
+    room = h.room;
     small = small_set;
     known = h.known;
     cleared = cleared_more;
@@ -208,9 +210,10 @@ module _ (p c columns count : ℕ) (pivots : List ℕ) (left : List Entry) (numb
   pub underway_left :
       (r : ℕ) (left' : List Entry)
       → 0 < r → r < p → get_or pivots c 0 ≡ 0 → left' ≡ left ++ (c, r) ∷ []
-      → IsUnderway p (c + 1) columns count pivots left' (set numbers c 0) taken
+      → IsUnderway p limit (c + 1) columns count pivots left' (set numbers c 0) taken
   underway_left r left' pos small none e = record {
     numbered = length-set numbers c 0 ∙ h.numbered;
+    room = h.room;
     small = small_set;
     known = h.known;
     cleared = cleared_more;
@@ -219,13 +222,14 @@ module _ (p c columns count : ℕ) (pivots : List ℕ) (left : List Entry) (numb
   }
 
   pub underway_pivot :
-      (number factor : ℕ) (tail : List Entry) (numbers' : List ℕ) (taken' : List Entry)
+      (number factor limit' : ℕ) (tail : List Entry) (numbers' : List ℕ) (taken' : List Entry)
       → AreEntries p (c + 1) columns tail → AddsMultiple p factor tail (set numbers c 0) numbers' → number < count → factor < p
-      → taken' ≡ taken ++ (number, factor) ∷ []
-      → IsUnderway p (c + 1) columns count pivots left numbers' taken'
-  underway_pivot number factor tail numbers' taken' es a known small e = record {
+      → taken' ≡ taken ++ (number, factor) ∷ [] → HasRoom p limit' → IsDense limit' numbers'
+      → IsUnderway p limit' (c + 1) columns count pivots left numbers' taken'
+  underway_pivot number factor limit' tail numbers' taken' es a known small e room below = record {
     numbered = a.count ∙ length-set numbers c 0 ∙ h.numbered;
-    small = a.small;
+    room = room;
+    small = below;
     known = subst (AreWithin p count) (sym e) (Each_append (λ (x : Entry). (x.0 < count) × (x.1 < p)) taken ((number, factor) ∷ []) h.known ((known, small), tt));
     cleared = λ j l. a.before j (entries_from p (c + 1) columns j tail es l) ∙ cleared_more j l;
     entries = entries_widen p 0 c (c + 1) left (omega arith) h.entries;

@@ -18,7 +18,7 @@ use Rattle.row_matrix.specs.Rows.{AreEntries, Entry, IsRow, RowShown, first_colu
 use Rattle.module_vectors.proofs.Scaling.{take_item}
 use Rattle.row_reduce.proofs.Clearing.{sources_push}
 use Rattle.row_reduce.proofs.Entries.{entries_from}
-use Rattle.row_reduce.specs.Dense.{AddsMultiple, AreWithin, IsDense, dense_sum}
+use Rattle.row_reduce.specs.Dense.{AddsMultiple, AreWithin, HasRoom, IsDense, dense_sum}
 use Rattle.row_reduce.specs.Pivots.{row_at, row_vectors}
 use Rattle.row_reduce.specs.Underway.{IsCombinedDense, IsDone, IsLeftRow, IsReducedDense, IsRemainder, IsSpanned, IsUnderway, rescaled, sources_sum}
 
@@ -123,9 +123,9 @@ dense_zeros : {n : ℕ} (f : Key n → ℕ) (key : ℕ → Key n) (j m : ℕ) �
 dense_zeros f key j zero = refl
 dense_zeros f key j (suc m) = let h = dense_zeros f key (j + 1) m in omega (arith, h)
 
-pub dense_start : (p m : ℕ) → 1 < p → IsDense p (replicate m 0)
-dense_start p zero one = tt
-dense_start p (suc m) one = (square p one, dense_start p m one)
+pub dense_start : (p limit m : ℕ) → 1 < p → HasRoom p limit → IsDense limit (replicate m 0)
+dense_start p limit zero one h = tt
+dense_start p limit (suc m) one h = (omega (arith, square p one, h.some), dense_start p limit m one h)
   where
     square : (p : ℕ) → 1 < p → 0 < p * p
     square zero one = absurd (omega arith)
@@ -149,12 +149,13 @@ zeros_at (suc m) zero = refl
 zeros_at (suc m) (suc j) = zeros_at m j
 
 pub start_underway :
-    (p columns inputs count : ℕ) (pivots : List ℕ) (row : RowShown) (zeros numbers : List ℕ) (left taken : List Entry)
-    → IsRow p columns inputs row → zeros ≡ replicate columns 0 → AddsMultiple p 1 row.entries zeros numbers → left ≡ [] → taken ≡ []
-    → IsUnderway p (first_column row.entries) columns count pivots left numbers taken
-start_underway p columns inputs count pivots row zeros numbers left taken good z a e none = record {
+    (p limit columns inputs count : ℕ) (pivots : List ℕ) (row : RowShown) (zeros numbers : List ℕ) (left taken : List Entry)
+    → IsRow p columns inputs row → zeros ≡ replicate columns 0 → AddsMultiple p 1 row.entries zeros numbers → left ≡ [] → taken ≡ [] → HasRoom p limit → IsDense limit numbers
+    → IsUnderway p limit (first_column row.entries) columns count pivots left numbers taken
+start_underway p limit columns inputs count pivots row zeros numbers left taken good z a e none room below = record {
   numbered = a.count ∙ ap length z ∙ length-replicate columns 0;
-  small = a.small;
+  room = room;
+  small = below;
   known = subst (AreWithin p count) (sym none) tt;
   cleared = λ j lt. a.before j (before row.entries good.entries j lt) ∙ ap (λ xs. get_or xs j 0) z ∙ zeros_at columns j;
   entries = subst (AreEntries p 0 (first_column row.entries)) (sym e) (let w : 0 ≤ first_column row.entries = omega arith in w);
@@ -177,8 +178,8 @@ dense_none key j (x ∷ xs) h f =
     rw a (omega (arith, b))
 
 pub done_sum :
-    {n p count : ℕ} (key : ℕ → Key n) (pivots : List ℕ) (left : List Entry) (numbers : List ℕ) (taken : List Entry)
-    → IsUnderway p (length pivots) (length pivots) count pivots left numbers taken
+    {n p limit count : ℕ} (key : ℕ → Key n) (pivots : List ℕ) (left : List Entry) (numbers : List ℕ) (taken : List Entry)
+    → IsUnderway p limit (length pivots) (length pivots) count pivots left numbers taken
     → IsSame p (row_sum key left ++ dense_sum key 0 numbers) (row_sum key left)
 done_sum {n} {p} key pivots left numbers taken h = record {
   by_key = λ k. IsCongruent_of p _ _ (coefficient-append (row_sum key left) (dense_sum key 0 numbers) k ∙ ap (λ x. coefficient (row_sum key left) k + x) (dense_none key 0 numbers (λ i lt. h.cleared i (omega (arith, h.numbered))) (indicator k)) ∙ omega arith);

@@ -6,7 +6,7 @@ use Rattle.formal_sums.specs.Combinations.{combination}
 use Rattle.formal_sums.specs.FormalSums.{Each, FormalSum, IsSame, Key, scale}
 use Rattle.row_laws.specs.Rows.{IsInSpan}
 use Rattle.row_matrix.specs.Rows.{AreEntries, Entry, IsRow, RowShown, first_column, row_sum, source_key}
-use Rattle.row_reduce.specs.Dense.{AreWithin, IsDense, dense_sum}
+use Rattle.row_reduce.specs.Dense.{AreWithin, HasRoom, IsDense, dense_sum}
 use Rattle.row_reduce.specs.Pivots.{row_at, row_vectors}
 
 -- v is what is left and a vector in the span of the rows
@@ -24,10 +24,12 @@ taken_sum {n} key rows (t ∷ taken) = scale t.1 (unit n) (row_sum key (row_at r
 abbrev pub sources_sum : {n : ℕ} → (ℕ → Key n) → List RowShown → RowShown → List Entry → FormalSum n
 sources_sum key rows row taken = row_sum key row.sources ++ taken_sum key rows taken
 
--- what is left of the row at the columns before c, the numbers at those from c on, and the rows, of so many, that were added
-pub record IsUnderway (p c columns count : ℕ) (pivots : List ℕ) (left : List Entry) (numbers : List ℕ) (taken : List Entry) : Type 0 where
+-- what is left of the row at the columns before c, the numbers at those from c on, and the rows, of so many, that were
+-- added; the numbers are below the limit
+pub record IsUnderway (p limit c columns count : ℕ) (pivots : List ℕ) (left : List Entry) (numbers : List ℕ) (taken : List Entry) : Type 0 where
   pub numbered : length numbers ≡ columns
-  pub small : IsDense p numbers
+  pub room : HasRoom p limit
+  pub small : IsDense limit numbers
   pub known : AreWithin p count taken
   pub cleared : (j : ℕ) → j < c → get_or numbers j 0 ≡ 0
   pub entries : AreEntries p 0 c left
@@ -65,7 +67,8 @@ pub record IsLeftRow (p columns inputs : ℕ) (rows : List RowShown) (row : RowS
 
 -- all columns are cleared
 pub record IsDone (p : ℕ) (rows : List RowShown) (pivots : List ℕ) (row : RowShown) (left : List Entry) (numbers : List ℕ) (taken : List Entry) : Type 0 where
-  pub underway : IsUnderway p (length pivots) (length pivots) (length rows) pivots left numbers taken
+  pub limit : ℕ
+  pub underway : IsUnderway p limit (length pivots) (length pivots) (length rows) pivots left numbers taken
   pub combined :
       (n : ℕ) (F : List (FormalSum n)) (key : ℕ → Key n)
       → AreCombined p F key rows → IsSame p (combination F (row_sum (source_key n) row.sources)) (row_sum key row.entries)

@@ -23,7 +23,7 @@ fn add_pivot(rows: &mut Vec<Row>, pivots: &mut Vec<usize>, row: Row) -> Result<(
     ensures rows { OnOk result (rows.new.items ≡ rows.old.items ++ row ∷ []) }
     ensures pivots { OnOk result (pivots.new.items ≡ slice_set pivots.old.items (first_column row.entries) (length rows.old.items + 1)) }
 {
-    let column = row.entries()[0].0;
+    let column = row.entries()[0].0 as usize;
     rows.push(row)?;
     pivots[column] = rows.len();
     Ok(())
@@ -45,7 +45,7 @@ fn add_row(
     ensures kept { (c : ℕ) → OnOk result (0 < get_or pivots.old.items c 0 → 0 < get_or pivots.new.items c 0) }
     ensures lead { OnOk result (0 < get_or pivots.new.items (first_column row.entries) 0) }
 {
-    if pivots[row.entries()[0].0] == 0 {
+    if pivots[row.entries()[0].0 as usize] == 0 {
         add_pivot(rows, pivots, row)?;
         return Ok(());
     }
@@ -98,7 +98,7 @@ fn choose_row(
     ensures same { (rest : List RowShown) → OnOk result (IsPermutation (chosen.old.done.items ++ (chosen.old.others.items ++ row ∷ rest))
         (chosen.new.done.items ++ (chosen.new.others.items ++ rest))) }
 {
-    if chosen.pivots[row.entries()[0].0] == 0 {
+    if chosen.pivots[row.entries()[0].0 as usize] == 0 {
         add_pivot(&mut chosen.done, &mut chosen.pivots, row)?;
         return Ok(());
     }

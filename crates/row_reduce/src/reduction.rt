@@ -4,36 +4,40 @@ ghost use Rattle.std.specs.Vec.{vec_len};
 ghost use Rattle.monomials.specs.Exponents.{unit};
 ghost use Rattle.formal_sums.specs.FormalSums.{Each, FormalSum, IsSame, Key as KeyOf, scale};
 ghost use Rattle.row_matrix.specs.Rows.{AreEntries, IsRow, first_column, row_sum};
-ghost use Rattle.row_reduce.specs.Dense.{AddsMultiple, AreWithin, IsDense, dense_sum};
+ghost use Rattle.row_reduce.specs.Dense.{AddsMultiple, AreWithin, HasRoom, IsDense, dense_sum};
 ghost use Rattle.row_reduce.specs.Pivots.{ArePivots};
 ghost use Rattle.row_reduce.specs.Underway.{AreCombined, IsCombinedDense, IsDone, IsLeftRow, IsReducedDense, IsRemainder};
 ghost use Rattle.row_reduce.specs.Underway.{IsSpanned, IsUnderway, rescaled, sources_sum};
 
-use crate::accumulating::add_multiple;
+use crate::accumulating::{add_multiple, first_limit};
 use module_vectors::NoMemory;
-use row_matrix::Row;
+use row_matrix::{Row, kept_number};
 use std::alloc::Global;
 use zp_field::Modulus;
 
-/// A row on its way: what is left at the columns that are done, a number for each column from there on, and the pivots
-/// that were added, each by its number and a factor.
+/// A row on its way: what is left at the columns that are done, a number for each column from there on, all below the
+/// limit, and the pivots that were added, each by its number and a factor.
 #[derive(Drop)]
 pub(crate) struct Work {
-    pub(crate) left: Vec<(usize, u32)>,
+    pub(crate) left: Vec<(u32, u32)>,
     pub(crate) numbers: Vec<u64>,
+    pub(crate) limit: u64,
     pub(crate) taken: Vec<(usize, u32)>,
 }
 
 // Adds what is behind the first entry of a row, `factor` times.
-fn add_tail(modulus: &Modulus, row: &Row, factor: u32, numbers: &mut Vec<u64>)
+fn add_tail(modulus: &Modulus, row: &Row, factor: u32, numbers: &mut Vec<u64>, limit: u64) -> u64
     requires factor { factor < modulus.now.value }
-    requires entries { AreWithin modulus.now.value (length numbers.old.items) (drop 1 row.now.entries) }
+    requires entries { (low : ℕ) × AreEntries modulus.now.value low (length numbers.old.items) (drop 1 row.now.entries) }
     requires some { 0 < length row.now.entries }
-    requires small { IsDense modulus.now.value numbers.old.items }
-    ensures { AddsMultiple modulus.now.value factor (drop 1 row.now.entries) numbers.old.items numbers.new.items }
+    requires limit { HasRoom modulus.now.value limit }
+    requires small { IsDense limit numbers.old.items }
+    ensures adds { AddsMultiple modulus.now.value factor (drop 1 row.now.entries) numbers.old.items numbers.new.items }
+    ensures room { HasRoom modulus.now.value result }
+    ensures small { IsDense result numbers.new.items }
 {
     let entries = row.entries();
-    add_multiple(modulus, numbers, factor, &entries[1..]);
+    add_multiple(modulus, numbers, limit, factor, &entries[1..])
 }
 
 // Clears a column, by its pivot if it has one; else what stands there is left.
@@ -44,13 +48,13 @@ fn clear_column(
     _inputs: usize,
     _row: &Row,
     work: &mut Work,
-    c: usize,
+    c: u32,
 ) -> Result<(), NoMemory>
     requires at { c < length work.old.numbers.items }
     requires pivots { ArePivots modulus.now.value (length work.old.numbers.items) _inputs rows.now pivots.now }
-    requires underway { IsUnderway modulus.now.value c (length pivots.now) (length rows.now) pivots.now
+    requires underway { IsUnderway modulus.now.value work.old.limit c (length pivots.now) (length rows.now) pivots.now
         work.old.left.items work.old.numbers.items work.old.taken.items }
-    ensures underway { OnOk result (IsUnderway modulus.now.value (c + 1) (length pivots.now) (length rows.now) pivots.now
+    ensures underway { OnOk result (IsUnderway modulus.now.value work.new.limit (c + 1) (length pivots.now) (length rows.now) pivots.now
         work.new.left.items work.new.numbers.items work.new.taken.items) }
     ensures combined { (n : ℕ) (F : List (FormalSum n)) (key : ℕ → KeyOf n) → AreCombined modulus.now.value F key rows.now
         → IsCombinedDense modulus.now.value F key rows.now _row.now work.old.left.items work.old.numbers.items work.old.taken.items
@@ -60,18 +64,19 @@ fn clear_column(
         → OnOk result (IsReducedDense modulus.now.value rows.now key v work.new.left.items work.new.numbers.items) }
 {
     modulus.domain();
-    let residue = (work.numbers[c] % u64::from(modulus.value())) as u32;
-    work.numbers[c] = 0;
+    let residue = (work.numbers[c as usize] % u64::from(modulus.value())) as u32;
+    work.numbers[c as usize] = 0;
     if residue == 0 {
         return Ok(());
     }
-    let pivot = pivots[c];
+    let pivot = pivots[c as usize];
     if pivot == 0 {
         work.left.push((c, residue))?;
         return Ok(());
     }
     let factor = modulus.neg(residue);
-    add_tail(modulus, &rows[pivot - 1], factor, &mut work.numbers);
+    let pivot_row = &rows[pivot - 1];
+    work.limit = add_tail(modulus, pivot_row, factor, &mut work.numbers, work.limit);
     work.taken.push((pivot - 1, factor))?;
     Ok(())
 }
@@ -84,13 +89,13 @@ fn pass_column(
     inputs: usize,
     row: &Row,
     work: &mut Work,
-    c: usize,
+    c: u32,
 ) -> Result<(), NoMemory>
     requires at { c < length work.old.numbers.items }
     requires pivots { ArePivots modulus.now.value (length work.old.numbers.items) inputs rows.now pivots.now }
-    requires underway { IsUnderway modulus.now.value c (length pivots.now) (length rows.now) pivots.now
+    requires underway { IsUnderway modulus.now.value work.old.limit c (length pivots.now) (length rows.now) pivots.now
         work.old.left.items work.old.numbers.items work.old.taken.items }
-    ensures underway { OnOk result (IsUnderway modulus.now.value (c + 1) (length pivots.now) (length rows.now) pivots.now
+    ensures underway { OnOk result (IsUnderway modulus.now.value work.new.limit (c + 1) (length pivots.now) (length rows.now) pivots.now
         work.new.left.items work.new.numbers.items work.new.taken.items) }
     ensures combined { (n : ℕ) (F : List (FormalSum n)) (key : ℕ → KeyOf n) → AreCombined modulus.now.value F key rows.now
         → IsCombinedDense modulus.now.value F key rows.now row.now work.old.left.items work.old.numbers.items work.old.taken.items
@@ -99,7 +104,7 @@ fn pass_column(
         → IsReducedDense modulus.now.value rows.now key v work.old.left.items work.old.numbers.items
         → OnOk result (IsReducedDense modulus.now.value rows.now key v work.new.left.items work.new.numbers.items) }
 {
-    if work.numbers[c] == 0 {
+    if work.numbers[c as usize] == 0 {
         return Ok(());
     }
     clear_column(modulus, rows, pivots, inputs, row, work, c)?;
@@ -112,7 +117,7 @@ fn collect_entries(
     modulus: &Modulus,
     factor: u32,
     numbers: &[u64],
-) -> Result<Vec<(usize, u32)>, NoMemory>
+) -> Result<Vec<(u32, u32)>, NoMemory>
     requires { factor < modulus.now.value }
     ensures entries { IfOk result (λ es. AreEntries modulus.now.value 0 (length numbers.now) es.items) }
     ensures sum { (n : ℕ) (key : ℕ → KeyOf n)
@@ -120,8 +125,9 @@ fn collect_entries(
 {
     modulus.domain();
     let mut entries = Vec::new(alloc);
-    for i in 0..numbers.len() {
-        let residue = (numbers[i] % u64::from(modulus.value())) as u32;
+    let count = kept_number(numbers.len())?;
+    for i in 0..count {
+        let residue = (numbers[i as usize] % u64::from(modulus.value())) as u32;
         let product = modulus.mul(factor, residue);
         if product != 0 {
             entries.push((i, product))?;
@@ -135,8 +141,8 @@ fn rescaled_entries(
     alloc: Global,
     modulus: &Modulus,
     c: u32,
-    entries: &[(usize, u32)],
-) -> Result<Vec<(usize, u32)>, NoMemory>
+    entries: &[(u32, u32)],
+) -> Result<Vec<(u32, u32)>, NoMemory>
     requires factor { c < modulus.now.value }
     requires residues { Each (λ e. e.1 < modulus.now.value) entries.now }
     ensures { IfOk result (λ es. es.items ≡ rescaled modulus.now.value c entries.now) }
@@ -166,9 +172,10 @@ fn compose_sources(
 {
     modulus.domain();
     let mut sources = vec![in alloc; 0; inputs]?;
-    add_multiple(modulus, &mut sources, 1, row.sources());
+    let mut limit = first_limit(modulus);
+    limit = add_multiple(modulus, &mut sources, limit, 1, row.sources());
     for part in taken {
-        add_multiple(modulus, &mut sources, part.1, rows[part.0].sources());
+        limit = add_multiple(modulus, &mut sources, limit, part.1, rows[part.0].sources());
     }
     Ok(sources)
 }
@@ -215,7 +222,8 @@ fn start_work(
 ) -> Result<Work, NoMemory>
     requires { IsRow modulus.now.value columns _inputs row.now }
     ensures underway { (count : ℕ) (pivots : List ℕ)
-        → IfOk result (λ w. IsUnderway modulus.now.value (first_column row.now.entries) columns count pivots w.left.items w.numbers.items w.taken.items) }
+        → IfOk result (λ w. IsUnderway modulus.now.value w.limit (first_column row.now.entries) columns count pivots
+        w.left.items w.numbers.items w.taken.items) }
     ensures left { IfOk result (λ w. w.left.items ≡ []) }
     ensures taken { IfOk result (λ w. w.taken.items ≡ []) }
     ensures numbers { (n : ℕ) (key : ℕ → KeyOf n)
@@ -223,12 +231,19 @@ fn start_work(
 {
     modulus.domain();
     let mut numbers = vec![in alloc; 0; columns]?;
-    add_multiple(modulus, &mut numbers, 1, row.entries());
+    let limit = add_multiple(
+        modulus,
+        &mut numbers,
+        first_limit(modulus),
+        1,
+        row.entries(),
+    );
     let left = Vec::new(alloc);
     let taken = Vec::new(alloc);
     Ok(Work {
         left,
         numbers,
+        limit,
         taken,
     })
 }
@@ -248,7 +263,8 @@ fn clear_columns(
 {
     modulus.domain();
     let mut work = start_work(alloc, modulus, pivots.len(), inputs, row)?;
-    for c in row.entries()[0].0..pivots.len() {
+    let count = kept_number(pivots.len())?;
+    for c in row.entries()[0].0..count {
         pass_column(modulus, rows, pivots, inputs, row, &mut work, c)?;
     }
     Ok(work)

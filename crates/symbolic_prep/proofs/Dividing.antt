@@ -1,7 +1,7 @@
 -- Vectors of a list as divisors, tried one after another
 use Rattle.std.proofs.Common.{Contains, List, refl, [], ap, arith, get_or, inl, inr, length, subst, sym, ℕ, ◌+◌, ◌++◌, ◌<◌, ◌∙◌, ◌∷◌, ◌≡◌, ◌≤◌}
 use Rattle.std.proofs.lemmas.Bool.{cases_eq}
-use Rattle.std.proofs.lemmas.List.{get_or_default, length_push}
+use Rattle.std.proofs.lemmas.List.{get_or_default}
 use Rattle.std.proofs.lemmas.List.Elements.{Contains-append_left, Contains-push}
 use Rattle.std.proofs.lemmas.List.Sorted.{Contains-permutation}
 use Rattle.std.specs.List.Sorted.{IsPermutation}
@@ -16,7 +16,6 @@ use Rattle.symbolic_prep.specs.Divisors.{AreDivisors, IsDivisorOf}
 use Rattle.symbolic_prep.specs.declared.divisors.Divisor.{Divisor}
 use Rattle.vector_division.proofs.Members.{uncovered}
 use Rattle.vector_division.specs.Divisions.{IsUncovered}
-use Rattle.vector_division.specs.Progress.{AreTried}
 
 abbrev Terms : Type 0
 Terms = List (CodeKey × ℕ)

@@ -12,7 +12,7 @@ ghost use Rattle.symbolic_prep.specs.Traces.{ProductEnds};
 use crate::stop::PlanStop;
 use module_vectors::{Key, NoMemory, Ring, Vectors};
 use monomial_orders::Mono;
-use row_matrix::{KeyTable, ProductStop, Row, product_row};
+use row_matrix::{KeyTable, ProductStop, Row, kept_number, product_row};
 use std::alloc::Global;
 
 /// Rows over the numbers of their keys, the products that they are, and for each key whether a row has it as its lead.
@@ -42,7 +42,7 @@ fn mark_lead(led: &mut Vec<bool>, count: usize, lead: usize) -> Result<(), NoMem
 fn put_row(
     alloc: Global,
     plan: &mut Plan,
-    entries: Vec<(usize, u32)>,
+    entries: Vec<(u32, u32)>,
     member: u64,
     t: Mono,
 ) -> Result<(), NoMemory>
@@ -57,8 +57,9 @@ fn put_row(
     ensures only { (c : ℕ) → OnOk result (get_or plan.new.led.items c false ≡ true
         → (get_or plan.old.led.items c false ≡ true) ⊎ (c ≡ first_column entries.items)) }
 {
-    mark_lead(&mut plan.led, plan.keys.len(), entries[0].0)?;
-    let sources = vec![in alloc; (plan.rows.len(), 1)]?;
+    mark_lead(&mut plan.led, plan.keys.len(), entries[0].0 as usize)?;
+    let number = kept_number(plan.rows.len())?;
+    let sources = vec![in alloc; (number, 1)]?;
     plan.rows.push(Row::new(entries, sources))?;
     plan.products.push((member, t))?;
     Ok(())

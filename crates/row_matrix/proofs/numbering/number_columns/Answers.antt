@@ -3,7 +3,6 @@ use Rattle.std.proofs.lemmas.List.{drop_all, drop_more, get_or_default, take_all
 use Rattle.std.specs.Prelude.{Contains}
 use Rattle.module_vectors.proofs.Scaling.{take_item}
 use Rattle.module_vectors.specs.Rings.{variables}
-use Rattle.module_vectors.specs.declared.key.Key.{Key}
 use Rattle.row_matrix.proofs.KeyPlaces.{placing_end, placing_step}
 use Rattle.row_matrix.specs.Hashes.{IsNumbered, no_key}
 use Rattle.row_matrix.specs.Naming.{IsPlacing}
@@ -23,6 +22,7 @@ loop-number-preserved g c =
     let columns = c.loop-number.columns.items in
     let places = c.loop-number.places.items in
     let at = c.in_ok-places-2.field-0 in
+    let kept : at ≡ c.in_ok-column.column = c.in_ok-places-2.ensures in
     let so_far : IsPlacing n ring.weights compare keys columns places (take i numbers) (x ∷ drop (i + 1) numbers) =
     subst (λ z. IsPlacing n ring.weights compare keys columns places (take i numbers) z) (drop_more numbers i 0 lt) c.loop-number.invariant in
     let known : x < length keys = so_far.known.0 in
@@ -31,8 +31,9 @@ loop-number-preserved g c =
     subst (λ z. IsPlacing n ring.weights compare keys c.column_of.new.columns.items (set places x at) z (drop (i + 1) numbers)) (sym more)
     (placing_step n compare laws ring.weights keys columns c.column_of.new.columns.items places (take i numbers) (drop (i + 1) numbers) x at
     c.requires so_far
-    (subst (λ k. IsNumbered columns c.column_of.new.columns.items k at) key c.in_ok-places-2.ensures.numbered)
-    (λ e some same. c.in_ok-places-2.ensures.fresh e some (same ∙ sym key)))
+    (subst (IsNumbered columns c.column_of.new.columns.items (get_or keys x no_key)) (sym kept)
+    (subst (λ k. IsNumbered columns c.column_of.new.columns.items k c.in_ok-column.column) key c.in_ok-column.ensures.numbered))
+    (λ e some same. c.in_ok-column.ensures.fresh (sym kept ∙ e) some (same ∙ sym key)))
 
 pub returns : goal.returns
 returns g c =

@@ -1,15 +1,13 @@
-use Rattle.std.proofs.Common.{arith, get_or, ◌<◌}
-use Rattle.std.proofs.lemmas.List.{get_or_default}
-use Rattle.row_reduce.proofs.Adding.{adds_step}
-use Rattle.row_matrix.specs.Rows.{Entry}
+use Rattle.std.proofs.Common.{length}
+use Rattle.row_reduce.proofs.Entries.{entries_within}
 use Rattle.row_reduce.proofs.accumulating.add_multiple.Goals as goal
 
-pub loop-entry-preserved : goal.loop-entry-preserved
-loop-entry-preserved c =
-    let p = c.args.modulus.now.value in
-    let i = c.loop-entry.entry-index in
-    let e : Entry = get_or c.args.entries.now i (0, 0) in
-    let one : 1 < p = c.domain.ensures.above_one in
-    adds_step p c.args.factor c.args.entries.now i e c.args.acc.now.items c.loop-entry.acc.items c.index.result.now c.add_product.result
-    (omega arith) c.loop-entry.invariant c.loop-entry-test.true (get_or_default c.args.entries.now i (0, 0) e c.loop-entry-test.true) c.requires.entries
-    c.add_product.ensures.small c.index.ensures c.add_product.ensures.congruent
+pub add_below-requires-clause-entries : goal.add_below-requires-clause-entries
+add_below-requires-clause-entries c =
+    let h = c.requires.entries in
+    entries_within c.args.modulus.now.value h.0 (length c.args.acc.now.items) c.args.entries.now h.1
+
+pub add_freely-requires-clause-within : goal.add_freely-requires-clause-within
+add_freely-requires-clause-within c =
+    let h = c.requires.entries in
+    entries_within c.args.modulus.now.value h.0 (length c.args.acc.now.items) c.args.entries.now h.1

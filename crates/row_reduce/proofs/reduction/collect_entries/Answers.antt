@@ -1,4 +1,4 @@
-use Rattle.std.proofs.Common.{ap, arith, get_or, subst, sym, take, ◌%◌, ◌*◌, ◌+◌, ◌++◌, ◌∙◌, ◌∷◌, ◌≡◌, []}
+use Rattle.std.proofs.Common.{ap, arith, get_or, length, subst, sym, take, ◌%◌, ◌*◌, ◌+◌, ◌++◌, ◌<◌, ◌∙◌, ◌∷◌, ◌≡◌, []}
 use Rattle.residues.specs.Residues.{IsCongruent}
 use Rattle.monomials.specs.Exponents.{unit}
 use Rattle.formal_sums.specs.FormalSums.{IsSame, scale}
@@ -15,6 +15,8 @@ loop-i-preserved c =
     let i = c.loop-i.i in
     let f = c.args.factor in
     let numbers = c.args.numbers.now in
+    let kept : c.in_ok-count.count ≡ length numbers = c.in_ok-count.ensures in
+    let lt : i < length numbers = omega (arith, c.loop-i-test.true, kept) in
     let is : IsCongruent p c.mul-product.result (f * get_or numbers i 0) =
     product_is p f (get_or numbers i 0) (get_or numbers i 0 % c.from.result) c.mul-product.result c.mul-product.ensures.value (ap (λ q. get_or numbers i 0 % q) (c.from.ensures ∙ c.value.ensures)) in
     elim c.if-product-ne0.branch [
@@ -24,7 +26,7 @@ loop-i-preserved c =
           record {
             entries = subst (AreEntries p 0 (i + 1)) (sym e) (entries_push p 0 i c.mul-product.result c.loop-i.entries.items c.loop-i.invariant.entries (omega arith) c.mul-product.ensures.small);
             sum = λ n key. subst (λ es. IsSame p (row_sum key es) (scale f (unit n) (dense_sum key 0 (take (i + 1) numbers)))) (sym e)
-                (collect_one key f i c.mul-product.result c.loop-i.entries.items numbers c.loop-i-test.true is (c.loop-i.invariant.sum n key));
+                (collect_one key f i c.mul-product.result c.loop-i.entries.items numbers lt is (c.loop-i.invariant.sum n key));
           })
       | else-product-ne0 w ↦ (
           let e : c.if-product-ne0.entries.items ≡ c.loop-i.entries.items = ap (λ v. v.items) w.entries-is in
@@ -32,6 +34,6 @@ loop-i-preserved c =
           record {
             entries = subst (AreEntries p 0 (i + 1)) (sym e) (entries_widen p 0 i (i + 1) c.loop-i.entries.items (omega arith) c.loop-i.invariant.entries);
             sum = λ n key. subst (λ es. IsSame p (row_sum key es) (scale f (unit n) (dense_sum key 0 (take (i + 1) numbers)))) (sym e)
-                (collect_none key f i c.mul-product.result c.loop-i.entries.items numbers c.loop-i-test.true is z (c.loop-i.invariant.sum n key));
+                (collect_none key f i c.mul-product.result c.loop-i.entries.items numbers lt is z (c.loop-i.invariant.sum n key));
           })
     ]

@@ -1,6 +1,6 @@
 use Rattle.std.proofs.Common.{length, take, ℕ, ◌≡◌}
 use Rattle.formal_sums.specs.FormalSums.{IsSame, Key}
-use Rattle.row_reduce.specs.Dense.{IsDense, dense_sum}
+use Rattle.row_reduce.specs.Dense.{HasRoom, IsDense, dense_sum}
 use Rattle.row_reduce.specs.Underway.{sources_sum}
 use Rattle.row_reduce.proofs.reduction.compose_sources.Given as goal
 
@@ -9,6 +9,7 @@ invariant-loop-part l =
     let p = l.modulus.value in
     record {
       count : length l.sources.items ≡ l.inputs;
-      small : IsDense p l.sources.items;
+      room : HasRoom p l.limit;
+      small : IsDense l.limit l.sources.items;
       sum : (n : ℕ) (key : ℕ → Key n) → IsSame p (dense_sum key 0 l.sources.items) (sources_sum key l.rows l.row (take l.part-index l.taken));
     }

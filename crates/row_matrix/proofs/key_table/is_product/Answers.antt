@@ -1,0 +1,39 @@
+use Rattle.std.proofs.Common.{ap, arith, false, length, refl, sym, true, ◌+◌, ◌<◌, ◌∙◌, ◌≡◌, ◌≤◌}
+use Rattle.std.specs.Prelude.{fold}
+use Rattle.module_vectors.specs.declared.key.Key.{Key}
+use Rattle.row_matrix.proofs.Digits.{digits_few, digits_tell, sums_few}
+use Rattle.row_matrix.proofs.KeyProducts.{length_sums, product_exact}
+use Rattle.row_matrix.specs.Hashes.{hash_step, sums}
+use Rattle.row_matrix.proofs.key_table.is_product.Goals as goal
+
+pub returns-then-variables-n : goal.returns-then-variables-n
+returns-then-variables-n c =
+    let t = c.args.t.now in
+    let key = c.args.key.now in
+    let size = length_sums t.exponents key.monomial.exponents c.requires.variables in
+    let ne : c.variables.result ≡ c.variables-n.result → ⊥ = c.if-variables-n.true in
+    let n = c.variables-n.ensures in
+    let m = c.variables.ensures in
+    (λ z. absurd (let q : false ≡ true = z in cc), λ e. absurd (ne (omega (arith, n, m, size, ap (λ (k : Key). length k.monomial.exponents) e))))
+
+pub returns-then-is_told : goal.returns-then-is_told
+returns-then-is_told c =
+    let t = c.args.t.now in
+    let key = c.args.key.now in
+    let product = c.args.product.now in
+    let xs = product.monomial.exponents in
+    let ys = sums t.exponents key.monomial.exponents in
+    let told = c.is_told.ensures c.if-is_told.true in
+    let place : product.position ≡ key.position = c.if-product-key.false in
+    let degree : product.monomial.degree ≡ t.degree + key.monomial.degree =
+    omega (arith, c.if-degree.false, c.degree.ensures.value, c.degree-2.ensures.value, c.degree-3.ensures.value) in
+    let low : t.degree + key.monomial.degree < 31 = omega (arith, told.1, c.degree.ensures.value, c.degree-2.ensures.value) in
+    let same : length xs ≡ length ys =
+    omega (arith, c.if-variables-n.false, c.variables.ensures, c.variables-n.ensures, length_sums t.exponents key.monomial.exponents c.requires.variables) in
+    let few : length xs ≤ 12 = omega (arith, told.2, c.if-variables-n.false, c.variables.ensures) in
+    let exponents : xs ≡ ys =
+    digits_tell key.position xs ys told.0 few same
+    (digits_few product.monomial.degree xs c.bounds.ensures.held (omega (arith, degree, low)))
+    (sums_few t.degree key.monomial.degree t.exponents key.monomial.exponents c.bounds-2.ensures.held c.bounds-3.ensures.held low)
+    (ap (λ p. fold hash_step p xs) (sym place) ∙ c.requires.hash) in
+    (λ _. product_exact t key product place degree exponents, λ _. refl)
