@@ -14,7 +14,7 @@ use module_vectors::{KeptTrail, Ring, VectList, WorkStop};
 use ruled_lock::Lock;
 use run_endings::{RunStop, close, copy_trail};
 use std::alloc::Global;
-use std::sync::Wait;
+use std::sync::{Mutex, Wait};
 use std::thread::Threads;
 use worker_gate::SharedGate;
 
@@ -59,7 +59,8 @@ fn let_work<R: Threads + Wait + Sync>(
     let threads = threads_for(&state);
     match Lock::new(alloc, state) {
         Ok((lock, seat)) => {
-            let seat = work_all(rt, alloc, &lock, gate, seat, workers, threads);
+            let turns = Mutex::new(());
+            let seat = work_all(rt, alloc, &lock, gate, &turns, seat, workers, threads);
             let state = lock.close(seat);
             state.kept();
             Some(state)

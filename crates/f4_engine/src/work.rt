@@ -10,13 +10,17 @@ use basis_lock::{BasisLock, BasisSeat, finish, hand_in, report_stop, take_job};
 use f4_job::solve;
 use module_vectors::WorkStop;
 use std::alloc::Global;
-use std::sync::Wait;
+use std::sync::{Mutex, MutexGuard, Wait};
 use std::thread;
 use worker_gate::{Gate, Point, SharedGate};
 
 // How many pairs a worker asks for, the most that it may: the more of one degree stand in one matrix, the fewer members a
 // run makes.
 const PAIRS: u64 = 512;
+
+// From so many pairs on a job is long. A worker keeps its turn to take while its job is long, and the others wait for its rows,
+// since jobs of one degree that are out together find the same ones.
+const LONG: usize = 8;
 
 // The reason of a stop.
 fn reason_for(stop: WorkStop) -> StopReason
@@ -87,12 +91,37 @@ fn do_job<R: Wait>(
     }
 }
 
+// Solves a job and hands it in, or gives up, and keeps the turn meanwhile where the job is long. Is the worker done?
+fn do_job_in_turn<R: Wait>(
+    rt: &R,
+    alloc: Global,
+    lock: &BasisLock,
+    gate: &SharedGate,
+    turn: MutexGuard<'_, ()>,
+    seat: &mut BasisSeat,
+    job: Job,
+) -> bool
+    requires idle { IsIdle lock.now.table.shared.table_id (base lock.now.table.shared.key.value) seat.old.place }
+    requires job { HasJob (base lock.now.table.shared.key.value) seat.old.place.me.0 job }
+    ensures idle { IsIdle lock.now.table.shared.table_id (base lock.now.table.shared.key.value) seat.new.place }
+    ensures ends { RoundEnds (base lock.now.table.shared.key.value) seat.old.place.me.0 seat.new.place.me.0 result }
+{
+    if job.pairs().len() < LONG {
+        drop(turn);
+        return do_job(rt, alloc, lock, gate, seat, job);
+    }
+    let done = do_job(rt, alloc, lock, gate, seat, job);
+    drop(turn);
+    done
+}
+
 // One round: a job, or the answer that there is none. Is the worker done?
 fn do_round<R: Wait>(
     rt: &R,
     alloc: Global,
     lock: &BasisLock,
     gate: &SharedGate,
+    turns: &Mutex<()>,
     seat: &mut BasisSeat,
 ) -> bool
     requires idle { IsIdle lock.now.table.shared.table_id (base lock.now.table.shared.key.value) seat.old.place }
@@ -100,11 +129,19 @@ fn do_round<R: Wait>(
     ensures idle { IsIdle lock.now.table.shared.table_id (base lock.now.table.shared.key.value) seat.new.place }
     ensures ends { RoundEnds (base lock.now.table.shared.key.value) seat.old.place.me.0 seat.new.place.me.0 result }
 {
+    let turn = turns.lock(rt);
     match take_job(rt, alloc, lock, seat, PAIRS) {
-        Ok(Taken::Job(job)) => do_job(rt, alloc, lock, gate, seat, job),
-        Ok(Taken::Empty) => ask_to_end(rt, lock, seat),
-        Ok(Taken::Stopped) => ask_to_end(rt, lock, seat),
+        Ok(Taken::Job(job)) => do_job_in_turn(rt, alloc, lock, gate, turn, seat, job),
+        Ok(Taken::Empty) => {
+            drop(turn);
+            ask_to_end(rt, lock, seat)
+        }
+        Ok(Taken::Stopped) => {
+            drop(turn);
+            ask_to_end(rt, lock, seat)
+        }
         Err(_) => {
+            drop(turn);
             give_up(rt, lock, seat, WorkStop::Memory);
             true
         }
@@ -117,6 +154,7 @@ pub(crate) fn work<R: Wait>(
     alloc: Global,
     lock: &BasisLock,
     gate: &SharedGate,
+    turns: &Mutex<()>,
     seat: BasisSeat,
 ) -> BasisSeat
     requires idle { IsIdle lock.now.table.shared.table_id (base lock.now.table.shared.key.value) seat.place }
@@ -127,7 +165,7 @@ pub(crate) fn work<R: Wait>(
 {
     let mut seat = seat;
     for _ in rt.forever() {
-        if do_round(rt, alloc, lock, gate, &mut seat) {
+        if do_round(rt, alloc, lock, gate, turns, &mut seat) {
             return seat;
         }
     }

@@ -8,7 +8,7 @@ ghost use Rattle.f4_engine.specs.Workers.{AllDone, HasDone, IsFresh, IsReady};
 use crate::work::work;
 use basis_lock::{BasisLock, BasisSeat};
 use std::alloc::Global;
-use std::sync::Wait;
+use std::sync::{Mutex, Wait};
 use std::thread::{Threads, join};
 use worker_gate::SharedGate;
 
@@ -45,6 +45,7 @@ fn work_alone<R: Wait>(
     alloc: Global,
     lock: &BasisLock,
     gate: &SharedGate,
+    turns: &Mutex<()>,
     seat: BasisSeat,
     n: u32,
 ) -> BasisSeat
@@ -54,7 +55,7 @@ fn work_alone<R: Wait>(
     ensures idle { IsIdle lock.now.table.shared.table_id (base lock.now.table.shared.key.value) result.place }
     ensures done { AllDone n result.place.me.0 }
 {
-    work(rt, alloc, lock, gate, seat)
+    work(rt, alloc, lock, gate, turns, seat)
 }
 
 // The last worker, after those before it have ended.
@@ -63,6 +64,7 @@ fn work_late<R: Wait>(
     alloc: Global,
     lock: &BasisLock,
     gate: &SharedGate,
+    turns: &Mutex<()>,
     seat: BasisSeat,
     other: BasisSeat,
     n: u32,
@@ -76,7 +78,7 @@ fn work_late<R: Wait>(
     ensures idle { IsIdle lock.now.table.shared.table_id (base lock.now.table.shared.key.value) result.place }
     ensures done { AllDone n result.place.me.0 }
 {
-    let worked = work(rt, alloc, lock, gate, other);
+    let worked = work(rt, alloc, lock, gate, turns, other);
     unite(lock, seat, worked, n, last)
 }
 
@@ -87,6 +89,7 @@ pub(crate) fn work_all<R: Threads + Wait + Sync>(
     alloc: Global,
     lock: &BasisLock,
     gate: &SharedGate,
+    turns: &Mutex<()>,
     mut seat: BasisSeat,
     n: u32,
     threads: u32,
@@ -98,13 +101,13 @@ pub(crate) fn work_all<R: Threads + Wait + Sync>(
     ensures done { AllDone n result.place.me.0 }
 {
     if n <= 1 {
-        return work_alone(rt, alloc, lock, gate, seat, n);
+        return work_alone(rt, alloc, lock, gate, turns, seat, n);
     }
     let last = n - 1;
     let other = part(lock, &mut seat, n, last);
     if threads <= last {
-        let seat = work_all(rt, alloc, lock, gate, seat, last, threads);
-        return work_late(rt, alloc, lock, gate, seat, other, n, last);
+        let seat = work_all(rt, alloc, lock, gate, turns, seat, last, threads);
+        return work_late(rt, alloc, lock, gate, turns, seat, other, n, last);
     }
     let (theirs, ours) = join(
         rt,
@@ -113,14 +116,14 @@ pub(crate) fn work_all<R: Threads + Wait + Sync>(
                 × IsFresh other.worker other.place.me.0 × (other.worker < (base lock.now.table.shared.key.value).workers) }
             ensures { IsIdle lock.entry.now.table.shared.table_id (base lock.entry.now.table.shared.key.value) result.place
                 × HasDone other.worker result.place.me.0 }
-        { work(rt, alloc, lock, gate, other) },
+        { work(rt, alloc, lock, gate, turns, other) },
         || -> BasisSeat
             requires { IsSync R.row × IsIdle lock.now.table.shared.table_id (base lock.now.table.shared.key.value) seat.place
                 × IsReady last seat.place.me.0 × (last ≤ (base lock.now.table.shared.key.value).workers)
                 × (0 < (base lock.now.table.shared.key.value).workers) }
             ensures { IsIdle lock.entry.now.table.shared.table_id (base lock.entry.now.table.shared.key.value) result.place
                 × AllDone last result.place.me.0 }
-        { work_all(rt, alloc, lock, gate, seat, last, threads) },
+        { work_all(rt, alloc, lock, gate, turns, seat, last, threads) },
     );
     unite(lock, ours, theirs, n, last)
 }
