@@ -1,6 +1,7 @@
 // What the lines of the input do.
 use crate::described::{write_state, write_turn};
 use crate::driving::{busy, drive};
+use crate::matrices::compare_jobs;
 use crate::play::{Play, begin};
 use check_texts::Sheet;
 use std::alloc::Global;
@@ -80,7 +81,7 @@ impl Desk {
     // `begin WORKERS BUDGET`
     fn begin(&mut self, alloc: Global, sheet: &mut Sheet, text: &str) {
         let (workers, budget) = numbers_of(text);
-        self.play = begin(alloc, sheet, &self.input, budget, small(workers));
+        self.play = begin(alloc, sheet, &self.input, budget, small(workers), false);
         write_begun(alloc, sheet, &self.play);
     }
 
@@ -108,6 +109,12 @@ impl Desk {
         busy(alloc, sheet, &self.input, small(takes), small(puts));
     }
 
+    // `jobs COUNT MOST`
+    fn jobs(&self, alloc: Global, sheet: &mut Sheet, text: &str) {
+        let (count, most) = numbers_of(text);
+        compare_jobs(alloc, sheet, &self.input, small(count), most);
+    }
+
     /// Does a line, and writes it with what it answers.
     pub fn line(&mut self, alloc: Global, sheet: &mut Sheet, line: &str) {
         sheet.text(line);
@@ -119,6 +126,7 @@ impl Desk {
             "generator" => self.input.add_generator(text),
             "begin" => self.begin(alloc, sheet, text),
             "drive" => drive(alloc, sheet, &self.input),
+            "jobs" => self.jobs(alloc, sheet, text),
             "busy" => self.busy(alloc, sheet, text),
             _ => self.event(alloc, sheet, word, text),
         }

@@ -58,7 +58,7 @@ fn has_ended(alloc: Global, play: &mut Play, workers: u32, seed: u64) -> bool {
 // The minimal leads at the end of a random list of events.
 fn random_run(alloc: Global, input: &Input, workers: u32, seed: u64) -> Sheet {
     let mut leads = Sheet::new(alloc);
-    if let Some(mut play) = begin(alloc, &mut leads, input, BUDGET, workers) {
+    if let Some(mut play) = begin(alloc, &mut leads, input, BUDGET, workers, false) {
         if has_ended(alloc, &mut play, workers, seed) {
             write_leads(alloc, &mut leads, play.state());
         } else {
@@ -118,7 +118,7 @@ fn write_counts(sheet: &mut Sheet, state: &BasisState, jobs: u64) {
 
 /// Takes of so many workers, and Puts of so many of them: writes how many members, jobs and queued pairs there are then.
 pub fn busy(alloc: Global, sheet: &mut Sheet, input: &Input, takes: u32, puts: u32) {
-    if let Some(mut play) = begin(alloc, sheet, input, BUDGET, takes.max(1)) {
+    if let Some(mut play) = begin(alloc, sheet, input, BUDGET, takes.max(1), false) {
         let jobs = take_and_put(alloc, &mut play, takes, puts);
         write_counts(sheet, play.state(), jobs);
     }

@@ -1,16 +1,19 @@
 //! Histories of the basis core. Standard input has lines `ring P VARIABLE{,VARIABLE} ORDER`, `rank N` and `generator VECTOR`, with
 //! texts of `check_texts`, and then `begin WORKERS BUDGET` and the events `take WORKER MOST`, `put WORKER`, `end WORKER` and
-//! `stop WORKER`, or `drive`, or `busy TAKES PUTS`. An outcome comes from plain division at its Take. After each event it
-//! prints the answer and what all readers of the state say. `drive` runs random legal events of 1, 2, 3 and 5 workers to
-//! their end, and prints the minimal leads of the members, as one sum, and again where they differ. `busy`, which
-//! `bench/core` times, lets each of TAKES workers take and solve one pair and PUTS of them hand in their outcome, and
-//! prints how many members, jobs and queued pairs there are then.
+//! `stop WORKER`, or `drive`, or `jobs COUNT MOST`, or `busy TAKES PUTS`. An outcome comes from plain division at its Take. After
+//! each event it prints the answer and what all readers of the state say. `drive` runs random legal events of 1, 2, 3 and 5
+//! workers to their end, and prints the minimal leads of the members, as one sum, and again where they differ. `jobs COUNT MOST`
+//! lets one worker take so many jobs of at most so many pairs, twice: solved by plain division, and by their matrices. It prints
+//! after how many of them the minimal leads are the same, and those that differ. `busy`, which `bench/core` times, lets each of
+//! TAKES workers take and solve one pair and PUTS of them hand in their outcome, and prints how many members, jobs and queued
+//! pairs there are then.
 #![tactic(auto)]
 
 mod described;
 mod desk;
 mod driving;
 mod leading;
+mod matrices;
 mod play;
 
 use crate::desk::Desk;

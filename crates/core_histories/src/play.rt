@@ -8,10 +8,9 @@ ghost use Rattle.core_histories.specs.Waiting.{AreWaiting};
 
 use crate::described::write_stop;
 use crate::desk::Input;
-use basis_core::{BasisState, Ending, Outcome, StopReason, Taken, pending_outcomes};
+use basis_core::{BasisState, Ending, Job, Outcome, StopReason, Taken, pending_outcomes};
 use check_texts::{NoValue, Sheet, ring_of, vectors_of};
 use module_vectors::{NoMemory, WorkStop};
-use s_vectors::solve;
 use std::alloc::Global;
 use std::marker::Model;
 
@@ -57,12 +56,24 @@ fn take_back(waiting: &mut Vec<Option<Outcome>>, worker: u32) -> Option<Outcome>
     }
 }
 
+// Solves a job by its matrix or by plain division.
+fn solve(alloc: Global, by_matrix: bool, job: Job) -> Result<Outcome, (WorkStop, Job)>
+    ensures job { IfOk result (λ o. o.job ≡ job) }
+{
+    if by_matrix {
+        f4_job::solve(alloc, job)
+    } else {
+        s_vectors::solve(alloc, job)
+    }
+}
+
 // A Take, whose job is solved at once.
 fn take(
     alloc: Global,
     state: &mut BasisState,
     waiting: &mut Vec<Option<Outcome>>,
     failure: &mut Option<WorkStop>,
+    by_matrix: bool,
     worker: u32,
     most: u64,
 ) -> Turn
@@ -78,7 +89,7 @@ fn take(
         Ok(Taken::Stopped) => return Turn::Stopped,
         Err(NoMemory) => return Turn::NoMemory,
     };
-    match solve(alloc, job) {
+    match solve(alloc, by_matrix, job) {
         Ok(outcome) => {
             put_aside(waiting, worker, outcome);
             Turn::Job
@@ -157,6 +168,7 @@ pub struct Play {
     state: BasisState,
     waiting: Vec<Option<Outcome>>,
     failure: Option<WorkStop>,
+    by_matrix: bool,
 }
 
 impl Model for Play {
@@ -170,13 +182,14 @@ impl Model for Play {
 }
 
 impl Play {
-    /// A state in which nobody has a job.
-    pub fn new(alloc: Global, state: BasisState) -> Result<Play, NoMemory> {
+    /// A state in which nobody has a job. Jobs are solved by their matrices, or by plain division.
+    pub fn new(alloc: Global, state: BasisState, by_matrix: bool) -> Result<Play, NoMemory> {
         let waiting = no_outcomes(alloc, state.workers())?;
         Ok(Play {
             state,
             waiting,
             failure: None,
+            by_matrix,
         })
     }
 
@@ -206,6 +219,7 @@ impl Play {
                 &mut self.state,
                 &mut self.waiting,
                 &mut self.failure,
+                self.by_matrix,
                 worker,
                 most,
             )
@@ -267,9 +281,10 @@ pub fn begin(
     input: &Input,
     budget: u64,
     workers: u32,
+    by_matrix: bool,
 ) -> Option<Play> {
     match begun(alloc, input, budget, workers) {
-        Ok(Ok(state)) => Play::new(alloc, state).ok(),
+        Ok(Ok(state)) => Play::new(alloc, state, by_matrix).ok(),
         Ok(Err(stop)) => {
             write_stop(sheet, &stop);
             sheet.text("\n");

@@ -296,6 +296,65 @@ fn first_other<R: Threads + Wait + Sync>(rt: &R, alloc: Global) -> Result<Option
     Ok(None)
 }
 
+/// The text of the basis, of 21 bytes.
+const TEXT: &str = "gb I 3\nx^2+y\nx*y\ny^2\n";
+
+/// A run on the basis over ports that move a byte at a time, where these calls fail: how many bytes of its text are written, and
+/// its status. Other bytes than those of the text count as too many.
+fn ending_at<R: Threads + Wait + Sync>(
+    rt: &R,
+    alloc: Global,
+    read: u64,
+    write: u64,
+) -> Result<(usize, u8), Fail> {
+    let mut case = faulty(BASIS, read, write, TEXT, plain(0, 0));
+    case.words = "p run";
+    let words = words_of(alloc, &case)?;
+    let mut source = source_of(alloc, &case)?;
+    let mut sink = sink_of(alloc, &case)?;
+    let told = run_over(rt, alloc, &words, &mut source, &mut sink, &OpenGate);
+    if TEXT.as_bytes().starts_with(sink.bytes()) {
+        Ok((sink.bytes().len(), told.status))
+    } else {
+        Ok((usize::MAX, told.status))
+    }
+}
+
+/// The first call whose failing read ends otherwise: nothing is written before the last line is whole, and all of it then.
+fn first_wrong_read<R: Threads + Wait + Sync>(rt: &R, alloc: Global) -> Result<Option<u64>, Fail> {
+    for call in 1..=49 {
+        let wanted = match call {
+            49 => (21, 0),
+            48 => (21, 3),
+            _ => (0, 3),
+        };
+        if ending_at(rt, alloc, call, 0)? != wanted {
+            return Ok(Some(call));
+        }
+    }
+    Ok(None)
+}
+
+/// The first call whose failing write ends otherwise: the bytes before it are written.
+fn first_wrong_write<R: Threads + Wait + Sync>(rt: &R, alloc: Global) -> Result<Option<u64>, Fail> {
+    let mut before = 0;
+    for call in 1..=22 {
+        let wanted = if call == 22 { (21, 0) } else { (before, 4) };
+        if ending_at(rt, alloc, 0, call)? != wanted {
+            return Ok(Some(call));
+        }
+        before += 1;
+    }
+    Ok(None)
+}
+
+#[test]
+fn each_call_of_a_port_may_fail(rt: HostRuntime) -> Result<(), Fail> {
+    assert_eq!(rt; first_wrong_read(&rt, rt.alloc())?, None);
+    assert_eq!(rt; first_wrong_write(&rt, rt.alloc())?, None);
+    Ok(())
+}
+
 #[test]
 fn runs_are_told(rt: HostRuntime) -> Result<(), Fail> {
     assert_eq!(rt; first_other(&rt, rt.alloc())?, None);
