@@ -1,5 +1,5 @@
-"""Systems of equations that benchmarks use, and what they time them with: Katsura's equations, the cyclic roots, and six
-random quadrics in six variables, all over Z/32003 in grevlex."""
+"""Systems of equations that benchmarks use, and what they time them with: Katsura's equations, the cyclic roots, random quadrics
+and others of the usual test sets, all over Z/32003 in grevlex."""
 import os
 import random
 import subprocess
@@ -36,6 +36,27 @@ def quadrics(n):
     return names, ["+".join(f"{draw.randrange(1, MODULUS)}*{m}" for m in monomials) for _ in range(n)]
 
 
+def economics(n):
+    """Morgan's economics: n unknowns, the last one in each product."""
+    names = [f"x{i}" for i in range(1, n + 1)]
+    sums = [[names[k]] + [f"{names[i]}*{names[i + k + 1]}" for i in range(n - 2 - k)] for k in range(n - 1)]
+    equations = [f"({'+'.join(it)})*{names[-1]}-{k}" for k, it in enumerate(sums, 1)]
+    return names, equations + ["+".join(names[:-1]) + "+1"]
+
+
+def noon(n):
+    """Noonburg's neural network, times ten."""
+    names = [f"x{i}" for i in range(1, n + 1)]
+    squares = lambda x: "+".join(f"{y}^2" for y in names if y != x)
+    return names, [f"10*{x}*({squares(x)})-11*{x}+10" for x in names]
+
+
+def reimer(n):
+    names = [f"x{i}" for i in range(1, n + 1)]
+    signed = lambda power: "".join(f"{'-' if i % 2 else '+'}2*{x}^{power}" for i, x in enumerate(names))[1:]
+    return names, [signed(power) + "-1" for power in range(2, n + 2)]
+
+
 SYSTEMS = (
     [(f"katsura-{n}", katsura(n)) for n in (4, 5, 6)]
     + [(f"cyclic-{n}", cyclic(n)) for n in (4, 5, 6)]
@@ -43,22 +64,47 @@ SYSTEMS = (
 )
 
 
+LARGER = (
+    [(f"katsura-{n}", katsura(n)) for n in (6, 7, 8, 9)]
+    + [(f"cyclic-{n}", cyclic(n)) for n in (6, 7)]
+    + [("8 quadrics", quadrics(8)), ("economics-9", economics(9)), ("reimer-5", reimer(5)), ("noon-6", noon(6))]
+)
+
+
+def generated(seed):
+    """Names and quadrics of the script of `large SEED`, whose coefficients a linear congruential generator draws."""
+    names, drawn, quadrics = list("abcdef"), seed, []
+    for _ in names:
+        terms = []
+        for product in [f"{u}*{v}" for i, u in enumerate(names) for v in names[i:]]:
+            drawn = (1103515245 * drawn + 12345) % 2147483648
+            terms.append(f"{drawn // 65536 % MODULUS}*{product}")
+        quadrics.append("+".join(terms))
+    return names, quadrics
+
+
 def script_of(names, generators):
     return f"ring {MODULUS} {','.join(names)} grevlex\nideal I = {', '.join(generators)}\nsize I\n"
 
 
-def run(words, script):
-    """Seconds, peak memory in KiB, status and output of a program that reads the script."""
+def timed(words, script, folder=None):
+    """Seconds by the clock and by the processor, peak memory in KiB, status and output of a program that reads the script."""
     with tempfile.TemporaryFile() as given, tempfile.TemporaryFile() as printed:
         given.write(script.encode())
         given.seek(0)
         begin = time.perf_counter()
-        child = subprocess.Popen(words, stdin=given, stdout=printed, stderr=subprocess.DEVNULL)
+        child = subprocess.Popen(words, stdin=given, stdout=printed, stderr=subprocess.DEVNULL, cwd=folder)
         _, status, usage = os.wait4(child.pid, 0)
         taken = time.perf_counter() - begin
         child.returncode = os.waitstatus_to_exitcode(status)
         printed.seek(0)
-        return taken, usage.ru_maxrss, child.returncode, printed.read()
+        return taken, usage.ru_utime + usage.ru_stime, usage.ru_maxrss, child.returncode, printed.read()
+
+
+def run(words, script):
+    """The same without the processor's seconds."""
+    taken, _, peak, status, printed = timed(words, script)
+    return taken, peak, status, printed
 
 
 def best(words, script):
