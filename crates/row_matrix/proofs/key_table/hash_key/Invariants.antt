@@ -1,7 +1,0 @@
-use Rattle.std.proofs.Common.{◌≡◌, take}
-use Rattle.std.specs.Prelude.{fold}
-use Rattle.row_matrix.specs.Hashes.{hash_step}
-use Rattle.row_matrix.proofs.key_table.hash_key.Given as goal
-
-abbrev pub invariant-loop-exponent : goal.invariant-loop-exponent
-invariant-loop-exponent l = l.hash ≡ fold hash_step l.key.position (take l.exponent-index l.key.monomial.exponents)
