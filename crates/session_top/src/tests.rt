@@ -337,13 +337,12 @@ fn first_wrong_read<R: Threads + Wait + Sync>(rt: &R, alloc: Global) -> Result<O
 
 /// The first call whose failing write ends otherwise: the bytes before it are written.
 fn first_wrong_write<R: Threads + Wait + Sync>(rt: &R, alloc: Global) -> Result<Option<u64>, Fail> {
-    let mut before = 0;
-    for call in 1..=22 {
-        let wanted = if call == 22 { (21, 0) } else { (before, 4) };
+    for before in 0..22 {
+        let wanted = if before == 21 { (21, 0) } else { (before, 4) };
+        let call = before as u64 + 1;
         if ending_at(rt, alloc, 0, call)? != wanted {
             return Ok(Some(call));
         }
-        before += 1;
     }
     Ok(None)
 }
