@@ -1,5 +1,5 @@
 // Multiples of a vector by a term.
-ghost use Rattle.std.specs.Prelude.{◌≡◌, ◌<◌, ◌≤◌, ◌+◌, List, ℕ, length, IfOk, IfErr, OnOk};
+ghost use Rattle.std.specs.Prelude.{◌≡◌, ◌<◌, ◌≤◌, ◌+◌, [], List, ℕ, length, IfOk, IfErr, OnOk};
 ghost use Rattle.monomials.specs.Exponents.{exponents_of};
 ghost use Rattle.formal_sums.specs.FormalSums.{scale};
 ghost use Rattle.module_vectors.specs.Rings.{variables};
@@ -44,6 +44,35 @@ fn scaled_term(
     }
 }
 
+/// Puts the terms of c m v into the empty list `out`, for a c that is not 0. After an error what stands there is of no use.
+pub(crate) fn scale_into<F: Frame>(
+    alloc: Global,
+    frame: &F,
+    c: u32,
+    m: &Mono,
+    v: &[(Key, u32)],
+    out: &mut Vec<(Key, u32)>,
+) -> Result<(), VectStop>
+    requires empty { out.old.items ≡ [] }
+    requires nonzero { 0 < c }
+    requires factor { c < (F.over frame.now).modulus.value }
+    requires variables { IsMonomialOver (F.over frame.now) m.now }
+    requires vector { IsVectorOver (F.over frame.now) (F.compare frame.now) v.now }
+    ensures vector { OnOk result (IsVectorOver (F.over frame.now) (F.compare frame.now) out.new.items) }
+    ensures sum { let n = variables (F.over frame.now) in
+        OnOk result (StandsFor (F.over frame.now) out.new.items (scale c (exponents_of n m.now.exponents) (sum_of n v.now))) }
+    ensures fits { OnOk result (Fits m.now v.now) }
+    ensures stop { IfErr result (ScaledStops c m.now v.now) }
+{
+    let modulus = &frame.ring().modulus;
+    modulus.domain();
+    out.reserve(v.len())?;
+    for term in v {
+        out.push_reserved(scaled_term(alloc, modulus, c, m, term)?);
+    }
+    Ok(())
+}
+
 /// The terms of c m v, for a c that is not 0.
 pub(crate) fn scaled_terms<F: Frame>(
     alloc: Global,
@@ -62,11 +91,7 @@ pub(crate) fn scaled_terms<F: Frame>(
     ensures fits { OnOk result (Fits m.now v.now) }
     ensures stop { IfErr result (ScaledStops c m.now v.now) }
 {
-    let modulus = &frame.ring().modulus;
-    modulus.domain();
-    let mut out = Vec::with_capacity(alloc, v.len())?;
-    for term in v {
-        out.push_reserved(scaled_term(alloc, modulus, c, m, term)?);
-    }
+    let mut out = Vec::new(alloc);
+    scale_into(alloc, frame, c, m, v, &mut out)?;
     Ok(out)
 }

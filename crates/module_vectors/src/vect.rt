@@ -16,7 +16,7 @@ use crate::merge::merge;
 use crate::scaled::scaled_terms;
 use crate::sums::{products_of, sum_terms};
 use crate::terms::{are_below, copy_terms, equal_terms, rescale_terms};
-use crate::{Frame, Key, NoMemory, Product, VectList, VectStop};
+use crate::{Frame, Key, NoMemory, Product, Room, VectList, VectStop};
 use monomial_orders::Mono;
 use std::alloc::Global;
 use std::marker::Model;
@@ -207,7 +207,30 @@ impl Vect {
         })
     }
 
-    /// The sum of products of terms and vectors, by halves: each term is moved about as often as the list can be halved.
+    /// The sum of products of terms and vectors, by halves: each term is moved about as often as the list can be halved. Its parts
+    /// and the sum itself stand in the room's lists.
+    ///
+    /// `Degree` exactly where a product by a residue that is not 0 has a degree above 65,535; it carries the two
+    /// monomials. `Memory` where there is none.
+    pub fn sum_of_products_in<F: Frame>(
+        alloc: Global,
+        frame: &F,
+        room: &mut Room,
+        products: &[Product<'_>],
+    ) -> Result<Vect, VectStop>
+        requires factors { Each (λ x. (x.residue < (F.over frame.now).modulus.value) × IsMonomialOver (F.over frame.now) x.monomial.now) products.now }
+        requires vectors { Each (λ x. IsVectorOver (F.over frame.now) (F.compare frame.now) x.vector.now) products.now }
+        ensures vector { IfOk result (λ v. IsVectorOver (F.over frame.now) (F.compare frame.now) v) }
+        ensures sum { IfOk result (λ v. StandsFor (F.over frame.now) v (sum_of_products (variables (F.over frame.now)) products.now)) }
+        ensures fits { OnOk result (ProductsFit products.now) }
+        ensures stop { IfErr result (ProductsStop products.now) }
+    {
+        Ok(Vect {
+            terms: sum_terms(alloc, frame, room, products)?,
+        })
+    }
+
+    /// The same in room of its own.
     ///
     /// `Degree` exactly where a product by a residue that is not 0 has a degree above 65,535; it carries the two
     /// monomials. `Memory` where there is none.
@@ -223,9 +246,8 @@ impl Vect {
         ensures fits { OnOk result (ProductsFit products.now) }
         ensures stop { IfErr result (ProductsStop products.now) }
     {
-        Ok(Vect {
-            terms: sum_terms(alloc, frame, products)?,
-        })
+        let mut room = Room::new(alloc);
+        Vect::sum_of_products_in(alloc, frame, &mut room, products)
     }
 
     /// The combination of the list's vectors, the cofactor of member i at position i of `cofactors` (UAG chapter 5,

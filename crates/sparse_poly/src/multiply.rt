@@ -7,7 +7,7 @@ ghost use Rattle.sparse_poly.specs.Degrees.{IsWithinDegree};
 ghost use Rattle.sparse_poly.specs.Multiples.{AreMultiples, exchanged};
 ghost use Rattle.sparse_poly.specs.Stops.{ProductFits, PolynomialProductStops};
 
-use module_vectors::{Frame, Key, NoMemory, Product, Vect, VectStop};
+use module_vectors::{Frame, Key, NoMemory, Product, Room, Vect, VectStop};
 use std::alloc::Global;
 
 /// The product of two polynomials. `Degree` exactly where a monomial of `a` and one of `b` have degrees that sum to
@@ -25,11 +25,36 @@ pub fn mul<F: Frame>(alloc: Global, frame: &F, a: &Vect, b: &Vect) -> Result<Vec
     ensures within { (d e : ℕ) → IsWithinDegree d a.now → IsWithinDegree e b.now → IfOk result (IsWithinDegree (d + e)) }
     ensures memory { (d e : ℕ) → IsWithinDegree d a.now → IsWithinDegree e b.now → d + e ≤ 65535 → OnErr result (result ≡ Err VectStop.Memory) }
 {
+    let mut room = Room::new(alloc);
+    mul_in(alloc, frame, &mut room, a, b)
+}
+
+/// The product of two polynomials, in the room that is there. `Degree` exactly where a monomial of `a` and one of `b` have degrees that sum to
+/// more than 65,535; it carries two such.
+pub(crate) fn mul_in<F: Frame>(
+    alloc: Global,
+    frame: &F,
+    room: &mut Room,
+    a: &Vect,
+    b: &Vect,
+) -> Result<Vect, VectStop>
+    requires left { IsVectorOver (F.over frame.now) (F.compare frame.now) a.now }
+    requires right { IsVectorOver (F.over frame.now) (F.compare frame.now) b.now }
+    requires left_polynomial { HasPositions 1 a.now }
+    requires right_polynomial { HasPositions 1 b.now }
+    ensures vector { IfOk result (λ v. IsVectorOver (F.over frame.now) (F.compare frame.now) v) }
+    ensures polynomial { IfOk result (λ v. HasPositions 1 v) }
+    ensures product { let n = variables (F.over frame.now) in IfOk result (λ v. StandsFor (F.over frame.now) v (product (sum_of n a.now) (sum_of n b.now))) }
+    ensures fits { OnOk result (ProductFits a.now b.now) }
+    ensures stop { IfErr result (PolynomialProductStops a.now b.now) }
+    ensures within { (d e : ℕ) → IsWithinDegree d a.now → IsWithinDegree e b.now → IfOk result (IsWithinDegree (d + e)) }
+    ensures memory { (d e : ℕ) → IsWithinDegree d a.now → IsWithinDegree e b.now → d + e ≤ 65535 → OnErr result (result ≡ Err VectStop.Memory) }
+{
     // One product for each term of the shorter factor: so fewer vectors are merged.
     if a.terms().len() <= b.terms().len() {
-        mul_terms(alloc, frame, a, b)
+        mul_terms(alloc, frame, room, a, b)
     } else {
-        match mul_terms(alloc, frame, b, a) {
+        match mul_terms(alloc, frame, room, b, a) {
             Ok(v) => Ok(v),
             Err(stop) => Err(exchange(stop)),
         }
@@ -37,7 +62,13 @@ pub fn mul<F: Frame>(alloc: Global, frame: &F, a: &Vect, b: &Vect) -> Result<Vec
 }
 
 /// The product of two polynomials, as the sum of the products of each term of `a` with `b`.
-fn mul_terms<F: Frame>(alloc: Global, frame: &F, a: &Vect, b: &Vect) -> Result<Vect, VectStop>
+fn mul_terms<F: Frame>(
+    alloc: Global,
+    frame: &F,
+    room: &mut Room,
+    a: &Vect,
+    b: &Vect,
+) -> Result<Vect, VectStop>
     requires left { IsVectorOver (F.over frame.now) (F.compare frame.now) a.now }
     requires right { IsVectorOver (F.over frame.now) (F.compare frame.now) b.now }
     ensures vector { IfOk result (λ v. IsVectorOver (F.over frame.now) (F.compare frame.now) v) }
@@ -46,7 +77,7 @@ fn mul_terms<F: Frame>(alloc: Global, frame: &F, a: &Vect, b: &Vect) -> Result<V
     ensures stop { IfErr result (PolynomialProductStops a.now b.now) }
 {
     match multiples(alloc, a.terms(), b) {
-        Ok(products) => Vect::sum_of_products(alloc, frame, &products),
+        Ok(products) => Vect::sum_of_products_in(alloc, frame, room, &products),
         Err(_) => Err(VectStop::Memory),
     }
 }

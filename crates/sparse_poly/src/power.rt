@@ -7,9 +7,11 @@ ghost use Rattle.sparse_poly.specs.PowerParts.{IsPowerOver, PowerStopsOver};
 ghost use Rattle.sparse_poly.specs.Powers.{power};
 ghost use Rattle.sparse_poly.specs.Stops.{PowersFit, PowerStops};
 
-use crate::{formal_constant, mul};
-use module_vectors::{Frame, Vect, VectStop};
+use crate::formal_constant;
+use crate::multiply::mul_in;
+use module_vectors::{Frame, Room, Vect, VectStop};
 use std::alloc::Global;
+use std::mem::replace;
 
 /// The power of a polynomial, from that of half the exponent; with n = 0 the constant 1. `Degree` exactly where monomials of
 /// two powers of `p`, with exponents that sum to at most n, have degrees that sum to more than 65,535; it carries two such.
@@ -25,20 +27,43 @@ pub fn pow<F: Frame>(alloc: Global, frame: &F, p: &Vect, n: u128) -> Result<Vect
     ensures within { (d : ℕ) → IsWithinDegree d p.now → IfOk result (IsWithinDegree (n * d)) }
     ensures memory { (d : ℕ) → IsWithinDegree d p.now → n * d ≤ 65535 → OnErr result (result ≡ Err VectStop.Memory) }
 {
+    let mut room = Room::new(alloc);
+    raised(alloc, frame, &mut room, p, n)
+}
+
+/// The same in the room that is there.
+fn raised<F: Frame>(
+    alloc: Global,
+    frame: &F,
+    room: &mut Room,
+    p: &Vect,
+    n: u128,
+) -> Result<Vect, VectStop>
+    requires vector { IsVectorOver (F.over frame.now) (F.compare frame.now) p.now }
+    requires polynomial { HasPositions 1 p.now }
+    ensures vector { IfOk result (λ v. IsVectorOver (F.over frame.now) (F.compare frame.now) v) }
+    ensures polynomial { IfOk result (λ v. HasPositions 1 v) }
+    ensures power { IfOk result (λ v. StandsFor (F.over frame.now) v (power (sum_of (variables (F.over frame.now)) p.now) n)) }
+    ensures fits { OnOk result (PowersFit (F.over frame.now).weights (F.over frame.now).modulus.value (sum_of (variables (F.over frame.now)) p.now) n) }
+    ensures stop { let m = variables (F.over frame.now) in
+        IfErr result (PowerStops m (F.over frame.now).weights (F.over frame.now).modulus.value (sum_of m p.now) n) }
+    ensures within { (d : ℕ) → IsWithinDegree d p.now → IfOk result (IsWithinDegree (n * d)) }
+    ensures memory { (d : ℕ) → IsWithinDegree d p.now → n * d ≤ 65535 → OnErr result (result ≡ Err VectStop.Memory) }
+{
     if n == 0 {
         return formal_constant(alloc, frame, 1);
     }
     // From the top bit on, so that each product made is of two powers whose exponents sum to at most n.
-    let half = match pow(alloc, frame, p, n / 2) {
+    let half = match raised(alloc, frame, room, p, n / 2) {
         Ok(half) => half,
         Err(stop) => return Err(stop),
     };
     // Multiplying on makes at least (n - n / 2) |p| |half| products of terms, and squaring |half| |half|.
     let factors = (n - n / 2).saturating_mul(p.terms().len() as u128);
     if half.terms().len() as u128 <= factors {
-        squared(alloc, frame, p, n, &half)
+        squared(alloc, frame, room, p, n, &half)
     } else {
-        multiplied_on(alloc, frame, p, n, half)
+        multiplied_on(alloc, frame, room, p, n, half)
     }
 }
 
@@ -46,6 +71,7 @@ pub fn pow<F: Frame>(alloc: Global, frame: &F, p: &Vect, n: u128) -> Result<Vect
 fn squared<F: Frame>(
     alloc: Global,
     frame: &F,
+    room: &mut Room,
     p: &Vect,
     n: u128,
     half: &Vect,
@@ -56,14 +82,14 @@ fn squared<F: Frame>(
     ensures power { IfOk result (IsPowerOver (F.over frame.now) (F.compare frame.now) p.now n) }
     ensures stop { IfErr result (PowerStopsOver (F.over frame.now) p.now n) }
 {
-    let square = match mul(alloc, frame, half, half) {
+    let square = match mul_in(alloc, frame, room, half, half) {
         Ok(square) => square,
         Err(stop) => return Err(stop),
     };
     if n % 2 == 0 {
         Ok(square)
     } else {
-        mul(alloc, frame, &square, p)
+        mul_in(alloc, frame, room, &square, p)
     }
 }
 
@@ -71,6 +97,7 @@ fn squared<F: Frame>(
 fn multiplied_on<F: Frame>(
     alloc: Global,
     frame: &F,
+    room: &mut Room,
     p: &Vect,
     n: u128,
     half: Vect,
@@ -83,10 +110,10 @@ fn multiplied_on<F: Frame>(
 {
     let mut reached = half;
     for _ in n / 2..n {
-        reached = match mul(alloc, frame, &reached, p) {
-            Ok(next) => next,
+        match mul_in(alloc, frame, room, &reached, p) {
+            Ok(next) => room.keep(replace(&mut reached, next)),
             Err(stop) => return Err(stop),
-        };
+        }
     }
     Ok(reached)
 }

@@ -1,4 +1,4 @@
-use Rattle.std.proofs.Common.{List, ap, ap₂, arith, refl, subst, sym, ◌%◌, ◌∙◌, ℕ, ◌≡◌, ◌<◌, [], ◌∷◌, ◌++◌, length}
+use Rattle.std.proofs.Common.{List, ap, ap₂, refl, subst, sym, ◌%◌, ◌∙◌, ℕ, ◌≡◌, ◌<◌, [], ◌∷◌, ◌++◌, length}
 use Rattle.formal_sums.proofs.Sameness.{IsSame_sym, IsSame_trans}
 use Rattle.formal_sums.specs.FormalSums.{IsSame}
 use Rattle.monomials.specs.Exponents.{unit}

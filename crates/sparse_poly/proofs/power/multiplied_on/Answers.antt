@@ -20,7 +20,7 @@ loop-preserved g c =
     let order = g.met.F.Frame.laws c.args.frame.now (variables ring) 1 in
     let domain = is_modulus-domain ring.modulus.value ring.modulus.table in
     record {
-      power = IsPowerOver_next ring compare order domain c.args.p.now c.loop.counter (c.loop.counter + 1) c.loop.reached c.in-Ok.next refl
-          c.requires.vector c.requires.polynomial c.loop.invariant.power c.in-Ok.ensures.fits c.in-Ok.ensures.vector c.in-Ok.ensures.polynomial c.in-Ok.ensures.product;
+      power = rw c.replace.ensures.after (IsPowerOver_next ring compare order domain c.args.p.now c.loop.counter (c.loop.counter + 1) c.loop.reached c.in-Ok.next refl
+          c.requires.vector c.requires.polynomial c.loop.invariant.power c.in-Ok.ensures.fits c.in-Ok.ensures.vector c.in-Ok.ensures.polynomial c.in-Ok.ensures.product);
       low = omega arith;
     }

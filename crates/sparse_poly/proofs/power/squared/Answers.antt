@@ -37,8 +37,8 @@ returns-else-n-eq0-clause-power g c =
     c.requires.polynomial half half c.in-Ok.ensures.fits c.in-Ok.ensures.vector c.in-Ok.ensures.polynomial c.in-Ok.ensures.product
     in
     let whole : c.args.n / 2 + c.args.n / 2 + 1 ≡ c.args.n = omega arith in
-    let last = c.mul-else-n-eq0.ensures in
-    next_result ring compare order domain c.args.p.now (c.args.n / 2 + c.args.n / 2) c.args.n c.in-Ok.square c.mul-else-n-eq0.result whole
+    let last = c.mul_in-else-n-eq0.ensures in
+    next_result ring compare order domain c.args.p.now (c.args.n / 2 + c.args.n / 2) c.args.n c.in-Ok.square c.mul_in-else-n-eq0.result whole
     c.requires.vector c.requires.polynomial even last.fits last.vector last.polynomial last.product
 
 pub returns-else-n-eq0-clause-stop : goal.returns-else-n-eq0-clause-stop
@@ -53,6 +53,6 @@ returns-else-n-eq0-clause-stop g c =
     c.requires.polynomial half half c.in-Ok.ensures.fits c.in-Ok.ensures.vector c.in-Ok.ensures.polynomial c.in-Ok.ensures.product
     in
     let whole : c.args.n / 2 + c.args.n / 2 + 1 ≤ c.args.n = omega arith in
-    each_err _ (PowerStopsOver ring c.args.p.now c.args.n) c.mul-else-n-eq0.result
+    each_err _ (PowerStopsOver ring c.args.p.now c.args.n) c.mul_in-else-n-eq0.result
     (λ stop h. next_stops ring compare order domain c.args.p.now (c.args.n / 2 + c.args.n / 2) c.args.n c.in-Ok.square stop whole c.requires.vector c.requires.polynomial even h)
-    c.mul-else-n-eq0.ensures.stop
+    c.mul_in-else-n-eq0.ensures.stop

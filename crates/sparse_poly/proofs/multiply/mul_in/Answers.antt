@@ -6,7 +6,7 @@ use Rattle.sparse_poly.proofs.Multiplying.{ProductFits_exchanged, PolynomialProd
 use Rattle.sparse_poly.proofs.Products.{PolynomialProductStops_memory, product_exchanged, product_positions, product_within}
 use Rattle.sparse_poly.proofs.Results.{both_ok, one_err}
 use Rattle.sparse_poly.specs.Degrees.{IsWithinDegree}
-use Rattle.sparse_poly.proofs.multiply.mul.Goals as goal
+use Rattle.sparse_poly.proofs.multiply.mul_in.Goals as goal
 
 pub returns-then-terms-clause-polynomial : goal.returns-then-terms-clause-polynomial
 returns-then-terms-clause-polynomial g c =

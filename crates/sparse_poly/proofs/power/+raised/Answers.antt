@@ -7,7 +7,7 @@ use Rattle.sparse_poly.proofs.PowerSteps.{PowerStops_higher, PowersFit_none, res
 use Rattle.sparse_poly.proofs.Results.{each_ok}
 use Rattle.sparse_poly.proofs.Terms.{IsPolynomial_of}
 use Rattle.sparse_poly.specs.Stops.{PowersFit}
-use Rattle.sparse_poly.proofs.power.+pow.Goals as goal
+use Rattle.sparse_poly.proofs.power.+raised.Goals as goal
 
 pub returns-then-n-eq0-clause-fits : goal.returns-then-n-eq0-clause-fits
 returns-then-n-eq0-clause-fits g t c =
