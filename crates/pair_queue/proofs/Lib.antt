@@ -12,6 +12,7 @@ pub mod NewPairs
 pub mod Clearing
 pub mod OutPairs
 pub mod Dividing
+pub mod Gapped
 pub mod Mirroring
 pub mod Words
 pub mod Putting

@@ -5,6 +5,7 @@ pub mod Queueing
 pub mod Rows
 pub mod Tables
 pub mod Skipping
+pub mod Gaps
 pub mod Giving
 pub mod Inside
 pub mod Shown

@@ -4,6 +4,7 @@ ghost use Rattle.monomials.specs.Exponents.{Divides, exponents_of, lcm};
 ghost use Rattle.basis_steps.specs.Pairs.{Pair as PlainPair, is_same_pair, pair_of};
 ghost use Rattle.pair_queue.specs.Leads.{sums_shown};
 ghost use Rattle.pair_queue.specs.Skipping.{ChainSpares, DividesLcm, IsKnown, IsSpared, ProductSpares};
+ghost use Rattle.pair_queue.specs.Gaps.{IsGap};
 ghost use Rattle.pair_queue.specs.Tables.{cleared, flag, size};
 ghost use Rattle.basis_steps.specs.Criteria.{IsPair};
 
@@ -11,6 +12,13 @@ use crate::leads::Leads;
 use crate::table::Table;
 use monomial_orders::Mono;
 use pair_criteria::product_applies;
+
+// An exponent of a variable.
+#[derive(Clone, Copy)]
+struct Gap {
+    variable: usize,
+    exponent: u16,
+}
 
 /// Does the product criterion apply to the pair? IVA chapter 2, section 9.
 pub(crate) fn product_spares(leads: &Leads, i: usize, j: usize) -> bool
@@ -71,8 +79,47 @@ fn close_pair(leads: &Leads, due: &mut Table, i: usize, j: usize, k: usize)
     }
 }
 
-// Closes the due pair of a and c where the lead of member k divides its lcm.
-fn close_one(leads: &Leads, due: &mut Table, a: usize, c: usize, k: usize)
+// An exponent of one variable that the lead of a third member must have for the lead of member k to divide its lcm with that of
+// member a: where the lead of k is above that of a by most. Where it is above it nowhere, the exponent is 0.
+fn gap_of(leads: &Leads, a: usize, k: usize) -> Gap
+    requires a { a < length leads.now.keys }
+    requires k { k < length leads.now.keys }
+    ensures { IsGap leads.now a k result }
+{
+    let lead = leads.at(k).monomial.exponents();
+    let left = leads.at(a).monomial.exponents();
+    let mut gap = Gap {
+        variable: 0,
+        exponent: 0,
+    };
+    let mut widest = 0;
+    for v in 0..lead.len() {
+        if lead[v] > left[v] && lead[v] - left[v] > widest {
+            widest = lead[v] - left[v];
+            gap = Gap {
+                variable: v,
+                exponent: lead[v],
+            };
+        }
+    }
+    gap
+}
+
+// Has the lead of member c the exponent?
+fn reaches(leads: &Leads, c: usize, gap: Gap) -> bool
+    requires c { c < length leads.now.keys }
+    ensures { (a k : ℕ) → IsGap leads.now a k gap → result ≡ false → DividesLcm leads.now (pair_of a c) k → ⊥ }
+{
+    let exponents = leads.at(c).monomial.exponents();
+    if gap.variable < exponents.len() && exponents[gap.variable] < gap.exponent {
+        return false;
+    }
+    true
+}
+
+// Closes the due pair of a and c where the lead of member k divides its lcm. Most fail the test by one exponent.
+fn close_one(leads: &Leads, due: &mut Table, a: usize, c: usize, k: usize, gap: Gap)
+    requires gap { IsGap leads.now a k gap }
     requires a { a < length leads.now.keys }
     requires c { c < length leads.now.keys }
     requires k { k < length leads.now.keys }
@@ -84,6 +131,9 @@ fn close_one(leads: &Leads, due: &mut Table, a: usize, c: usize, k: usize)
     ensures closed { flag due.new (pair_of a c) ≡ false → flag due.old (pair_of a c) ≡ true → DividesLcm leads.now (pair_of a c) k }
     ensures free { flag due.new (pair_of a c) ≡ true → DividesLcm leads.now (pair_of a c) k → ⊥ }
 {
+    if !reaches(leads, c, gap) {
+        return;
+    }
     if a < c {
         close_pair(leads, due, a, c, k);
     } else {
@@ -105,10 +155,11 @@ fn close_by(leads: &Leads, waits: &Table, due: &mut Table, a: usize, k: usize)
     ensures closed { (x : PlainPair) → (flag due.new) x ≡ false → (flag due.old) x ≡ true → ChainSpares leads.now (flag waits.now) x k }
     ensures free { (c : ℕ) → (flag due.new) (pair_of a c) ≡ true → ChainSpares leads.now (flag waits.now) (pair_of a c) k → ⊥ }
 {
+    let gap = gap_of(leads, a, k);
     let count = leads.len();
     let mut c = due.first_without(a, waits, k, 0);
     while c < count {
-        close_one(leads, due, a, c, k);
+        close_one(leads, due, a, c, k, gap);
         c = due.first_without(a, waits, k, c + 1);
     }
 }
