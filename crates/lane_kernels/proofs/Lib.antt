@@ -1,0 +1,4 @@
+pub mod Barrett
+pub mod Done
+pub mod LaneMaps
+pub mod Products

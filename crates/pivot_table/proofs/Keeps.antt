@@ -1,0 +1,203 @@
+-- Each step on a pass's words keeps the rule.
+use Rattle.std.proofs.Common.{◌≡◌, ◌≢◌, ℕ, zero, suc, add-one, ◌+◌, ◌-◌, ◌<◌, ◌≤◌, eqb, cond, List, [], ◌∷◌, ◌++◌, map, length, get_or, set, sym, refl, ap, ◌∙◌, subst, ⊎_elim, arith, length-set, get_or-set_other, get_or-set_same, eq-eqb, ne_eqb}
+use Rattle.std.specs.Prelude.{slice_get, Option, Some, None}
+use Rattle.std.proofs.lemmas.List.Elements.{All-append, All-push, All-nil, All-weaker}
+use Rattle.std.proofs.lemmas.List.{length-map, get_or-map, get_or_past}
+use Rattle.std.specs.Option.{option_map}
+use Rattle.std.proofs.lemmas.Option.{slice_get-get_or, slice_get-map, slice_get_within, get_or_from_slice_get}
+use mathlib.Core.Logic.{dite}
+use mathlib.Core.Option as maybe
+use native.Mathlib.Decide.{ℕ_discrete, dec_lt}
+use lib.ListN.{get_elem?}
+use prog.Atomic.{either}
+use Rattle.atomic_table.specs.Table.{State, Me, step, keeps, stepped, opening, Final, Seen, Allows, Splits, Joins}
+use Rattle.atomic_table.proofs.Lists.{at_set, at_snoc, set_again}
+use Rattle.pivot_table.specs.declared.law.Entry.{Entry}
+use Rattle.pivot_table.specs.declared.law.View.{View}
+use Rattle.pivot_table.specs.declared.law.Rows.{Rows}
+use Rattle.pivot_table.specs.Law.{Kept, NamesRowOf, Agrees, IsAsTold, LeadsFit, Tallies, view, entry, total, unit, won, wins, was_held, claimed, looked, option_word, word_row}
+
+same_length : {A B : Type 0} (f : A → B) (l : List A) → length (map f l) ≡ length l
+same_length f l = length-map l f
+
+-- what was told stays so where each word that is not 0 stays
+still_told : (ws us : List ℕ) (told : List Entry) → ((c : ℕ) → 0 < get_or ws c 0 → get_or us c 0 ≡ get_or ws c 0) → Agrees ws told → Agrees us told
+still_told ws us told stays a = All-weaker (IsAsTold ws) (IsAsTold us) (λ e was some_row. let w = was some_row in stays e.column (subst (λ (z : ℕ). 0 < z) (sym w) some_row) ∙ w) told a
+
+module _ {A : Type 0} where
+  total-append : (f : A → ℕ) (xs ys : List A) → total f (xs ++ ys) ≡ total f xs + total f ys
+  total-append f [] ys = omega arith
+  total-append f (x ∷ xs) ys = omega (arith, total-append f xs ys)
+
+  -- the total after a change of one
+  total_set : (f : A → ℕ) (xs : List A) (i : ℕ) (v w : A) → get_elem? xs i ≡ maybe.some v → total f (set xs i w) + f v ≡ total f xs + f w
+  total_set f [] i v w e = absurd (maybe.some-ne-none v (sym e))
+  total_set f (x ∷ xs) zero v w e = let same : f x ≡ f v = ap f (maybe.some-injective x v e) in omega arith
+  total_set f (x ∷ xs) (suc i) v w e = omega (arith, total_set f xs i v w e)
+
+won_else : (c i b n : ℕ) → c ≢ i → won c (entry i b n) ≡ 0
+won_else c i b n ne = ap (λ t. cond t (cond (eqb b 0) (unit n) 0) 0) (ne_eqb i c (λ e. ne (sym e)))
+
+won_here : (c i b n : ℕ) → c ≡ i → won c (entry i b n) ≡ cond (eqb b 0) (unit n) 0
+won_here c i b n e = ap (λ t. cond t (cond (eqb b 0) (unit n) 0) 0) (eq-eqb i c (sym e))
+
+wins-snoc : (c : ℕ) (leads : List ℕ) (told : List Entry) (e : Entry) → wins c (view leads (told ++ e ∷ [])) ≡ total (won c) told + won c e
+wins-snoc c leads told e = omega (arith, total-append (won c) told (e ∷ []))
+
+module _ {S : Type 0} (leads : List ℕ) (held : List (Option ℕ)) where
+  abbrev Rule : State S View → Type 0
+  Rule = Kept {S = S} leads held
+
+  -- the word i becomes n, and the seat is told so
+  told_one : (s : State S View) (r : Rule s) (i b n id : ℕ) (cs : List (ℕ × S)) (v : View) → b ≡ get_or s.words i 0 → i < length s.words → get_elem? s.views id ≡ maybe.some v
+      → ((0 < get_or s.words i 0) → n ≡ get_or s.words i 0) → NamesRowOf leads i n → Rule (stepped s i n id cs (view v.leads (v.told ++ entry i b n ∷ [])) keeps)
+  told_one s r i b n id cs v found inside at stay names =
+      let w : View = view v.leads (v.told ++ entry i b n ∷ []) in
+      let us : List ℕ = set s.words i n in
+      let here : get_or us i 0 ≡ n = get_or-set_same s.words i n 0 inside in
+      let else_where : (c : ℕ) → c ≢ i → get_or us c 0 ≡ get_or s.words c 0 = λ c ne. get_or-set_other s.words i c n 0 ne in
+      let stays : (c : ℕ) → 0 < get_or s.words c 0 → get_or us c 0 ≡ get_or s.words c 0 =
+      λ c some_row. dite (ℕ_discrete c i)
+      (λ e. subst (λ (z : ℕ). get_or us z 0 ≡ get_or s.words z 0) (sym e) (here ∙ stay (subst (λ (z : ℕ). 0 < get_or s.words z 0) e some_row)))
+      (λ ne. else_where c ne) in
+      record {
+        wide = length-set s.words i n ∙ r.wide;
+        named = λ c l. dite (ℕ_discrete c i)
+            (λ e. subst (λ (z : ℕ). NamesRowOf leads z (get_or us z 0)) (sym e) (subst (λ (z : ℕ). NamesRowOf leads i z) (sym here) names))
+            (λ ne. subst (λ (z : ℕ). NamesRowOf leads c z) (sym (else_where c ne)) (r.named c (subst (λ (z : ℕ). c < z) (length-set s.words i n) l)));
+        stays = λ c k h. let was = r.stays c k h in stays c (omega (arith, was)) ∙ was;
+        each_seat = λ j u e. ⊎_elim
+            (λ (t : (j ≡ id) × (w ≡ u)). subst (λ (z : View). Agrees us z.told) t.1 (All-push (IsAsTold us) v.told (entry i b n) (still_told s.words us v.told stays (r.each_seat id v at)) (λ _. here)))
+            (λ (t : (j ≢ id) × (get_elem? s.views j ≡ maybe.some u)). still_told s.words us u.told stays (r.each_seat j u t.1))
+            (at_set s.views id j w u e);
+        once = λ c l. let l' : c < length s.words = subst (λ (z : ℕ). c < z) (length-set s.words i n) l in let was = r.once c l' in
+            let t = total_set (wins c) s.views id v w at in let m = wins-snoc c v.leads v.told (entry i b n) in
+            dite (ℕ_discrete c i)
+            (λ e. let now : get_or us c 0 ≡ n = ap (λ (z : ℕ). get_or us z 0) e ∙ here in let old : get_or s.words c 0 ≡ b = ap (λ (z : ℕ). get_or s.words z 0) e ∙ sym found in
+            let x = won_here c i b n e in dite (ℕ_discrete b 0)
+            (λ z. let y : won c (entry i b n) ≡ unit n = x ∙ ap (λ q. cond q (unit n) 0) (eq-eqb b 0 z) in let none : unit (get_or s.words c 0) ≡ 0 = ap unit (old ∙ z) in let one : unit (get_or us c 0) ≡ unit n = ap unit now in omega arith)
+            (λ nz. let y : won c (entry i b n) ≡ 0 = x ∙ ap (λ q. cond q (unit n) 0) (ne_eqb b 0 nz) in let same : n ≡ get_or s.words c 0 = stay (omega (arith, nz)) ∙ (sym found ∙ sym old) in
+            let one : unit (get_or us c 0) ≡ unit (get_or s.words c 0) = ap unit (now ∙ same) in omega arith))
+            (λ ne. let y = won_else c i b n ne in let one : unit (get_or us c 0) ≡ unit (get_or s.words c 0) = ap unit (else_where c ne) in omega arith);
+      }
+
+  pub claims : (slots id i row : ℕ) (me : Me S View) → i < length held → me.0.leads ≡ leads → row < length leads → get_or leads row 0 ≡ i
+      → Allows Rule slots id me i (λ n. either (eqb n 0) (row + 1) n) (claimed (step slots i 0 (row + 1) maybe.none) me)
+  claims slots id i row me inside same row_in lead s r _ at _ =
+      let n : ℕ = get_or s.words i 0 in
+      let wide = r.wide in
+      let m : ℕ = either (eqb n 0) (row + 1) n in
+      let mine : NamesRowOf leads i (row + 1) = λ _. (omega arith, subst (λ (z : ℕ). get_or leads z 0 ≡ i) (omega arith) lead) in
+      let there : NamesRowOf leads i n = r.named i (omega arith) in
+      let names : NamesRowOf leads i m = dite (ℕ_discrete n 0) (λ e. subst (λ b. NamesRowOf leads i (either b (row + 1) n)) (sym (eq-eqb n 0 e)) mine)
+      (λ ne. subst (λ b. NamesRowOf leads i (either b (row + 1) n)) (sym (ne_eqb n 0 ne)) there) in
+      let stay : 0 < n → m ≡ n = λ l. ap (λ b. either b (row + 1) n) (ne_eqb n 0 (λ e. omega arith)) in
+      (view me.0.leads (me.0.told ++ entry i n m ∷ []), keeps, tt, told_one s r i n m id me.1 me.0 refl (omega arith) at stay names, (refl, subst (λ (z : List ℕ). NamesRowOf z i m) (sym same) names))
+
+  pub looks : (slots id i : ℕ) (me : Me S View) → i < length held → me.0.leads ≡ leads
+      → Allows Rule slots id me i (λ n. n) (looked (step slots i 0 0 maybe.none) me)
+  looks slots id i me inside same s r _ at _ =
+      let n : ℕ = get_or s.words i 0 in
+      let wide = r.wide in
+      let names : NamesRowOf leads i n = r.named i (omega arith) in
+      (view me.0.leads (me.0.told ++ entry i n n ∷ []), keeps, tt, told_one s r i n n id me.1 me.0 refl (omega arith) at (λ _. refl) names, (refl, subst (λ (z : List ℕ). NamesRowOf z i n) (sym same) names))
+
+  -- the views alone change
+  reseated : (s : State S View) (r : Rule s) (views : List View) → ((j : ℕ) (v : View) → get_elem? views j ≡ maybe.some v → Agrees s.words v.told) → ((c : ℕ) → total (wins c) views ≡ total (wins c) s.views)
+      → Rule record { words = s.words; homes = s.homes; views = views }
+  reseated s r views each same = record { wide = r.wide; named = r.named; stays = r.stays; each_seat = each; once = λ c l. ap (λ (n : ℕ). n + was_held held c) (same c) ∙ r.once c l }
+
+  pub splits : (id : ℕ) (v : View) → Splits Rule id v v (view v.leads [])
+  splits id v s r at = let right : View = view v.leads [] in let again : set s.views id v ≡ s.views = set_again s.views id v at in reseated s r (set s.views id v ++ right ∷ [])
+      (λ j u e. ⊎_elim
+      (λ (was : get_elem? (set s.views id v) j ≡ maybe.some u). r.each_seat j u (subst (λ (vs : List View). get_elem? vs j ≡ maybe.some u) again was))
+      (λ (same : right ≡ u). subst (λ (z : View). Agrees s.words z.told) same (All-nil (IsAsTold s.words)))
+      (at_snoc (set s.views id v) right u j e))
+      (λ c. ap (λ (vs : List View). total (wins c) (vs ++ right ∷ [])) again ∙ omega (arith, total-append (wins c) s.views (right ∷ [])))
+
+  pub joins : (id : ℕ) (v : View) (other : ℕ) (w : View) → Joins Rule id v other w (view v.leads (v.told ++ w.told)) (view [] [])
+  joins id v other w s r at apart there =
+      let b : View = view v.leads (v.told ++ w.told) in
+      let there' : get_elem? s.views other ≡ maybe.some w = ⊎_elim (λ (t : (other ≡ id) × (b ≡ w)). absurd (apart t.0)) (λ (t : (other ≢ id) × (get_elem? s.views other ≡ maybe.some w)). t.1) (at_set s.views id other b w there) in
+      let joined : Agrees s.words b.told = All-append (IsAsTold s.words) v.told w.told (r.each_seat id v at) (r.each_seat other w there') in
+      reseated s r (set (set s.views id b) other (view [] []))
+      (λ j u e. ⊎_elim
+      (λ (t : (j ≡ other) × (view [] [] ≡ u)). subst (λ (z : View). Agrees s.words z.told) t.1 (All-nil (IsAsTold s.words)))
+      (λ (t : (j ≢ other) × (get_elem? (set s.views id b) j ≡ maybe.some u)). ⊎_elim
+      (λ (q : (j ≡ id) × (b ≡ u)). subst (λ (z : View). Agrees s.words z.told) q.1 joined)
+      (λ (q : (j ≢ id) × (get_elem? s.views j ≡ maybe.some u)). r.each_seat j u q.1)
+      (at_set s.views id j b u t.1))
+      (at_set (set s.views id b) other j (view [] []) u e))
+      (λ c. let one = total_set (wins c) s.views id v b at in let two = total_set (wins c) (set s.views id b) other w (view [] []) there in
+      let sum : wins c b ≡ wins c v + wins c w = total-append (won c) v.told w.told in omega arith)
+
+  -- the words that the pass begins with
+  pub opens : (xs : List S) → LeadsFit leads held → Rule (opening (map option_word held) xs (view leads []))
+  opens xs fits = record {
+    wide = same_length option_word held;
+    named = λ c l. first_named c (omega (arith, same_length option_word held)) (get_or held c None) (slice_get-get_or held c None (omega (arith, same_length option_word held)));
+    stays = λ c k h. word_at c (Some k) h;
+    each_seat = λ j u e. ⊎_elim (λ (t : get_elem? [] j ≡ maybe.some u). absurd (maybe.some-ne-none u (sym t)))
+        (λ (t : view leads [] ≡ u). subst (λ (z : View). Agrees (map option_word held) z.told) t (All-nil (IsAsTold (map option_word held)))) (at_snoc [] (view leads []) u j e);
+    once = λ c l. let l' : c < length held = omega (arith, same_length option_word held) in let e = ap unit (get_or-map option_word held c None 0 l') in omega arith;
+  }
+    where
+      word_at : (c : ℕ) (o : Option ℕ) → slice_get held c ≡ Some o → get_or (map option_word held) c 0 ≡ option_word o
+      word_at c o h = get_or-map option_word held c None 0 (slice_get_within held c o h) ∙ ap option_word (get_or_from_slice_get held c o None h)
+
+      first_named : (c : ℕ) → c < length held → (o : Option ℕ) → slice_get held c ≡ Some o → NamesRowOf leads c (get_or (map option_word held) c 0)
+      first_named c l None h = subst (NamesRowOf leads c) (sym (word_at c None h)) (λ z. absurd (omega arith))
+      first_named c l (Some k) h = subst (NamesRowOf leads c) (sym (word_at c (Some k) h)) (λ _. let f = fits c k h in let lt = f.0 in (omega arith, subst (λ (z : ℕ). get_or leads z 0 ≡ c) (omega arith) f.1))
+
+pub word_fits : (leads : List ℕ) (held : List (Option ℕ)) (i : ℕ) → LeadsFit leads held → i < length held → option_word (get_or held i None) ≤ length leads
+word_fits leads held i fits l = go (get_or held i None) (slice_get-get_or held i None l)
+  where
+    go : (o : Option ℕ) → slice_get held i ≡ Some o → option_word o ≤ length leads
+    go None e = omega arith
+    go (Some k) e = let f = fits i k e in omega arith
+
+module _ (leads : List ℕ) (held : List (Option ℕ)) {S : Type 0} where
+  -- what the table ends with, read as rows
+  pub tallies : (id : ℕ) (v : View) (words : List ℕ) (xs : List S) → Final (Seen (Kept leads held) id v) words xs → Tallies leads held v.told (map word_row words)
+  tallies id v words xs (s, (r, at), is, _, _) = subst (λ (ws : List ℕ). Tallies leads held v.told (map word_row ws)) is record {
+    wide = same_length word_row s.words ∙ r.wide;
+    fits = λ c k h. let e = word_from c k h in let l = in_words c (Some k) h in let n = r.named c l (subst (λ (z : ℕ). 0 < z) (sym e) (omega arith)) in
+        let n0 = n.0 in (omega arith, subst (λ (z : ℕ). get_or leads z 0 ≡ c) (ap (λ (z : ℕ). z - 1) e ∙ omega arith) n.1);
+    stayed = λ c k h. let e = r.stays c k h in row_at c k (subst (λ (z : ℕ). c < z) (sym r.wide) (slice_get_within held c (Some k) h)) e;
+    as_told = All-weaker (IsAsTold s.words) (λ (e : Entry). (k : ℕ) → e.after ≡ k + 1 → slice_get (map word_row s.words) e.column ≡ Some (Some k))
+        (λ e was k is_k. let w = was (omega arith) in row_at e.column k (dite (dec_lt e.column (length s.words)) (λ y. y) (λ out. absurd (beyond e.column k out (w ∙ is_k)))) (w ∙ is_k)) v.told (r.each_seat id v at);
+  }
+    where
+      row_at : (c k : ℕ) → c < length s.words → get_or s.words c 0 ≡ k + 1 → slice_get (map word_row s.words) c ≡ Some (Some k)
+      row_at c k l e = slice_get-map word_row s.words c ∙ (ap (option_map word_row) (slice_get-get_or s.words c 0 l) ∙ ap (λ (n : ℕ). Some (word_row n)) (e ∙ add-one k))
+
+      word_from : (c k : ℕ) → slice_get (map word_row s.words) c ≡ Some (Some k) → get_or s.words c 0 ≡ k + 1
+      word_from c k h = from_option (slice_get s.words c) refl (sym (slice_get-map word_row s.words c) ∙ h)
+        where
+          from_option : (o : Option ℕ) → slice_get s.words c ≡ o → option_map word_row o ≡ Some (Some k) → get_or s.words c 0 ≡ k + 1
+          from_option None e h' = absurd (cc)
+          from_option (Some zero) e h' = absurd (cc)
+          from_option (Some (suc n)) e h' = let same : n ≡ k = cc in get_or_from_slice_get s.words c (suc n) 0 e ∙ omega (arith, same)
+
+      in_words : (c : ℕ) (o : Option ℕ) → slice_get (map word_row s.words) c ≡ Some o → c < length s.words
+      in_words c o h = omega (arith, slice_get_within (map word_row s.words) c o h, same_length word_row s.words)
+
+      beyond : (c k : ℕ) → ¬ (c < length s.words) → get_or s.words c 0 ≡ k + 1 → ⊥
+      beyond c k outside e = let past : get_or s.words c 0 ≡ 0 = get_or_past s.words c 0 (omega (arith, outside)) in omega arith
+
+pub get_at : (ws : List ℕ) (i n : ℕ) → get_elem? ws i ≡ maybe.some n → get_or ws i 0 ≡ n
+get_at [] i n e = absurd (maybe.some-ne-none n (sym e))
+get_at (x ∷ xs) zero n e = maybe.some-injective x n e
+get_at (x ∷ xs) (suc i) n e = get_at xs i n e
+
+pub opens_as : {S : Type 0} (leads leads' : List ℕ) (held held' : List (Option ℕ)) (words : List ℕ) (xs : List S) → leads' ≡ leads → held' ≡ held → words ≡ map option_word held → LeadsFit leads held
+    → Kept leads' held' (opening words xs (view leads' []))
+opens_as leads leads' held held' words xs a b e fits =
+    let P : List ℕ × List (Option ℕ) × List ℕ → Type 0 = λ t. Kept t.0 t.1 (opening t.2 xs (view t.0 [])) in
+    subst P (λ i. (sym a i, sym b i, sym e i)) (opens leads held xs fits)
+
+pub tallies_as : {S : Type 0} (key rows : Rows) (id : ℕ) (v : View) (words : List ℕ) (xs : List S) (all : List (Option ℕ)) → key ≡ rows → all ≡ map word_row words → Final (Seen (Kept key.leads.items key.held.items) id v) words xs
+    → Tallies rows.leads.items rows.held.items v.told all
+tallies_as key rows id v words xs all e is f =
+    let P : Rows × List (Option ℕ) → Type 0 = λ t. Tallies t.0.leads.items t.0.held.items v.told t.1 in
+    subst P (λ i. (e i, sym is i)) (tallies key.leads.items key.held.items id v words xs f)

@@ -1,0 +1,103 @@
+-- The rule of a pass's words, and what each step tells.
+use Rattle.std.specs.Prelude.{◌≡◌, ℕ, zero, suc, cond, ◌+◌, ◌-◌, ◌<◌, ◌≤◌, ◌==◌, List, [], ◌∷◌, ◌++◌, length, slice_index, slice_get, slice_index_or, Option, Some, None, All}
+use mathlib.Core.Option as maybe
+use lib.ListN.{get_elem?}
+use prog.Atomic.{either}
+use Rattle.atomic_table.specs.Table.{State, Me, Step}
+use Rattle.atomic_table.specs.Seated.{TableId}
+use Rattle.atomic_table.specs.declared.shared.Seat.{Seat}
+use Rattle.pivot_table.specs.declared.law.Entry.{Entry}
+use Rattle.pivot_table.specs.declared.law.View.{View}
+use Rattle.pivot_table.specs.declared.claims.Claim.{Claim}
+use Rattle.pivot_table.specs.declared.claims.Claim.TheVariants.{Won, Lost}
+
+abbrev pub entry : ℕ → ℕ → ℕ → Entry
+entry column before after = record { column = column; before = before; after = after }
+
+abbrev pub view : List ℕ → List Entry → View
+view leads told = record { leads = leads; told = told }
+
+-- a word that is not 0 names a row whose lead is the column
+abbrev pub NamesRowOf : List ℕ → ℕ → ℕ → Type 0
+NamesRowOf leads column word = 0 < word → (word ≤ length leads) × (slice_index leads (word - 1) ≡ column)
+
+abbrev pub option_word : Option ℕ → ℕ
+option_word None = 0
+option_word (Some row) = row + 1
+
+abbrev pub word_row : ℕ → Option ℕ
+word_row zero = None
+word_row (suc row) = Some row
+
+-- each old row's lead is its column
+abbrev pub LeadsFit : List ℕ → List (Option ℕ) → Type 0
+LeadsFit leads held = (column : ℕ) (row : ℕ) → slice_get held column ≡ Some (Some row) → (row < length leads) × (slice_index leads row ≡ column)
+
+-- what was told of a column that has a row is its word
+abbrev pub IsAsTold : List ℕ → Entry → Type 0
+IsAsTold words e = 0 < e.after → slice_index words e.column ≡ e.after
+
+abbrev pub Agrees : List ℕ → List Entry → Type 0
+Agrees words told = All (IsAsTold words) told
+
+abbrev pub total : {A : Type 0} → (A → ℕ) → List A → ℕ
+total f [] = 0
+total f (x ∷ xs) = f x + total f xs
+
+abbrev pub unit : ℕ → ℕ
+unit zero = 0
+unit (suc n) = 1
+
+-- 1 for a step that gave the column its row
+abbrev pub won : ℕ → Entry → ℕ
+won column e = cond (e.column == column) (cond (e.before == 0) (unit e.after) 0) 0
+
+abbrev pub wins : ℕ → View → ℕ
+wins column v = total (won column) v.told
+
+abbrev pub was_held : List (Option ℕ) → ℕ → ℕ
+was_held held column = unit (option_word (slice_index_or held column None))
+
+pub record Kept {S : Type 0} (leads : List ℕ) (held : List (Option ℕ)) (s : State S View) : Type 0 where
+  pub wide : length s.words ≡ length held
+  pub named : (column : ℕ) → column < length s.words → NamesRowOf leads column (slice_index s.words column)
+  pub stays : (column row : ℕ) → slice_get held column ≡ Some (Some row) → slice_index s.words column ≡ row + 1
+  pub each_seat : (j : ℕ) (v : View) → get_elem? s.views j ≡ maybe.some v → Agrees s.words v.told
+  -- a column that has a row had it at the start, or one seat was told once that it gave it
+  pub once : (column : ℕ) → column < length s.words → total (wins column) s.views + was_held held column ≡ unit (slice_index s.words column)
+
+abbrev Sat : Type 0 → Type 0
+Sat S = Me S View
+
+module _ {S : Type 0} where
+  abbrev pub Tells : Sat S → ℕ → ℕ → ℕ → Sat S → Type 0
+  Tells m column before after m' = (m' ≡ (view m.0.leads (m.0.told ++ entry column before after ∷ []), m.1)) × NamesRowOf m.0.leads column after
+
+  abbrev pub claimed : Step S → Sat S → ℕ → Sat S → Type 0
+  claimed st m r m' = Tells m st.word r (either (r == 0) st.second r) m'
+
+  abbrev pub looked : Step S → Sat S → ℕ → Sat S → Type 0
+  looked st m r m' = Tells m st.word r r m'
+
+  abbrev pub told : Seat S View → List Entry
+  told seat = seat.me.0.told
+
+  -- a seat of this table, which knows the leads
+  abbrev pub IsSeatOf : TableId → List ℕ → Seat S View → Type 0
+  IsSeatOf table leads seat = (seat.table_id ≡ table) × (seat.me.0.leads ≡ leads) × (seat.me.1 ≡ [])
+
+-- the word of the column before the claim, and after the claim of this row
+abbrev pub found_by : Claim → ℕ
+found_by Won = 0
+found_by (Lost k) = k + 1
+
+abbrev pub word_of : ℕ → Claim → ℕ
+word_of row Won = row + 1
+word_of row (Lost k) = k + 1
+
+-- the words at the end: as many as columns, each naming a row whose lead is its column; the old rows stayed, and what was told is so
+pub record Tallies (leads : List ℕ) (held : List (Option ℕ)) (told : List Entry) (rows : List (Option ℕ)) : Type 0 where
+  pub wide : length rows ≡ length held
+  pub fits : LeadsFit leads rows
+  pub stayed : (column row : ℕ) → slice_get held column ≡ Some (Some row) → slice_get rows column ≡ Some (Some row)
+  pub as_told : All (λ (e : Entry). (k : ℕ) → e.after ≡ k + 1 → slice_get rows e.column ≡ Some (Some k)) told
