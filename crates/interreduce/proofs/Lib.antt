@@ -4,3 +4,4 @@ mod Tails
 mod Trails
 mod Reducing
 mod Gathering
+mod Earlier

@@ -38,7 +38,7 @@ use Rattle.interreduce.proofs.Choosing.{apart_at}
 use Rattle.interreduce.proofs.Leading.{Terms}
 
 -- what holds of each index holds of each item
-each_index : (P : Terms → Type 0) (xs : List Terms) → ((k : ℕ) → k < length xs → P (get_or xs k [])) → Each P xs
+pub each_index : (P : Terms → Type 0) (xs : List Terms) → ((k : ℕ) → k < length xs → P (get_or xs k [])) → Each P xs
 each_index P [] h = tt
 each_index P (x ∷ xs) h = (h 0 (omega arith), each_index P xs (λ k lt. h (suc k) (omega arith)))
 

@@ -27,6 +27,16 @@ pub record IsReducedMember (ring : Ring) (compare : (n : ℕ) → Key n → Key 
   pub generated : IsMember ring.modulus.value (sums_of (variables ring) list) (sum_of (variables ring) v)
   pub tail : IsFreeOfLeads (sums_of (variables ring) list) (drop 1 (sum_of (variables ring) v))
 
+-- v is w with its tail reduced by the list: a monic vector with the same lead, of what w and the list generate, and no lead of the
+-- list divides a key behind its first
+pub record IsReducedBy (ring : Ring) (compare : (n : ℕ) → Key n → Key n → Ordering) (list : List (List (CodeKey × ℕ)))
+    (w v : List (CodeKey × ℕ)) : Type 0 where
+  pub vector : IsVectorOver ring compare v
+  pub lead : head_key (sum_of (variables ring) v) ≡ head_key (sum_of (variables ring) w)
+  pub monic : head_coefficient (sum_of (variables ring) v) ≡ 1
+  pub generated : IsMember ring.modulus.value (sums_of (variables ring) (w ∷ list)) (sum_of (variables ring) v)
+  pub tail : IsFreeOfLeads (sums_of (variables ring) list) (drop 1 (sum_of (variables ring) v))
+
 -- the members with these indices, each with its tail reduced, in the same order
 pub record AreReducedMembers (ring : Ring) (compare : (n : ℕ) → Key n → Key n → Ordering) (list : List (List (CodeKey × ℕ))) (kept : List ℕ)
     (answer : List (List (CodeKey × ℕ))) : Type 0 where

@@ -4,5 +4,7 @@
 mod interreduction;
 mod leads;
 mod member;
+mod side_by_side;
+mod turns;
 
 pub use interreduction::interreduce;

@@ -5,9 +5,9 @@ ghost use Rattle.formal_sums.specs.FormalSums.{Each};
 ghost use Rattle.bases.specs.Leads.{head_key};
 ghost use Rattle.module_vectors.specs.Rings.{variables};
 ghost use Rattle.module_vectors.specs.Vectors.{AreVectorsOver, IsVectorOver, sum_of};
-ghost use Rattle.vector_division.specs.Divisions.{IsDivisionTrail};
+ghost use Rattle.vector_division.specs.Divisions.{DivisionStops, IsDivisionTrail};
 ghost use Rattle.vector_division.specs.Divisors.{AreDivisors};
-ghost use Rattle.interreduce.specs.Members.{IsReducedMember};
+ghost use Rattle.interreduce.specs.Members.{IsReducedBy, IsReducedMember};
 ghost use Rattle.interreduce.specs.Trails.{MemberStops};
 
 use module_vectors::{Frame, KeptTrail, NoMemory, Vect, Vectors, WorkStop, lawful_setting};
@@ -55,8 +55,41 @@ fn trail_of_member(
     Ok(trail)
 }
 
-/// Member `index`, monic and with its tail divided by the whole list, of which these divisors are tried. What the division
-/// leaves stands below the lead.
+/// The member, which is not zero, monic and with its tail divided by the vectors of the list, of which these divisors are
+/// tried. What the division leaves stands below the lead.
+///
+/// `Degree` comes with a trail of the division of the member by the list, `Memory` where a growth was refused.
+pub(crate) fn reduced_by<F: Frame, L: Vectors>(
+    alloc: Global,
+    frame: &F,
+    member: &Vect,
+    list: &L,
+    divisors: &[Divisor],
+) -> Result<Vect, WorkStop>
+    requires some { 0 < length member.now }
+    requires member { IsVectorOver (F.over frame.now) (F.compare frame.now) member.now }
+    requires list { AreVectorsOver (F.over frame.now) (F.compare frame.now) (L.listed list.now) }
+    requires divisors { AreDivisors (variables (F.over frame.now)) (L.listed list.now) divisors.now }
+    ensures reduced { IfOk result (IsReducedBy (F.over frame.now) (F.compare frame.now) (L.listed list.now) member.now) }
+    ensures stop { IfErr result (DivisionStops (F.over frame.now) member.now (L.listed list.now)) }
+{
+    lawful_setting(frame);
+    let tail = tail_of(alloc, frame, member)?;
+    match reduce_by(alloc, frame, &tail, list, divisors) {
+        Ok(reduction) => {
+            let mut reduced = with_lead_of(alloc, frame, member, reduction.rest)?;
+            reduced.monic(frame);
+            Ok(reduced)
+        }
+        Err(WorkStop::Memory) => Err(WorkStop::Memory),
+        Err(WorkStop::Degree(trail)) => {
+            let trail = trail_of_member(alloc, member, trail)?;
+            Err(WorkStop::Degree(trail))
+        }
+    }
+}
+
+/// Member `index`, monic and with its tail divided by the whole list, of which these divisors are tried.
 ///
 /// `Degree` comes with a trail of the division of the member by the list, `Memory` where a growth was refused.
 pub(crate) fn reduced_member<F: Frame, L: Vectors>(
@@ -74,18 +107,9 @@ pub(crate) fn reduced_member<F: Frame, L: Vectors>(
     ensures stop { IfErr result (MemberStops (F.over frame.now) (L.listed list.now) index) }
 {
     lawful_setting(frame);
-    let member = list.at(index);
-    let tail = tail_of(alloc, frame, member)?;
-    match reduce_by(alloc, frame, &tail, list, divisors) {
-        Ok(reduction) => {
-            let mut reduced = with_lead_of(alloc, frame, member, reduction.rest)?;
-            reduced.monic(frame);
-            Ok(reduced)
-        }
+    match reduced_by(alloc, frame, list.at(index), list, divisors) {
+        Ok(reduced) => Ok(reduced),
         Err(WorkStop::Memory) => Err(WorkStop::Memory),
-        Err(WorkStop::Degree(trail)) => {
-            let trail = trail_of_member(alloc, member, trail)?;
-            Err(WorkStop::Degree(trail))
-        }
+        Err(WorkStop::Degree(trail)) => Err(WorkStop::Degree(trail)),
     }
 }

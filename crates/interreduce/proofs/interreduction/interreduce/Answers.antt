@@ -3,28 +3,14 @@ use Rattle.formal_sums.specs.FormalSums.{Each}
 use Rattle.bases.specs.Bases.{IsReducedBasis}
 use Rattle.module_vectors.specs.Rings.{setting, variables}
 use Rattle.module_vectors.specs.Vectors.{AreVectorsOver, HasPositions, sums_of}
-use Rattle.vector_division.specs.Divisors.{AreDivisors}
 use Rattle.interreduce.specs.Leads.{AreNeeded}
-use Rattle.interreduce.proofs.Choosing.{needed_are_enough}
 use Rattle.interreduce.proofs.Reducing.{reduced_basis, reduced_positions, reduced_vectors}
 use Rattle.interreduce.proofs.interreduction.interreduce.Goals as goal
 
-pub divisors_at-requires : goal.divisors_at-requires
-divisors_at-requires g c =
-    let ring = g.F.Frame.over c.args.frame.now in
-    let n = variables ring in
-    let list = g.L.Vectors.listed c.args.list.now in
-    let needed : AreNeeded n (g.F.Frame.compare c.args.frame.now n) list c.deref.result.now = subst (AreNeeded n (g.F.Frame.compare c.args.frame.now n) list) (sym c.deref.ensures.value) c.in_ok-kept.ensures in
-    needed.within
-
-pub reduced_members-requires-clause-divisors : goal.reduced_members-requires-clause-divisors
-reduced_members-requires-clause-divisors g c =
-    let ring = g.F.Frame.over c.args.frame.now in
-    let n = variables ring in
-    let list = g.L.Vectors.listed c.args.list.now in
-    let compare = g.F.Frame.compare c.args.frame.now n in
-    let needed : AreNeeded n compare list c.deref.result.now = subst (AreNeeded n compare list) (sym c.deref.ensures.value) c.in_ok-kept.ensures in
-    λ _ _. subst (AreDivisors n list) (sym c.deref-2.ensures.value) (c.in_ok-divisors.ensures n (needed_are_enough n compare list c.deref.result.now needed))
+pub reduced_members-requires-clause-needed : goal.reduced_members-requires-clause-needed
+reduced_members-requires-clause-needed g c =
+    let n = variables (g.F.Frame.over c.args.frame.now) in
+    λ _ _. subst (AreNeeded n (g.F.Frame.compare c.args.frame.now n) (g.L.Vectors.listed c.args.list.now)) (sym c.deref.ensures.value) c.in_ok-kept.ensures
 
 pub returns-clause-vectors : goal.returns-clause-vectors
 returns-clause-vectors g c =
@@ -32,7 +18,7 @@ returns-clause-vectors g c =
     let compare = g.F.Frame.compare c.args.frame.now in
     let members = c.in_ok-members.members.items in
     let e : c.from_vec.result ≡ reverse members = c.from_vec.ensures ∙ c.reverse.ensures.items in
-    subst (AreVectorsOver ring compare) (sym e) (reduced_vectors ring compare c.lawful_setting.ensures (g.L.Vectors.listed c.args.list.now) c.deref-3.result.now members c.in_ok-members.ensures.reduced)
+    subst (AreVectorsOver ring compare) (sym e) (reduced_vectors ring compare c.lawful_setting.ensures (g.L.Vectors.listed c.args.list.now) c.deref.result.now members c.in_ok-members.ensures.reduced)
 
 pub returns-clause-reduced : goal.returns-clause-reduced
 returns-clause-reduced g c = λ rank G basis.
@@ -42,9 +28,9 @@ returns-clause-reduced g c = λ rank G basis.
     let list = g.L.Vectors.listed c.args.list.now in
     let members = c.in_ok-members.members.items in
     let e : c.from_vec.result ≡ reverse members = c.from_vec.ensures ∙ c.reverse.ensures.items in
-    let needed : AreNeeded n (compare n) list c.deref-3.result.now = subst (AreNeeded n (compare n) list) (sym c.deref-3.ensures.value) c.in_ok-kept.ensures in
+    let needed : AreNeeded n (compare n) list c.deref.result.now = subst (AreNeeded n (compare n) list) (sym c.deref.ensures.value) c.in_ok-kept.ensures in
     subst (λ z. IsReducedBasis (setting ring n (compare n) rank) G (sums_of n z)) (sym e)
-    (reduced_basis ring compare c.lawful_setting.ensures list c.deref-3.result.now members c.in_ok-members.ensures.reduced c.requires.vectors needed rank G basis)
+    (reduced_basis ring compare c.lawful_setting.ensures list c.deref.result.now members c.in_ok-members.ensures.reduced c.requires.vectors needed rank G basis)
 
 pub returns-clause-positions : goal.returns-clause-positions
 returns-clause-positions g c = λ rank h.
@@ -52,4 +38,4 @@ returns-clause-positions g c = λ rank h.
     let compare = g.F.Frame.compare c.args.frame.now in
     let members = c.in_ok-members.members.items in
     let e : c.from_vec.result ≡ reverse members = c.from_vec.ensures ∙ c.reverse.ensures.items in
-    subst (Each (HasPositions rank)) (sym e) (reduced_positions ring compare c.lawful_setting.ensures (g.L.Vectors.listed c.args.list.now) c.deref-3.result.now members c.in_ok-members.ensures.reduced rank h)
+    subst (Each (HasPositions rank)) (sym e) (reduced_positions ring compare c.lawful_setting.ensures (g.L.Vectors.listed c.args.list.now) c.deref.result.now members c.in_ok-members.ensures.reduced rank h)

@@ -1,7 +1,7 @@
 use Rattle.std.proofs.Common.{[], get_or, rules, subst, sym}
 use Rattle.interreduce.specs.Members.{IsReducedMember}
 use Rattle.interreduce.proofs.Gathering.{one_more, stopped_in_turn}
-use Rattle.interreduce.proofs.interreduction.reduced_in_turn.Goals as goal
+use Rattle.interreduce.proofs.turns.reduced_in_turn.Goals as goal
 
 pub returns-in-Err-clause-stop : goal.returns-in-Err-clause-stop
 returns-in-Err-clause-stop g c =

@@ -3,7 +3,7 @@ use Rattle.rayon.proofs.ListFacts.{IfOk-then}
 use Rattle.rayon.proofs.ToStd.{slice-AllZip}
 use Rattle.interreduce.specs.Members.{ReducesMember}
 use Rattle.interreduce.proofs.Gathering.{gathered, stops_at_first}
-use Rattle.interreduce.proofs.interreduction.reduced_side_by_side.Goals as goal
+use Rattle.interreduce.proofs.side_by_side.reduced_side_by_side.Goals as goal
 
 pub returns-clause-reduced : goal.returns-clause-reduced
 returns-clause-reduced g c =

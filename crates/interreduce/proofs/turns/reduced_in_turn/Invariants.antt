@@ -1,7 +1,7 @@
 use Rattle.std.proofs.Common.{[], get_or, length, ℕ, ◌<◌, ◌≡◌, ◌≤◌}
 use Rattle.std.specs.Vec.{vec_capacity}
 use Rattle.interreduce.specs.Members.{IsReducedMember}
-use Rattle.interreduce.proofs.interreduction.reduced_in_turn.Given as goal
+use Rattle.interreduce.proofs.turns.reduced_in_turn.Given as goal
 
 abbrev pub invariant-loop-index : goal.invariant-loop-index
 invariant-loop-index g l = record {

@@ -1,0 +1,33 @@
+use Rattle.std.proofs.Common.{[], ap, get_or, length, subst, sym, ◌++◌, ◌+◌, ◌<◌, ◌∙◌, ◌∷◌, ◌≡◌}
+use Rattle.std.proofs.lemmas.List.{length_push}
+use Rattle.module_vectors.specs.Vectors.{IsVectorOver}
+use Rattle.interreduce.specs.Members.{IsReducedBy, IsReducedMember}
+use Rattle.interreduce.proofs.Earlier.{by_earlier}
+use Rattle.interreduce.proofs.Gathering.{one_more}
+use Rattle.interreduce.proofs.Reducing.{each_index}
+use Rattle.interreduce.proofs.turns.reduced_by_earlier.Goals as goal
+
+pub reduced_by-requires-clause-list : goal.reduced_by-requires-clause-list
+reduced_by-requires-clause-list g c =
+    each_index (IsVectorOver (g.F.Frame.over c.args.frame.now) (g.F.Frame.compare c.args.frame.now)) c.loop-index.reduced
+    (λ k lt. (c.loop-index.invariant.each k (subst (λ z. k < z) c.loop-index.invariant.count lt)).vector)
+
+pub loop-index-preserved : goal.loop-index-preserved
+loop-index-preserved g c =
+    let ring = g.F.Frame.over c.args.frame.now in
+    let compare = g.F.Frame.compare c.args.frame.now in
+    let list = g.L.Vectors.listed c.args.list.now in
+    let kept = c.args.kept.now in
+    let earlier = c.loop-index.reduced in
+    let i = c.loop-index.index-index in
+    let next : IsReducedMember ring compare list (get_or kept i 0) c.in-Ok.member =
+    by_earlier ring compare c.lawful_setting.ensures list kept c.requires.needed earlier i
+    c.loop-index.invariant.count c.loop-index-test.true c.loop-index.invariant.each c.in-Ok.member
+    (subst (λ w. IsReducedBy ring compare earlier w c.in-Ok.member) c.at.ensures c.in-Ok.ensures.reduced) in
+    let pushed : c.push.new.self ≡ earlier ++ c.in-Ok.member ∷ [] = c.in_ok-push-in-Ok.ensures.ok in
+    record {
+      count = ap length pushed ∙ length_push earlier c.in-Ok.member ∙ ap (λ n. n + 1) c.loop-index.invariant.count;
+      each = λ k l.
+          subst (λ vs. IsReducedMember ring compare list (get_or kept k 0) (get_or vs k [])) (sym pushed)
+          (one_more ring compare list (λ j. get_or kept j 0) earlier i c.in-Ok.member c.loop-index.invariant.count c.loop-index.invariant.each next k l);
+    }
