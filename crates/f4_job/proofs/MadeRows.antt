@@ -1,6 +1,12 @@
 -- Rows of a matrix as rows of an outcome
-use Rattle.std.proofs.Common.{List, [], ap, length, map, refl, ℕ, ◌++◌, ◌+◌, ◌<◌, ◌∷◌, ◌≡◌}
-use Rattle.formal_sums.specs.FormalSums.{Each}
+use Rattle.std.proofs.Common.{List, [], ap, length, map, refl, sym, ℕ, ◌*◌, ◌++◌, ◌+◌, ◌<◌, ◌∙◌, ◌∷◌, ◌≡◌}
+use Rattle.std.proofs.lemmas.List.Sorted.{IsPermutation-map, sum_by-IsPermutation}
+use Rattle.std.proofs.lemmas.List.Sums.{sum_by-cons}
+use Rattle.std.specs.List.{sum_by}
+use Rattle.std.specs.List.Sorted.{IsPermutation}
+use Rattle.residues.proofs.Congruences.{IsCongruent_of}
+use Rattle.monomials.specs.Exponents.{exponents_of}
+use Rattle.formal_sums.specs.FormalSums.{Each, FormalSum, IsSame, Key, Term, indicator, weighted_sum}
 use Rattle.bases.proofs.NormalForms.{normal_unique}
 use Rattle.member_products.proofs.Ranks.{ring_lawful}
 use Rattle.module_vectors.proofs.NormalVectors.{residues_of}
@@ -16,8 +22,9 @@ use Rattle.row_matrix.specs.Hashes.{no_key}
 use Rattle.row_matrix.specs.Rows.{AreEntries, AreKeys, Descend, Entry, IsRow, RowShown, column_key, row_sum, vector_of}
 use Rattle.row_reduce.proofs.Entries.{entries_within}
 use Rattle.row_reduce.proofs.Forms.{row_normal}
+use Rattle.vector_division.specs.Reductions.{cofactors_of}
 use Rattle.vector_division.specs.declared.reduction.ScaledProduct.{ScaledProduct}
-use Rattle.f4_job.specs.Made.{AreMadeRows, AreWeighedProducts, IsMadeRow, entry_term, source_parts}
+use Rattle.f4_job.specs.Made.{AreMadeRows, AreWeighedProducts, IsMadeRow, entry_term, source_part, source_parts}
 
 -- the terms stand for the row's vector
 pub terms_sum : (n : ℕ) (columns : List CodeKey) (es : List Entry) → sum_of n (map (λ e. entry_term columns e) es) ≡ row_sum (column_key n columns) es
@@ -49,6 +56,31 @@ parts_over ring products low [] k h = tt
 parts_over ring products low (e ∷ es) k h =
     let w = entries_within ring.modulus.value low (length products) (e ∷ es) h in
     ((Each_member (λ (s : KeptProduct). IsWeighed (variables ring) ring.weights s.1) products e.0 no_product k w.0.0, w.0.1), parts_over ring products (e.0 + 1) es k h.3)
+
+-- ---- the terms of a sum in another order
+weighted_by : {n : ℕ} (f : Key n → ℕ) (v : FormalSum n) → weighted_sum f v ≡ sum_by (λ (t : Term n). t.1 * f t.0) v
+weighted_by f [] = refl
+weighted_by {n} f (t ∷ v) = ap (λ x. t.1 * f t.0 + x) (weighted_by f v) ∙ sym (sum_by-cons (λ (t : Term n). t.1 * f t.0) t v)
+
+same_permuted : {n : ℕ} (p : ℕ) (v w : FormalSum n) → IsPermutation v w → IsSame p w v
+same_permuted {n} p v w h = record {
+  by_key = λ k. IsCongruent_of p _ _
+      (weighted_by (indicator k) w ∙ sum_by-IsPermutation (λ (t : Term n). t.1 * indicator k t.0) v w h ∙ sym (weighted_by (indicator k) v));
+}
+
+-- sources in another order have the same products
+pub parts_permuted :
+    (products : List KeptProduct) (es fs : List Entry) → IsPermutation es fs → IsPermutation (source_parts products es) (source_parts products fs)
+parts_permuted products es fs h = IsPermutation-map (λ (e : Entry). source_part products e) es fs h
+
+-- and stand for the same sum
+pub parts_same :
+    (n p : ℕ) (products : List KeptProduct) (es fs : List Entry) → IsPermutation es fs
+    → IsSame p (cofactors_of n (source_parts products fs)) (cofactors_of n (source_parts products es))
+parts_same n p products es fs h =
+    same_permuted p (cofactors_of n (source_parts products es)) (cofactors_of n (source_parts products fs))
+    (IsPermutation-map (λ (q : ScaledProduct). ((q.index, exponents_of n q.monomial.exponents), q.residue))
+    (source_parts products es) (source_parts products fs) (parts_permuted products es fs h))
 
 -- the vector of these terms is the row's
 pub vector_same : (ring : Ring) (columns : List CodeKey) (inputs : ℕ) (r : RowShown) (v : List (CodeKey × ℕ))

@@ -5,6 +5,7 @@
 mod flags;
 mod job;
 mod making;
+mod ranking;
 mod solving;
 mod stop;
 

@@ -5,6 +5,7 @@ ghost use Rattle.module_vectors.specs.Rings.{ring_comparison, variables};
 ghost use Rattle.row_matrix.specs.Rows.{AreKeys, Descend, IsRow};
 ghost use Rattle.f4_job.specs.Made.{AreMadeRows, AreWeighedProducts, IsMadeRow, entry_term, source_parts};
 
+use crate::ranking::{ranks_of, sorted_sources};
 use basis_core::quotient_products;
 use member_products::Row;
 use module_vectors::{Key, NoMemory, Ring, Vect};
@@ -52,12 +53,14 @@ fn row_parts(
     Ok(parts)
 }
 
-// The row of an outcome that this row of a matrix is.
+// The row of an outcome that this row of a matrix is. Its sources are taken by these ranks of the products, so that their
+// sum is in order from the start.
 fn make_row(
     alloc: Global,
     ring: &Ring,
     columns: &[Key],
     products: &[(u64, Mono)],
+    ranks: &[u32],
     row: &MatrixRow,
 ) -> Result<Row, NoMemory>
     requires columns { AreKeys (variables ring.now) ring.now.weights columns.now }
@@ -68,7 +71,8 @@ fn make_row(
 {
     let terms = row_terms(alloc, columns, row.entries())?;
     let vector = Vect::from_terms(alloc, ring, terms)?;
-    let parts = row_parts(alloc, products, row.sources())?;
+    let sources = sorted_sources(alloc, ranks, row.sources())?;
+    let parts = row_parts(alloc, products, &sources)?;
     let products = quotient_products(alloc, ring, &parts)?;
     Ok(Row { vector, products })
 }
@@ -87,9 +91,10 @@ pub(crate) fn make_rows(
     requires rows { Each (IsRow ring.now.modulus.value (length columns.now) (length products.now)) rows.now }
     ensures { IfOk result (λ made. AreMadeRows ring.now columns.now products.now rows.now made.items) }
 {
+    let ranks = ranks_of(alloc, ring, products)?;
     let mut made = Vec::new(alloc);
     for row in rows {
-        let next = make_row(alloc, ring, columns, products, row)?;
+        let next = make_row(alloc, ring, columns, products, &ranks, row)?;
         made.push(next)?;
     }
     Ok(made)

@@ -1,8 +1,7 @@
 -- Products of monomials and keys, place by place
-use Rattle.std.proofs.Common.{List, ap, ap₂, arith, get_or, length, refl, sym, take, ℕ, ◌+◌, ◌<◌, ◌∙◌, ◌≡◌}
+use Rattle.std.proofs.Common.{List, [], ap, ap₂, arith, get_or, length, refl, subst, sym, ℕ, ◌%◌, ◌+◌, ◌<◌, ◌^◌, ◌∙◌, ◌∷◌, ◌≡◌}
 use Rattle.std.specs.Prelude.{fold}
 use Rattle.std.proofs.lemmas.List.{ext_get_or}
-use Rattle.std.proofs.lemmas.List.Sums.{fold_more}
 use Rattle.std.proofs.lemmas.Simd.{get_or-zip2, length-zip2}
 use Rattle.monomials.specs.Exponents.{exponents_of, times}
 use Rattle.formal_sums.specs.FormalSums.{shift}
@@ -12,7 +11,7 @@ use Rattle.monomial_orders.specs.Kept.{IsWeighed, Monomial}
 use Rattle.monomial_orders.specs.Monomials.{IsMonomial, IsPlaceByPlace}
 use Rattle.module_vectors.specs.Vectors.{key_of}
 use Rattle.module_vectors.specs.declared.key.Key.{Key}
-use Rattle.row_matrix.specs.Hashes.{hash_step, key_product, sums}
+use Rattle.row_matrix.specs.Hashes.{factor_hash, hash_of, hash_step, key_product, sums}
 
 pub length_sums : (xs ys : List ℕ) → length xs ≡ length ys → length (sums xs ys) ≡ length xs
 length_sums xs ys e = length-zip2 (λ a b. a + b) xs ys e
@@ -29,14 +28,39 @@ sums_by_places xs ys zs e l h =
     ext_get_or 0 zs (sums xs ys) (l ∙ sym (length_sums xs ys e))
     (λ k lt. let inside : k < length xs = omega (arith, l, lt) in h k inside ∙ sym (sums_at xs ys k e inside))
 
--- one place more is hashed
-pub hash_more :
-    (position : ℕ) (xs ys : List ℕ) (k hash : ℕ) → length xs ≡ length ys → k < length xs
-    → hash ≡ fold hash_step position (take k (sums xs ys))
-    → hash_step hash (get_or xs k 0 + get_or ys k 0) ≡ fold hash_step position (take (k + 1) (sums xs ys))
-hash_more position xs ys k hash e lt h =
-    ap₂ hash_step h (sym (sums_at xs ys k e lt))
-    ∙ sym (fold_more hash_step position (sums xs ys) k 0 (omega (arith, length_sums xs ys e, lt)))
+-- hashes add up place by place
+step_sum :
+    (a b c x y : ℕ) → c % 2 ^ 64 ≡ (a + b) % 2 ^ 64
+    → hash_step c (x + y) ≡ (hash_step a x + hash_step b y) % 2 ^ 64
+step_sum a b c x y e = omega (arith, e)
+
+digits_sum :
+    (a b c : ℕ) (xs ys : List ℕ) → length xs ≡ length ys → c ≡ (a + b) % 2 ^ 64
+    → fold hash_step c (sums xs ys) ≡ (fold hash_step a xs + fold hash_step b ys) % 2 ^ 64
+digits_sum a b c [] [] e s = s
+digits_sum a b c [] (y ∷ ys) e s = absurd (omega arith)
+digits_sum a b c (x ∷ xs) [] e s = absurd (omega arith)
+digits_sum a b c (x ∷ xs) (y ∷ ys) e s =
+    digits_sum (hash_step a x) (hash_step b y) (hash_step c (x + y)) xs ys (omega (arith, e)) (step_sum a b c x y (omega (arith, s)))
+
+behind_position :
+    (p : ℕ) (xs ys : List ℕ) → length xs ≡ length ys → fold hash_step p ys < 2 ^ 64
+    → fold hash_step p (sums xs ys) ≡ (fold hash_step 0 xs + fold hash_step p ys) % 2 ^ 64
+behind_position p [] [] e lt = let small : p < 2 ^ 64 = lt in let z : p ≡ (0 + p) % 2 ^ 64 = omega (arith, small) in z
+behind_position p [] (y ∷ ys) e lt = absurd (omega arith)
+behind_position p (x ∷ xs) [] e lt = absurd (omega arith)
+behind_position p (x ∷ xs) (y ∷ ys) e lt =
+    digits_sum (hash_step 0 x) (hash_step p y) (hash_step p (x + y)) xs ys (omega (arith, e)) (step_sum 0 p p x y (omega arith))
+
+-- the hash of a product is the sum of the key's and what the monomial adds, in 64 bits
+pub hash_sum :
+    (t : Monomial) (key : Key) (added hash : ℕ) → length t.exponents ≡ length key.monomial.exponents → added ≡ factor_hash t
+    → hash ≡ hash_of key → hash < 2 ^ 64 → (hash + added) % 2 ^ 64 ≡ hash_of (key_product t key)
+hash_sum t key added hash e a h lt =
+    let base : hash_of (key_product t key) ≡ (factor_hash t + hash_of key) % 2 ^ 64 =
+    behind_position key.position t.exponents key.monomial.exponents e (subst (λ x. x < 2 ^ 64) h lt) in
+    let same : hash + added ≡ factor_hash t + hash_of key = omega (arith, a, h) in
+    ap (λ x. x % 2 ^ 64) same ∙ sym base
 
 -- what agrees with the product in position, degree and exponents is the product
 pub product_exact :

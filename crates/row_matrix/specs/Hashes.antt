@@ -27,6 +27,14 @@ hash_step hash exponent = ((hash * 31) % 2 ^ 64 + exponent) % 2 ^ 64
 abbrev pub hash_of : Key → ℕ
 hash_of key = fold hash_step key.position key.monomial.exponents
 
+-- what a monomial adds to the hash of a key that it multiplies
+abbrev pub factor_hash : Monomial → ℕ
+factor_hash t = fold hash_step 0 t.exponents
+
+-- the hashes of the keys of terms
+abbrev pub term_hashes : List (Key × ℕ) → List ℕ
+term_hashes v = map (λ u. hash_of u.0) v
+
 -- the bucket of a hash, of so many: its bits are spread
 abbrev pub bucket_of : ℕ → ℕ → ℕ
 bucket_of count hash = (hash * 11400714819323198485) % 2 ^ 64 * count / 2 ^ 64
@@ -60,6 +68,7 @@ pub record IsTable (keys : List Key) (hashes earlier last : List ℕ) : Type 0 w
   pub apart : AreApart keys
   pub hashed : hashes ≡ map hash_of keys
   pub lengths : length earlier ≡ length keys
+  pub few : length keys ≤ 4294967295
   pub some : 0 < length last
   pub chained : IsChained (length last) (length keys) hashes earlier last
 

@@ -1,9 +1,10 @@
 // Numbers for module monomials.
-ghost use Rattle.std.specs.Prelude.{◌≡◌, ◌<◌, ◌≤◌, ◌+◌, ◌++◌, ◌↔◌, [], ◌∷◌, ◌⊎◌, ℕ, length, get_or, IfErr, IfOk, IfSome, IfNone, IsTrue, OnOk, OnErr};
+ghost use Rattle.std.specs.Prelude.{◌≡◌, ◌<◌, ◌≤◌, ◌+◌, ◌++◌, ◌↔◌, [], ◌∷◌, ◌⊎◌, ℕ, fold, length, get_or, IfErr, IfOk, IfSome, IfNone, IsTrue, OnOk, OnErr};
 ghost use Rattle.std.specs.Vec.{vec_len, vec_capacity};
 ghost use Rattle.monomial_orders.specs.Monomials.{StopsAbove};
-ghost use Rattle.row_matrix.specs.Hashes.{AreApart, Lacks, IsChained, IsTable, IsNumbered, bucket_of, hash_of, no_key, key_product, sums};
+ghost use Rattle.row_matrix.specs.Hashes.{AreApart, Lacks, IsChained, IsTable, IsNumbered, bucket_of, factor_hash, hash_of, hash_step, no_key, key_product, sums};
 
+use crate::kept_number;
 use module_vectors::{Key, NoMemory};
 use monomial_orders::{Mono, MonoStop};
 use std::alloc::Global;
@@ -26,19 +27,29 @@ const FIRST_BUCKETS: usize = 64;
 // The greatest degree of a product.
 const MAX_DEGREE: u128 = 65535;
 
-// A number for the product of the monomial and the key, the same for equal products.
-fn hash_product(t: &Mono, key: &Key) -> u64
-    requires { length t.now.exponents ≡ length key.now.monomial.exponents }
-    ensures { result ≡ hash_of (key_product t.now key.now) }
+// The exponents as digits behind this number.
+fn hash_digits(start: u64, exponents: &[u16]) -> u64
+    ensures { result ≡ fold hash_step start exponents.now }
 {
-    let left = t.exponents();
-    let right = key.monomial.exponents();
-    let mut hash = key.position;
-    for k in 0..left.len() {
-        let exponent = u64::from(left[k]) + u64::from(right[k]);
-        hash = hash.wrapping_mul(DIGIT).wrapping_add(exponent);
+    let mut hash = start;
+    for exponent in exponents {
+        hash = hash.wrapping_mul(DIGIT).wrapping_add(u64::from(*exponent));
     }
     hash
+}
+
+/// The hash by which a key is found.
+pub fn hash_of_key(key: &Key) -> u64
+    ensures { result ≡ hash_of key.now }
+{
+    hash_digits(key.position, key.monomial.exponents())
+}
+
+/// What a monomial adds to a key's hash when it multiplies the key: hashes are linear in the exponents.
+pub fn hash_of_factor(t: &Mono) -> u64
+    ensures { result ≡ factor_hash t.now }
+{
+    hash_digits(0, t.exponents())
 }
 
 // Are these the sums of the others, place by place?
@@ -115,9 +126,9 @@ pub struct KeyTable {
     keys: Vec<Key>,
     hashes: Vec<u64>,
     // for each key 1 and the number of the last one before it in its bucket, or 0
-    earlier: Vec<usize>,
+    earlier: Vec<u32>,
     // for each bucket 1 and the number of its last key, or 0
-    last: Vec<usize>,
+    last: Vec<u32>,
 }
 
 impl Model for KeyTable {
@@ -133,8 +144,9 @@ impl Model for KeyTable {
 }
 
 // Chains the keys, whose hashes these are, in fresh buckets, all empty.
-fn chain_all(hashes: &[u64], earlier: &mut Vec<usize>, last: &mut Vec<usize>)
+fn chain_all(hashes: &[u64], earlier: &mut Vec<u32>, last: &mut Vec<u32>)
     requires some { 0 < vec_len last.old }
+    requires few { length hashes.now ≤ 4294967295 }
     requires lengths { vec_len earlier.old ≡ length hashes.now }
     requires empty { (b : ℕ) → get_or last.old.items b 0 ≡ 0 }
     ensures chained { IsChained (vec_len last.new) (length hashes.now) hashes.now earlier.new.items last.new.items }
@@ -144,7 +156,7 @@ fn chain_all(hashes: &[u64], earlier: &mut Vec<usize>, last: &mut Vec<usize>)
     for i in 0..hashes.len() {
         let at = bucket(last.len(), hashes[i]);
         earlier[i] = last[at];
-        last[at] = i + 1;
+        last[at] = (i + 1) as u32;
     }
 }
 
@@ -152,8 +164,8 @@ fn chain_all(hashes: &[u64], earlier: &mut Vec<usize>, last: &mut Vec<usize>)
 fn find(
     keys: &[Key],
     hashes: &[u64],
-    earlier: &[usize],
-    last: &[usize],
+    earlier: &[u32],
+    last: &[u32],
     hash: u64,
     t: &Mono,
     key: &Key,
@@ -166,7 +178,7 @@ fn find(
 {
     let mut cursor = last[bucket(last.len(), hash)];
     while cursor > 0 {
-        let i = cursor - 1;
+        let i = cursor as usize - 1;
         if hashes[i] == hash {
             if is_product(&keys[i], t, key) {
                 return Some(i);
@@ -181,8 +193,8 @@ fn find(
 fn append(
     keys: &mut Vec<Key>,
     hashes: &mut Vec<u64>,
-    earlier: &mut Vec<usize>,
-    last: &mut Vec<usize>,
+    earlier: &mut Vec<u32>,
+    last: &mut Vec<u32>,
     hash: u64,
     key: Key,
 ) -> Result<(), NoMemory>
@@ -193,12 +205,13 @@ fn append(
     ensures ok { OnOk result (keys.new.items ≡ keys.old.items ++ key ∷ []) }
     ensures err { OnErr result (keys.new.items ≡ keys.old.items) }
 {
+    let count = kept_number(keys.len() + 1)?;
     keys.reserve(1)?;
     hashes.reserve(1)?;
     earlier.reserve(1)?;
     let at = bucket(last.len(), hash);
     let before = last[at];
-    last[at] = keys.len() + 1;
+    last[at] = count;
     earlier.push_reserved(before);
     hashes.push_reserved(hash);
     keys.push_reserved(key);
@@ -210,8 +223,8 @@ fn widen(
     alloc: Global,
     keys: &[Key],
     hashes: &[u64],
-    earlier: &mut Vec<usize>,
-    last: &mut Vec<usize>,
+    earlier: &mut Vec<u32>,
+    last: &mut Vec<u32>,
 ) -> Result<(), NoMemory>
     requires table { IsTable keys.now hashes.now earlier.old.items last.old.items }
     ensures table { IsTable keys.now hashes.now earlier.new.items last.new.items }
@@ -288,14 +301,19 @@ impl KeyTable {
     }
 
     /// The number of the product of the monomial and the key, which is made and put at the end only where it has none
-    /// yet. `Degree` where its degree is above 65,535. After an error the table is as before.
+    /// yet. `added` is what the monomial adds to a hash (`hash_of_factor`), `hash` the key's (`hash_of_key`). `Degree`
+    /// where the product's degree is above 65,535. After an error the table is as before.
     pub fn number_of_product(
         &mut self,
         alloc: Global,
         t: &Mono,
+        added: u64,
         key: &Key,
+        hash: u64,
     ) -> Result<usize, MonoStop>
-        requires { length t.now.exponents ≡ length key.now.monomial.exponents }
+        requires variables { length t.now.exponents ≡ length key.now.monomial.exponents }
+        requires added { added ≡ factor_hash t.now }
+        requires hash { hash ≡ hash_of key.now }
         ensures ok { IfOk result (IsNumbered self.old self.new (key_product t.now key.now)) }
         ensures small { OnOk result (t.now.degree + key.now.monomial.degree ≤ 65535) }
         ensures err { OnErr result (self.new ≡ self.old) }
@@ -304,13 +322,13 @@ impl KeyTable {
         if t.degree() + key.monomial.degree() > MAX_DEGREE {
             return Err(MonoStop::Degree);
         }
-        let hash = hash_product(t, key);
+        let sum = hash.wrapping_add(added);
         if let Some(i) = find(
             &self.keys,
             &self.hashes,
             &self.earlier,
             &self.last,
-            hash,
+            sum,
             t,
             key,
         ) {
@@ -320,7 +338,7 @@ impl KeyTable {
             position: key.position,
             monomial: Mono::mul(alloc, t, &key.monomial)?,
         };
-        match self.put(alloc, hash, product) {
+        match self.put(alloc, sum, product) {
             Ok(i) => Ok(i),
             Err(_) => Err(MonoStop::Memory),
         }

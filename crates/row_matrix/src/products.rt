@@ -5,12 +5,13 @@ ghost use Rattle.formal_sums.specs.FormalSums.{Each, scale};
 ghost use Rattle.module_vectors.specs.Stops.{Fits};
 ghost use Rattle.module_vectors.specs.Vectors.{HasVariables, sum_of};
 ghost use Rattle.monomial_orders.specs.Kept.{IsWeighed};
+ghost use Rattle.row_matrix.specs.Hashes.{term_hashes};
 ghost use Rattle.row_matrix.specs.Naming.{AreNamed, IsGrown};
 ghost use Rattle.row_matrix.specs.Rows.{AreKeys};
 ghost use Rattle.row_matrix.specs.Products.{ProductStops};
 ghost use Rattle.row_matrix.specs.declared.products.ProductStop.TheVariants.{Memory};
 
-use crate::{KeyTable, kept_number};
+use crate::{KeyTable, hash_of_factor, kept_number};
 use module_vectors::{Key, NoMemory};
 use monomial_orders::{Mono, MonoStop};
 use std::alloc::{AllocError, Global};
@@ -39,15 +40,17 @@ impl From<NoMemory> for ProductStop {
     }
 }
 
-/// The product t v as a row: the number of each key and its residue. Keys that have no number yet are put into the
-/// table, after an error too.
+/// The product t v as a row: the number of each key and its residue. `hashes` are those of v's keys (`hash_of_key`).
+/// Keys that have no number yet are put into the table, after an error too.
 pub fn product_row(
     alloc: Global,
     keys: &mut KeyTable,
     t: &Mono,
     v: &[(Key, u32)],
+    hashes: &[u64],
 ) -> Result<Vec<(u32, u32)>, ProductStop>
-    requires { Each (HasVariables (length t.now.exponents)) v.now }
+    requires variables { Each (HasVariables (length t.now.exponents)) v.now }
+    requires hashes { hashes.now ≡ term_hashes v.now }
     ensures named { let n = length t.now.exponents in
         IfOk result (λ entries. AreNamed n keys.new entries.items (scale 1 (exponents_of n t.now.exponents) (sum_of n v.now))) }
     ensures grown { IfOk result (λ entries. IsGrown keys.old keys.new entries.items) }
@@ -56,9 +59,10 @@ pub fn product_row(
     ensures fits { OnOk result (Fits t.now v.now) }
     ensures stop { IfErr result (ProductStops t.now v.now) }
 {
+    let added = hash_of_factor(t);
     let mut entries = Vec::with_capacity(alloc, v.len())?;
     for (i, term) in v.iter().enumerate() {
-        match keys.number_of_product(alloc, t, &term.0) {
+        match keys.number_of_product(alloc, t, added, &term.0, hashes[i]) {
             Ok(number) => entries.push_reserved((kept_number(number)?, term.1)),
             Err(MonoStop::Memory) => return Err(ProductStop::Memory),
             Err(MonoStop::Degree) => return Err(ProductStop::Degree(i)),

@@ -4,3 +4,4 @@ pub mod Matrices
 pub mod Tracing
 pub mod Counting
 pub mod Dividing
+pub mod Hashing

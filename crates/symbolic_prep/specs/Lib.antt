@@ -4,3 +4,4 @@ pub mod Traces
 pub mod Plans
 pub mod Counts
 pub mod Divisors
+pub mod Hashed

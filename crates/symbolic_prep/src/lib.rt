@@ -3,6 +3,7 @@
 #![tactic(auto)]
 
 mod divisors;
+mod hashes;
 mod pairs;
 mod plan;
 mod preparing;

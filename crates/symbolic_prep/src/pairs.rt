@@ -6,6 +6,7 @@ ghost use Rattle.module_vectors.specs.Rings.{variables};
 ghost use Rattle.module_vectors.specs.Trails.{lead_at};
 ghost use Rattle.module_vectors.specs.Vectors.{IsMonomialOver};
 ghost use Rattle.vector_division.specs.Progress.{AreWeighed};
+ghost use Rattle.symbolic_prep.specs.Hashed.{AreHashed};
 ghost use Rattle.symbolic_prep.specs.Plans.{HasPairProducts, IsLaterPlan, IsPairOf, IsPlan, IsTopProduct};
 ghost use Rattle.pair_criteria.specs.Traces.{AreTraced};
 ghost use Rattle.symbolic_prep.specs.Traces.{PlanStops};
@@ -54,6 +55,8 @@ fn add_top<L: Vectors>(
     requires plan { IsPlan (variables ring.now) ring.now.weights (L.listed members.now)
         plan.old.keys plan.old.rows.items plan.old.products.items plan.old.led.items }
     requires traced { AreTraced (variables ring.now) (L.listed members.now) _pairs.now plan.old.products.items }
+    requires hashed { AreHashed (L.listed members.now) plan.old.hashes.items }
+    ensures hashed { OnOk result (AreHashed (L.listed members.now) plan.new.hashes.items) }
     ensures later { OnOk result (IsLaterPlan (variables ring.now) ring.now.weights (L.listed members.now)
         plan.old.keys plan.old.products.items plan.old.led.items
         plan.new.keys plan.new.rows.items plan.new.products.items plan.new.led.items) }
@@ -97,6 +100,8 @@ pub(crate) fn add_pairs<L: Vectors>(
     requires plan { IsPlan (variables ring.now) ring.now.weights (L.listed members.now)
         plan.old.keys plan.old.rows.items plan.old.products.items plan.old.led.items }
     requires traced { AreTraced (variables ring.now) (L.listed members.now) pairs.now plan.old.products.items }
+    requires hashed { AreHashed (L.listed members.now) plan.old.hashes.items }
+    ensures hashed { OnOk result (AreHashed (L.listed members.now) plan.new.hashes.items) }
     ensures later { OnOk result (IsLaterPlan (variables ring.now) ring.now.weights (L.listed members.now)
         plan.old.keys plan.old.products.items plan.old.led.items
         plan.new.keys plan.new.rows.items plan.new.products.items plan.new.led.items) }

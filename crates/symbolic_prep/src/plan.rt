@@ -4,24 +4,28 @@ ghost use Rattle.std.specs.Vec.{vec_len};
 ghost use Rattle.formal_sums.specs.FormalSums.{Each};
 ghost use Rattle.module_vectors.specs.Rings.{variables};
 ghost use Rattle.vector_division.specs.Progress.{AreWeighed};
+ghost use Rattle.symbolic_prep.specs.Hashed.{AreHashed};
 ghost use Rattle.row_matrix.specs.Products.{ProductStops};
 ghost use Rattle.row_matrix.specs.Rows.{RowShown, first_column};
 ghost use Rattle.symbolic_prep.specs.Plans.{IsMorePlanned, IsPlan, IsProductOf};
 ghost use Rattle.symbolic_prep.specs.Traces.{ProductEnds};
 
+use crate::hashes::keep_hashes;
 use crate::stop::PlanStop;
 use module_vectors::{Key, NoMemory, Ring, Vectors};
 use monomial_orders::Mono;
 use row_matrix::{KeyTable, ProductStop, Row, kept_number, product_row};
 use std::alloc::Global;
 
-/// Rows over the numbers of their keys, the products that they are, and for each key whether a row has it as its lead.
+/// Rows over the numbers of their keys, the products that they are, for each key whether a row has it as its lead, and the
+/// hashes of the keys of each member that a product is of.
 #[derive(Drop)]
 pub(crate) struct Plan {
     pub(crate) keys: KeyTable,
     pub(crate) rows: Vec<Row>,
     pub(crate) products: Vec<(u64, Mono)>,
     pub(crate) led: Vec<bool>,
+    pub(crate) hashes: Vec<Vec<u64>>,
 }
 
 // Marks a key as the lead of a row; there are so many keys now.
@@ -49,6 +53,7 @@ fn put_row(
     requires some { 0 < length entries.items }
     requires known { first_column entries.items < length plan.old.keys }
     ensures keys { plan.new.keys ≡ plan.old.keys }
+    ensures hashes { plan.new.hashes.items ≡ plan.old.hashes.items }
     ensures rows { OnOk result ((r : RowShown) × (plan.new.rows.items ≡ plan.old.rows.items ++ r ∷ []) × (r.entries ≡ entries.items)
         × (r.sources ≡ (length plan.old.rows.items, 1) ∷ [])) }
     ensures products { OnOk result (plan.new.products.items ≡ plan.old.products.items ++ (member, t) ∷ []) }
@@ -102,13 +107,17 @@ pub(crate) fn add_product<L: Vectors>(
     requires weighed { AreWeighed (variables _ring.now) _ring.now.weights (L.listed members.now) }
     requires plan { IsPlan (variables _ring.now) _ring.now.weights (L.listed members.now)
         plan.old.keys plan.old.rows.items plan.old.products.items plan.old.led.items }
+    requires hashed { AreHashed (L.listed members.now) plan.old.hashes.items }
+    ensures hashed { OnOk result (AreHashed (L.listed members.now) plan.new.hashes.items) }
     ensures planned { OnOk result (IsMorePlanned (variables _ring.now) _ring.now.weights (L.listed members.now)
         plan.old.keys plan.new.keys plan.old.rows.items plan.new.rows.items
         plan.old.products.items plan.new.products.items plan.old.led.items plan.new.led.items (member, t)) }
     ensures stop { IfErr result (ProductEnds (get_or (L.listed members.now) member []) plan.old.products.items plan.new.products.items (member, t)) }
 {
     let terms = members.at(member as usize).terms();
-    let entries = match product_row(alloc, &mut plan.keys, &t, terms) {
+    keep_hashes(alloc, members, &mut plan.hashes, member as usize)?;
+    let hashes = &plan.hashes[member as usize];
+    let entries = match product_row(alloc, &mut plan.keys, &t, terms, hashes) {
         Ok(entries) => entries,
         Err(stop) => return Err(put_end(alloc, &mut plan.products, terms, member, t, stop)),
     };

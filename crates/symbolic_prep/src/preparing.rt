@@ -11,6 +11,7 @@ ghost use Rattle.symbolic_prep.specs.Prepared.{IsMonicVector, IsPrepared};
 ghost use Rattle.pair_criteria.specs.Traces.{AreTraced};
 ghost use Rattle.symbolic_prep.specs.Traces.{PlanStops, PrepareStops};
 
+use crate::hashes::no_hashes;
 use crate::pairs::add_pairs;
 use crate::plan::Plan;
 use crate::reducers::close_plan;
@@ -28,8 +29,9 @@ pub struct Prepared {
     pub products: Vec<(u64, Mono)>,
 }
 
-// No rows.
-fn start_plan(alloc: Global) -> Result<Plan, NoMemory>
+// No rows, with these hashes.
+fn start_plan(alloc: Global, hashes: Vec<Vec<u64>>) -> Result<Plan, NoMemory>
+    ensures hashes { IfOk result (λ plan. plan.hashes.items ≡ hashes.items) }
     ensures plan { (n : ℕ) (ws : List ℕ) (list : List (List (KeyValue × ℕ)))
         → IfOk result (λ plan. IsPlan n ws list plan.keys plan.rows.items plan.products.items plan.led.items) }
     ensures none { IfOk result (λ plan. length plan.products.items ≡ 0) }
@@ -40,6 +42,7 @@ fn start_plan(alloc: Global) -> Result<Plan, NoMemory>
         rows: Vec::new(alloc),
         products: Vec::new(alloc),
         led: Vec::new(alloc),
+        hashes,
     })
 }
 
@@ -80,6 +83,7 @@ fn matrix_of<L: Vectors>(
         rows,
         products,
         led: _,
+        hashes: _,
     } = plan;
     let count = rows.len();
     let columns = keys.into_keys();
@@ -105,7 +109,8 @@ pub fn prepare<L: Vectors>(
         (L.listed members.now) pairs.now r.matrix r.products.items) }
     ensures stop { IfErr result (PrepareStops (variables ring.now) ring.now.weights (L.listed members.now) pairs.now) }
 {
-    let mut plan = start_plan(alloc)?;
+    let hashes = no_hashes(alloc, members)?;
+    let mut plan = start_plan(alloc, hashes)?;
     if let Err(stop) = add_pairs(alloc, ring, members, pairs, &mut plan) {
         return Err(stop_of(plan, stop));
     }

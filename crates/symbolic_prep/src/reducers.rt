@@ -7,6 +7,7 @@ ghost use Rattle.row_matrix.specs.Rows.{column_key};
 ghost use Rattle.vector_division.specs.Progress.{AreWeighed, IsFound};
 ghost use Rattle.symbolic_prep.specs.Counts.{IsSparse};
 ghost use Rattle.symbolic_prep.specs.Divisors.{AreDivisors};
+ghost use Rattle.symbolic_prep.specs.Hashed.{AreHashed};
 ghost use Rattle.symbolic_prep.specs.Plans.{AreClosed, IsLaterPlan, IsPlan};
 ghost use Rattle.pair_criteria.specs.Traces.{AreTraced};
 ghost use Rattle.symbolic_prep.specs.Traces.{PlanStops};
@@ -34,6 +35,8 @@ fn add_reducer<L: Vectors>(
     requires plan { IsPlan (variables ring.now) ring.now.weights (L.listed members.now)
         plan.old.keys plan.old.rows.items plan.old.products.items plan.old.led.items }
     requires traced { AreTraced (variables ring.now) (L.listed members.now) _pairs.now plan.old.products.items }
+    requires hashed { AreHashed (L.listed members.now) plan.old.hashes.items }
+    ensures hashed { OnOk result (AreHashed (L.listed members.now) plan.new.hashes.items) }
     ensures later { OnOk result (IsLaterPlan (variables ring.now) ring.now.weights (L.listed members.now)
         plan.old.keys plan.old.products.items plan.old.led.items
         plan.new.keys plan.new.rows.items plan.new.products.items plan.new.led.items) }
@@ -76,6 +79,8 @@ pub(crate) fn close_plan<L: Vectors>(
     requires plan { IsPlan (variables ring.now) ring.now.weights (L.listed members.now)
         plan.old.keys plan.old.rows.items plan.old.products.items plan.old.led.items }
     requires traced { AreTraced (variables ring.now) (L.listed members.now) pairs.now plan.old.products.items }
+    requires hashed { AreHashed (L.listed members.now) plan.old.hashes.items }
+    ensures hashed { OnOk result (AreHashed (L.listed members.now) plan.new.hashes.items) }
     ensures later { OnOk result (IsLaterPlan (variables ring.now) ring.now.weights (L.listed members.now)
         plan.old.keys plan.old.products.items plan.old.led.items
         plan.new.keys plan.new.rows.items plan.new.products.items plan.new.led.items) }

@@ -1,12 +1,14 @@
 use Rattle.std.proofs.Common.{List, ap, length, map, subst, sym, ◌∙◌, ◌<◌}
+use Rattle.std.specs.List.Sorted.{IsPermutation}
 use Rattle.formal_sums.proofs.Sameness.{IsSame_of, IsSame_trans}
 use Rattle.formal_sums.specs.FormalSums.{Each}
+use Rattle.module_vectors.proofs.Gathers.{Each_permutation}
 use Rattle.module_vectors.specs.Rings.{variables}
 use Rattle.module_vectors.specs.Vectors.{AreTermsOver, IsMonomialOver, StandsFor, sum_of}
 use Rattle.row_matrix.specs.Rows.{Entry}
 use Rattle.vector_division.specs.Reductions.{cofactors_of}
 use Rattle.vector_division.specs.declared.reduction.ScaledProduct.{ScaledProduct}
-use Rattle.f4_job.proofs.MadeRows.{columns_within, parts_over, terms_over, terms_sum, vector_same}
+use Rattle.f4_job.proofs.MadeRows.{columns_within, parts_over, parts_permuted, parts_same, terms_over, terms_sum, vector_same}
 use Rattle.f4_job.specs.Made.{entry_term, source_parts}
 use Rattle.f4_job.proofs.making.make_row.Goals as goal
 
@@ -27,14 +29,22 @@ pub row_parts-requires : goal.row_parts-requires
 row_parts-requires c =
     let p = c.args.ring.now.modulus.value in
     let products = c.args.products.now in
-    subst (Each (λ (e : Entry). e.0 < length products)) (sym c.sources.ensures) (columns_within p 0 (length products) c.args.row.now.sources c.requires.row.sources)
+    subst (Each (λ (e : Entry). e.0 < length products)) (sym c.deref.ensures.value)
+    (Each_permutation (λ (e : Entry). e.0 < length products) c.args.row.now.sources c.in_ok-sources.sources.items
+    (subst (λ es. IsPermutation es c.in_ok-sources.sources.items) c.sources.ensures c.in_ok-sources.ensures)
+    (columns_within p 0 (length products) c.args.row.now.sources c.requires.row.sources))
 
 pub quotient_products-requires : goal.quotient_products-requires
 quotient_products-requires c =
     let products = c.args.products.now in
+    let es = c.args.row.now.sources in
+    let fs = c.in_ok-sources.sources.items in
     subst (Each (λ (q : ScaledProduct). IsMonomialOver c.args.ring.now q.monomial × (q.residue < c.args.ring.now.modulus.value)))
-    (sym (c.deref.ensures.value ∙ c.in_ok-parts.ensures ∙ ap (source_parts products) c.sources.ensures))
-    (parts_over c.args.ring.now products 0 c.args.row.now.sources c.requires.products c.requires.row.sources)
+    (sym (c.deref-2.ensures.value ∙ c.in_ok-parts.ensures ∙ ap (source_parts products) c.deref.ensures.value))
+    (Each_permutation (λ (q : ScaledProduct). IsMonomialOver c.args.ring.now q.monomial × (q.residue < c.args.ring.now.modulus.value))
+    (source_parts products es) (source_parts products fs)
+    (parts_permuted products es fs (subst (λ xs. IsPermutation xs fs) c.sources.ensures c.in_ok-sources.ensures))
+    (parts_over c.args.ring.now products 0 es c.requires.products c.requires.row.sources))
 
 pub returns : goal.returns
 returns c =
@@ -49,6 +59,9 @@ returns c =
       sum = vector_same ring columns (length products) r c.in_ok-vector.vector c.requires.descend c.requires.row c.in_ok-vector.ensures.vector
           (IsSame_trans c.in_ok-vector.ensures.same (IsSame_of ring.modulus.value _ _ is));
       products = c.in_ok-products.ensures.vector;
-      made = subst (λ (ps : List ScaledProduct). StandsFor ring c.in_ok-products.products (cofactors_of n ps))
-          (c.deref.ensures.value ∙ c.in_ok-parts.ensures ∙ ap (source_parts products) c.sources.ensures) c.in_ok-products.ensures.sum;
+      made = IsSame_trans
+          (subst (λ (ps : List ScaledProduct). StandsFor ring c.in_ok-products.products (cofactors_of n ps))
+          (c.deref-2.ensures.value ∙ c.in_ok-parts.ensures ∙ ap (source_parts products) c.deref.ensures.value) c.in_ok-products.ensures.sum)
+          (parts_same n ring.modulus.value products r.sources c.in_ok-sources.sources.items
+          (subst (λ es. IsPermutation es c.in_ok-sources.sources.items) c.sources.ensures c.in_ok-sources.ensures));
     }

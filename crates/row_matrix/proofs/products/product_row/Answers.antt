@@ -31,7 +31,7 @@ loop-i-preserved c =
     let v = c.loop-i.invariant in
     let g : IsNumbered c.loop-i.keys c.number_of_product.new.self key number =
     subst (IsNumbered c.loop-i.keys c.number_of_product.new.self key) (sym c.in_ok-kept_number-in-Ok.ensures) c.in-Ok.ensures.ok in
-    let sized : length x.0.monomial.exponents ≡ n = Each_at (HasVariables n) c.args.v.now i x c.requires lt c.index-v-i.is in
+    let sized : length x.0.monomial.exponents ≡ n = Each_at (HasVariables n) c.args.v.now i x c.requires.variables lt c.index-v-i.is in
     record {
       named = subst (λ es. AreNamed n c.number_of_product.new.self es (scale 1 (exponents_of n t.exponents) (sum_of n (take (i + 1) c.args.v.now)))) (sym c.push_reserved.ensures.items)
           (product_step n t.exponents c.args.v.now i x c.loop-i.keys c.number_of_product.new.self key c.loop-i.entries.items number v.named g lt c.index-v-i.is

@@ -11,6 +11,7 @@ loop-i-init g c = record {
   later = later_itself (variables c.args.ring.now) c.args.ring.now.weights (g.L.Vectors.listed c.args.members.now) c.args.plan.now.keys c.args.plan.now.rows.items c.args.plan.now.products.items c.args.plan.now.led.items c.requires.plan;
   pairs = tt;
   traced = c.requires.traced;
+  hashed = c.requires.hashed;
   count = omega arith;
 }
 
@@ -60,5 +61,6 @@ loop-i-preserved g c =
           (pairs_more n list p.products.items both.more r.products.items (take c.loop-i.i c.args.pairs.now) both.products_more c.loop-i.invariant.pairs) c.loop-i-test.true c.index-pairs-i.is
           (both_tops n list q.products.items r.products.items two.later.more x one.top two.later.products_more two.top);
       traced = two.traced;
+      hashed = two.hashed;
       count = omega (arith, c.loop-i.invariant.count, one.one, two.one);
     }

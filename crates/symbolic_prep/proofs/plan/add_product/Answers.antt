@@ -1,15 +1,22 @@
-use Rattle.std.proofs.Common.{get_or, length, subst, sym, ◌∙◌, ◌≡◌, []}
+use Rattle.std.proofs.Common.{ap, get_or, length, subst, sym, ◌∙◌, ◌≡◌, []}
 use Rattle.formal_sums.specs.FormalSums.{Each}
 use Rattle.monomial_orders.specs.Kept.{IsWeighed}
 use Rattle.module_vectors.specs.Rings.{variables}
 use Rattle.module_vectors.specs.Trails.{KeptProduct}
 use Rattle.symbolic_prep.proofs.Planning.{entries_some, has_variables, keys_product, lead_known, more_planned, named_product, terms_weighed}
+use Rattle.row_matrix.specs.Hashes.{term_hashes}
 use Rattle.symbolic_prep.specs.Plans.{IsMorePlanned}
 use Rattle.symbolic_prep.specs.Traces.{ProductEnds}
 use Rattle.symbolic_prep.proofs.plan.add_product.Goals as goal
 
-pub product_row-requires : goal.product_row-requires
-product_row-requires g c =
+pub product_row-requires-clause-hashes : goal.product_row-requires-clause-hashes
+product_row-requires-clause-hashes g c =
+    let list = g.L.Vectors.listed c.args.members.now in
+    let vector : c.terms-terms.result.now ≡ get_or list c.args.member [] = c.terms-terms.ensures ∙ c.at.ensures in
+    c.deref.ensures.value ∙ c.in_ok-keep_hashes.ensures.made.there c.index-hashes.result.now c.index-hashes.ensures ∙ ap term_hashes (sym vector)
+
+pub product_row-requires-clause-variables : goal.product_row-requires-clause-variables
+product_row-requires-clause-variables g c =
     let ring = c.args._ring.now in
     let n = variables ring in
     let list = g.L.Vectors.listed c.args.members.now in

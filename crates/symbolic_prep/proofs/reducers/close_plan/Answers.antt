@@ -8,6 +8,7 @@ loop-cursor-init g c = record {
   later = later_itself (variables c.args.ring.now) c.args.ring.now.weights (g.L.Vectors.listed c.args.members.now) c.args.plan.now.keys c.args.plan.now.rows.items c.args.plan.now.products.items c.args.plan.now.led.items c.requires.plan;
   closed = λ i l m. absurd (omega arith);
   traced = c.requires.traced;
+  hashed = c.requires.hashed;
   sparse = λ chosen others h. (chosen, h);
 }
 
@@ -26,5 +27,6 @@ loop-cursor-preserved g c =
       later = later_trans n ws list a.keys p.keys q.keys p.rows.items q.rows.items a.products.items p.products.items q.products.items a.led.items p.led.items q.led.items h.later e.later;
       closed = closed_more n ws list p.keys q.keys q.rows.items p.products.items q.products.items p.led.items q.led.items c.loop-cursor.cursor h.closed e.later lt e.closed;
       traced = e.traced;
+      hashed = e.hashed;
       sparse = λ chosen others s. let o = h.sparse chosen others s in e.sparse o.0 others o.1;
     }

@@ -1,0 +1,19 @@
+use Rattle.std.proofs.Common.{[], arith, subst, sym, ℕ, ◌∷◌, ◌≡◌}
+use Rattle.std.specs.Global.{Global}
+use Rattle.std.specs.Prelude.{Vec}
+use Rattle.formal_sums.proofs.WeightedSums.{Each_append}
+use Rattle.formal_sums.specs.FormalSums.{Each}
+use Rattle.symbolic_prep.proofs.Hashing.{hashed_none}
+use Rattle.symbolic_prep.proofs.hashes.no_hashes.Goals as goal
+
+pub loop-preserved : goal.loop-preserved
+loop-preserved g c = record {
+  count = omega arith;
+  room = omega arith;
+  none = subst (Each (λ (h : Vec ℕ Global). h.items ≡ [])) (sym c.push_reserved.ensures.items)
+      (Each_append _ c.loop.hashes.items (c.new.result ∷ []) c.loop.invariant.none (c.new.ensures.items, tt));
+}
+
+pub returns : goal.returns
+returns g c =
+    hashed_none (g.L.Vectors.listed c.args.members.now) c.loop.hashes.items (omega arith) c.loop.invariant.none
