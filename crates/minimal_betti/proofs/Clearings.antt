@@ -1,5 +1,5 @@
 -- A row that is cleared term by term, and taken out
-use Rattle.std.specs.Prelude.{Contains, Err, Ok, OnOk, Result, nat_eq, nat_lt}
+use Rattle.std.specs.Prelude.{Contains, Err, Ok, OnOk, Result, nat_eq}
 use Rattle.std.proofs.Common.{Bool, List, [], ap, ap₂, append-nil, arith, cond, eq-eqb, eqb-true, false, get_or, length, mod-lt, refl, subst, suc, sym, take, true, zero, ℕ, ◌%◌, ◌*◌, ◌++◌, ◌+◌, ◌-◌, ◌<◌, ◌∙◌, ◌∷◌, ◌≡◌}
 use Rattle.std.proofs.lemmas.List.{append_assoc, map-append, take_more}
 use Rattle.residues.proofs.Congruences.{IsCongruent_add, IsCongruent_cancel, IsCongruent_minus, IsCongruent_mod, IsCongruent_multiply, IsCongruent_of, IsCongruent_refl, IsCongruent_sym, IsCongruent_trans}
@@ -11,7 +11,7 @@ use Rattle.formal_sums.proofs.Sameness.{IsSame_append, IsSame_of, IsSame_refl, I
 use Rattle.formal_sums.proofs.WeightedSums.{weighted_sum-scale}
 use Rattle.formal_sums.specs.FormalSums.{Each, FormalSum, IsSame, indicator, product, scale, weighted_sum, shift}
 use Rattle.minimal_laws.proofs.Rows.{linear_component}
-use Rattle.minimal_laws.specs.Cancellation.{component, without_row}
+use Rattle.minimal_laws.specs.Cancellation.{cleared, component}
 use Rattle.module_vectors.specs.Rings.{variables}
 use Rattle.module_vectors.specs.Vectors.{StandsFor, sum_of}
 use Rattle.module_vectors.specs.declared.key.Key.{Key as CodeKey}
@@ -20,6 +20,7 @@ use Rattle.module_vectors.specs.Stops.{ScaledStops}
 use Rattle.module_vectors.specs.declared.stop.VectStop.{VectStop}
 use Rattle.module_vectors.specs.declared.stop.VectStop.TheVariants.{Degree, Memory}
 use Rattle.minimal_betti.specs.Clearing.{ClearingStops, IsMonomialAt, multiple_of}
+use Rattle.minimal_betti.proofs.Growing.{all_append}
 
 abbrev Terms : Type 0
 Terms = List (CodeKey × ℕ)
@@ -109,40 +110,15 @@ module _ (ring : Ring) (r s : ℕ) (w : Terms) where
       (IsSame_trans (IsSame_of p _ _ (append_assoc V (multiple_of ring r s w (take i v)) (multiple_of ring r s w (t ∷ []))))
       (IsSame_append (IsSame_refl p V) (IsSame_trans (IsSame_sym more) (IsSame_of p _ _ (sym (ap T split)))))))
 
--- ---- a row is taken out
-pub without-append : {n : ℕ} (r : ℕ) (v w : FormalSum n) → without_row r (v ++ w) ≡ without_row r v ++ without_row r w
-without-append r [] w = refl
-without-append {n} r (t ∷ v) w = go (nat_eq t.0.0 r) (without-append r v w)
-  where
-    go :
-        (b : Bool) → without_row r (v ++ w) ≡ without_row r v ++ without_row r w
-        → cond b (without_row r (v ++ w)) (((cond (nat_lt t.0.0 r) t.0.0 (t.0.0 - 1), t.0.1), t.1) ∷ without_row r (v ++ w))
-        ≡ cond b (without_row r v) (((cond (nat_lt t.0.0 r) t.0.0 (t.0.0 - 1), t.0.1), t.1) ∷ without_row r v) ++ without_row r w
-    go true e = e
-    go false e = ap (λ z. ((cond (nat_lt t.0.0 r) t.0.0 (t.0.0 - 1), t.0.1), t.1) ∷ z) e
+-- ---- nothing is taken away
+component_none : (n r : ℕ) (v : Terms) → Each (λ t. t.0.position ≡ r → ⊥) v → component r (sum_of n v) ≡ []
+component_none n r [] h = refl
+component_none n r (t ∷ v) h =
+    ap (λ b. cond b (((0, exponents_of n t.0.monomial.exponents), t.1) ∷ component r (sum_of n v)) (component r (sum_of n v))) (nat_eq-other t.0.position r h.0)
+    ∙ component_none n r v h.1
 
-pub without_here : (n r : ℕ) (t : CodeKey × ℕ) (old : Terms) → t.0.position ≡ r → sum_of n old ≡ sum_of n old ++ without_row r (sum_of n (t ∷ []))
-without_here n r t old e =
-    let q : nat_eq t.0.position r ≡ true = eq-eqb t.0.position r e in
-    sym (append-nil (sum_of n old)) ∙ ap (λ b. sum_of n old ++ cond b [] (((cond (nat_lt t.0.position r) t.0.position (t.0.position - 1), exponents_of n t.0.monomial.exponents), t.1) ∷ [])) (sym q)
-
-pub without_other :
-    (n r : ℕ) (t : CodeKey × ℕ) (old : Terms) (k : CodeKey) → (t.0.position ≡ r → ⊥)
-    → k.monomial ≡ t.0.monomial → k.position ≡ cond (nat_lt t.0.position r) t.0.position (t.0.position - 1)
-    → sum_of n (old ++ (k, t.1) ∷ []) ≡ sum_of n old ++ without_row r (sum_of n (t ∷ []))
-without_other n r t old k ne em ek =
-    map-append _ old ((k, t.1) ∷ [])
-    ∙ ap₂ (λ i m. sum_of n old ++ ((i, exponents_of n m.exponents), t.1) ∷ []) ek em
-    ∙ ap (λ b. sum_of n old ++ cond b [] (((cond (nat_lt t.0.position r) t.0.position (t.0.position - 1), exponents_of n t.0.monomial.exponents), t.1) ∷ [])) (sym (nat_eq-other t.0.position r ne))
-
-pub without_more :
-    (n r : ℕ) (v old new : Terms) (i : ℕ) (t : CodeKey × ℕ) → i < length v → t ≡ get_or v i t
-    → sum_of n old ≡ without_row r (sum_of n (take i v)) → sum_of n new ≡ sum_of n old ++ without_row r (sum_of n (t ∷ []))
-    → sum_of n new ≡ without_row r (sum_of n (take (i + 1) v))
-without_more n r v old new i t lt is h step =
-    step ∙ ap (λ z. z ++ without_row r (sum_of n (t ∷ []))) h
-    ∙ sym (without-append r (sum_of n (take i v)) (sum_of n (t ∷ [])))
-    ∙ ap (without_row r) (sym (ap (sum_of n) (take_more v i t lt ∙ ap (λ x. take i v ++ x ∷ []) (sym is)) ∙ map-append _ (take i v) (t ∷ [])))
+pub cleared_other : (n p r s : ℕ) (w : FormalSum n) (v : Terms) → Each (λ t. t.0.position ≡ r → ⊥) v → cleared p r s w (sum_of n v) ≡ sum_of n v
+cleared_other n p r s w v h = ap (λ u. sum_of n v ++ product (scale ((p - 1) * s) (unit n) u) w) (component_none n r v h) ∙ append-nil (sum_of n v)
 
 -- ---- why a term is not cleared
 pub clear_stop : (r : ℕ) (w : Terms) (t : CodeKey × ℕ) (f : ℕ) (stop : VectStop) → t.0.position ≡ r → ScaledStops f t.0.monomial w stop → ClearingStops r w (t ∷ []) stop
@@ -165,6 +141,11 @@ pub over_more : (P : CodeKey × ℕ → Type 0) (v : Terms) (i : ℕ) (t : CodeK
 over_more P [] i t h lt e = absurd (omega (arith, lt))
 over_more P (x ∷ v) zero t h lt e = subst P (sym e) h.0
 over_more P (x ∷ v) (suc i) t h lt e = over_more P v i t h.1 (omega (arith, lt)) e
+
+pub each_more :
+    {X : Type 0} (P : X → Type 0) (xs : List X) (i : ℕ) (x : X) → i < length xs → x ≡ get_or xs i x → Each P (take i xs) → P x
+    → Each P (take (i + 1) xs)
+each_more P xs i x lt is h q = subst (Each P) (sym (take_more xs i x lt ∙ ap (λ y. take i xs ++ y ∷ []) (sym is))) (all_append P (take i xs) (x ∷ []) h (q, tt))
 
 pub on_ok : {X E : Type 0} (r : Result X E) (P Q : Type 0) → (P → Q) → OnOk r P → OnOk r Q
 on_ok (Ok x) P Q f h = f h

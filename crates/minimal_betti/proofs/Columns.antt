@@ -1,10 +1,10 @@
 -- Columns one by one
 use Rattle.std.specs.Prelude.{drop}
-use Rattle.std.proofs.Common.{List, [], ap, arith, get_or, inl, inr, length, map, refl, remove, reverse, subst, subst₂, suc, sym, take, zero, ℕ, ◌++◌, ◌+◌, ◌<◌, ◌∙◌, ◌∷◌, ◌≡◌, ◌≤◌}
-use Rattle.std.proofs.lemmas.List.{get_or_default, map-append, reverse-append, take_all, take_more}
+use Rattle.std.proofs.Common.{List, [], ap, append-nil, arith, get_or, inl, inr, length, map, refl, remove, reverse, subst, subst₂, suc, sym, take, zero, ℕ, ◌++◌, ◌+◌, ◌<◌, ◌∙◌, ◌∷◌, ◌≡◌, ◌≤◌}
+use Rattle.std.proofs.lemmas.List.{append_assoc, get_or_default, map-append, reverse-append, take_all, take_more}
 use Rattle.formal_sums.proofs.Sameness.{IsSame_refl, IsSame_sym}
 use Rattle.formal_sums.specs.FormalSums.{FormalSum, IsSame}
-use Rattle.minimal_laws.specs.Cancellation.{AreSameColumns, remove_at}
+use Rattle.minimal_laws.specs.Cancellation.{AreSameColumns, remove_at, without_row}
 use Rattle.module_vectors.specs.Rings.{ring_comparison, variables}
 use Rattle.module_vectors.specs.Vectors.{AreVectorsOver, IsVectorOver, StandsFor, sum_of, sums_of}
 use Rattle.module_vectors.specs.declared.key.Key.{Key as CodeKey}
@@ -12,7 +12,7 @@ use Rattle.module_vectors.specs.declared.ring.Ring.{Ring}
 use Rattle.schreyer_resolution.specs.Resolved.{degrees_of}
 use Rattle.schreyer_resolution.specs.declared.maps.Map.{Map}
 use Rattle.minimal_betti.specs.Carried.{AreCarried, AreOwn}
-use Rattle.minimal_betti.specs.Splitting.{AreSplit, IsOtherPut, split_of}
+use Rattle.minimal_betti.specs.Splitting.{AreSplit, AreWithout, IsOtherPut, all_removed, split_of, without_all}
 use Rattle.minimal_betti.specs.declared.carried.Carried.{Carried}
 use Rattle.minimal_betti.specs.declared.constants.Constant.{Constant}
 use Rattle.minimal_betti.proofs.Growing.{all_append}
@@ -146,6 +146,17 @@ split_all ring s at columns i others all le e h =
     })
 
 -- ---- what leaves a list
+drop_item : {X : Type 0} (xs : List X) (k : ℕ) (x : X) → k < length xs → x ≡ get_or xs k x → drop k xs ≡ x ∷ drop (k + 1) xs
+drop_item [] k x lt e = absurd (omega (arith, lt))
+drop_item (y ∷ xs) zero x lt e = ap (λ z. z ∷ xs) (sym e)
+drop_item (y ∷ xs) (suc k) x lt e = let q : suc k + 1 ≡ suc (k + 1) = omega arith in drop_item xs k x (omega (arith, lt)) e ∙ ap (λ j. x ∷ drop j (y ∷ xs)) (sym q)
+
+pub drop_none : {X : Type 0} (xs : List X) (i : ℕ) → length xs ≤ i → drop i xs ≡ []
+drop_none [] zero le = refl
+drop_none [] (suc i) le = refl
+drop_none (x ∷ xs) zero le = absurd (omega (arith, le))
+drop_none (x ∷ xs) (suc i) le = drop_none xs i (omega (arith, le))
+
 pub removed_is : {X : Type 0} (xs : List X) (i : ℕ) → i < length xs → remove xs i ≡ remove_at i xs
 removed_is [] i lt = absurd (omega (arith, lt))
 removed_is (x ∷ xs) zero lt = refl
@@ -156,8 +167,58 @@ removed_past [] i le = refl
 removed_past (x ∷ xs) zero le = absurd (omega (arith, le))
 removed_past (x ∷ xs) (suc i) le = ap (λ r. x ∷ r) (removed_past xs i (omega (arith, le)))
 
+pub removed_more :
+    {X : Type 0} (places : List ℕ) (i a : ℕ) (start old new : List X) → i < length places → a ≡ get_or places i a
+    → all_removed (drop i places) old ≡ all_removed places start → new ≡ remove_at a old → all_removed (drop (i + 1) places) new ≡ all_removed places start
+removed_more places i a start old new lt is h e =
+    ap (all_removed (drop (i + 1) places)) e ∙ sym (ap (λ z. all_removed z old) (drop_item places i a lt is)) ∙ h
+
+pub removed_all :
+    {X : Type 0} (places : List ℕ) (i : ℕ) (start old : List X) → length places ≤ i
+    → all_removed (drop i places) old ≡ all_removed places start → old ≡ all_removed places start
+removed_all places i start old le h = sym (ap (λ z. all_removed z old) (drop_none places i le)) ∙ h
+
+-- ---- rows that leave in turn
+pub without_more :
+    {n : ℕ} (rows : List ℕ) (i r : ℕ) (V old new : FormalSum n) → i < length rows → r ≡ get_or rows i r
+    → without_all (drop i rows) old ≡ V → new ≡ without_row r old → without_all (drop (i + 1) rows) new ≡ V
+without_more rows i r V old new lt is h e =
+    ap (without_all (drop (i + 1) rows)) e ∙ sym (ap (λ z. without_all z old) (drop_item rows i r lt is)) ∙ h
+
+pub without_done : {n : ℕ} (rows : List ℕ) (i : ℕ) (V old : FormalSum n) → length rows ≤ i → without_all (drop i rows) old ≡ V → old ≡ V
+without_done rows i V old le h = sym (ap (λ z. without_all z old) (drop_none rows i le)) ∙ h
+
+pub columns_more :
+    (n : ℕ) (rows : List ℕ) (all old new rest rest' : List Terms) (v u : Terms)
+    → sums_of n old ++ map (λ w. without_all rows w) (sums_of n rest) ≡ map (λ w. without_all rows w) (sums_of n all)
+    → rest ≡ v ∷ rest' → sum_of n u ≡ without_all rows (sum_of n v) → new ≡ old ++ u ∷ []
+    → sums_of n new ++ map (λ w. without_all rows w) (sums_of n rest') ≡ map (λ w. without_all rows w) (sums_of n all)
+columns_more n rows all old new rest rest' v u h e eu en =
+    ap (λ z. sums_of n z ++ map (λ w. without_all rows w) (sums_of n rest')) en
+    ∙ ap (λ z. z ++ map (λ w. without_all rows w) (sums_of n rest')) (map-append (λ w. sum_of n w) old (u ∷ []))
+    ∙ append_assoc (sums_of n old) (sum_of n u ∷ []) (map (λ w. without_all rows w) (sums_of n rest'))
+    ∙ ap (λ z. sums_of n old ++ z ∷ map (λ w. without_all rows w) (sums_of n rest')) eu
+    ∙ sym (ap (λ z. sums_of n old ++ map (λ w. without_all rows w) (sums_of n z)) e) ∙ h
+
+pub columns_start :
+    (n : ℕ) (rows : List ℕ) (all without rest : List Terms) → without ≡ [] → rest ≡ all
+    → sums_of n without ++ map (λ w. without_all rows w) (sums_of n rest) ≡ map (λ w. without_all rows w) (sums_of n all)
+columns_start n rows all without rest e er =
+    ap (λ z. sums_of n z ++ map (λ w. without_all rows w) (sums_of n rest)) e ∙ ap (λ z. map (λ w. without_all rows w) (sums_of n z)) er
+
+pub columns_done :
+    (ring : Ring) (rows : List ℕ) (all without rest result : List Terms) → rest ≡ [] → result ≡ without → AreVectorsOver ring (ring_comparison ring) without
+    → sums_of (variables ring) without ++ map (λ w. without_all rows w) (sums_of (variables ring) rest) ≡ map (λ w. without_all rows w) (sums_of (variables ring) all)
+    → AreWithout ring rows all result
+columns_done ring rows all without rest result e er v h =
+    let n = variables ring in
+    subst (AreWithout ring rows all) (sym er) (record {
+      same = sym (append-nil (sums_of n without)) ∙ sym (ap (λ z. sums_of n without ++ map (λ w. without_all rows w) (sums_of n z)) e) ∙ h;
+      vectors = v;
+    })
+
 -- ---- the start
-map_same : {n : ℕ} (F : List (FormalSum n)) → map (λ (v : FormalSum n). v) F ≡ F
+pub map_same : {n : ℕ} (F : List (FormalSum n)) → map (λ (v : FormalSum n). v) F ≡ F
 map_same [] = refl
 map_same (v ∷ F) = ap (λ r. v ∷ r) (map_same F)
 
@@ -170,11 +231,6 @@ own_all ring old others all e h v =
       same = subst (λ L. AreSameColumns ring.modulus.value L (sums_of (variables ring) others)) (map_same (sums_of (variables ring) old)) h;
       vectors = v;
     })
-
-drop_item : {X : Type 0} (xs : List X) (k : ℕ) (x : X) → k < length xs → x ≡ get_or xs k x → drop k xs ≡ x ∷ drop (k + 1) xs
-drop_item [] k x lt e = absurd (omega (arith, lt))
-drop_item (y ∷ xs) zero x lt e = ap (λ z. z ∷ xs) (sym e)
-drop_item (y ∷ xs) (suc k) x lt e = let q : suc k + 1 ≡ suc (k + 1) = omega arith in drop_item xs k x (omega (arith, lt)) e ∙ ap (λ j. x ∷ drop j (y ∷ xs)) (sym q)
 
 pub carried_more :
     (ring : Ring) (maps : List Map) (k j : ℕ) (m : Map) (old new : List Carried) (c : Carried) → j + 1 ≡ k → k ≤ length maps → m ≡ get_or maps j m

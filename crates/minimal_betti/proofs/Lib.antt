@@ -1,11 +1,15 @@
+pub mod Applying
 pub mod Clearings
 pub mod Columns
 pub mod Counts
 pub mod Ending
 pub mod Entries
 pub mod Growing
+pub mod Lowering
 pub mod NoZeroColumns
+pub mod Passes
 pub mod Reaching
 pub mod Reading
 pub mod Splittings
+pub mod Stepping
 pub mod Units

@@ -34,7 +34,7 @@ module _ {n : ℕ} (p : ℕ) where
   leads_on B C E a b = record { cancelled = λ D c. a.cancelled D (b.cancelled D c); reached = λ maps r. a.reached maps (b.reached maps r) }
 
   -- ---- from the same maps
-  constant_there : (v w : FormalSum n) (r : ℕ) → IsSame p v w → IsConstantAt p v r → IsConstantAt p w r
+  pub constant_there : (v w : FormalSum n) (r : ℕ) → IsSame p v w → IsConstantAt p v r → IsConstantAt p w r
   constant_there v w r e h = record {
     nonzero = λ z. h.nonzero (IsCongruent_trans (e.by_key (r, unit n)) z);
     alone = λ m ne. IsCongruent_trans (IsCongruent_sym (e.by_key (r, m))) (h.alone m ne);

@@ -1,55 +1,34 @@
 -- A split in the code is the split of the graded maps
 use Rattle.std.specs.Prelude.{drop}
-use Rattle.std.proofs.Common.{List, [], ap, arith, get_or, inl, inr, length, map, refl, reverse, subst, suc, sym, take, zero, ℕ, ◌*◌, ◌++◌, ◌+◌, ◌<◌, ◌∙◌, ◌∷◌, ◌≡◌, ◌⊎◌}
-use Rattle.std.proofs.lemmas.List.{append_assoc, length-map, reverse-append}
-use Rattle.residues.specs.Residues.{IsCongruent, IsDomain}
-use Rattle.monomials.specs.Exponents.{unit}
+use Rattle.std.proofs.Common.{List, [], ap, ap₂, arith, get_or, inl, inr, length, map, refl, reverse, subst, subst₂, suc, sym, take, zero, ℕ, ◌++◌, ◌+◌, ◌<◌, ◌∙◌, ◌∷◌, ◌≡◌}
+use Rattle.std.proofs.lemmas.List.{append_assoc, length-map, map-append, reverse-append}
+use Rattle.residues.specs.Residues.{IsDomain}
 use Rattle.formal_sums.proofs.Sameness.{IsSame_of}
-use Rattle.formal_sums.specs.FormalSums.{Each, FormalSum, coefficient}
-use Rattle.minimal_laws.proofs.Clearing.{get_or-remove_at}
-use Rattle.minimal_laws.proofs.Grading.{split_graded}
-use Rattle.minimal_laws.proofs.Rows.{skip}
-use Rattle.minimal_laws.proofs.SameMaps.{same_graded}
-use Rattle.minimal_laws.proofs.Searching.{same_maps_itself}
+use Rattle.formal_sums.specs.FormalSums.{Each, FormalSum}
 use Rattle.minimal_laws.proofs.Splitting.{length-remove_at}
-use Rattle.minimal_laws.specs.Cancellation.{AreSameColumns, AreSameMaps, IsCancelled, IsFirstConstant, remove_at, split, step, without_column, without_rows}
+use Rattle.minimal_laws.specs.Cancellation.{AreSameColumns, IsFirstConstant, cleared, remove_at, without_row}
 use Rattle.minimal_laws.specs.Gradings.{AreGraded, GradedMap, GradedMaps, IsHomogeneous, first_columns}
-use Rattle.minimal_laws.specs.Minimal.{HasConstant, IsConstantAt}
 use Rattle.module_vectors.specs.Rings.{ring_comparison, variables}
 use Rattle.module_vectors.specs.Vectors.{AreVectorsOver, sum_of, sums_of}
 use Rattle.module_vectors.specs.declared.key.Key.{Key as CodeKey}
 use Rattle.module_vectors.specs.declared.ring.Ring.{Ring}
 use Rattle.module_vectors.specs.declared.trail.WorkStop.{WorkStop}
 use Rattle.module_vectors.specs.declared.trail.WorkStop.TheVariants.{Degree, Memory}
+use Rattle.vector_division.proofs.Members.{sums_at}
 use Rattle.vector_division.specs.Progress.{AreWeighed}
 use Rattle.minimal_betti.specs.Carried.{AreOrdered, HasNone, IsFirst, IsGraded, LeadsTo, graded_map, graded_maps}
-use Rattle.minimal_betti.specs.Minimising.{CancellationStops, IsReached}
-use Rattle.minimal_betti.specs.Splitting.{AreWithout, IsFewer, IsNextLeft, IsRowLeft, IsSplit, IsUnderway, SplittingStops, in_turn, split_of}
+use Rattle.minimal_betti.specs.Minimising.{CancellationStops}
+use Rattle.minimal_betti.specs.Passing.{AreFirstSteps, AreGradedColumns, left_by_all}
+use Rattle.minimal_betti.specs.Splitting.{IsFormerLeft, IsNextLeft, IsSplit, IsUnderway, SplittingStops, in_turn, split_of}
 use Rattle.minimal_betti.specs.declared.carried.Carried.{Carried}
 use Rattle.minimal_betti.specs.declared.constants.Constant.{Constant}
+use Rattle.minimal_betti.specs.declared.steps.Step.{Step}
 use Rattle.minimal_betti.proofs.Growing.{all_append, all_map}
+use Rattle.minimal_betti.proofs.Stepping.{columns_in, each_left, each_mapped, each_right, first_in, steps_lead, steps_underway}
 use Rattle.minimal_betti.proofs.Reaching.{reached_itself}
 
 abbrev Terms : Type 0
 Terms = List (CodeKey × ℕ)
-
-map-remove_at : {X Y : Type 0} (f : X → Y) (c : ℕ) (xs : List X) → map f (remove_at c xs) ≡ remove_at c (map f xs)
-map-remove_at f c [] = refl
-map-remove_at f zero (x ∷ xs) = refl
-map-remove_at f (suc c) (x ∷ xs) = ap (λ r. f x ∷ r) (map-remove_at f c xs)
-
-all_removed : {X : Type 0} (P : X → Type 0) (c : ℕ) (xs : List X) → Each P xs → Each P (remove_at c xs)
-all_removed P c [] h = tt
-all_removed P zero (x ∷ xs) h = h.1
-all_removed P (suc c) (x ∷ xs) h = (h.0, all_removed P c xs h.1)
-
-all_left : {X : Type 0} (P : X → Type 0) (xs ys : List X) → Each P (xs ++ ys) → Each P xs
-all_left P [] ys h = tt
-all_left P (x ∷ xs) ys h = (h.0, all_left P xs ys h.1)
-
-all_right : {X : Type 0} (P : X → Type 0) (xs ys : List X) → Each P (xs ++ ys) → Each P ys
-all_right P [] ys h = h
-all_right P (x ∷ xs) ys h = all_right P xs ys h.1
 
 pub length_end : {X : Type 0} (xs : List X) (x : X) → length (xs ++ x ∷ []) ≡ length xs + 1
 length_end [] x = refl
@@ -59,7 +38,7 @@ pub all_reverse : {X : Type 0} (P : X → Type 0) (xs : List X) → Each P (reve
 all_reverse P [] h = tt
 all_reverse P (x ∷ xs) h =
     let q : Each P (reverse xs ++ x ∷ []) = subst (Each P) (reverse-append (x ∷ []) xs) h in
-    ((all_right P (reverse xs) (x ∷ []) q).0, all_reverse P xs (all_left P (reverse xs) (x ∷ []) q))
+    ((each_right P (reverse xs) (x ∷ []) q).0, all_reverse P xs (each_left P (reverse xs) (x ∷ []) q))
 
 columns_itself : {n p : ℕ} (F H : List (FormalSum n)) → F ≡ H → AreSameColumns p F H
 columns_itself {n} {p} F H e = record { count = ap length e; each = λ i. IsSame_of p _ _ (ap (λ l. get_or l i []) e) }
@@ -74,61 +53,22 @@ module _ (ring : Ring) (at : Constant) where
   abbrev G : Carried → GradedMap (variables ring)
   G m = graded_map (variables ring) m
 
-  -- the row of the next map leaves, with the maps in their order
-  abbrev IsTailLeft : List Carried → List Carried → Type 0
-  IsTailLeft tail tail' =
-      ((tail ≡ []) × (tail' ≡ []))
-      ⊎ ((after : List Carried) × (next : Carried) × (next' : Carried) × (tail ≡ next ∷ after) × (tail' ≡ next' ∷ after) × AreWithout ring at.column next.columns next'.columns × (next'.degrees ≡ next.degrees))
-
-  pub turned : (rest rest' : List Carried) → IsNextLeft ring at.column rest rest' → IsTailLeft (reverse rest) (reverse rest')
-  turned rest rest' (inl h) = inl (ap reverse h.0, ap reverse h.1)
-  turned rest rest' (inr (before, next, next', e, e', w, d)) = inr (
-    reverse before,
-    next,
-    next',
-    ap reverse e ∙ reverse-append before (next ∷ []),
-    ap reverse e' ∙ reverse-append before (next' ∷ []),
-    w,
-    d,
-  )
-
-  tail_same : (tail tail' : List Carried) → IsTailLeft tail tail' → AreSameMaps ring.modulus.value (without_rows at.column (map G tail)) (map G tail')
-  tail_same tail tail' (inl h) = subst (λ z. AreSameMaps ring.modulus.value (without_rows at.column (map G z)) (map G tail')) (sym h.0) (subst (λ z. AreSameMaps ring.modulus.value (without_rows at.column (map G [])) (map G z)) (sym h.1) tt)
-  tail_same tail tail' (inr (after, next, next', e, e', w, d)) =
-      subst (λ z. AreSameMaps ring.modulus.value (without_rows at.column (map G z)) (map G tail')) (sym e)
-      (subst (λ z. AreSameMaps ring.modulus.value (without_rows at.column (map G (next ∷ after))) (map G z)) (sym e')
-      (ap (λ z. z.items) (sym d), w.same, same_maps_itself ring.modulus.value (map G after)))
-
   -- ---- the first constant
   module _ (cur : Carried) (tail : List Carried) (first : IsFirst ring cur.columns at) where
-    to_here : (done : List Carried) (c r : ℕ) → HasConstant ring.modulus.value (map G (done ++ cur ∷ tail)) (length done) c r → IsConstantAt ring.modulus.value (get_or (sums_of (variables ring) cur.columns) c []) r
-    to_here [] c r h = h.1
-    to_here (m ∷ done) c r h = to_here done c r h
-
-    from_here : (done : List Carried) (c r : ℕ) → c < length (sums_of (variables ring) cur.columns) → IsConstantAt ring.modulus.value (get_or (sums_of (variables ring) cur.columns) c []) r → HasConstant ring.modulus.value (map G (done ++ cur ∷ tail)) (length done) c r
-    from_here [] c r lt h = (lt, h)
-    from_here (m ∷ done) c r lt h = from_here done c r lt h
-
-    none_before :
-        (done : List Carried) → Each (λ m. HasNone ring.modulus.value (sums_of (variables ring) m.columns)) done
-        → (l b q : ℕ) → l < length done → HasConstant ring.modulus.value (map G (done ++ cur ∷ tail)) l b q → ⊥
-    none_before [] none l b q lt h = omega (arith, lt)
-    none_before (m ∷ done) none zero b q lt h = none.0 b q h.1
-    none_before (m ∷ done) none (suc l) b q lt h = none_before done none.1 l b q (omega (arith, lt)) h
+    here : (done : List Carried) → map G (done ++ cur ∷ tail) ≡ map G done ++ G cur ∷ map G tail
+    here done = map-append G done (cur ∷ tail)
 
     first_constant :
         (done : List Carried) → Each (λ m. HasNone ring.modulus.value (sums_of (variables ring) m.columns)) done
         → IsFirstConstant ring.modulus.value (map G (done ++ cur ∷ tail)) (length done) at.column at.row
-    first_constant done none = record {
-      constant = from_here done at.column at.row (let l = first.inside in omega (arith, l, length-map cur.columns (λ v. sum_of (variables ring) v))) first.constant;
-      first_map = λ l b q lt h. none_before done none l b q lt h;
-      first_column = λ b q lt h. first.first_column b q lt (to_here done b q h);
-      first_row = λ q lt h. first.first_row q lt (to_here done at.column q h);
-    }
+    first_constant done none =
+        subst₂ (λ ms k. IsFirstConstant ring.modulus.value ms k at.column at.row) (sym (here done)) (length-map done G)
+        (first_in ring.modulus.value (map G done) (G cur) (map G tail) at.column at.row (each_mapped (λ (D : GradedMap (variables ring)). HasNone ring.modulus.value D.columns) G done none)
+        (let l = first.inside in omega (arith, l, length-map cur.columns (λ v. sum_of (variables ring) v))) first.constant first.first_column first.first_row)
 
     columns_here : (done : List Carried) → first_columns (drop (length done) (map G (done ++ cur ∷ tail))) ≡ sums_of (variables ring) cur.columns
-    columns_here [] = refl
-    columns_here (m ∷ done) = columns_here done
+    columns_here done =
+        ap₂ (λ ms k. first_columns (drop k ms)) (here done) (sym (length-map done G)) ∙ columns_in ring.modulus.value (map G done) (G cur) (map G tail)
 
     -- where it stops, the cancellation came to these maps
     pub stops_here :
@@ -147,133 +87,37 @@ module _ (ring : Ring) (at : Constant) where
       clearing = h.0;
     }
 
-  module _ (cur cur' : Carried) (tail tail' : List Carried) (first : IsFirst ring cur.columns at) (here : IsSplit ring at cur cur') (left : IsTailLeft tail tail') where
-    abbrev s : ℕ
-    s = here.inverse
+  module _ (cur cur' : Carried) (first : IsFirst ring cur.columns at) (here : IsSplit ring at cur cur') where
+    -- the split as a step
+    abbrev the_step : Step
+    the_step = record { row = at.row; index = at.column; inverse = here.inverse; column = get_or cur.columns at.column [] }
 
-    abbrev Split : ℕ → List ℕ → List (GradedMap (variables ring)) → List ℕ × List (GradedMap (variables ring))
-    Split k rows maps = split ring.modulus.value k at.row at.column here.inverse rows maps
-
-    here_same : (rows : List ℕ) → AreSameMaps ring.modulus.value (Split 0 rows (map G (cur ∷ tail))).1 (map G (cur' ∷ tail'))
-    here_same rows = (sym here.degrees, here.columns.same, tail_same tail tail' left)
-
-    later_column : (k : ℕ) (F : List (FormalSum (variables ring))) → 0 < k → AreSameColumns ring.modulus.value (without_column k at.row F) F
-    later_column zero F lt = absurd (omega (arith, lt))
-    later_column (suc k) F lt = columns_itself F F refl
-
-    some_end : (xs : List Carried) (x : Carried) → 0 < length (xs ++ x ∷ [])
-    some_end [] x = omega arith
-    some_end (y ∷ xs) x = omega arith
-
-    behind :
-        (before : List Carried) (last last' : Carried) (rows : List ℕ) → IsFewer at.row last last'
-        → ((Split (length (before ++ last ∷ [])) rows (map G ((before ++ last ∷ []) ++ cur ∷ tail))).0 ≡ rows)
-        × AreSameMaps ring.modulus.value (Split (length (before ++ last ∷ [])) rows (map G ((before ++ last ∷ []) ++ cur ∷ tail))).1 (map G ((before ++ last' ∷ []) ++ cur' ∷ tail'))
-    behind [] last last' rows f = (
-      refl,
-      (
-        sym f.degrees,
-        columns_itself _ _ (sym (map-remove_at (λ v. sum_of (variables ring) v) at.row last.columns) ∙ sym (ap (sums_of (variables ring)) f.columns)),
-        here_same last.degrees.items,
-      ),
+    is_first : AreFirstSteps ring (sums_of (variables ring) cur.columns) (the_step ∷ [])
+    is_first = (
+      record {
+        inside = (let l = first.inside in omega (arith, l, length-map cur.columns (λ v. sum_of (variables ring) v)));
+        constant = first.constant;
+        first_column = first.first_column;
+        first_row = first.first_row;
+        column = IsSame_of ring.modulus.value _ _ (sums_at (variables ring) cur.columns at.column);
+        inverse = here.is_inverse;
+      },
+      tt,
     )
-    behind (b ∷ before) last last' rows f =
-        let r = behind before last last' b.degrees.items f in
-        (refl, (r.0, later_column (length (before ++ last ∷ [])) (sums_of (variables ring) b.columns) (some_end before last), r.1))
 
-    split_same :
-        (rows rows' : List ℕ) (done done' : List Carried) → IsRowLeft at.row rows rows' done done'
-        → ((Split (length done) rows (map G (done ++ cur ∷ tail))).0 ≡ rows')
-        × AreSameMaps ring.modulus.value (Split (length done) rows (map G (done ++ cur ∷ tail))).1 (map G (done' ++ cur' ∷ tail'))
-    split_same rows rows' done done' (inl h) =
-        subst (λ z. ((Split (length z) rows (map G (z ++ cur ∷ tail))).0 ≡ rows') × AreSameMaps ring.modulus.value (Split (length z) rows (map G (z ++ cur ∷ tail))).1 (map G (done' ++ cur' ∷ tail'))) (sym h.0)
-        (subst (λ z. ((Split 0 rows (map G (cur ∷ tail))).0 ≡ rows') × AreSameMaps ring.modulus.value (Split 0 rows (map G (cur ∷ tail))).1 (map G (z ++ cur' ∷ tail'))) (sym h.1)
-        (sym h.2, here_same rows))
-    split_same rows rows' done done' (inr (before, last, last', e, e', f, er)) =
-        let r = behind before last last' rows f in
-        subst (λ z. ((Split (length z) rows (map G (z ++ cur ∷ tail))).0 ≡ rows') × AreSameMaps ring.modulus.value (Split (length z) rows (map G (z ++ cur ∷ tail))).1 (map G (done' ++ cur' ∷ tail'))) (sym e)
-        (subst (λ z. ((Split (length (before ++ last ∷ [])) rows (map G ((before ++ last ∷ []) ++ cur ∷ tail))).0 ≡ rows') × AreSameMaps ring.modulus.value (Split (length (before ++ last ∷ [])) rows (map G ((before ++ last ∷ []) ++ cur ∷ tail))).1 (map G (z ++ cur' ∷ tail'))) (sym e')
-        (r.0 ∙ sym er, r.1))
+    leaves : AreSameColumns ring.modulus.value (left_by_all ring (the_step ∷ []) (sums_of (variables ring) cur.columns)) (sums_of (variables ring) cur'.columns)
+    leaves =
+        let n = variables ring in
+        subst (λ w. AreSameColumns ring.modulus.value (map (λ v. without_row at.row (cleared ring.modulus.value at.row here.inverse w v)) (remove_at at.column (sums_of n cur.columns))) (sums_of n cur'.columns))
+        (sums_at n cur.columns at.column) here.columns.same
 
-    -- ---- the step
-    pub step_leads :
-        (rows rows' : List ℕ) (done done' : List Carried) → IsRowLeft at.row rows rows' done done'
-        → Each (λ m. HasNone ring.modulus.value (sums_of (variables ring) m.columns)) done
-        → LeadsTo ring.modulus.value (graded_maps ring rows (done ++ cur ∷ tail)) (graded_maps ring rows' (done' ++ cur' ∷ tail'))
-    step_leads rows rows' done done' left none =
-        let C = graded_maps ring rows (done ++ cur ∷ tail) in
-        let up = (Split (length done) rows C.maps).0 in
-        let others = map G (done' ++ cur' ∷ tail') in
-        let q = split_same rows rows' done done' left in
-        let first_is = first_constant cur tail first done none in
-        let inverse =
-        subst (λ F. IsCongruent ring.modulus.value (here.inverse * coefficient (get_or F at.column []) (at.row, unit (variables ring))) 1) (sym (columns_here cur tail first done)) here.is_inverse
-        in
-        record {
-          cancelled = λ D more.
-              step rows C.maps others D (length done) at.column at.row here.inverse first_is inverse q.1
-              (subst (λ z. IsCancelled ring.modulus.value (record { positions = z; maps = others }) D) (sym q.0) more);
-          reached = λ maps r.
-              let on : IsReached ring.modulus.value (record { positions = up; maps = others }) maps = subst (λ z. IsReached ring.modulus.value (record { positions = z; maps = others }) maps) (sym q.0) r in
-              (on.0, step rows C.maps others on.0 (length done) at.column at.row here.inverse first_is inverse q.1 on.1, inr on.2);
-        }
+    module _ (pos : 0 < ring.modulus.value) (rows rows' : List ℕ) (done done' rest rest' : List Carried) (former : IsFormerLeft (at.row ∷ []) rows rows' done done')
+        (next : IsNextLeft ring (at.column ∷ []) rest rest') (u : IsUnderway ring rows done (in_turn done cur rest)) where
+      pub step_leads : LeadsTo ring.modulus.value (graded_maps ring rows (in_turn done cur rest)) (graded_maps ring rows' (in_turn done' cur' rest'))
+      step_leads = steps_lead ring pos cur cur' the_step [] is_first leaves here.columns.vectors here.degrees rows rows' done done' rest rest' former next u
 
-    pub step_graded :
-        0 < ring.modulus.value → (rows rows' : List ℕ) (done done' : List Carried) → IsRowLeft at.row rows rows' done done'
-        → Each (λ m. HasNone ring.modulus.value (sums_of (variables ring) m.columns)) done
-        → AreGraded ring.weights ring.modulus.value rows (map G (done ++ cur ∷ tail))
-        → AreGraded ring.weights ring.modulus.value rows' (map G (done' ++ cur' ∷ tail'))
-    step_graded pos rows rows' done done' left none graded =
-        let q = split_same rows rows' done done' left in
-        subst (λ z. AreGraded ring.weights ring.modulus.value z (map G (done' ++ cur' ∷ tail'))) q.0
-        (same_graded ring.modulus.value pos ring.weights _ _ (map G (done' ++ cur' ∷ tail')) q.1
-        (split_graded ring.modulus.value (length done) at.column at.row here.inverse ring.weights rows (map G (done ++ cur ∷ tail)) (first_constant cur tail first done none).constant graded))
-
-    -- the maps are vectors again
-    tail_ordered : AreOrdered ring tail → AreOrdered ring tail'
-    tail_ordered o = go left
-      where
-        go : IsTailLeft tail tail' → AreOrdered ring tail'
-        go (inl h) = subst (AreOrdered ring) (sym h.1) tt
-        go (inr (after, next, next', e, e', w, d)) = subst (AreOrdered ring) (sym e') (w.vectors, (subst (AreOrdered ring) e o).1)
-
-    done_ordered : (rows rows' : List ℕ) (done done' : List Carried) → IsRowLeft at.row rows rows' done done' → AreOrdered ring done → AreOrdered ring done'
-    done_ordered rows rows' done done' (inl h) o = subst (AreOrdered ring) (sym h.1) tt
-    done_ordered rows rows' done done' (inr (before, last, last', e, e', f, er)) o =
-        let P : Carried → Type 0 = λ m. AreVectorsOver ring (ring_comparison ring) m.columns in
-        let q : Each P (before ++ last ∷ []) = subst (Each P) e o in
-        subst (Each P) (sym e')
-        (all_append P before (last' ∷ []) (all_left P before (last ∷ []) q)
-        (subst (λ F. AreVectorsOver ring (ring_comparison ring) F) (sym f.columns) (all_removed _ at.row last.columns (all_right P before (last ∷ []) q).0), tt))
-
-    done_none :
-        (rows rows' : List ℕ) (done done' : List Carried) → IsRowLeft at.row rows rows' done done'
-        → Each (λ m. HasNone ring.modulus.value (sums_of (variables ring) m.columns)) done
-        → Each (λ m. HasNone ring.modulus.value (sums_of (variables ring) m.columns)) done'
-    done_none rows rows' done done' (inl h) o = subst (Each (λ m. HasNone ring.modulus.value (sums_of (variables ring) m.columns))) (sym h.1) tt
-    done_none rows rows' done done' (inr (before, last, last', e, e', f, er)) o =
-        let P : Carried → Type 0 = λ m. HasNone ring.modulus.value (sums_of (variables ring) m.columns) in
-        let q : Each P (before ++ last ∷ []) = subst (Each P) e o in
-        let l : HasNone ring.modulus.value (sums_of (variables ring) last.columns) = (all_right P before (last ∷ []) q).0 in
-        subst (Each P) (sym e')
-        (all_append P before (last' ∷ []) (all_left P before (last ∷ []) q)
-        ((λ c r h. l (skip at.row c) r (subst (λ v. IsConstantAt ring.modulus.value v r) (removed_at last last' f c) h)), tt))
-      where
-        removed_at : (last last' : Carried) → IsFewer at.row last last' → (c : ℕ) → get_or (sums_of (variables ring) last'.columns) c [] ≡ get_or (sums_of (variables ring) last.columns) (skip at.row c) []
-        removed_at last last' f c =
-            ap (λ l. get_or (sums_of (variables ring) l) c []) f.columns ∙ ap (λ l. get_or l c []) (map-remove_at (λ v. sum_of (variables ring) v) at.row last.columns)
-            ∙ get_or-remove_at at.row (sums_of (variables ring) last.columns) c []
-
-    pub step_underway :
-        0 < ring.modulus.value → (rows rows' : List ℕ) (done done' : List Carried) → IsRowLeft at.row rows rows' done done'
-        → IsUnderway ring rows done (done ++ cur ∷ tail) → IsUnderway ring rows' done' (done' ++ cur' ∷ tail')
-    step_underway pos rows rows' done done' left u =
-        let P : Carried → Type 0 = λ m. AreVectorsOver ring (ring_comparison ring) m.columns in
-        record {
-          ordered = all_append P done' (cur' ∷ tail') (done_ordered rows rows' done done' left (all_left P done (cur ∷ tail) u.ordered)) (here.columns.vectors, tail_ordered (all_right P done (cur ∷ tail) u.ordered).1);
-          graded = step_graded pos rows rows' done done' left u.none u.graded;
-          none = done_none rows rows' done done' left u.none;
-        }
+      pub step_underway : IsUnderway ring rows' done' (in_turn done' cur' rest')
+      step_underway = steps_underway ring pos cur cur' the_step [] is_first leaves here.columns.vectors here.degrees rows rows' done done' rest rest' former next u
 
     pub step_falls : length cur'.columns + 1 ≡ length cur.columns
     step_falls =
@@ -302,13 +146,19 @@ module _ (ring : Ring) where
   graded_here rows [] cur tail h = each_graded rows cur.columns cur.degrees.items h.0.each
   graded_here rows (m ∷ done) cur tail h = graded_here m.degrees.items done cur tail h.1
 
+  pub graded_columns :
+      (rows : List ℕ) (done : List Carried) (cur : Carried) (tail : List Carried)
+      → AreGraded ring.weights ring.modulus.value rows (map (graded_map (variables ring)) (done ++ cur ∷ tail)) → AreGradedColumns ring (sums_of (variables ring) cur.columns)
+  graded_columns rows [] cur tail h = (rows, cur.degrees.items, h.0)
+  graded_columns rows (m ∷ done) cur tail h = graded_columns m.degrees.items done cur tail h.1
+
   pub ordered_here : (done : List Carried) (cur : Carried) (tail : List Carried) → AreOrdered ring (done ++ cur ∷ tail) → AreVectorsOver ring (ring_comparison ring) cur.columns
-  ordered_here done cur tail h = (all_right (λ m. AreVectorsOver ring (ring_comparison ring) m.columns) done (cur ∷ tail) h).0
+  ordered_here done cur tail h = (each_right (λ m. AreVectorsOver ring (ring_comparison ring) m.columns) done (cur ∷ tail) h).0
 
   pub ordered_rest : (done : List Carried) (cur : Carried) (rest : List Carried) → AreOrdered ring (done ++ cur ∷ reverse rest) → AreOrdered ring rest
   ordered_rest done cur rest h =
       let P : Carried → Type 0 = λ m. AreVectorsOver ring (ring_comparison ring) m.columns in
-      all_reverse P rest (all_right P done (cur ∷ reverse rest) h).1
+      all_reverse P rest (each_right P done (cur ∷ reverse rest) h).1
 
   -- the map is done
   pub done_more :
@@ -354,6 +204,6 @@ module _ (ring : Ring) where
     weighed_all ms h.1,
   )
 
-  pub next_count : (row : ℕ) (rest rest' : List Carried) → IsNextLeft ring row rest rest' → length rest' ≡ length rest
-  next_count row rest rest' (inl h) = ap length h.1 ∙ sym (ap length h.0)
-  next_count row rest rest' (inr (before, next, next', e, e', w, d)) = ap length e' ∙ length_end before next' ∙ sym (length_end before next) ∙ sym (ap length e)
+  pub next_count : (rows : List ℕ) (rest rest' : List Carried) → IsNextLeft ring rows rest rest' → length rest' ≡ length rest
+  next_count rows rest rest' (inl h) = ap length h.1 ∙ sym (ap length h.0)
+  next_count rows rest rest' (inr (before, next, next', e, e', w, d)) = ap length e' ∙ length_end before next' ∙ sym (length_end before next) ∙ sym (ap length e)

@@ -11,6 +11,7 @@ use Rattle.monomials.specs.Weights.{weighted_degree}
 use Rattle.formal_sums.specs.FormalSums.{Each, FormalSum, Key, coefficient}
 use Rattle.bases.specs.Settings.{IsLawful}
 use Rattle.minimal_laws.specs.Minimal.{IsConstantAt}
+use Rattle.betti_laws.proofs.Constants.{HasNoConstant}
 use Rattle.module_vectors.proofs.Scaling.{Each_at}
 use Rattle.module_vectors.specs.Rings.{ring_comparison, setting, variables}
 use Rattle.module_vectors.specs.Trails.{HasKey}
@@ -93,6 +94,26 @@ module _ (ring : Ring) (lawful : IsLawful (setting ring (variables ring) (ring_c
       at [] t (i, lt, e) h = absurd (omega (arith, lt))
       at (u ∷ w) t (zero, lt, e) h = subst (λ z. coefficient V (key_of (variables ring) z.0) ≡ z.1) e h.0
       at (u ∷ w) t (suc i, lt, e) h = at w t (i, omega (arith, lt), e) h.1
+
+  -- without a term of monomial 1 there is no constant
+  pub no_constant : IsLeastUnit v None → HasNoConstant ring.modulus.value (sum_of (variables ring) v)
+  no_constant h = record { by_row = λ q. at q (occurs V (q, unit (variables ring))) }
+    where
+      at :
+          (q : ℕ) → HasKey V (q, unit (variables ring)) ⊎ (coefficient V (q, unit (variables ring)) ≡ 0)
+          → IsCongruent ring.modulus.value (coefficient V (q, unit (variables ring))) 0
+      at q (inr z) = IsCongruent_of ring.modulus.value _ 0 z
+      at q (inl k) =
+          let r = key_term (variables ring) v (q, unit (variables ring)) k in
+          let w : IsTerm (variables ring) ring.weights ring.modulus.value r.0 = each_in _ v r.0 vector.each r.1 in
+          let one : r.0.0.monomial.degree ≡ 0 = w.weighed.degree ∙ ap (λ (k : Key (variables ring)). weighted_degree ring.weights k.1) r.2 ∙ weighted_degree-unit (variables ring) ring.weights in
+          absurd (each_in _ v r.0 h r.1 one)
+
+  -- the residue of such a term
+  pub residue_of : (r c : ℕ) → HasUnit v r c → (0 < c) × (c < ring.modulus.value)
+  residue_of r c h =
+      let t : IsTerm (variables ring) ring.weights ring.modulus.value h.term = each_in _ v h.term vector.each h.contains in
+      (subst (λ z. 0 < z) h.residue_is t.nonzero, subst (λ z. z < ring.modulus.value) h.residue_is t.reduced)
 
   module _ (graded : IsGraded ring v) where
     -- where the coefficient at 1 is not 0, nothing stands beside it

@@ -1,5 +1,5 @@
 -- A row that a column clears
-use Rattle.std.specs.Prelude.{Contains, List, [], ⊤, ℕ, ◌*◌, ◌-◌, ◌≡◌, ◌++◌, ◌∷◌, ◌⊎◌}
+use Rattle.std.specs.Prelude.{Contains, List, [], cond, map, nat_lt, ⊤, ℕ, ◌*◌, ◌-◌, ◌≡◌, ◌++◌, ◌∷◌, ◌⊎◌}
 use Rattle.monomials.specs.Exponents.{unit}
 use Rattle.formal_sums.specs.FormalSums.{FormalSum, product, scale}
 use Rattle.minimal_laws.specs.Cancellation.{component}
@@ -17,6 +17,10 @@ abbrev pub multiple_of : (ring : Ring) → ℕ → ℕ → List (CodeKey × ℕ)
 multiple_of ring r s w v =
     let n = variables ring in
     product (scale ((ring.modulus.value - 1) * s) (unit n) (component r (sum_of n v))) (sum_of n w)
+
+-- the terms at the positions that are left to them when row r leaves
+abbrev pub lowered : ℕ → List (CodeKey × ℕ) → List (CodeKey × ℕ)
+lowered r v = map (λ t. (record { position = cond (nat_lt t.0.position r) t.0.position (t.0.position - 1); monomial = t.0.monomial }, t.1)) v
 
 -- some term of the list has this monomial and stands in row r
 abbrev pub IsMonomialAt : ℕ → List (CodeKey × ℕ) → Monomial → Type 0

@@ -7,4 +7,5 @@ pub mod Carried
 pub mod Clearing
 pub mod Constants
 pub mod Growing
+pub mod Passing
 pub mod Splitting

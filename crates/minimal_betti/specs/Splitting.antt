@@ -40,9 +40,19 @@ pub record AreSplit (ring : Ring) (s : ℕ) (at : Constant) (old new : List (Lis
       AreSameColumns ring.modulus.value (map (split_of ring s at old) (remove_at at.column (sums_of n old))) (sums_of n new)
   pub vectors : AreVectorsOver ring (ring_comparison ring) new
 
--- the columns without the row
-pub record AreWithout (ring : Ring) (row : ℕ) (old new : List (List (CodeKey × ℕ))) : Type 0 where
-  pub same : AreSameColumns ring.modulus.value (map (λ v. without_row row v) (sums_of (variables ring) old)) (sums_of (variables ring) new)
+-- items of a list leave in turn
+abbrev pub all_removed : {X : Type 0} → List ℕ → List X → List X
+all_removed [] xs = xs
+all_removed (i ∷ places) xs = all_removed places (remove_at i xs)
+
+-- rows leave in turn
+abbrev pub without_all : {n : ℕ} → List ℕ → FormalSum n → FormalSum n
+without_all [] v = v
+without_all (r ∷ rows) v = without_all rows (without_row r v)
+
+-- the columns without the rows in turn
+pub record AreWithout (ring : Ring) (rows : List ℕ) (old new : List (List (CodeKey × ℕ))) : Type 0 where
+  pub same : sums_of (variables ring) new ≡ map (λ v. without_all rows v) (sums_of (variables ring) old)
   pub vectors : AreVectorsOver ring (ring_comparison ring) new
 
 -- the map is split at the constant
@@ -54,24 +64,24 @@ pub record IsSplit (ring : Ring) (at : Constant) (old new : Carried) : Type 0 wh
   pub columns : AreSplit ring inverse at old.columns new.columns
   pub degrees : new.degrees.items ≡ remove_at at.column old.degrees.items
 
--- the map's column leaves, with its degree
-pub record IsFewer (row : ℕ) (old new : Carried) : Type 0 where
-  pub columns : new.columns ≡ remove_at row old.columns
-  pub degrees : new.degrees.items ≡ remove_at row old.degrees.items
+-- columns of the map leave in turn, with their degrees
+pub record IsFewer (rows : List ℕ) (old new : Carried) : Type 0 where
+  pub columns : new.columns ≡ all_removed rows old.columns
+  pub degrees : new.degrees.items ≡ all_removed rows old.degrees.items
 
--- the column of the last map leaves, or where there is no map the position
-abbrev pub IsRowLeft : ℕ → List ℕ → List ℕ → List Carried → List Carried → Type 0
-IsRowLeft row rows rows' done done' =
-    ((done ≡ []) × (done' ≡ []) × (rows' ≡ remove_at row rows))
+-- columns of the last map leave in turn, or where there is no map the positions
+abbrev pub IsFormerLeft : List ℕ → List ℕ → List ℕ → List Carried → List Carried → Type 0
+IsFormerLeft rows places places' done done' =
+    ((done ≡ []) × (done' ≡ []) × (places' ≡ all_removed rows places))
     ⊎ ((before : List Carried) × (last : Carried) × (last' : Carried) × (done ≡ before ++ last ∷ []) × (done' ≡ before ++ last' ∷ [])
-    × IsFewer row last last' × (rows' ≡ rows))
+    × IsFewer rows last last' × (places' ≡ places))
 
--- the row of the next map leaves, where there is one; the maps stand in the other order
-abbrev pub IsNextLeft : Ring → ℕ → List Carried → List Carried → Type 0
-IsNextLeft ring row rest rest' =
+-- rows of the next map leave in turn, where there is one; the maps stand in the other order
+abbrev pub IsNextLeft : Ring → List ℕ → List Carried → List Carried → Type 0
+IsNextLeft ring rows rest rest' =
     ((rest ≡ []) × (rest' ≡ []))
     ⊎ ((before : List Carried) × (next : Carried) × (next' : Carried) × (rest ≡ before ++ next ∷ []) × (rest' ≡ before ++ next' ∷ [])
-    × AreWithout ring row next.columns next'.columns × (next'.degrees ≡ next.degrees))
+    × AreWithout ring rows next.columns next'.columns × (next'.degrees ≡ next.degrees))
 
 -- the maps that are done, the one at hand and those to come, which stand in the other order
 abbrev pub in_turn : List Carried → Carried → List Carried → List Carried

@@ -9,14 +9,16 @@ ghost use Rattle.schreyer_resolution.specs.Resolved.{AreJoined, columns_of, degr
 ghost use Rattle.minimal_betti.specs.Carried.{AreCarried, AreOrdered, AreOwn, HasNone, LeadsTo, graded_map, graded_maps};
 ghost use Rattle.minimal_betti.specs.Graded.{AreMapsOver, IsGradedResolution, graded_of};
 ghost use Rattle.minimal_betti.specs.Minimising.{CancellationStops, IsCancellationOf};
-ghost use Rattle.minimal_betti.specs.Splitting.{IsUnderway, in_turn};
+ghost use Rattle.minimal_betti.specs.Splitting.{IsFormerLeft, IsNextLeft, IsUnderway, all_removed, in_turn};
 ghost use Rattle.minimal_betti.specs.declared.carried.Carried.{Carried as CarriedMap};
 
+use crate::by_steps::cancelled_by_steps;
 use crate::carried::Carried;
 use crate::clearing::in_own_order;
-use crate::constants::first_constant;
-use crate::splitting::cancel;
-use module_vectors::{NoMemory, Ring, VectList, WorkStop, lawful_setting};
+use crate::leaving::{drop_degrees, leave_former, leave_next};
+use crate::one_pass::{Passed, pass};
+use crate::steps::{indices_of, rows_of};
+use module_vectors::{NoMemory, Ring, VectList, VectStop, WorkStop, lawful_setting};
 use schreyer_resolution::{Map, Resolution, column_degrees, joined_maps};
 use std::alloc::Global;
 use std::collections::VecDeque;
@@ -60,7 +62,36 @@ fn carried_maps(alloc: Global, ring: &Ring, maps: &[Map]) -> Result<Vec<Carried>
     Ok(carried)
 }
 
-// The map at hand when its constants have left.
+// The map after a pass that made steps; their rows leave the next map, and the former one loses the columns of theirs.
+fn leave(
+    alloc: Global,
+    ring: &Ring,
+    positions: &mut Vec<u32>,
+    done: &mut Vec<Carried>,
+    degrees: Vec<u32>,
+    passed: Passed,
+    rest: &mut Vec<Carried>,
+) -> Result<Carried, NoMemory>
+    requires { AreOrdered ring.now rest.old.items }
+    ensures former { let rows = map (λ s. s.row) passed.steps.items in
+        OnOk result (IsFormerLeft rows positions.old.items positions.new.items done.old.items done.new.items) }
+    ensures next { let indices = map (λ s. s.index) passed.steps.items in OnOk result (IsNextLeft ring.now indices rest.old.items rest.new.items) }
+    ensures columns { IfOk result (λ m. m.columns ≡ passed.columns) }
+    ensures degrees { IfOk result (λ m. m.degrees.items ≡ all_removed (map (λ s. s.index) passed.steps.items) degrees.items) }
+{
+    let rows = rows_of(alloc, &passed.steps)?;
+    let indices = indices_of(alloc, &passed.steps)?;
+    leave_former(positions, done, &rows)?;
+    leave_next(alloc, ring, &indices, rest)?;
+    let mut left = degrees;
+    drop_degrees(&mut left, &indices);
+    Ok(Carried {
+        columns: passed.columns,
+        degrees: left,
+    })
+}
+
+// The map at hand when its constants have left. Where a product's degree is too great, they leave by steps, which give the trail.
 fn cancelled_map(
     alloc: Global,
     ring: &Ring,
@@ -79,14 +110,17 @@ fn cancelled_map(
     ensures stop { IfErr result (CancellationStops ring.now
         (graded_maps ring.now positions.old.items (in_turn done.old.items current rest.old.items))) }
 {
-    let mut map = current;
-    loop {
-        match first_constant(ring, map.columns.as_slice()) {
-            None => return Ok(map),
-            Some(at) => match cancel(alloc, ring, positions, done, map, rest, at) {
-                Ok(split) => map = split,
-                Err(stop) => return Err(stop),
-            },
+    lawful_setting(ring);
+    match pass(alloc, ring, current.columns.as_slice()) {
+        Ok(passed) => {
+            if passed.steps.is_empty() {
+                return Ok(current);
+            }
+            Ok(leave(alloc, ring, positions, done, current.degrees, passed, rest)?)
+        }
+        Err(VectStop::Memory) => Err(WorkStop::Memory),
+        Err(VectStop::Degree(_, _)) => {
+            cancelled_by_steps(alloc, ring, positions, done, current, rest)
         }
     }
 }

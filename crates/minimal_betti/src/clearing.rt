@@ -1,10 +1,10 @@
 // A row leaves the columns of a map.
-ghost use Rattle.std.specs.Prelude.{◌≡◌, ◌<◌, ◌++◌, ◌∷◌, ◌-◌, ℕ, [], IfErr, IfOk, OnOk, cond, nat_lt};
+ghost use Rattle.std.specs.Prelude.{◌≡◌, ◌<◌, ◌++◌, ◌∷◌, ◌-◌, ℕ, [], IfErr, IfOk, OnOk, cond, false, nat_lt};
+ghost use Rattle.formal_sums.specs.FormalSums.{Each};
 ghost use Rattle.minimal_laws.specs.Cancellation.{cleared, without_row};
 ghost use Rattle.module_vectors.specs.Rings.{ring_comparison, variables};
 ghost use Rattle.module_vectors.specs.Vectors.{AreTermsOver, IsMonomialOver, IsVectorOver, StandsFor, sum_of};
-ghost use Rattle.module_vectors.specs.declared.ring.Ring.{Ring as RingValue};
-ghost use Rattle.minimal_betti.specs.Clearing.{ClearingStops, multiple_of};
+ghost use Rattle.minimal_betti.specs.Clearing.{ClearingStops, lowered, multiple_of};
 
 use module_vectors::{Key, NoMemory, Ring, Vect, VectStop, lawful_setting};
 use std::alloc::Global;
@@ -67,55 +67,60 @@ pub(crate) fn cleared_vector(
     Ok(out)
 }
 
-// The key at the position that is left to it when the row leaves.
-fn raised_key(alloc: Global, row: u64, key: &Key) -> Result<Key, NoMemory>
-    ensures monomial { IfOk result (λ k. k.monomial ≡ key.now.monomial) }
-    ensures position { IfOk result (λ k. k.position ≡ cond (nat_lt key.now.position row) key.now.position (key.now.position - 1)) }
+// The position that is left to one when the row leaves.
+fn lower_position(row: u64, position: u64) -> u64
+    ensures { result ≡ cond (nat_lt position row) position (position - 1) }
 {
-    let mut position = key.position;
-    if position >= row {
-        position = position.saturating_sub(1);
+    if position < row {
+        return position;
     }
-    Ok(Key {
-        position,
-        monomial: key.monomial.try_copy(alloc)?,
-    })
+    position.saturating_sub(1)
 }
 
-// Puts the term, which stands in another row, behind the others, at the position that is left to it.
-fn push_without(
-    alloc: Global,
-    row: u64,
-    term: &(Key, u32),
-    terms: &mut Vec<(Key, u32)>,
-) -> Result<(), NoMemory>
-    ensures sum { (n : ℕ) → OnOk result (sum_of n terms.new.items ≡ sum_of n terms.old.items ++ without_row row (sum_of n (term.now ∷ []))) }
-    ensures over { (ring : RingValue) → AreTermsOver ring (term.now ∷ []) → AreTermsOver ring terms.old.items
-        → OnOk result (AreTermsOver ring terms.new.items) }
+// Each term at the position that is left to it when the row leaves.
+fn lower_terms(row: u64, terms: &mut Vec<(Key, u32)>)
+    ensures { terms.new.items ≡ lowered row terms.old.items }
 {
-    if term.0.position == row {
-        return Ok(());
+    for i in 0..terms.len() {
+        let position = lower_position(row, terms[i].0.position);
+        terms[i].0.position = position;
     }
-    terms.push((raised_key(alloc, row, &term.0)?, term.1))?;
-    Ok(())
 }
 
-/// v without its component in the row; the later ones move up.
-pub(crate) fn vector_without(
-    alloc: Global,
-    ring: &Ring,
-    row: u64,
-    v: &Vect,
-) -> Result<Vect, NoMemory>
-    requires { IsVectorOver ring.now (ring_comparison ring.now) v.now }
-    ensures vector { IfOk result (IsVectorOver ring.now (ring_comparison ring.now)) }
-    ensures sum { let n = variables ring.now in IfOk result (λ u. StandsFor ring.now u (without_row row (sum_of n v.now))) }
+/// v without its component in the row; the later ones move up. No memory.
+pub(crate) fn vector_without(ring: &Ring, row: u64, v: Vect) -> Vect
+    requires { IsVectorOver ring.now (ring_comparison ring.now) v }
+    ensures vector { IsVectorOver ring.now (ring_comparison ring.now) result }
+    ensures sum { (n : ℕ) → sum_of n result ≡ without_row row (sum_of n v) }
 {
-    let mut terms = Vec::with_capacity(alloc, v.terms().len())?;
+    let mut terms = v.into_terms();
+    terms.retain(|term| term.0.position != row);
+    lower_terms(row, &mut terms);
+    Vect::from_ordered(ring, terms)
+}
+
+/// The same for a vector without a term in the row: each term is looked at once.
+pub(crate) fn lowered_vector(ring: &Ring, row: u64, v: Vect) -> Vect
+    requires vector { IsVectorOver ring.now (ring_comparison ring.now) v }
+    requires other { Each (λ t. t.0.position ≡ row → ⊥) v }
+    ensures vector { IsVectorOver ring.now (ring_comparison ring.now) result }
+    ensures sum { (n : ℕ) → sum_of n result ≡ without_row row (sum_of n v) }
+{
+    let mut terms = v.into_terms();
+    lower_terms(row, &mut terms);
+    Vect::from_ordered(ring, terms)
+}
+
+/// Has the vector a term in the row?
+pub(crate) fn stands_in(row: u64, v: &Vect) -> bool
+    ensures { result ≡ false → Each (λ t. t.0.position ≡ row → ⊥) v.now }
+{
     for term in v.terms() {
-        push_without(alloc, row, term, &mut terms)?;
+        if term.0.position == row {
+            return true;
+        }
     }
-    Ok(Vect::from_terms(alloc, ring, terms)?)
+    false
 }
 
 /// The same vector in the ring's own order.

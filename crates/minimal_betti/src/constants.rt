@@ -32,8 +32,8 @@ fn lower(least: Option<(u64, u32)>, term: &(Key, u32)) -> Option<(u64, u32)>
     Some((term.0.position, term.1))
 }
 
-// The least row with the monomial 1, and the residue there.
-fn least_unit(v: &Vect) -> Option<(u64, u32)>
+/// The least row with the monomial 1, and the residue there.
+pub(crate) fn least_unit(v: &Vect) -> Option<(u64, u32)>
     ensures { IsLeastUnit v.now result }
 {
     let mut least = None;

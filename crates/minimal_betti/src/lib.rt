@@ -5,12 +5,16 @@
 //! every minimal resolution (UAG chapter 6, section 3).
 #![tactic(auto)]
 
+mod by_steps;
 mod cancelling;
 mod carried;
 mod clearing;
 mod constants;
 mod counting;
+mod leaving;
+mod one_pass;
 mod splitting;
+mod steps;
 mod stopping;
 mod tables;
 

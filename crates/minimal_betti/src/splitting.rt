@@ -1,17 +1,18 @@
 // A constant, its row and its column leave the maps.
 ghost use Rattle.std.specs.Prelude.{◌≡◌, ◌<◌, ◌+◌, [], IfErr, IfOk, OnOk, get_or, length};
-ghost use Rattle.minimal_laws.specs.Cancellation.{cleared, remove_at, without_row};
+ghost use Rattle.minimal_laws.specs.Cancellation.{cleared, without_row};
 ghost use Rattle.module_vectors.specs.Rings.{ring_comparison, variables};
 ghost use Rattle.module_vectors.specs.Vectors.{AreVectorsOver, IsVectorOver, StandsFor, sum_of, sums_of};
-ghost use Rattle.minimal_betti.specs.Carried.{AreOrdered, IsFirst, LeadsTo, graded_maps};
+ghost use Rattle.minimal_betti.specs.Carried.{IsFirst, LeadsTo, graded_maps};
 ghost use Rattle.minimal_betti.specs.Minimising.{CancellationStops};
-ghost use Rattle.minimal_betti.specs.Splitting.{AreSplit, AreWithout, IsOtherPut, IsNextLeft, IsRowLeft, IsSplit, IsUnderway, SplittingStops, in_turn};
+ghost use Rattle.minimal_betti.specs.Splitting.{AreSplit, IsOtherPut, IsSplit, IsUnderway, SplittingStops, in_turn};
 
 use crate::carried::Carried;
 use crate::clearing::{cleared_vector, vector_without};
 use crate::constants::Constant;
+use crate::leaving::{drop_degree, leave_former, leave_next};
 use crate::stopping::splitting_stop;
-use module_vectors::{NoMemory, Ring, Vect, VectList, WorkStop, lawful_setting};
+use module_vectors::{Ring, Vect, VectList, WorkStop, lawful_setting};
 use std::alloc::Global;
 
 // Column i, which is another, cleared by the constant's column, without its row.
@@ -38,7 +39,7 @@ fn split_column(
     let w = &columns.as_slice()[at.column];
     let v = &columns.as_slice()[i];
     match cleared_vector(alloc, ring, w, at.row, inverse, v) {
-        Ok(cleared) => Ok(vector_without(alloc, ring, at.row, &cleared)?),
+        Ok(cleared) => Ok(vector_without(ring, at.row, cleared)),
         Err(stop) => Err(splitting_stop(alloc, ring, columns, at, i, stop)),
     }
 }
@@ -97,45 +98,6 @@ fn split_columns(
     Ok(VectList::from_vec(others))
 }
 
-// The columns without the row.
-fn columns_without(
-    alloc: Global,
-    ring: &Ring,
-    row: u64,
-    columns: &VectList,
-) -> Result<VectList, NoMemory>
-    requires { AreVectorsOver ring.now (ring_comparison ring.now) columns.now }
-    ensures { IfOk result (AreWithout ring.now row columns.now) }
-{
-    lawful_setting(ring);
-    let mut without = Vec::with_capacity(alloc, columns.len())?;
-    for v in columns.as_slice() {
-        without.push(vector_without(alloc, ring, row, v)?)?;
-    }
-    Ok(VectList::from_vec(without))
-}
-
-// The degree leaves, where there is one.
-fn drop_degree(degrees: &mut Vec<u32>, at: u64)
-    ensures { degrees.new.items ≡ remove_at at degrees.old.items }
-{
-    if at < degrees.len() as u64 {
-        degrees.remove(at as usize);
-    }
-}
-
-// The column leaves, where there is one.
-fn drop_column(columns: VectList, at: u64) -> VectList
-    ensures { result ≡ remove_at at columns }
-{
-    let mut vectors = columns.into_vec();
-    if at >= vectors.len() as u64 {
-        return VectList::from_vec(vectors);
-    }
-    drop(vectors.remove(at as usize));
-    VectList::from_vec(vectors)
-}
-
 // The map split at the constant.
 fn split_map(alloc: Global, ring: &Ring, map: Carried, at: Constant) -> Result<Carried, WorkStop>
     requires columns { AreVectorsOver ring.now (ring_comparison ring.now) map.columns }
@@ -154,38 +116,6 @@ fn split_map(alloc: Global, ring: &Ring, map: Carried, at: Constant) -> Result<C
     let mut degrees = map.degrees;
     drop_degree(&mut degrees, at.column as u64);
     Ok(Carried { columns, degrees })
-}
-
-// The column of the last map of those that are done leaves, or where there is none the position.
-fn leave_row(positions: &mut Vec<u32>, done: &mut Vec<Carried>, row: u64) -> Result<(), NoMemory>
-    ensures { OnOk result (IsRowLeft row positions.old.items positions.new.items done.old.items done.new.items) }
-{
-    match done.pop() {
-        Some(last) => {
-            let mut degrees = last.degrees;
-            drop_degree(&mut degrees, row);
-            done.push(Carried {
-                columns: drop_column(last.columns, row),
-                degrees,
-            })?;
-        }
-        None => drop_degree(positions, row),
-    }
-    Ok(())
-}
-
-// The row of the next map leaves, where there is one.
-fn leave_next(alloc: Global, ring: &Ring, row: u64, rest: &mut Vec<Carried>) -> Result<(), NoMemory>
-    requires { AreOrdered ring.now rest.old.items }
-    ensures { OnOk result (IsNextLeft ring.now row rest.old.items rest.new.items) }
-{
-    if let Some(next) = rest.pop() {
-        rest.push(Carried {
-            columns: columns_without(alloc, ring, row, &next.columns)?,
-            degrees: next.degrees,
-        })?;
-    }
-    Ok(())
 }
 
 /// The constant, its row and its column leave the maps, of which those to come stand with the next one last. It is the first
@@ -215,7 +145,7 @@ pub(crate) fn cancel(
         Ok(split) => split,
         Err(stop) => return Err(stop),
     };
-    leave_next(alloc, ring, at.column as u64, rest)?;
-    leave_row(positions, done, at.row)?;
+    leave_next(alloc, ring, &[at.column as u64], rest)?;
+    leave_former(positions, done, &[at.row])?;
     Ok(split)
 }

@@ -1,20 +1,37 @@
-use Rattle.std.proofs.Common.{arith, subst, sym}
-use Rattle.formal_sums.specs.FormalSums.{Each}
-use Rattle.module_vectors.specs.Rings.{variables}
-use Rattle.module_vectors.specs.Vectors.{IsTerm}
-use Rattle.minimal_betti.proofs.Clearings.{over_more, without_more}
+use Rattle.std.proofs.Common.{ap, not, rules, subst, sym, ◌==◌, ◌∙◌, ◌≡◌}
+use Rattle.std.proofs.lemmas.Fn.{filter_same}
+use Rattle.std.specs.List.{filter}
+use Rattle.module_vectors.specs.Rings.{ring_comparison}
+use Rattle.module_vectors.specs.Vectors.{IsVectorOver, sum_of}
+use Rattle.minimal_betti.specs.Clearing.{lowered}
+use Rattle.minimal_betti.proofs.Lowering.{lowered_filter, vector_without_row, without_sum, without_terms}
 use Rattle.minimal_betti.proofs.clearing.vector_without.Goals as goal
 
-pub loop-term-preserved : goal.loop-term-preserved
-loop-term-preserved c =
+pub from_ordered-requires : goal.from_ordered-requires
+from_ordered-requires c =
     let ring = c.args.ring.now in
-    let n = variables ring in
-    let items = c.terms-term-items.result.now in
-    let t = c.term-item.result in
-    let term : IsTerm n ring.weights ring.modulus.value t =
-    over_more (IsTerm n ring.weights ring.modulus.value) items c.loop-term.term-index t (subst (Each (IsTerm n ring.weights ring.modulus.value)) (sym c.terms-term-items.ensures) c.requires.each) (omega arith) c.term-item.is
+    let row = c.args.row in
+    let all : c.lower_terms.new.terms.items ≡ without_terms row c.args.v =
+    c.lower_terms.ensures ∙ ap (lowered row) (filter_same _ _ _ (λ x b f' k. search rules) _ _ c.retain.ensures.filtered)
+    ∙ ap (λ z. lowered row (filter (λ t. not (t.0.position == row)) z)) c.into_terms-terms.ensures ∙ lowered_filter row c.args.v
     in
-    record {
-      sum = without_more n c.args.row items c.loop-term.terms.items c.push_without.new.terms.items c.loop-term.term-index t (omega arith) c.term-item.is c.loop-term.invariant.sum (c.in_ok-push_without.ensures.sum n);
-      over = c.in_ok-push_without.ensures.over ring ((term.weighed, term.reduced), tt) c.loop-term.invariant.over;
-    }
+    subst (IsVectorOver ring (ring_comparison ring)) (sym all) (vector_without_row ring row c.args.v c.requires)
+
+pub returns-clause-vector : goal.returns-clause-vector
+returns-clause-vector c =
+    let ring = c.args.ring.now in
+    let row = c.args.row in
+    let all : c.lower_terms.new.terms.items ≡ without_terms row c.args.v =
+    c.lower_terms.ensures ∙ ap (lowered row) (filter_same _ _ _ (λ x b f' k. search rules) _ _ c.retain.ensures.filtered)
+    ∙ ap (λ z. lowered row (filter (λ t. not (t.0.position == row)) z)) c.into_terms-terms.ensures ∙ lowered_filter row c.args.v
+    in
+    subst (IsVectorOver ring (ring_comparison ring)) (sym (c.from_ordered.ensures ∙ all)) (vector_without_row ring row c.args.v c.requires)
+
+pub returns-clause-sum : goal.returns-clause-sum
+returns-clause-sum c = λ n.
+    let row = c.args.row in
+    let all : c.lower_terms.new.terms.items ≡ without_terms row c.args.v =
+    c.lower_terms.ensures ∙ ap (lowered row) (filter_same _ _ _ (λ x b f' k. search rules) _ _ c.retain.ensures.filtered)
+    ∙ ap (λ z. lowered row (filter (λ t. not (t.0.position == row)) z)) c.into_terms-terms.ensures ∙ lowered_filter row c.args.v
+    in
+    ap (sum_of n) (c.from_ordered.ensures ∙ all) ∙ without_sum n row c.args.v

@@ -1,5 +1,5 @@
-use Rattle.std.proofs.Common.{arith, reverse, ◌<◌}
-use Rattle.minimal_betti.proofs.Splittings.{next_count, ordered_here, ordered_rest, step_falls, step_leads, step_underway, stops_here, turned}
+use Rattle.std.proofs.Common.{[], arith, reverse, ◌<◌, ◌∷◌}
+use Rattle.minimal_betti.proofs.Splittings.{next_count, ordered_here, ordered_rest, step_falls, step_leads, step_underway, stops_here}
 use Rattle.minimal_betti.proofs.splitting.cancel.Goals as goal
 
 pub split_map-requires-clause-columns : goal.split_map-requires-clause-columns
@@ -12,25 +12,23 @@ pub returns-clause-underway : goal.returns-clause-underway
 returns-clause-underway c =
     let ring = c.args.ring.now in
     let above : 1 < ring.modulus.value = (c.lawful_setting.ensures 0).domain.above_one in
-    let left = turned ring c.args.at c.args.rest.now.items c.leave_next.new.rest.items c.in_ok-leave_next.ensures in
-    step_underway ring c.args.at c.args.current c.in-Ok.split (reverse c.args.rest.now.items) (reverse c.leave_next.new.rest.items) c.requires.first c.in-Ok.ensures.split left
-    (omega (arith, above)) c.args.positions.now.items c.leave_row.new.positions.items c.args.done.now.items c.leave_row.new.done.items c.in_ok-leave_row.ensures c.requires.underway
+    step_underway ring c.args.at c.args.current c.in-Ok.split c.requires.first c.in-Ok.ensures.split (omega (arith, above))
+    c.args.positions.now.items c.leave_former.new.positions.items c.args.done.now.items c.leave_former.new.done.items c.args.rest.now.items c.leave_next.new.rest.items
+    c.in_ok-leave_former.ensures c.in_ok-leave_next.ensures c.requires.underway
 
 pub returns-clause-leads : goal.returns-clause-leads
 returns-clause-leads c =
     let ring = c.args.ring.now in
-    let left = turned ring c.args.at c.args.rest.now.items c.leave_next.new.rest.items c.in_ok-leave_next.ensures in
-    step_leads ring c.args.at c.args.current c.in-Ok.split (reverse c.args.rest.now.items) (reverse c.leave_next.new.rest.items) c.requires.first c.in-Ok.ensures.split left
-    c.args.positions.now.items c.leave_row.new.positions.items c.args.done.now.items c.leave_row.new.done.items c.in_ok-leave_row.ensures c.requires.underway.none
+    let above : 1 < ring.modulus.value = (c.lawful_setting.ensures 0).domain.above_one in
+    step_leads ring c.args.at c.args.current c.in-Ok.split c.requires.first c.in-Ok.ensures.split (omega (arith, above))
+    c.args.positions.now.items c.leave_former.new.positions.items c.args.done.now.items c.leave_former.new.done.items c.args.rest.now.items c.leave_next.new.rest.items
+    c.in_ok-leave_former.ensures c.in_ok-leave_next.ensures c.requires.underway
 
 pub returns-clause-falls : goal.returns-clause-falls
-returns-clause-falls c =
-    let ring = c.args.ring.now in
-    let left = turned ring c.args.at c.args.rest.now.items c.leave_next.new.rest.items c.in_ok-leave_next.ensures in
-    step_falls ring c.args.at c.args.current c.in-Ok.split (reverse c.args.rest.now.items) (reverse c.leave_next.new.rest.items) c.requires.first c.in-Ok.ensures.split left
+returns-clause-falls c = step_falls c.args.ring.now c.args.at c.args.current c.in-Ok.split c.requires.first c.in-Ok.ensures.split
 
 pub returns-clause-rest : goal.returns-clause-rest
-returns-clause-rest c = next_count c.args.ring.now c.args.at.column c.args.rest.now.items c.leave_next.new.rest.items c.in_ok-leave_next.ensures
+returns-clause-rest c = next_count c.args.ring.now (c.args.at.column ∷ []) c.args.rest.now.items c.leave_next.new.rest.items c.in_ok-leave_next.ensures
 
 pub returns-in-Err-clause-stop : goal.returns-in-Err-clause-stop
 returns-in-Err-clause-stop c =

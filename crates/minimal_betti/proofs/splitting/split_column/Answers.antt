@@ -1,7 +1,7 @@
 use Rattle.std.proofs.Common.{[], ap, arith, get_or, subst₂, sym, ◌<◌, ◌∙◌}
 use Rattle.std.proofs.lemmas.List.{get_or_default}
 use Rattle.formal_sums.proofs.Linear.{linear_same}
-use Rattle.formal_sums.proofs.Sameness.{IsSame_trans}
+use Rattle.formal_sums.proofs.Sameness.{IsSame_of, IsSame_trans}
 use Rattle.minimal_laws.proofs.Rows.{linear_without_row}
 use Rattle.minimal_laws.specs.Cancellation.{cleared}
 use Rattle.module_vectors.specs.Rings.{variables}
@@ -9,8 +9,8 @@ use Rattle.module_vectors.specs.Vectors.{StandsFor, sum_of}
 use Rattle.vector_division.proofs.Members.{sums_at}
 use Rattle.minimal_betti.proofs.splitting.split_column.Goals as goal
 
-pub returns-in_ok-vector_without-in-Ok-clause-sum : goal.returns-in_ok-vector_without-in-Ok-clause-sum
-returns-in_ok-vector_without-in-Ok-clause-sum c =
+pub returns-in-Ok-clause-sum : goal.returns-in-Ok-clause-sum
+returns-in-Ok-clause-sum c =
     let ring = c.args.ring.now in
     let n = variables ring in
     let p = ring.modulus.value in
@@ -22,4 +22,4 @@ returns-in_ok-vector_without-in-Ok-clause-sum c =
     let y = c.index-as_slice-i.result in
     let other = c.index-as_slice-i.is ∙ ap (λ l. get_or l c.args.i y) c.as_slice-2.ensures ∙ get_or_default columns c.args.i y [] c.requires.index in
     let h = subst₂ (λ z v. StandsFor ring c.in-Ok.cleared (cleared p c.args.at.row c.args.inverse z (sum_of n v))) w other c.in-Ok.ensures.sum in
-    IsSame_trans c.in_ok-vector_without-in-Ok.ensures.sum (linear_same (omega (arith, above)) (linear_without_row c.args.at.row) h)
+    IsSame_trans (IsSame_of p _ _ (c.vector_without.ensures.sum n)) (linear_same (omega (arith, above)) (linear_without_row c.args.at.row) h)

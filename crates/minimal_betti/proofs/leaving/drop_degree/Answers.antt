@@ -1,6 +1,6 @@
 use Rattle.std.proofs.Common.{arith, ◌∙◌}
 use Rattle.minimal_betti.proofs.Columns.{removed_is, removed_past}
-use Rattle.minimal_betti.proofs.splitting.drop_degree.Goals as goal
+use Rattle.minimal_betti.proofs.leaving.drop_degree.Goals as goal
 
 pub returns-then-at-len : goal.returns-then-at-len
 returns-then-at-len c = c.remove.ensures.items ∙ removed_is c.args.degrees.now.items c.args.at (omega arith)

@@ -1,5 +1,5 @@
 use Rattle.std.proofs.Common.{inr, refl}
-use Rattle.minimal_betti.proofs.splitting.leave_next.Goals as goal
+use Rattle.minimal_betti.proofs.leaving.leave_next.Goals as goal
 
 pub returns-in_ok-push : goal.returns-in_ok-push
 returns-in_ok-push c =

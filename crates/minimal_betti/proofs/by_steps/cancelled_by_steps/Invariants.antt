@@ -1,7 +1,7 @@
 use Rattle.std.proofs.Common.{length, ◌≡◌}
 use Rattle.minimal_betti.specs.Carried.{LeadsTo, graded_maps}
 use Rattle.minimal_betti.specs.Splitting.{IsUnderway, in_turn}
-use Rattle.minimal_betti.proofs.cancelling.cancelled_map.Given as goal
+use Rattle.minimal_betti.proofs.by_steps.cancelled_by_steps.Given as goal
 
 abbrev pub invariant-loop-map : goal.invariant-loop-map
 invariant-loop-map l = record {

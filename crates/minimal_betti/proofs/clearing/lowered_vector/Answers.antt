@@ -1,0 +1,26 @@
+use Rattle.std.proofs.Common.{ap, subst, sym, ◌∙◌, ◌≡◌}
+use Rattle.module_vectors.specs.Rings.{ring_comparison}
+use Rattle.module_vectors.specs.Vectors.{IsVectorOver, sum_of}
+use Rattle.minimal_betti.specs.Clearing.{lowered}
+use Rattle.minimal_betti.proofs.Lowering.{lowered_other, vector_without_row, without_sum, without_terms}
+use Rattle.minimal_betti.proofs.clearing.lowered_vector.Goals as goal
+
+pub from_ordered-requires : goal.from_ordered-requires
+from_ordered-requires c =
+    let ring = c.args.ring.now in
+    let row = c.args.row in
+    let all : c.lower_terms.new.terms.items ≡ without_terms row c.args.v = c.lower_terms.ensures ∙ ap (lowered row) c.into_terms-terms.ensures ∙ lowered_other row c.args.v c.requires.other in
+    subst (IsVectorOver ring (ring_comparison ring)) (sym all) (vector_without_row ring row c.args.v c.requires.vector)
+
+pub returns-clause-vector : goal.returns-clause-vector
+returns-clause-vector c =
+    let ring = c.args.ring.now in
+    let row = c.args.row in
+    let all : c.lower_terms.new.terms.items ≡ without_terms row c.args.v = c.lower_terms.ensures ∙ ap (lowered row) c.into_terms-terms.ensures ∙ lowered_other row c.args.v c.requires.other in
+    subst (IsVectorOver ring (ring_comparison ring)) (sym (c.from_ordered.ensures ∙ all)) (vector_without_row ring row c.args.v c.requires.vector)
+
+pub returns-clause-sum : goal.returns-clause-sum
+returns-clause-sum c = λ n.
+    let row = c.args.row in
+    let all : c.lower_terms.new.terms.items ≡ without_terms row c.args.v = c.lower_terms.ensures ∙ ap (lowered row) c.into_terms-terms.ensures ∙ lowered_other row c.args.v c.requires.other in
+    ap (sum_of n) (c.from_ordered.ensures ∙ all) ∙ without_sum n row c.args.v

@@ -1,0 +1,38 @@
+use Rattle.std.proofs.Common.{List, [], ap, append-nil, map, rules, subst, sym, ◌++◌, ◌∙◌, ◌≡◌}
+use Rattle.module_vectors.specs.Rings.{ring_comparison, variables}
+use Rattle.module_vectors.specs.Vectors.{AreVectorsOver, sums_of}
+use Rattle.minimal_betti.specs.Splitting.{AreWithout, without_all}
+use Rattle.minimal_betti.proofs.Columns.{columns_done, columns_more, columns_start, vectors_pushed}
+use Rattle.minimal_betti.proofs.leaving.columns_without.Goals as goal
+
+pub loop-v-init : goal.loop-v-init
+loop-v-init c =
+    let ring = c.args.ring.now in
+    let all = c.from_vec-rest.ensures.items ∙ c.into_vec.ensures in
+    record {
+      same = columns_start (variables ring) c.args.rows.now c.args.columns c.in_ok-without.without.items c.from_vec-rest.result.items c.in_ok-without.ensures.items all;
+      vectors = subst (AreVectorsOver ring (ring_comparison ring)) (sym c.in_ok-without.ensures.items) tt;
+      left = subst (AreVectorsOver ring (ring_comparison ring)) (sym all) c.requires;
+    }
+
+pub vector_without_all-requires : goal.vector_without_all-requires
+vector_without_all-requires c =
+    let ring = c.args.ring.now in
+    (subst (AreVectorsOver ring (ring_comparison ring)) c.in-Some.ensures.items c.loop-v.invariant.left).0
+
+pub loop-v-preserved : goal.loop-v-preserved
+loop-v-preserved c =
+    let ring = c.args.ring.now in
+    let rest = subst (AreVectorsOver ring (ring_comparison ring)) c.in-Some.ensures.items c.loop-v.invariant.left in
+    record {
+      same = columns_more (variables ring) c.args.rows.now c.args.columns c.loop-v.without.items c.push.new.self.items c.loop-v.rest.items c.pop_front.new.self.items c.in-Some.v c.vector_without_all.result
+          c.loop-v.invariant.same c.in-Some.ensures.items c.vector_without_all.ensures.sum c.in_ok-push.ensures.items;
+      vectors = vectors_pushed ring c.loop-v.without.items c.push.new.self.items c.vector_without_all.result c.loop-v.invariant.vectors c.vector_without_all.ensures.vector c.in_ok-push.ensures.items;
+      left = rest.1;
+    }
+
+pub returns : goal.returns
+returns c =
+    let ring = c.args.ring.now in
+    let none : c.loop-v.rest.items ≡ [] = search rules in
+    columns_done ring c.args.rows.now c.args.columns c.loop-v.without.items c.loop-v.rest.items c.from_vec.result none c.from_vec.ensures c.loop-v.invariant.vectors c.loop-v.invariant.same
