@@ -5,7 +5,7 @@ use Rattle.basis_core.specs.Members.{Shared}
 use Rattle.basis_core.specs.Shown.{Shown}
 use Rattle.groebner_iface.specs.declared.stop.Stop.{Stop}
 use Rattle.groebner_iface.specs.declared.stop.Stop.TheVariants.{Memory, Pairs, Degree}
-use Rattle.run_endings.specs.Stops.{IsCounted, IsStop, stopped_on, stopped_run}
+use Rattle.run_endings.specs.Stops.{IsKeptWhereCounted, IsStop, stopped_on, stopped_run}
 use Rattle.f4_engine.specs.Runs.{IsLastRun, IsWorkedByAll}
 
 -- its budget of pairs and number of workers; how many runs stopped; the state and the trail that are kept of the last one of them;
@@ -22,7 +22,7 @@ pub record EngineShown : Type 0 where
 pub record IsKeptBy (e : EngineShown) : Type 0 where
   pub some : 0 < e.workers
   pub stop : IsStop e.pairs e.workers e.state e.trail
-  pub counted : IsCounted e.stops (stopped_run e.state e.trail)
+  pub counted : IsKeptWhereCounted e.stops (stopped_run e.state e.trail)
   pub by_all : IfSome e.state IsWorkedByAll
   pub last : IsLastRun e.pairs e.workers e.last
 

@@ -40,7 +40,7 @@ use Rattle.order_change.proofs.Orders.{divisor_not_above, less_not_back, less_no
 use Rattle.order_change.proofs.Sorting.{ascending_distinct}
 use Rattle.order_change.proofs.Tails.{coefficient_of, key_compared, length_sum, term_at}
 use Rattle.order_change.specs.Changing.{AreNewMembers, AreNewStandard}
-use Rattle.order_change.specs.Forms.{AreResidues, IsForm, monomial_vector}
+use Rattle.order_change.specs.Forms.{AreResidues, IsRowForm, monomial_vector}
 use Rattle.order_change.specs.Lists.{AreMonomials, monomials}
 use Rattle.order_change.specs.Products.{IsAscending}
 use Rattle.order_change.specs.Rows.{AreRows, AreSame, IsCleared, IsRow}
@@ -151,7 +151,7 @@ module _ (n : ℕ) (ring : Ring) (F : List (FormalSum n)) (B : List (Exponents n
       → AreNewStandard n ring F B monos forms rows
       → IsWeighed n ring.weights m → m.degree ≤ 255 * length monos
       → ((k : ℕ) → k < length monos → comparison ring.order ring.weights n (get_or (monomials n monos) k (unit n)) (exponents_of n m.exponents) ≡ Less)
-      → AreResidues ring.modulus.value (length B) form → IsForm ring.modulus.value F B (monomial_vector (exponents_of n m.exponents)) form
+      → AreResidues ring.modulus.value (length B) form → IsRowForm ring.modulus.value F B (monomial_vector (exponents_of n m.exponents)) form
       → AreResidues ring.modulus.value (length B) left → AreResidues ring.modulus.value (length monos + 1) combination
       → slice_index combination (length monos) ≡ 1 → IsCleared rows left (length rows)
       → IsSameModulo ring.modulus.value F (expansion B (slice_index left)) (expansion (monomials n monos ++ exponents_of n m.exponents ∷ []) (slice_index combination))
@@ -169,11 +169,11 @@ module _ (n : ℕ) (ring : Ring) (F : List (FormalSum n)) (B : List (Exponents n
     residues = λ k lt. one_more (λ k. AreResidues p (length B) (get_or (forms ++ form ∷ []) k [])) (length monos)
         (λ k l. subst (AreResidues p (length B)) (sym (old_form k l)) (h.residues k l)) (subst (AreResidues p (length B)) (sym new_form) residues)
         k (omega (arith, lt, length-append monos (m ∷ [])));
-    forms_are = λ k lt. one_more (λ k. IsForm p F B (monomial_vector (get_or (monomials n (monos ++ m ∷ [])) k (unit n))) (get_or (forms ++ form ∷ []) k [])) (length monos)
-        (λ k l. subst (λ z. IsForm p F B (monomial_vector (get_or (monomials n (monos ++ m ∷ [])) k (unit n))) z) (sym (old_form k l))
-        (subst (λ z. IsForm p F B (monomial_vector z) (get_or forms k [])) (sym (old_monomial k l)) (h.forms_are k l)))
-        (subst (λ z. IsForm p F B (monomial_vector (get_or (monomials n (monos ++ m ∷ [])) (length monos) (unit n))) z) (sym new_form)
-        (subst (λ z. IsForm p F B (monomial_vector z) form) (sym new_monomial) is))
+    forms_are = λ k lt. one_more (λ k. IsRowForm p F B (monomial_vector (get_or (monomials n (monos ++ m ∷ [])) k (unit n))) (get_or (forms ++ form ∷ []) k [])) (length monos)
+        (λ k l. subst (λ z. IsRowForm p F B (monomial_vector (get_or (monomials n (monos ++ m ∷ [])) k (unit n))) z) (sym (old_form k l))
+        (subst (λ z. IsRowForm p F B (monomial_vector z) (get_or forms k [])) (sym (old_monomial k l)) (h.forms_are k l)))
+        (subst (λ z. IsRowForm p F B (monomial_vector (get_or (monomials n (monos ++ m ∷ [])) (length monos) (unit n))) z) (sym new_form)
+        (subst (λ z. IsRowForm p F B (monomial_vector z) form) (sym new_monomial) is))
         k (omega (arith, lt, length-append monos (m ∷ [])));
     rows_long = length-append rows (row ∷ []) ∙ ap (λ z. z + 1) h.rows_long ∙ sym (length-append monos (m ∷ []));
     rows_are = record {

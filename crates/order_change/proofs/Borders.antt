@@ -20,7 +20,7 @@ use Rattle.order_change.proofs.Filling.{each_at}
 use Rattle.order_change.proofs.Items.{length_monomials}
 use Rattle.order_change.proofs.Tails.{given_positive}
 use Rattle.order_change.proofs.Orders.{less_not_back, less_not_itself, less_of_not, less_times, less_trans, variable_above}
-use Rattle.order_change.specs.Forms.{AreProductsOf, AreResidues, IsForm}
+use Rattle.order_change.specs.Forms.{AreProductsOf, AreResidues, IsRowForm}
 use Rattle.order_change.specs.Lists.{monomials}
 use Rattle.order_change.specs.Products.{IsAscending, IsCandidate, IsLeast, product_at}
 use Rattle.order_change.specs.Tables.{AreFormsOver, IsFormOver, IsGiven, IsNormalForm, IsSmaller, IsSpare}
@@ -168,7 +168,7 @@ module _ {n : ℕ} (compare : Exponents n → Exponents n → Ordering) (o : IsM
       → ((t : ℕ) → 0 < slice_index row t → t < length rows)
       → AreResidues p (length B) out
       → ((t : ℕ) → ((s : ℕ) → 0 < slice_index row s → slice_index (get_or rows s []) t ≡ 0) → slice_index out t ≡ 0)
-      → (AreProductsOf p F B (power n j 1) rows row → IsForm p F B (scale 1 (power n j 1) (expansion B (slice_index row))) out)
+      → (AreProductsOf p F B (power n j 1) rows row → IsRowForm p F B (scale 1 (power n j 1) (expansion B (slice_index row))) out)
       → IsNormalForm compare p F B m out
   border_form q m row out j rows e free form forms covered residues zeros product = record {
     residues = residues;
@@ -194,7 +194,7 @@ abbrev pub IsProductWhere : (p : ℕ) (rows : List (List ℕ)) (row out : List �
 IsProductWhere p rows row out =
     (m : ℕ) (F : List (FormalSum m)) (B : List (Exponents m)) (x : Exponents m) → length B ≡ length row
     → AreProductsOf p F B x rows row
-    → IsForm p F B (scale 1 x (expansion B (slice_index row))) out
+    → IsRowForm p F B (scale 1 x (expansion B (slice_index row))) out
 
 -- a candidate that is not standard and no lead
 module _ (n : ℕ) (ring : Ring) (basis : List (List (CodeKey × ℕ))) (heads standard : List Monomial) (h : IsGiven n ring basis heads standard) (table : List (List (List ℕ))) (forms : AreFormsOver n ring basis standard table) (c : Candidate) (candidate : IsCandidate n ring.weights standard (λ v. length (get_or table v [])) c) (least : IsLeast n (comparison ring.order ring.weights n) (monomials n standard) (λ v. length (get_or table v [])) n (exponents_of n c.monomial.exponents)) (j : ℕ) (spare : IsSpare n (monomials n heads) (exponents_of n c.monomial.exponents) j) where
@@ -249,7 +249,7 @@ module _ (n : ℕ) (ring : Ring) (basis : List (List (CodeKey × ℕ))) (heads s
         → ((t : ℕ) → ((s : ℕ) → 0 < slice_index row s → slice_index (get_or (get_or table j []) s []) t ≡ 0) → slice_index out t ≡ 0)
         → ((m : ℕ) (F : List (FormalSum m)) (B : List (Exponents m)) (x : Exponents m) → length B ≡ length row
         → AreProductsOf ring.modulus.value F B x (get_or table j []) row
-        → IsForm ring.modulus.value F B (scale 1 x (expansion B (slice_index row))) out)
+        → IsRowForm ring.modulus.value F B (scale 1 x (expansion B (slice_index row))) out)
         → IsFormOver n ring basis standard (exponents_of n c.monomial.exponents) out
     candidate_form row out is residues zeros product =
         let long : length (monomials n standard) ≡ length row = sym (ap length is ∙ candidate_row.residues.long) in

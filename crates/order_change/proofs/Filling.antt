@@ -16,7 +16,7 @@ use Rattle.order_change.proofs.Items.{one_more}
 use Rattle.order_change.proofs.Orders.{less_not_itself}
 use Rattle.order_change.specs.Forms.{AreResidues}
 use Rattle.order_change.specs.Lists.{monomials}
-use Rattle.order_change.specs.Products.{AreOver, IsCandidate, IsLeast, product_at}
+use Rattle.order_change.specs.Products.{HadAllItems, IsCandidate, IsLeast, product_at}
 use Rattle.order_change.specs.Tables.{IsFilling, IsNormalForm, IsTable}
 use Rattle.order_change.specs.declared.products.Candidate.{Candidate}
 
@@ -98,7 +98,7 @@ filling_more {n} compare p F B turns turns' table table' v k m form h vn kl turn
 -- all rows
 pub filling_all :
     {n : ℕ} (compare : Exponents n → Exponents n → Ordering) (p : ℕ) (F : List (FormalSum n)) (B : List (Exponents n)) (turns : List ℕ) (table : List (List (List ℕ)))
-    → IsFilling compare p F B turns table → AreOver (slice_index turns) n (length B) → IsTable compare p F B table
+    → IsFilling compare p F B turns table → HadAllItems (slice_index turns) n (length B) → IsTable compare p F B table
 filling_all compare p F B turns table h over = record {
   long = h.long;
   full = λ v vn. let a = over v vn in let b = h.most v vn in let c = h.counted v vn in omega (arith, a, b, c);

@@ -31,7 +31,7 @@ use Rattle.order_change.proofs.Orders.{less_not_back, less_not_itself, less_of_n
 use Rattle.order_change.proofs.Tails.{sum_push}
 use Rattle.order_change.proofs.Turning.{divisor_more, divisor_new, turns_passed}
 use Rattle.order_change.specs.Changing.{AreNewMembers, AreNewStandard, AreProducts, AreTurns, HasDivisor, IsAdded, IsChanging, IsFormOf, IsKnown, IsNext, IsRest}
-use Rattle.order_change.specs.Forms.{AreResidues, IsForm, monomial_vector}
+use Rattle.order_change.specs.Forms.{AreResidues, IsRowForm, monomial_vector}
 use Rattle.order_change.specs.Lists.{HaveDegrees, IsNew, monomials}
 use Rattle.order_change.specs.Products.{HaveRoom, IsCandidate, IsLeast, product_at}
 use Rattle.order_change.specs.Rows.{AreSame, IsCleared}
@@ -75,7 +75,7 @@ module _ (n : ℕ) (ring : Ring) (F : List (FormalSum n)) (B : List (Exponents n
       subst (λ d. AreResidues ring.modulus.value d (get_or (get_or table v []) k [])) (sym residues.long) (products.residues v k vn (let f = products.full v vn in omega (arith, lt, f))))
 
   pub variable_form :
-      (b y : Exponents n) (out : List ℕ) → 0 < ring.modulus.value → IsForm ring.modulus.value F B (monomial_vector b) row → y ≡ times (power n v 1) b
+      (b y : Exponents n) (out : List ℕ) → 0 < ring.modulus.value → IsRowForm ring.modulus.value F B (monomial_vector b) row → y ≡ times (power n v 1) b
       → AreResidues ring.modulus.value (length row) out → IsProductWhere ring.modulus.value (get_or table v []) row out
       → IsFormOf n ring F B y out
   variable_form b y out pos form is small product = record {
@@ -128,7 +128,7 @@ pub rest_is :
     → IsKnown n ring F B change → rows ≡ change.rows.items → IsFormOf n ring F B (exponents_of n m.exponents) form
     → AreResidues ring.modulus.value (length form) left → AreResidues ring.modulus.value (length rows + 1) combination
     → slice_index combination (length rows) ≡ 1 → IsCleared rows left (length rows)
-    → ((N : List (Exponents n)) → length rows < length N → AreSame ring.modulus.value F B N rows → IsForm ring.modulus.value F B (monomial_vector (get_or N (length rows) (unit n))) form
+    → ((N : List (Exponents n)) → length rows < length N → AreSame ring.modulus.value F B N rows → IsRowForm ring.modulus.value F B (monomial_vector (get_or N (length rows) (unit n))) form
     → IsSameModulo ring.modulus.value F (expansion B (slice_index left)) (expansion N (slice_index combination)))
     → IsRest n ring F B change m left combination
 rest_is n ring F B lawful change m form rows left combination h same is lr cr one cleared rest = record {
@@ -140,7 +140,7 @@ rest_is n ring F B lawful change m form rows left combination h same is lr cr on
       (omega (arith, count, length_monomials n change.monomials.items, length_push (monomials n change.monomials.items) (exponents_of n m.exponents)))
       (subst (AreSame ring.modulus.value F B (monomials n change.monomials.items ++ exponents_of n m.exponents ∷ [])) (sym same)
       (same_wider n ring F B lawful change.monomials.items change.forms.items change.rows.items (exponents_of n m.exponents) h.standard))
-      (subst (λ z. IsForm ring.modulus.value F B (monomial_vector z) form) (sym last) is.is);
+      (subst (λ z. IsRowForm ring.modulus.value F B (monomial_vector z) form) (sym last) is.is);
 }
   where
     count : length rows ≡ length change.monomials.items

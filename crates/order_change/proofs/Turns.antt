@@ -6,14 +6,14 @@ use Rattle.monomial_orders.specs.Kept.{Monomial}
 use Rattle.order_change.proofs.Items.{length_monomials, one_more}
 use Rattle.order_change.proofs.Orders.{not_less_trans}
 use Rattle.order_change.specs.Lists.{monomials}
-use Rattle.order_change.specs.Products.{AreOver, IsCandidate, IsLeast, product_at}
+use Rattle.order_change.specs.Products.{HadAllItems, IsCandidate, IsLeast, product_at}
 use Rattle.order_change.specs.declared.products.Candidate.{Candidate}
 
 module _ (n : ℕ) (ws : List ℕ) (compare : Exponents n → Exponents n → Ordering) (o : IsMonomialOrder compare) (list : List Monomial) (turn : ℕ → ℕ) where
   -- the least product of the first i variables, where there is one
   abbrev pub IsLeastOf : (i : ℕ) → Option Candidate → Type 0
   IsLeastOf i found =
-      MatchOption found (AreOver turn i (length list))
+      MatchOption found (HadAllItems turn i (length list))
       (λ c. IsCandidate n ws list turn c × IsLeast n compare (monomials n list) turn i (exponents_of n c.monomial.exponents))
 
   -- the product of one more variable is put beside it

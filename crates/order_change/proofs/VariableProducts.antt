@@ -10,7 +10,7 @@ use Rattle.formal_sums.specs.FormalSums.{FormalSum, IsSame, scale}
 use Rattle.change_laws.proofs.Expansions.{expansion_linear, expansion_one, expansion_same, expansion_zero}
 use Rattle.change_laws.proofs.Modulo.{modulo_append, modulo_same, modulo_scale, modulo_trans}
 use Rattle.change_laws.specs.Combinations.{expansion}
-use Rattle.order_change.specs.Forms.{AreProductsOf, IsForm, before, monomial_vector}
+use Rattle.order_change.specs.Forms.{AreProductsOf, IsRowForm, before, monomial_vector}
 
 -- 1 at k
 pub spot : ℕ → ℕ → ℕ
@@ -46,7 +46,7 @@ before_below (suc k) f (suc j) lt = before_below k (λ i. f (suc i)) j (omega (a
 -- nothing yet
 pub product_none :
     {n p : ℕ} → 0 < p → (F : List (FormalSum n)) (B : List (Exponents n)) (x : Exponents n) (f : ℕ → ℕ) (row : List ℕ)
-    → ((k : ℕ) → slice_index row k ≡ 0) → IsForm p F B (scale 1 x (expansion B (before 0 f))) row
+    → ((k : ℕ) → slice_index row k ≡ 0) → IsRowForm p F B (scale 1 x (expansion B (before 0 f))) row
 product_none {n} {p} pos F B x f row zeros =
     modulo_same F _ _ (IsSame_trans (IsSame_scale pos 1 x (expansion_zero B (before 0 f) (λ k lt. IsCongruent_refl p 0)))
     (IsSame_sym (expansion_zero B (slice_index row) (λ k lt. IsCongruent_of p _ 0 (zeros k)))))
@@ -73,12 +73,12 @@ pub product_more :
     {n p : ℕ} → 0 < p → (F : List (FormalSum n)) (B : List (Exponents n)) (x : Exponents n) (rows : List (List ℕ)) (form old new : List ℕ) (k : ℕ)
     → k < length form → length B ≡ length form → 0 < slice_index form k → AreProductsOf p F B x rows form
     → ((j : ℕ) → IsCongruent p (slice_index new j) (slice_index old j + slice_index form k * slice_index (get_or rows k []) j))
-    → IsForm p F B (scale 1 x (expansion B (before k (slice_index form)))) old
-    → IsForm p F B (scale 1 x (expansion B (before (k + 1) (slice_index form)))) new
+    → IsRowForm p F B (scale 1 x (expansion B (before k (slice_index form)))) old
+    → IsRowForm p F B (scale 1 x (expansion B (before (k + 1) (slice_index form)))) new
 product_more {n} {p} pos F B x rows form old new k lt long some products sums h =
     let c = slice_index form k in
     let next : suc k ≡ k + 1 = omega arith in
-    subst (λ i. IsForm p F B (scale 1 x (expansion B (before i (slice_index form)))) new) next
+    subst (λ i. IsRowForm p F B (scale 1 x (expansion B (before i (slice_index form)))) new) next
     (modulo_trans F (modulo_same F _ _ (one_step pos B x (slice_index form) k (omega (arith, lt, long))))
     (modulo_trans F (modulo_append F h (modulo_scale F pos c (unit n) (products k lt some)))
     (modulo_same F _ _ (IsSame_sym (expansion_linear c B (slice_index old) (slice_index (get_or rows k [])) (slice_index new) (λ j l. sums j))))))
@@ -86,19 +86,19 @@ product_more {n} {p} pos F B x rows form old new k lt long some products sums h 
 -- or none where the residue is 0
 pub product_skip :
     {n p : ℕ} → 0 < p → (F : List (FormalSum n)) (B : List (Exponents n)) (x : Exponents n) (form old : List ℕ) (k : ℕ)
-    → slice_index form k ≡ 0 → IsForm p F B (scale 1 x (expansion B (before k (slice_index form)))) old
-    → IsForm p F B (scale 1 x (expansion B (before (k + 1) (slice_index form)))) old
+    → slice_index form k ≡ 0 → IsRowForm p F B (scale 1 x (expansion B (before k (slice_index form)))) old
+    → IsRowForm p F B (scale 1 x (expansion B (before (k + 1) (slice_index form)))) old
 product_skip {n} {p} pos F B x form old k none h =
     let next : suc k ≡ k + 1 = omega arith in
-    subst (λ i. IsForm p F B (scale 1 x (expansion B (before i (slice_index form)))) old) next
+    subst (λ i. IsRowForm p F B (scale 1 x (expansion B (before i (slice_index form)))) old) next
     (modulo_trans F (modulo_same F _ _ (IsSame_scale pos 1 x (expansion_same B (before (suc k) (slice_index form)) (before k (slice_index form))
     (λ j l. IsCongruent_of p _ _ (before_step k (slice_index form) j ∙ ap (λ z. before k (slice_index form) j + z * spot k j) none ∙ omega arith))))) h)
 
 -- all products
 pub product_all :
     {n p : ℕ} → 0 < p → (F : List (FormalSum n)) (B : List (Exponents n)) (x : Exponents n) (form out : List ℕ) (k : ℕ)
-    → length B ≡ length form → length form ≤ k → IsForm p F B (scale 1 x (expansion B (before k (slice_index form)))) out
-    → IsForm p F B (scale 1 x (expansion B (slice_index form))) out
+    → length B ≡ length form → length form ≤ k → IsRowForm p F B (scale 1 x (expansion B (before k (slice_index form)))) out
+    → IsRowForm p F B (scale 1 x (expansion B (slice_index form))) out
 product_all {n} {p} pos F B x form out k long le h =
     modulo_trans F (modulo_same F _ _ (IsSame_scale pos 1 x (expansion_same B (slice_index form) (before k (slice_index form))
     (λ j l. IsCongruent_of p _ _ (sym (before_below k (slice_index form) j (omega (arith, l, long, le)))))))) h

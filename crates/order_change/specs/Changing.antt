@@ -14,9 +14,9 @@ use Rattle.module_vectors.specs.declared.key.Key.{Key as CodeKey}
 use Rattle.module_vectors.specs.declared.ring.Ring.{Ring}
 use Rattle.change_laws.specs.Combinations.{IsSameModulo, expansion}
 use Rattle.change_laws.specs.Standard.{Has, IsStandard, lead_monomials}
-use Rattle.order_change.specs.Forms.{AreResidues, IsForm, monomial_vector}
+use Rattle.order_change.specs.Forms.{AreResidues, IsRowForm, monomial_vector}
 use Rattle.order_change.specs.Lists.{AreMonomials, HaveDegrees, monomials}
-use Rattle.order_change.specs.Products.{AreOver, IsAscending, product_at}
+use Rattle.order_change.specs.Products.{HadAllItems, IsAscending, product_at}
 use Rattle.order_change.specs.Rows.{AreRows, AreSame, IsCleared}
 use Rattle.order_change.specs.declared.change.Change.{Change}
 use Rattle.order_change.specs.declared.rows.Row.{Row}
@@ -35,7 +35,7 @@ pub record AreNewStandard
   pub ascending : IsAscending (comparison ring.order ring.weights n) (monomials n monos)
   pub forms_long : length forms ≡ length monos
   pub residues : (k : ℕ) → k < length monos → AreResidues ring.modulus.value (length B) (get_or forms k [])
-  pub forms_are : (k : ℕ) → k < length monos → IsForm ring.modulus.value F B (monomial_vector (get_or (monomials n monos) k (unit n))) (get_or forms k [])
+  pub forms_are : (k : ℕ) → k < length monos → IsRowForm ring.modulus.value F B (monomial_vector (get_or (monomials n monos) k (unit n))) (get_or forms k [])
   pub rows_long : length rows ≡ length monos
   pub rows_are : AreRows ring.modulus.value (length B) (length monos) rows
   pub same : AreSame ring.modulus.value F B (monomials n monos) rows
@@ -130,7 +130,7 @@ pub record IsRest
 -- modulo the ideal of F, m is the combination of B by the form
 pub record IsFormOf (n : ℕ) (ring : Ring) (F : List (FormalSum n)) (B : List (Exponents n)) (m : Exponents n) (form : List ℕ) : Type 0 where
   pub residues : AreResidues ring.modulus.value (length B) form
-  pub is : IsForm ring.modulus.value F B (monomial_vector m) form
+  pub is : IsRowForm ring.modulus.value F B (monomial_vector m) form
 
 -- the end: each product had its turn
 pub record IsChanged (n : ℕ) (ring : Ring) (F : List (FormalSum n)) (B : List (Exponents n)) (members : List (List (CodeKey × ℕ))) : Type 0 where
@@ -142,11 +142,11 @@ pub record IsChanged (n : ℕ) (ring : Ring) (F : List (FormalSum n)) (B : List 
   pub standard : AreNewStandard n ring F B monos forms rows
   pub members_are : AreNewMembers n ring F (monomials n monos) heads members
   pub turned : AreTurns n ring (monomials n monos) (monomials n heads) turns
-  pub over : AreOver (slice_index turns) n (length monos)
+  pub over : HadAllItems (slice_index turns) n (length monos)
 
 -- the rows of each variable are forms of its products with the monomials B
 pub record AreProducts (n p : ℕ) (F : List (FormalSum n)) (B : List (Exponents n)) (table : List (List (List ℕ))) : Type 0 where
   pub long : length table ≡ n
   pub full : (v : ℕ) → v < n → length (get_or table v []) ≡ length B
   pub residues : (v k : ℕ) → v < n → k < length B → AreResidues p (length B) (get_or (get_or table v []) k [])
-  pub forms : (v k : ℕ) → v < n → k < length B → IsForm p F B (monomial_vector (product_at n B v k)) (get_or (get_or table v []) k [])
+  pub forms : (v k : ℕ) → v < n → k < length B → IsRowForm p F B (monomial_vector (product_at n B v k)) (get_or (get_or table v []) k [])

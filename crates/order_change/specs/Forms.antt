@@ -26,10 +26,10 @@ abbrev pub monomial_vector : {n : ℕ} → Exponents n → FormalSum n
 monomial_vector m = ((0, m), 1) ∷ []
 
 -- modulo the ideal of F, v is the combination of the monomials B by the row
-abbrev pub IsForm : {n : ℕ} → ℕ → List (FormalSum n) → List (Exponents n) → FormalSum n → List ℕ → Type 0
-IsForm p F B v row = IsSameModulo p F v (expansion B (slice_index row))
+abbrev pub IsRowForm : {n : ℕ} → ℕ → List (FormalSum n) → List (Exponents n) → FormalSum n → List ℕ → Type 0
+IsRowForm p F B v row = IsSameModulo p F v (expansion B (slice_index row))
 
 -- where the form has a residue, the row at that index is the form of x times the monomial at that index
 abbrev pub AreProductsOf : {n : ℕ} → ℕ → List (FormalSum n) → List (Exponents n) → Exponents n → (rows : List (List ℕ)) → (form : List ℕ) → Type 0
 AreProductsOf {n} p F B x rows form =
-    (k : ℕ) → k < length form → 0 < slice_index form k → IsForm p F B (monomial_vector (times x (get_or B k (unit n)))) (get_or rows k [])
+    (k : ℕ) → k < length form → 0 < slice_index form k → IsRowForm p F B (monomial_vector (times x (get_or B k (unit n)))) (get_or rows k [])

@@ -34,5 +34,5 @@ abbrev pub IsLeast : (n : ℕ) → (Exponents n → Exponents n → Ordering) �
 IsLeast n compare ms turn i m = (v : ℕ) → v < i → turn v < length ms → compare (product_at n ms v (turn v)) m ≡ Less → ⊥
 
 -- the first i variables have had all items
-abbrev pub AreOver : (turn : ℕ → ℕ) → (i count : ℕ) → Type 0
-AreOver turn i count = (v : ℕ) → v < i → count ≤ turn v
+abbrev pub HadAllItems : (turn : ℕ → ℕ) → (i count : ℕ) → Type 0
+HadAllItems turn i count = (v : ℕ) → v < i → count ≤ turn v

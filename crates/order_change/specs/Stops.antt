@@ -6,10 +6,10 @@ use Rattle.order_change.specs.declared.stop.ChangeStop.{ChangeStop}
 use Rattle.order_change.specs.declared.stop.ChangeStop.TheVariants.{Memory, Infinite, Many}
 
 -- want of memory, or what the leads L say of the standard monomials
-abbrev pub ChangeStops : {n : ℕ} → List (Exponents n) → ChangeStop → Type 0
-ChangeStops L Memory = ⊤
-ChangeStops L Infinite = IsInfinite L
-ChangeStops L Many = (IsInfinite L → ⊥) × HasMany L
+abbrev pub OrderChangeStops : {n : ℕ} → List (Exponents n) → ChangeStop → Type 0
+OrderChangeStops L Memory = ⊤
+OrderChangeStops L Infinite = IsInfinite L
+OrderChangeStops L Many = (IsInfinite L → ⊥) × HasMany L
 
 -- each variable has a power among the leads, and there are at most 256 standard monomials
 pub record AreFew {n : ℕ} (L : List (Exponents n)) : Type 0 where

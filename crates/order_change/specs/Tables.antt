@@ -13,7 +13,7 @@ use Rattle.module_vectors.specs.Vectors.{HasPositions, IsVector, sums_of}
 use Rattle.module_vectors.specs.declared.key.Key.{Key as CodeKey}
 use Rattle.module_vectors.specs.declared.ring.Ring.{Ring}
 use Rattle.change_laws.specs.Standard.{AreStandard, Has, IsStandard, lead_monomials, power}
-use Rattle.order_change.specs.Forms.{AreResidues, IsForm, monomial_vector}
+use Rattle.order_change.specs.Forms.{AreResidues, IsRowForm, monomial_vector}
 use Rattle.order_change.specs.Lists.{AreMonomials, monomials}
 use Rattle.order_change.specs.Products.{HaveRoom, IsAscending, product_at}
 
@@ -22,7 +22,7 @@ pub record IsNormalForm {n : ℕ}
     (compare : Exponents n → Exponents n → Ordering) (p : ℕ) (F : List (FormalSum n)) (B : List (Exponents n))
     (m : Exponents n) (row : List ℕ) : Type 0 where
   pub residues : AreResidues p (length B) row
-  pub same : IsForm p F B (monomial_vector m) row
+  pub same : IsRowForm p F B (monomial_vector m) row
   pub below : (k : ℕ) → k < length B → 0 < slice_index row k → compare m (get_or B k (unit n)) ≡ Less → ⊥
 
 -- the rows of each variable are the normal forms of its products with the first monomials of B

@@ -8,9 +8,9 @@ ghost use Rattle.module_vectors.specs.Vectors.{IsVector, sum_of, sums_of};
 ghost use Rattle.change_laws.specs.Combinations.{IsSameModulo, expansion};
 ghost use Rattle.change_laws.specs.Standard.{Has};
 ghost use Rattle.order_change.specs.Changing.{AreProducts, IsAdded, IsChanged, IsChanging, IsFormOf, IsKnown, IsNext, IsRest};
-ghost use Rattle.order_change.specs.Forms.{AreResidues, IsForm, monomial_vector};
+ghost use Rattle.order_change.specs.Forms.{AreResidues, IsRowForm, monomial_vector};
 ghost use Rattle.order_change.specs.Lists.{AreMonomials, monomials};
-ghost use Rattle.order_change.specs.Products.{AreOver, product_at};
+ghost use Rattle.order_change.specs.Products.{HadAllItems, product_at};
 ghost use Rattle.order_change.specs.Rows.{AreRows, AreSame, IsCleared};
 ghost use Rattle.order_change.specs.Tables.{IsGiven, IsTableOver};
 ghost use Rattle.order_change.specs.declared.rows.Row.{Row as RowValue};
@@ -56,7 +56,7 @@ fn rest_of(alloc: Global, modulus: &Modulus, rows: &[Row], form: &Form) -> Resul
     ensures one { IfOk result (λ rest. slice_index rest.combination (length rows.now) ≡ 1) }
     ensures cleared { IfOk result (λ rest. IsCleared rows.now rest.form (length rows.now)) }
     ensures same { IfOk result (λ rest. (n : ℕ) (F : List (FormalSum n)) (B N : List (Exponents n)) → length rows.now < length N
-        → AreSame modulus.now.value F B N rows.now → IsForm modulus.now.value F B (monomial_vector (get_or N (length rows.now) (unit n))) form.now
+        → AreSame modulus.now.value F B N rows.now → IsRowForm modulus.now.value F B (monomial_vector (get_or N (length rows.now) (unit n))) form.now
         → IsSameModulo modulus.now.value F (expansion B (slice_index rest.form)) (expansion N (slice_index rest.combination))) }
 {
     modulus.domain();
@@ -296,7 +296,7 @@ impl Change {
         ensures changing { let n = length ring.now.weights in OnOk result (IsChanging n ring.now (sums_of n basis.now) (monomials n standard.now) self.new) }
         ensures more { IfOk result (λ more. more ≡ true → (sum self.new.turns ≡ sum self.old.turns + 1)
             × (sum self.old.turns < length self.old.turns * length standard.now) × (length self.new.turns ≡ length self.old.turns)) }
-        ensures over { IfOk result (λ more. more ≡ false → AreOver (slice_index self.new.turns) (length ring.now.weights) (length self.new.monomials.items)) }
+        ensures over { IfOk result (λ more. more ≡ false → HadAllItems (slice_index self.new.turns) (length ring.now.weights) (length self.new.monomials.items)) }
     {
         lawful_setting(ring);
         match least_product(

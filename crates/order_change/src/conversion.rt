@@ -4,7 +4,7 @@ ghost use Rattle.groebner_iface.specs.Runs.{IsReducedBasisOf};
 ghost use Rattle.module_vectors.specs.Rings.{variables};
 ghost use Rattle.module_vectors.specs.Vectors.{sums_of};
 ghost use Rattle.change_laws.specs.Standard.{lead_monomials};
-ghost use Rattle.order_change.specs.Stops.{AreFew, ChangeStops};
+ghost use Rattle.order_change.specs.Stops.{AreFew, OrderChangeStops};
 ghost use Rattle.order_change.specs.Reordered.{with_order};
 ghost use Rattle.order_change.specs.Tables.{IsGiven};
 
@@ -68,7 +68,7 @@ pub fn convert(
     requires { IsReducedBasisOf ring.now 1 basis.now basis.now }
     ensures basis { IfOk result (IsReducedBasisOf (with_order order ring.now) 1 basis.now) }
     ensures few { let n = variables ring.now in OnOk result (AreFew (lead_monomials (sums_of n basis.now))) }
-    ensures stop { let n = variables ring.now in IfErr result (ChangeStops (lead_monomials (sums_of n basis.now))) }
+    ensures stop { let n = variables ring.now in IfErr result (OrderChangeStops (lead_monomials (sums_of n basis.now))) }
 {
     lawful_setting(ring);
     let leads = leads_of(alloc, ring, basis)?;

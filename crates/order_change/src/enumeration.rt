@@ -3,7 +3,7 @@ ghost use Rattle.std.specs.Prelude.{◌≡◌, ◌<◌, ◌≤◌, ◌+◌, ◌�
 ghost use Rattle.monomials.specs.Exponents.{exponents_of};
 ghost use Rattle.monomial_orders.specs.Kept.{IsWeighed};
 ghost use Rattle.change_laws.specs.Standard.{AreStandard};
-ghost use Rattle.order_change.specs.Stops.{AreFew, ChangeStops};
+ghost use Rattle.order_change.specs.Stops.{AreFew, OrderChangeStops};
 ghost use Rattle.order_change.specs.Lists.{AreListed, AreMonomials, AreMultiplied, HaveDegrees, IsNew, StopsWhileListing, monomials};
 
 use crate::ChangeStop;
@@ -84,7 +84,7 @@ pub(crate) fn standard_monomials(
     ensures most { IfOk result (λ found. length found.items ≤ 256) }
     ensures standard { let n = length weights.now in IfOk result (λ found. AreStandard (monomials n leads.now) (monomials n found.items)) }
     ensures few { let n = length weights.now in OnOk result (AreFew (monomials n leads.now)) }
-    ensures stop { let n = length weights.now in IfErr result (ChangeStops (monomials n leads.now)) }
+    ensures stop { let n = length weights.now in IfErr result (OrderChangeStops (monomials n leads.now)) }
 {
     if is_infinite(weights, leads) {
         return Err(ChangeStop::Infinite);

@@ -4,7 +4,7 @@ ghost use Rattle.monomials.specs.Exponents.{Exponents};
 ghost use Rattle.formal_sums.specs.FormalSums.{Each, FormalSum, scale};
 ghost use Rattle.residues.specs.Residues.{IsCongruent};
 ghost use Rattle.change_laws.specs.Combinations.{expansion};
-ghost use Rattle.order_change.specs.Forms.{AreProductsOf, AreResidues, IsForm};
+ghost use Rattle.order_change.specs.Forms.{AreProductsOf, AreResidues, IsRowForm};
 
 use crate::sums::Sums;
 use module_vectors::NoMemory;
@@ -177,7 +177,7 @@ pub(crate) fn times_variable(
     ensures zeros { IfOk result (λ out. (t : ℕ) → ((s : ℕ) → 0 < slice_index form.now s → slice_index (get_or rows.now s []) t ≡ 0) → slice_index out t ≡ 0) }
     ensures product { IfOk result (λ out. (n : ℕ) (F : List (FormalSum n)) (B : List (Exponents n)) (x : Exponents n) → length B ≡ length form.now
         → AreProductsOf modulus.now.value F B x rows.now form.now
-        → IsForm modulus.now.value F B (scale 1 x (expansion B (slice_index form.now))) out) }
+        → IsRowForm modulus.now.value F B (scale 1 x (expansion B (slice_index form.now))) out) }
 {
     modulus.domain();
     let mut product = Sums::zeros(alloc, form.len())?;

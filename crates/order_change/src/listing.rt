@@ -5,7 +5,7 @@ ghost use Rattle.module_vectors.specs.Rings.{ring_comparison, variables};
 ghost use Rattle.module_vectors.specs.Vectors.{AreVectorsOver, IsMonomialOver, sums_of};
 ghost use Rattle.groebner_iface.specs.Runs.{IsReducedBasisOf};
 ghost use Rattle.change_laws.specs.Standard.{AreStandard, lead_monomials};
-ghost use Rattle.order_change.specs.Stops.{AreFew, ChangeStops};
+ghost use Rattle.order_change.specs.Stops.{AreFew, OrderChangeStops};
 ghost use Rattle.order_change.specs.Lists.{AreMonomials, monomials};
 
 use crate::ChangeStop;
@@ -39,7 +39,7 @@ pub fn standard(alloc: Global, ring: &Ring, basis: &VectList) -> Result<Vec<Mono
     ensures standard { let n = variables ring.now in
         IfOk result (λ found. AreStandard (lead_monomials (sums_of n basis.now)) (monomials n found.items)) }
     ensures few { let n = variables ring.now in OnOk result (AreFew (lead_monomials (sums_of n basis.now))) }
-    ensures stop { let n = variables ring.now in IfErr result (ChangeStops (lead_monomials (sums_of n basis.now))) }
+    ensures stop { let n = variables ring.now in IfErr result (OrderChangeStops (lead_monomials (sums_of n basis.now))) }
 {
     let leads = leads_of(alloc, ring, basis)?;
     match standard_monomials(alloc, &ring.weights, &leads) {

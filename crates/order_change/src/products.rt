@@ -6,7 +6,7 @@ ghost use Rattle.monomials.specs.Exponents.{exponents_of, unit};
 ghost use Rattle.monomial_orders.specs.Comparisons.{comparison};
 ghost use Rattle.monomial_orders.specs.Kept.{IsWeighed};
 ghost use Rattle.order_change.specs.Lists.{AreMonomials, monomials};
-ghost use Rattle.order_change.specs.Products.{AreOver, HaveRoom, IsCandidate, IsLeast, product_at};
+ghost use Rattle.order_change.specs.Products.{HadAllItems, HaveRoom, IsCandidate, IsLeast, product_at};
 
 use crate::ascending::is_below;
 use crate::leads::multiple;
@@ -130,7 +130,7 @@ pub(crate) fn least_product(
     requires list { AreMonomials (length weights.now) weights.now list.now }
     requires room { HaveRoom list.now }
     requires turns { length turns.now ≡ length weights.now }
-    ensures { let n = length weights.now in IfOk result (λ least. MatchOption least (AreOver (slice_index turns.now) n (length list.now))
+    ensures { let n = length weights.now in IfOk result (λ least. MatchOption least (HadAllItems (slice_index turns.now) n (length list.now))
         (λ c. IsCandidate n weights.now list.now (slice_index turns.now) c
         × IsLeast n (comparison order weights.now n) (monomials n list.now) (slice_index turns.now) n (exponents_of n c.monomial.exponents))) }
 {

@@ -9,7 +9,7 @@ ghost use Rattle.change_laws.specs.Combinations.{expansion};
 ghost use Rattle.change_laws.specs.Standard.{Has, IsStandard};
 ghost use Rattle.order_change.specs.Forms.{AreResidues};
 ghost use Rattle.order_change.specs.Lists.{AreMonomials, monomials};
-ghost use Rattle.order_change.specs.Products.{AreOver, IsCandidate, IsLeast};
+ghost use Rattle.order_change.specs.Products.{HadAllItems, IsCandidate, IsLeast};
 ghost use Rattle.order_change.specs.Tables.{AreFormsOver, AreTailTerms, IsFillingOver, IsFormOver, IsGiven, IsSmaller, IsSpare, IsSupported, IsTableOver};
 
 use crate::forms::{Form, times_variable};
@@ -350,7 +350,7 @@ fn fill_next(
     ensures filling { OnOk result (IsFillingOver (length ring.now.weights) ring.now basis.now standard.now turns.new table.new) }
     ensures more { IfOk result (λ more. more ≡ true
         → (sum turns.new ≡ sum turns.old + 1) × (sum turns.old < length turns.old * length standard.now) × (length turns.new ≡ length turns.old)) }
-    ensures over { IfOk result (λ more. more ≡ false → AreOver (slice_index turns.new) (length ring.now.weights) (length standard.now)) }
+    ensures over { IfOk result (λ more. more ≡ false → HadAllItems (slice_index turns.new) (length ring.now.weights) (length standard.now)) }
 {
     match least_product(alloc, &ring.weights, ring.order, standard, turns)? {
         Some(candidate) => {

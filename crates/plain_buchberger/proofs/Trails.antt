@@ -13,7 +13,7 @@ use Rattle.basis_core.specs.Shown.{Shown}
 use Rattle.basis_core.specs.Stops.{IsTrailBy}
 use Rattle.basis_core.specs.Views.{variables_of}
 use Rattle.s_vectors.specs.Trails.{JobStops}
-use Rattle.plain_buchberger.specs.Rounds.{IsOut, WorkStops}
+use Rattle.plain_buchberger.specs.Rounds.{IsOut, StateStops}
 
 -- the trail of a job that is out is one of the run
 pub run_trail_of_job : (s : Shown) (job : JobShown) (t : KeptTrail) → IsOut s job → IsTrailBy job.shared job.members (pairs_of job.pairs) t → IsRunTrail (variables_of s) s t
@@ -28,11 +28,11 @@ run_trail_of_job s job t out h =
       };
     }
 
-pub work_stops_of_job : (s : Shown) (job : JobShown) (stop : WorkStop) → IsOut s job → JobStops job stop → WorkStops s stop
+pub work_stops_of_job : (s : Shown) (job : JobShown) (stop : WorkStop) → IsOut s job → JobStops job stop → StateStops s stop
 work_stops_of_job s job works.Memory out h = tt
 work_stops_of_job s job (works.Degree t) out h = run_trail_of_job s job t out h
 
 -- and so is the trail of a Put, which leaves the state as it was
-pub work_stops_of_put : (s t : Shown) (o : OutcomeShown) (stop : WorkStop) → t ≡ s → PutStops (variables_of s) s o stop → WorkStops t stop
+pub work_stops_of_put : (s t : Shown) (o : OutcomeShown) (stop : WorkStop) → t ≡ s → PutStops (variables_of s) s o stop → StateStops t stop
 work_stops_of_put s t o works.Memory e h = tt
 work_stops_of_put s t o (works.Degree trail) e h = subst (λ u. IsRunTrail (variables_of u) u trail) (sym e) h.trail

@@ -5,7 +5,7 @@ use Rattle.basis_core.specs.Members.{Shared}
 use Rattle.basis_core.specs.Shown.{Shown}
 use Rattle.groebner_iface.specs.declared.stop.Stop.{Stop}
 use Rattle.groebner_iface.specs.declared.stop.Stop.TheVariants.{Memory, Pairs, Degree}
-use Rattle.run_endings.specs.Stops.{IsCounted, IsStop, stopped_on, stopped_run}
+use Rattle.run_endings.specs.Stops.{IsKeptWhereCounted, IsStop, stopped_on, stopped_run}
 use Rattle.plain_buchberger.specs.Runs.{KeptLeaves}
 
 -- its budget of pairs; how many runs stopped; the state and the trail that are kept of the last one of them
@@ -18,7 +18,7 @@ pub record EngineShown : Type 0 where
 -- what is kept is of a run of this engine that stopped, and it is counted; one by the budget leaves a pair
 pub record IsKeptBy (e : EngineShown) : Type 0 where
   pub stop : IsStop e.pairs 1 e.state e.trail
-  pub counted : IsCounted e.stops (stopped_run e.state e.trail)
+  pub counted : IsKeptWhereCounted e.stops (stopped_run e.state e.trail)
   pub left : KeptLeaves e.state e.trail
 
 -- one more run that stopped is counted, up to 2 ^ 64 - 1; the budget is the same

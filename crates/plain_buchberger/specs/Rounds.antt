@@ -53,9 +53,9 @@ RoundStops s reasons.Memory = ⊤
 RoundStops s (reasons.Degree t) = IsDegreeStop s t
 
 -- Degree comes with a trail of the state's members and of a job of its history
-abbrev pub WorkStops : Shown → WorkStop → Type 0
-WorkStops s works.Memory = ⊤
-WorkStops s (works.Degree t) = IsRunTrail (variables_of s) s t
+abbrev pub StateStops : Shown → WorkStop → Type 0
+StateStops s works.Memory = ⊤
+StateStops s (works.Degree t) = IsRunTrail (variables_of s) s t
 
 -- the state keeps a stop by the degree
 abbrev pub KeepsDegree : Shown → Type 0
@@ -67,6 +67,6 @@ WorkFails s works.Memory = ⊤
 WorkFails s (works.Degree t) = IsDegreeStop s t
 
 -- after a pair more pairs are taken, within the budget; or the run is closed
-abbrev pub RoundEnds : (old new : Shown) → Round → Type 0
-RoundEnds old new rounds.Pair = IsFree new × (old.taken < new.taken) × (new.taken ≤ new.budget)
-RoundEnds old new rounds.Closed = IsClosed new
+abbrev pub PairRoundEnds : (old new : Shown) → Round → Type 0
+PairRoundEnds old new rounds.Pair = IsFree new × (old.taken < new.taken) × (new.taken ≤ new.budget)
+PairRoundEnds old new rounds.Closed = IsClosed new

@@ -2,7 +2,7 @@
 ghost use Rattle.std.specs.Prelude.{◌≡◌, ◌<◌, IfOk, IfErr, OnOk};
 ghost use Rattle.basis_core.specs.Views.{IsSameRun};
 ghost use Rattle.run_endings.specs.Endings.{IsClosed};
-ghost use Rattle.plain_buchberger.specs.Rounds.{IsFree, IsOut, IsRunning, KeepsDegree, RoundEnds, RoundStops, WorkFails, WorkStops};
+ghost use Rattle.plain_buchberger.specs.Rounds.{IsFree, IsOut, IsRunning, KeepsDegree, PairRoundEnds, RoundStops, WorkFails, StateStops};
 
 use basis_core::{BasisState, Job, Outcome, StopReason, Taken};
 use module_vectors::WorkStop;
@@ -37,7 +37,7 @@ fn kept_trail(alloc: Global, state: &BasisState) -> WorkStop
 // Stops the run by the degree; a copy of the trail is given back. Memory is not kept, as the run is then forgotten.
 fn stop_work(alloc: Global, state: &mut BasisState, stop: WorkStop) -> WorkStop
     requires runs { IsRunning state.old }
-    requires stop { WorkStops state.old stop }
+    requires stop { StateStops state.old stop }
     ensures run { IsSameRun state.old state.new }
     ensures stop { WorkFails state.new result }
 {
@@ -80,7 +80,7 @@ fn do_job(alloc: Global, state: &mut BasisState, job: Job) -> Result<(), WorkSto
 fn do_round(alloc: Global, state: &mut BasisState) -> Result<Round, StopReason>
     requires { IsFree state.old }
     ensures run { IsSameRun state.old state.new }
-    ensures round { IfOk result (RoundEnds state.old state.new) }
+    ensures round { IfOk result (PairRoundEnds state.old state.new) }
     ensures stop { IfErr result (RoundStops state.new) }
 {
     match state.take(alloc, 0, 1) {

@@ -17,7 +17,7 @@ use Rattle.monomial_orders.proofs.Over.{weighed_exact}
 use Rattle.monomial_orders.specs.Kept.{IsWeighed, Monomial}
 use Rattle.module_vectors.specs.Vectors.{HasPositions, key_of, sum_of}
 use Rattle.module_vectors.specs.declared.key.Key.{Key}
-use Rattle.poly_text.specs.Names.{AreNames}
+use Rattle.poly_text.specs.Names.{AreDistinctNames}
 use Rattle.poly_text.specs.Printable.{IsPrintable, IsPrintableNumber, IsPrintableVector}
 use Rattle.poly_text.specs.Texts.{terms_at, entries_text, entry_texts, factor_texts, joined, list_text, poly_text, powers_texts, term_text, vector_text}
 use Rattle.poly_text.proofs.Decimals.{AreDigits, decimal_digits_wide, decimal_same}
@@ -36,7 +36,7 @@ weighed_same n ws a b ha hb e = weighed_exact n ws a b ha hb (ap (exponents_of n
 abbrev pub AreAt : ℕ → List (Key × ℕ) → Type 0
 AreAt i terms = Each (λ t. t.0.position ≡ i) terms
 
-term_injective : (names : List (List ℕ)) (ws : List ℕ) (i : ℕ) (t u : Key × ℕ) → AreNames names → IsPrintable (length names) ws t → IsPrintable (length names) ws u
+term_injective : (names : List (List ℕ)) (ws : List ℕ) (i : ℕ) (t u : Key × ℕ) → AreDistinctNames names → IsPrintable (length names) ws t → IsPrintable (length names) ws u
     → t.0.position ≡ i → u.0.position ≡ i → term_text names t ≡ term_text names u → t ≡ u
 term_injective names ws i t u hn ht hu at au e =
     let both = product_injective t.1 u.1 (powers_texts names t.0.monomial.exponents) (powers_texts names u.0.monomial.exponents) ht.residue hu.residue
@@ -46,7 +46,7 @@ term_injective names ws i t u hn ht hu at au e =
     (powers_injective names t.0.monomial.exponents u.0.monomial.exponents hn.0 hn.1 ht.weighed.variables hu.weighed.variables ht.exponents hu.exponents both.1))
     both.0
 
-terms_injective : (names : List (List ℕ)) (ws : List ℕ) (i : ℕ) (v w : List (Key × ℕ)) → AreNames names → Each (IsPrintable (length names) ws) v → Each (IsPrintable (length names) ws) w
+terms_injective : (names : List (List ℕ)) (ws : List ℕ) (i : ℕ) (v w : List (Key × ℕ)) → AreDistinctNames names → Each (IsPrintable (length names) ws) v → Each (IsPrintable (length names) ws) w
     → AreAt i v → AreAt i w → map (term_text names) v ≡ map (term_text names) w → v ≡ w
 terms_injective names ws i [] [] hn hv hw av aw e = refl
 terms_injective names ws i [] (u ∷ w) hn hv hw av aw e = absurd cc
@@ -71,12 +71,12 @@ summands_some : (names : List (List ℕ)) (v : List (Key × ℕ)) → 0 < length
 summands_some names [] = omega arith
 summands_some names (t ∷ ts) = omega arith
 
-terms_bytes : (names : List (List ℕ)) (ws : List ℕ) (v : List (Key × ℕ)) → AreNames names → Each (IsPrintable (length names) ws) v → Each (Each IsTermByte) (map (term_text names) v)
+terms_bytes : (names : List (List ℕ)) (ws : List ℕ) (v : List (Key × ℕ)) → AreDistinctNames names → Each (IsPrintable (length names) ws) v → Each (Each IsTermByte) (map (term_text names) v)
 terms_bytes names ws [] hn hv = tt
 terms_bytes names ws (t ∷ ts) hn hv =
     (product_bytes t.1 (powers_texts names t.0.monomial.exponents) hv.0.residue (powers_are names t.0.monomial.exponents hn.0 hv.0.exponents), terms_bytes names ws ts hn hv.1)
 
-summands_bytes : (names : List (List ℕ)) (ws : List ℕ) (v : List (Key × ℕ)) → AreNames names → Each (IsPrintable (length names) ws) v → Each (Each IsTermByte) (summands names v)
+summands_bytes : (names : List (List ℕ)) (ws : List ℕ) (v : List (Key × ℕ)) → AreDistinctNames names → Each (IsPrintable (length names) ws) v → Each (Each IsTermByte) (summands names v)
 summands_bytes names ws [] hn hv = (product_bytes 0 [] (omega arith) tt, tt)
 summands_bytes names ws (t ∷ ts) hn hv = terms_bytes names ws (t ∷ ts) hn hv
 
@@ -84,12 +84,12 @@ summands_free : (xs : List (List ℕ)) → Each (Each IsTermByte) xs → Each (F
 summands_free xs h = each_map (Each IsTermByte) (Free 43) xs (λ x k. each_map IsTermByte (λ c. c ≢ 43) x (λ c l. l.1) k) h
 
 -- zero is not the text of a term
-not_zero : (names : List (List ℕ)) (ws : List ℕ) (t : Key × ℕ) → AreNames names → IsPrintable (length names) ws t → joined 42 (factor_texts 0 []) ≡ term_text names t → ⊥
+not_zero : (names : List (List ℕ)) (ws : List ℕ) (t : Key × ℕ) → AreDistinctNames names → IsPrintable (length names) ws t → joined 42 (factor_texts 0 []) ≡ term_text names t → ⊥
 not_zero names ws t hn ht e =
     let both = product_injective 0 t.1 [] (powers_texts names t.0.monomial.exponents) (omega arith) ht.residue tt (powers_are names t.0.monomial.exponents hn.0 ht.exponents) e in
     absurd (omega (arith, both.0, ht.nonzero))
 
-summands_injective : (names : List (List ℕ)) (ws : List ℕ) (i : ℕ) (v w : List (Key × ℕ)) → AreNames names → Each (IsPrintable (length names) ws) v → Each (IsPrintable (length names) ws) w
+summands_injective : (names : List (List ℕ)) (ws : List ℕ) (i : ℕ) (v w : List (Key × ℕ)) → AreDistinctNames names → Each (IsPrintable (length names) ws) v → Each (IsPrintable (length names) ws) w
     → AreAt i v → AreAt i w → summands names v ≡ summands names w → v ≡ w
 summands_injective names ws i [] [] hn hv hw av aw e = refl
 summands_injective names ws i [] (u ∷ w) hn hv hw av aw e =
@@ -99,7 +99,7 @@ summands_injective names ws i (t ∷ v) [] hn hv hw av aw e =
 summands_injective names ws i (t ∷ v) (u ∷ w) hn hv hw av aw e = terms_injective names ws i (t ∷ v) (u ∷ w) hn hv hw av aw e
 
 -- a polynomial's text says its terms
-pub poly_injective : (names : List (List ℕ)) (ws : List ℕ) (i : ℕ) (v w : List (Key × ℕ)) → AreNames names → Each (IsPrintable (length names) ws) v → Each (IsPrintable (length names) ws) w
+pub poly_injective : (names : List (List ℕ)) (ws : List ℕ) (i : ℕ) (v w : List (Key × ℕ)) → AreDistinctNames names → Each (IsPrintable (length names) ws) v → Each (IsPrintable (length names) ws) w
     → AreAt i v → AreAt i w → poly_text names v ≡ poly_text names w → v ≡ w
 poly_injective names ws i v w hn hv hw av aw e =
     summands_injective names ws i v w hn hv hw av aw
@@ -110,7 +110,7 @@ poly_injective names ws i v w hn hv hw av aw e =
 abbrev IsPolyByte : ℕ → Type 0
 IsPolyByte c = (42 ≤ c) × (c ≢ 44)
 
-pub poly_bytes : (names : List (List ℕ)) (ws : List ℕ) (v : List (Key × ℕ)) → AreNames names → Each (IsPrintable (length names) ws) v → Each IsPolyByte (poly_text names v)
+pub poly_bytes : (names : List (List ℕ)) (ws : List ℕ) (v : List (Key × ℕ)) → AreDistinctNames names → Each (IsPrintable (length names) ws) v → Each IsPolyByte (poly_text names v)
 poly_bytes names ws v hn hv =
     rw (poly_is names v)
     (each_joined IsPolyByte 43 (summands names v) (omega arith, λ e. absurd (omega arith))
@@ -134,16 +134,16 @@ each_entry : (P : List ℕ → Type 0) (f : ℕ → List ℕ) (a n : ℕ) → ((
 each_entry P f a zero h = tt
 each_entry P f a (suc n) h = (h a, each_entry P f (a + 1) n h)
 
-entry_bytes : (names : List (List ℕ)) (ws : List ℕ) (v : List (Key × ℕ)) (i : ℕ) → AreNames names → Each (IsPrintable (length names) ws) v → Each IsPolyByte (poly_text names (terms_at i v))
+entry_bytes : (names : List (List ℕ)) (ws : List ℕ) (v : List (Key × ℕ)) (i : ℕ) → AreDistinctNames names → Each (IsPrintable (length names) ws) v → Each IsPolyByte (poly_text names (terms_at i v))
 entry_bytes names ws v i hn hv = poly_bytes names ws (terms_at i v) hn (each_filtered (IsPrintable (length names) ws) (λ t. t.0.position == i) v hv)
 
-entries_free : (names : List (List ℕ)) (ws : List ℕ) (rank : ℕ) (v : List (Key × ℕ)) → AreNames names → Each (IsPrintable (length names) ws) v → Each (Free 44) (entry_texts names rank v)
+entries_free : (names : List (List ℕ)) (ws : List ℕ) (rank : ℕ) (v : List (Key × ℕ)) → AreDistinctNames names → Each (IsPrintable (length names) ws) v → Each (Free 44) (entry_texts names rank v)
 entries_free names ws rank v hn hv =
     each_entry (Free 44) (λ i. poly_text names (terms_at i v)) 0 rank
     (λ i. each_map IsPolyByte (λ c. c ≢ 44) (poly_text names (terms_at i v)) (λ c l. l.1) (entry_bytes names ws v i hn hv))
 
 -- the texts of the entries say what stands at each position
-entries_injective : (names : List (List ℕ)) (ws : List ℕ) (rank : ℕ) (v w : List (Key × ℕ)) → AreNames names → Each (IsPrintable (length names) ws) v → Each (IsPrintable (length names) ws) w
+entries_injective : (names : List (List ℕ)) (ws : List ℕ) (rank : ℕ) (v w : List (Key × ℕ)) → AreDistinctNames names → Each (IsPrintable (length names) ws) v → Each (IsPrintable (length names) ws) w
     → entries_text names rank v ≡ entries_text names rank w → (i : ℕ) → i < rank → terms_at i v ≡ terms_at i w
 entries_injective names ws zero v w hn hv hw e i below = absurd (omega arith)
 entries_injective names ws (suc k) v w hn hv hw e i below =
@@ -218,7 +218,7 @@ sorted_same {n} compare apart (t ∷ v) (u ∷ w) dv dw e =
 
 -- a vector's text says the vector
 pub vector_injective : (names : List (List ℕ)) (ws : List ℕ) (rank : ℕ) (compare : KeyOf (length names) → KeyOf (length names) → Ordering) (v w : List (Key × ℕ))
-    → AreNames names → IsKeyOrder rank compare → IsPrintableVector (length names) ws rank compare v → IsPrintableVector (length names) ws rank compare w
+    → AreDistinctNames names → IsKeyOrder rank compare → IsPrintableVector (length names) ws rank compare v → IsPrintableVector (length names) ws rank compare w
     → vector_text names rank v ≡ vector_text names rank w → v ≡ w
 vector_injective names ws rank compare v w hn order hv hw e = go (rank == 1) refl e where
   at_zero : (x : List (Key × ℕ)) → HasPositions rank x → rank ≡ 1 → AreAt 0 x
@@ -233,7 +233,7 @@ vector_injective names ws rank compare v w hn order hv hw e = go (rank == 1) ref
       (everywhere rank v w hv.positions hw.positions (entries_injective names ws rank v w hn hv.each hw.each k))
 
 -- a vector's text has no newline
-vector_free : (names : List (List ℕ)) (ws : List ℕ) (rank : ℕ) (v : List (Key × ℕ)) → AreNames names → Each (IsPrintable (length names) ws) v → Free 10 (vector_text names rank v)
+vector_free : (names : List (List ℕ)) (ws : List ℕ) (rank : ℕ) (v : List (Key × ℕ)) → AreDistinctNames names → Each (IsPrintable (length names) ws) v → Free 10 (vector_text names rank v)
 vector_free names ws rank v hn hv = go (rank == 1) where
   far : (x : List ℕ) → Each IsPolyByte x → Free 10 x
   far x h = each_map IsPolyByte (λ c. c ≢ 10) x (λ c l e. absurd (omega (arith, l.0))) h
@@ -254,7 +254,7 @@ no_line (c ∷ x) rest e = cc
 
 -- a list's text says the list
 pub list_injective : (names : List (List ℕ)) (ws : List ℕ) (rank : ℕ) (compare : KeyOf (length names) → KeyOf (length names) → Ordering) (xs ys : List (List (Key × ℕ)))
-    → AreNames names → IsKeyOrder rank compare
+    → AreDistinctNames names → IsKeyOrder rank compare
     → Each (IsPrintableVector (length names) ws rank compare) xs → Each (IsPrintableVector (length names) ws rank compare) ys
     → list_text names rank xs ≡ list_text names rank ys → xs ≡ ys
 list_injective names ws rank compare [] [] hn order hx hy e = refl

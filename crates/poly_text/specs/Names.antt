@@ -21,5 +21,5 @@ AreDistinct [] = ⊤
 AreDistinct (x ∷ xs) = Each (λ y. x ≢ y) xs × AreDistinct xs
 
 -- distinct names
-abbrev pub AreNames : List (List ℕ) → Type 0
-AreNames names = Each IsName names × AreDistinct names
+abbrev pub AreDistinctNames : List (List ℕ) → Type 0
+AreDistinctNames names = Each IsName names × AreDistinct names

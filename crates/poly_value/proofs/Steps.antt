@@ -19,7 +19,7 @@ use Rattle.module_vectors.specs.declared.ring.Ring.{Ring}
 use Rattle.sparse_poly.proofs.Bounding.{HasDegreeWithin_same}
 use Rattle.sparse_poly.specs.Degrees.{HasDegreeWithin}
 use Rattle.poly_value.proofs.Degrees.{allowed, within_step}
-use Rattle.poly_value.specs.Parts.{Advances, AreParts, HaveDegreesWithin, IsPart, IsReady, PowerFits, ProductFits}
+use Rattle.poly_value.specs.Parts.{Advances, AreParts, HaveDegreesWithin, IsPart, IsReady, PowerFits, ProductFitsBounds}
 use Rattle.poly_value.specs.declared.operands.Operand.{Operand}
 use Rattle.poly_value.specs.Values.{degrees_of, polynomials_of}
 
@@ -182,12 +182,12 @@ sum_within ring d v terms h g = HasDegreeWithin_same (IsSame_sym h.stands) g
 -- the degrees of a product and a power that can be worked out
 pub product_fits :
     (ring : Ring) (line : List ℕ) (stack mid rest : List Operand) (right left : Operand)
-    → IsReady ring line Multiply stack → stack ≡ right ∷ mid → mid ≡ left ∷ rest → ProductFits ring left.terms.items right.terms.items
+    → IsReady ring line Multiply stack → stack ≡ right ∷ mid → mid ≡ left ∷ rest → ProductFitsBounds ring left.terms.items right.terms.items
 product_fits ring line stack mid rest right left h e f = go h.values h.bounds (subst (λ l. AreParts ring l h.values) (e ∙ ap (λ l. right ∷ l) f) h.parts) h.within h.degree.1
   where
     go :
         (vs : List (FormalSum (variables ring))) (ds : List ℕ) → AreParts ring (right ∷ left ∷ rest) vs → HaveDegreesWithin ring.weights ring.modulus.value vs ds
-        → worth_step (degrees_of ring line) Multiply ds ≡ Some h.degree.0 → ProductFits ring left.terms.items right.terms.items
+        → worth_step (degrees_of ring line) Multiply ds ≡ Some h.degree.0 → ProductFitsBounds ring left.terms.items right.terms.items
     go [] ds p q r = absurd p
     go (b ∷ []) ds p q r = absurd p.1
     go (b ∷ a ∷ vs) [] p q r = absurd q

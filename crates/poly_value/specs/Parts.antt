@@ -25,8 +25,8 @@ pub record IsPart (ring : Ring) (v : FormalSum (variables ring)) (terms : List (
   pub stands : StandsFor ring terms v
 
 -- the product of the sums has a degree of at most 65,535, by bounds on theirs
-abbrev pub ProductFits : Ring → List (Key × ℕ) → List (Key × ℕ) → Type 0
-ProductFits ring left right = (d e : ℕ) × HasDegreeWithin ring.weights ring.modulus.value d (sum_of (variables ring) left)
+abbrev pub ProductFitsBounds : Ring → List (Key × ℕ) → List (Key × ℕ) → Type 0
+ProductFitsBounds ring left right = (d e : ℕ) × HasDegreeWithin ring.weights ring.modulus.value d (sum_of (variables ring) left)
     × HasDegreeWithin ring.weights ring.modulus.value e (sum_of (variables ring) right) × (d + e ≤ 65535)
 
 -- the power of the sum has a degree of at most 65,535, by a bound on that of the sum

@@ -10,7 +10,7 @@ ghost use Rattle.module_vectors.specs.Rings.{variables};
 ghost use Rattle.module_vectors.specs.Vectors.{HasPositions, IsVectorOver, StandsFor, sum_of};
 ghost use Rattle.module_vectors.specs.declared.stop.VectStop.TheVariants.{Memory};
 ghost use Rattle.sparse_poly.specs.Powers.{constant, power};
-ghost use Rattle.poly_value.specs.Parts.{IsPart, IsSum, PowerFits, ProductFits};
+ghost use Rattle.poly_value.specs.Parts.{IsPart, IsSum, PowerFits, ProductFitsBounds};
 ghost use Rattle.poly_value.specs.Values.{variable_sum};
 
 use module_vectors::{Frame, Key, NoMemory, Vect, VectStop};
@@ -109,7 +109,7 @@ pub fn product_part<F: Frame>(
 ) -> Result<Vec<(Key, u32)>, NoMemory>
     requires left { IsSum (F.over frame.now) left.items }
     requires right { IsSum (F.over frame.now) right.items }
-    requires fits { ProductFits (F.over frame.now) left.items right.items }
+    requires fits { ProductFitsBounds (F.over frame.now) left.items right.items }
     ensures { (v w : FormalSum (variables (F.over frame.now))) → IsPart (F.over frame.now) v left.items → IsPart (F.over frame.now) w right.items
         → IfOk result (λ terms. IsPart (F.over frame.now) (product v w) terms.items) }
 {

@@ -47,9 +47,9 @@ stopped_run None (Some t) = Some (stopped_on (shared_of_trail t) answers.Degree)
 stopped_run (Some s) (Some t) = Some (stopped_on s.shared answers.Degree)
 
 -- a run is kept exactly where one is counted
-abbrev pub IsCounted : (stops : ℕ) → Option StoppedRun → Type 0
-IsCounted stops None = stops ≡ 0
-IsCounted stops (Some run) = 0 < stops
+abbrev pub IsKeptWhereCounted : (stops : ℕ) → Option StoppedRun → Type 0
+IsKeptWhereCounted stops None = stops ≡ 0
+IsKeptWhereCounted stops (Some run) = 0 < stops
 
 -- what is kept is of the run on these, with this budget and so many workers
 abbrev pub RunStops : (pairs workers : ℕ) → Shared → RunStop → Type 0

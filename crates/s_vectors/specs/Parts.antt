@@ -28,9 +28,9 @@ pub record IsGreatPart (list : List (List (CodeKey × ℕ))) (parts : List Scale
   pub too_great : IsTooGreat part.monomial m
 
 -- Degree comes with such a part alone
-abbrev pub SumStops : List (List (CodeKey × ℕ)) → List ScaledProduct → SumStop → Type 0
-SumStops list parts Memory = ⊤
-SumStops list parts (Degree number m) = IsGreatPart list parts number m
+abbrev pub PartsStop : List (List (CodeKey × ℕ)) → List ScaledProduct → SumStop → Type 0
+PartsStop list parts Memory = ⊤
+PartsStop list parts (Degree number m) = IsGreatPart list parts number m
 
 -- this residue times the monomial that takes the lead of the vector with this index to the lcm
 pub record IsTopPart (n : ℕ) (ws : List ℕ) (list : List (List (CodeKey × ℕ))) (lcm : CodeKey) (index residue : ℕ) (q : ScaledProduct) : Type 0 where

@@ -10,7 +10,7 @@ ghost use Rattle.vector_division.specs.Reductions.{unscaled};
 ghost use Rattle.basis_core.specs.Members.{Tracked};
 ghost use Rattle.basis_core.specs.Rows.{vectors_in};
 ghost use Rattle.s_vectors.specs.Divided.{AreOfPair, HasKeysMet, IsDivided, IsTopVector, negated};
-ghost use Rattle.s_vectors.specs.Parts.{SumStops};
+ghost use Rattle.s_vectors.specs.Parts.{PartsStop};
 ghost use Rattle.s_vectors.specs.Solutions.{IsSolvedPair};
 ghost use Rattle.s_vectors.specs.PairProducts.{ArePairProducts, PairStops};
 
@@ -52,7 +52,7 @@ fn products_to(
 // The stop where the sum of the parts stopped.
 fn stop_of_sum(alloc: Global, parts: Vec<ScaledProduct>, stop: SumStop) -> PairStop
     ensures { (n : ℕ) (ws : List ℕ) (ms : List Tracked) (k : KeyOf n) → ArePairProducts n ws (vectors_in ms) k (map unscaled parts.items)
-        → SumStops (vectors_in ms) parts.items stop → PairStops n ws ms k result }
+        → PartsStop (vectors_in ms) parts.items stop → PairStops n ws ms k result }
 {
     match stop {
         SumStop::Memory => PairStop::Memory,

@@ -7,7 +7,7 @@ ghost use Rattle.module_vectors.specs.Rings.{ring_comparison, variables};
 ghost use Rattle.module_vectors.specs.Stops.{Fits, HasMonomial, IsTooGreat};
 ghost use Rattle.module_vectors.specs.Vectors.{AreVectorsOver, IsVectorOver, StandsFor, sums_of};
 ghost use Rattle.vector_division.specs.Reductions.{cofactors_of, term_of};
-ghost use Rattle.s_vectors.specs.Parts.{IsGreatProduct, IsPart, SumStops};
+ghost use Rattle.s_vectors.specs.Parts.{IsGreatProduct, IsPart, PartsStop};
 ghost use Rattle.s_vectors.specs.declared.sums.SumStop.TheVariants.{Memory};
 
 use module_vectors::{NoMemory, Product, Ring, Vect, VectStop, Vectors};
@@ -109,7 +109,7 @@ pub(crate) fn sum_of_parts<L: Vectors>(
     ensures vector { IfOk result (IsVectorOver ring.now (ring_comparison ring.now)) }
     ensures sum { let n = variables ring.now in
         IfOk result (λ v. StandsFor ring.now v (combination (sums_of n (L.listed list.now)) (cofactors_of n parts.now))) }
-    ensures stop { IfErr result (SumStops (L.listed list.now) parts.now) }
+    ensures stop { IfErr result (PartsStop (L.listed list.now) parts.now) }
 {
     let products = products_of(alloc, parts, list)?;
     match Vect::sum_of_products(alloc, ring, &products) {

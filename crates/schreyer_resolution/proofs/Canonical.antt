@@ -21,7 +21,7 @@ use Rattle.syzygy_laws.specs.Syzygies.{induced_setting, pair_lead_key}
 use Rattle.vector_division.proofs.Occurring.{nonzeros}
 use Rattle.resolution_laws.proofs.Existence.{basis_of_pairs, exact_of_pairs}
 use Rattle.resolution_laws.specs.Resolutions.{IsCanonicalMap, IsExact}
-use Rattle.schreyer_resolution.specs.Steps.{ArePairLeads, IsColumn, IsLast, IsPairKey, key_at}
+use Rattle.schreyer_resolution.specs.Steps.{ArePairLeads, IsColumn, IsLastDivisor, IsPairKey, key_at}
 
 -- a key that stands nowhere has the coefficient 0
 pub coefficient_none : {n : ℕ} (v : FormalSum n) (k : Key n) → Each (λ t. k ≡ t.0 → ⊥) v → coefficient v k ≡ 0
@@ -33,7 +33,7 @@ coefficient_none (t ∷ v) k h =
 
 -- what a pair's lead divides is not last
 pub not_last :
-    {n : ℕ} (F : List (FormalSum n)) (k u : Key n) → IsPairKey F k → KeyDivides k u → IsLast F u → ⊥
+    {n : ℕ} (F : List (FormalSum n)) (k u : Key n) → IsPairKey F k → KeyDivides k u → IsLastDivisor F u → ⊥
 not_last {n} F k u p (m, e) last = last p.later (subst (λ x. x < p.later) at p.after) p.inside (times m (quotient (lcm a b) b), divides)
   where
     a : Exponents n
@@ -68,7 +68,7 @@ module _ {n : ℕ} (S : Setting n) (lawful : IsLawful S) (F : List (FormalSum n)
   up = IsLawful_induced S lawful F list
 
   abbrev IsBelow : Key n → Term n → Type 0
-  IsBelow k t = (T.compare k t.0 ≡ Greater) × IsLast F t.0
+  IsBelow k t = (T.compare k t.0 ≡ Greater) × IsLastDivisor F t.0
 
   -- ---- a column by its terms
   module _ (k : Key n) (tail : FormalSum n) (below : Each (IsBelow k) tail) where
@@ -89,12 +89,12 @@ module _ {n : ℕ} (S : Setting n) (lawful : IsLawful S) (F : List (FormalSum n)
       above = λ l e. IsCongruent_of S.modulus _ 0 (at_whole l (λ q. not_itself up.order k (subst (λ x. T.compare k x ≡ Less) q e)) (none_at l tail (inl e) below));
     }
 
-    found : (l : Key n) (w : FormalSum n) → Each (IsBelow k) w → IsLast F l ⊎ Each (λ t. l ≡ t.0 → ⊥) w
+    found : (l : Key n) (w : FormalSum n) → Each (IsBelow k) w → IsLastDivisor F l ⊎ Each (λ t. l ≡ t.0 → ⊥) w
     found l [] h = inr tt
     found l (t ∷ w) h = go (key_cases l t.0) (found l w h.1)
       where
-        go : (l ≡ t.0) ⊎ (l ≡ t.0 → ⊥) → IsLast F l ⊎ Each (λ u. l ≡ u.0 → ⊥) w → IsLast F l ⊎ Each (λ u. l ≡ u.0 → ⊥) (t ∷ w)
-        go (inl e) r = inl (subst (IsLast F) (sym e) h.0.1)
+        go : (l ≡ t.0) ⊎ (l ≡ t.0 → ⊥) → IsLastDivisor F l ⊎ Each (λ u. l ≡ u.0 → ⊥) w → IsLastDivisor F l ⊎ Each (λ u. l ≡ u.0 → ⊥) (t ∷ w)
+        go (inl e) r = inl (subst (IsLastDivisor F) (sym e) h.0.1)
         go (inr ne) (inl a) = inl a
         go (inr ne) (inr a) = inr (ne, a)
 
@@ -114,17 +114,17 @@ module _ {n : ℕ} (S : Setting n) (lawful : IsLawful S) (F : List (FormalSum n)
           IsCongruent_equal S.modulus t.1 1 normal.residues.0.1 lawful.domain.above_one
           (IsCongruent_trans (IsCongruent_of S.modulus _ _ (sym (at_head T up t w normal.descends))) (subst (λ x. IsCongruent S.modulus (coefficient (t ∷ w) x) 1) (sym at_lead) lead.one))
 
-      last_of : (u : Term n) → (IsCongruent S.modulus (coefficient (t ∷ w) u.0) 0 → ⊥) → T.compare t.0 u.0 ≡ Greater → IsLast F u.0
+      last_of : (u : Term n) → (IsCongruent S.modulus (coefficient (t ∷ w) u.0) 0 → ⊥) → T.compare t.0 u.0 ≡ Greater → IsLastDivisor F u.0
       last_of u nz g = go (found u.0 tail below)
         where
           other : u.0 ≡ k → ⊥
           other e = not_itself up.order t.0 (less_of_greater up.order t.0 t.0 (ap (T.compare t.0) (at_lead ∙ sym e) ∙ g))
 
-          go : IsLast F u.0 ⊎ Each (λ x. u.0 ≡ x.0 → ⊥) tail → IsLast F u.0
+          go : IsLastDivisor F u.0 ⊎ Each (λ x. u.0 ≡ x.0 → ⊥) tail → IsLastDivisor F u.0
           go (inl a) = a
           go (inr a) = absurd (nz (IsCongruent_trans (same.by_key u.0) (IsCongruent_of S.modulus _ 0 (at_whole u.0 other a))))
 
-      rest_last : (xs : FormalSum n) → Each (λ u. IsCongruent S.modulus (coefficient (t ∷ w) u.0) 0 → ⊥) xs → Each (λ u. T.compare t.0 u.0 ≡ Greater) xs → Each (λ u. IsLast F u.0) xs
+      rest_last : (xs : FormalSum n) → Each (λ u. IsCongruent S.modulus (coefficient (t ∷ w) u.0) 0 → ⊥) xs → Each (λ u. T.compare t.0 u.0 ≡ Greater) xs → Each (λ u. IsLastDivisor F u.0) xs
       rest_last [] nz g = tt
       rest_last (u ∷ xs) nz g = (last_of u nz.0 g.0, rest_last xs nz.1 g.1)
 
@@ -174,14 +174,14 @@ module _ {n : ℕ} (S : Setting n) (lawful : IsLawful S) (F : List (FormalSum n)
     columns_exact = exact_of_pairs S lawful F list H columns_monic (λ c lt. (columns c lt).syzygy) covered
 
     -- no other column's lead divides a key of a column
-    free_key : (i j : ℕ) → i < length H → j < length H → (i ≡ j → ⊥) → (k : Key n) → KeyDivides (leads H j) k → (v : FormalSum n) → head_key v ≡ key_at keys i → Each (λ t. IsLast F t.0) (drop 1 v) → Each (λ t. k ≡ t.0 → ⊥) v
+    free_key : (i j : ℕ) → i < length H → j < length H → (i ≡ j → ⊥) → (k : Key n) → KeyDivides (leads H j) k → (v : FormalSum n) → head_key v ≡ key_at keys i → Each (λ t. IsLastDivisor F t.0) (drop 1 v) → Each (λ t. k ≡ t.0 → ⊥) v
     free_key i j hi hj ne k d [] e last = tt
     free_key i j hi hj ne k d (t ∷ w) e last = (
       λ q. pairs.apart i j (known i hi) (known j hj) ne (subst₂ KeyDivides (lead_at j hj) (q ∙ e) d),
       rest w last,
     )
       where
-        rest : (w : FormalSum n) → Each (λ t. IsLast F t.0) w → Each (λ t. k ≡ t.0 → ⊥) w
+        rest : (w : FormalSum n) → Each (λ t. IsLastDivisor F t.0) w → Each (λ t. k ≡ t.0 → ⊥) w
         rest [] h = tt
         rest (u ∷ w) h = ((λ q. not_last F (key_at keys j) u.0 (pairs.each j (known j hj)) (subst₂ KeyDivides (lead_at j hj) q d) h.0), rest w h.1)
 

@@ -43,7 +43,7 @@ use Rattle.vector_division.specs.declared.reduction.ScaledProduct.{ScaledProduct
 use Rattle.schreyer_resolution.specs.Chains.{IsFailing}
 use Rattle.schreyer_resolution.specs.Columns.{IsDivided, IsFoundLast, IsProductOf, IsUnderway}
 use Rattle.schreyer_resolution.specs.Sifting.{IsSifting}
-use Rattle.schreyer_resolution.specs.Steps.{IsLast, IsPairKey}
+use Rattle.schreyer_resolution.specs.Steps.{IsLastDivisor, IsPairKey}
 use Rattle.schreyer_resolution.proofs.Making.{v_member}
 
 abbrev pub Terms : Type 0
@@ -333,7 +333,7 @@ module _ (ring : Ring) (compare : (n : ℕ) → Key n → Key n → Ordering) (r
         divisible none = u.covered K left_led.nonzero none
 
         module _ (s : KeptProduct) (found : IsFoundLast (variables ring) ring.weights cols (key_of (variables ring) t.0) (Some s)) where
-          is_last : IsLast F (s.0, exponents_of (variables ring) s.1.exponents)
+          is_last : IsLastDivisor F (s.0, exponents_of (variables ring) s.1.exponents)
           is_last j after inside d =
               let there : j < length cols = in_cols j inside in
               found.1 j (omega (arith, after)) there (some j there)

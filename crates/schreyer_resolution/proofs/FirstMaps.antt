@@ -19,7 +19,7 @@ use Rattle.module_vectors.specs.declared.trail.WorkStop.{WorkStop}
 use Rattle.module_vectors.specs.declared.trail.WorkStop.TheVariants.{Degree, Memory}
 use Rattle.schreyer_resolution.specs.Columns.{AreColumnsTo, ColumnStops, IsColumnOf}
 use Rattle.schreyer_resolution.specs.Inducing.{Columns, Tower, induced_through, maps_of, over, tower_comparison}
-use Rattle.schreyer_resolution.specs.Progress.{AreResolvedTo, HavePositions, IsNext, IsTop}
+use Rattle.schreyer_resolution.specs.Progress.{AreResolvedTo, HavePositions, IsNext, IsTopMap}
 use Rattle.schreyer_resolution.specs.Resolved.{AreCanonicalTo, AreFirstMaps, AreVectorsThrough, ResolutionStops}
 use Rattle.schreyer_resolution.specs.Steps.{ArePairLeads, IsColumn, IsPairKey, key_at}
 use Rattle.schreyer_resolution.proofs.Canonical.{columns_canonical, columns_exact, columns_monic, columns_reduced}
@@ -142,7 +142,7 @@ module _ (ring : Ring) (rank : ℕ) (reduced : List Terms) (maps : Columns) (r :
     below = maps;
     last = H;
     split = refl;
-    top = subst (λ z. IsTop ring z H) (sym r.split) next.top;
+    top = subst (λ z. IsTopMap ring z H) (sym r.split) next.top;
     positions = positions_more rank maps H r.positions r.below r.last r.split next.positions;
     vectors = vectors_more ring [] maps H r.vectors (subst (λ z. AreVectorsOver ring (tower_comparison (over ring z)) H) (sym r.split) next.top.vectors);
     first = subst (AreFirstMaps S (sums_of (variables ring) reduced)) (sym (maps_of-more (variables ring) maps H)) (go (maps_of (variables ring) maps) r.first sums_split);
@@ -197,7 +197,7 @@ pub pair_at :
     (n : ℕ) (F : List (FormalSum n)) (keys : List CodeKey) (c : ℕ) (key : CodeKey) → ArePairLeads F (map (key_of n) keys) → c < length keys → key ≡ get_or keys c key → IsPairKey F (key_of n key)
 pair_at n F keys c key pairs lt is = subst (IsPairKey F) (get_or-map (key_of n) keys c key _ lt ∙ ap (key_of n) (sym is)) (pairs.each c (omega (arith, lt, length-map keys (key_of n))))
 
-module _ (ring : Ring) (below : Columns) (cols next : List Terms) (t : Tower) (keys : List CodeKey) (top : IsTop ring below cols)
+module _ (ring : Ring) (below : Columns) (cols next : List Terms) (t : Tower) (keys : List CodeKey) (top : IsTopMap ring below cols)
     (is : t ≡ over ring (below ++ cols ∷ [])) (lawful : (r : ℕ) → IsLawful (setting ring (variables ring) (tower_comparison (over ring below) (variables ring)) r))
     (pairs : ArePairLeads (sums_of (variables ring) cols) (map (key_of (variables ring)) keys))
     (done : AreColumnsTo ring (tower_comparison (over ring below)) cols t keys (length keys) next) where
@@ -268,7 +268,7 @@ tower_is t ring maps r m = ap₂ over r m
 -- the next map by what the calls answer
 pub next_by :
     (ring : Ring) (below : Columns) (cols : List Terms) (f t : Tower) (keys items : List CodeKey)
-    → f ≡ over ring below → t ≡ over ring (below ++ cols ∷ []) → items ≡ keys → IsTop ring below cols
+    → f ≡ over ring below → t ≡ over ring (below ++ cols ∷ []) → items ≡ keys → IsTopMap ring below cols
     → ((r : ℕ) → IsLawful (setting f.ring (variables f.ring) (tower_comparison f (variables f.ring)) r))
     → ArePairLeads (sums_of (variables f.ring) cols) (map (key_of (variables f.ring)) keys)
     → (next : List Terms) → AreColumnsTo f.ring (tower_comparison f) cols t items (length items) next

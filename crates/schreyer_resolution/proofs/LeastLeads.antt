@@ -23,7 +23,7 @@ use Rattle.module_vectors.specs.Trails.{lead_at}
 use Rattle.module_vectors.specs.Vectors.{key_of, sum_of, sums_of}
 use Rattle.module_vectors.specs.declared.key.Key.{Key as CodeKey}
 use Rattle.vector_division.proofs.Members.{sums_at}
-use Rattle.schreyer_resolution.specs.Pairs.{AreApart, AreLeastSoFar, ArePairLeadsTo, ArePairMonomials, Falls, IsBefore, Rises}
+use Rattle.schreyer_resolution.specs.Pairs.{AreApart, AreLeastSoFar, ArePairLeadsTo, ArePairMonomials, KeysFall, IsBefore, RisesLex}
 use Rattle.schreyer_resolution.specs.Steps.{ArePairLeads, IsPairKey, key_at}
 use Rattle.schreyer_resolution.proofs.Pushing.{get_or-map}
 
@@ -88,7 +88,7 @@ module _ (n : ℕ) where
   abbrev E : Monomial → Exponents n
   E m = exponents_of n m.exponents
 
-  pub least_start : (ms : List Monomial) → Rises n ms → AreLeastSoFar n [] ms []
+  pub least_start : (ms : List Monomial) → RisesLex n ms → AreLeastSoFar n [] ms []
   least_start ms h = record { inside = λ m c. c; covers = λ m c. absurd (none m c); apart = tt; up_to = tt; rises = h }
     where
       none : (m : Monomial) → Contains {X = Monomial} [] m → ⊥
@@ -152,11 +152,11 @@ module _ (n : ℕ) where
           ((less_of (E k) (E x) u.0.0 (λ e. here (subst (Divides (E k)) e (divides_itself (E k)))), here), below ks (λ l c. sub l (suc c.0, (let q = c.1 in omega (arith, q)), c.2)) u.1)
 
   -- ---- keys in the order of columns
-  falls_append : (xs ys : List CodeKey) → Falls n xs → Falls n ys → Each (λ k. Each (IsBefore n k) ys) xs → Falls n (xs ++ ys)
+  falls_append : (xs ys : List CodeKey) → KeysFall n xs → KeysFall n ys → Each (λ k. Each (IsBefore n k) ys) xs → KeysFall n (xs ++ ys)
   falls_append [] ys h g b = g
   falls_append (x ∷ xs) ys h g b = (Each_append _ xs ys h.0 b.0, falls_append xs ys h.1 g b.1)
 
-  falls_at : (ks : List CodeKey) (a b : ℕ) (d : CodeKey) → Falls n ks → a < b → b < length ks → IsBefore n (get_or ks a d) (get_or ks b d)
+  falls_at : (ks : List CodeKey) (a b : ℕ) (d : CodeKey) → KeysFall n ks → a < b → b < length ks → IsBefore n (get_or ks a d) (get_or ks b d)
   falls_at [] a b d h lt le = absurd (omega arith)
   falls_at (k ∷ ks) a zero d h lt le = absurd (omega arith)
   falls_at (k ∷ ks) zero (suc b) d h lt le = each_at (IsBefore n k) ks (get_or ks b d) h.0 (b, omega arith, get_or_default ks b (get_or ks b d) d (omega arith))
@@ -187,10 +187,10 @@ module _ (n : ℕ) where
   map_append f [] ys = refl
   map_append f (x ∷ xs) ys = ap (λ z. f x ∷ z) (map_append f xs ys)
 
-  falls_reversed : (i : ℕ) (kept : List Monomial) → AreApart n kept → Falls n (map (key_of_monomial i) (reverse kept))
+  falls_reversed : (i : ℕ) (kept : List Monomial) → AreApart n kept → KeysFall n (map (key_of_monomial i) (reverse kept))
   falls_reversed i [] h = tt
   falls_reversed i (k ∷ ks) h =
-      subst (Falls n) (sym (ap (map (key_of_monomial i)) (reverse-cons k ks) ∙ map_append (key_of_monomial i) (reverse ks) (k ∷ [])))
+      subst (KeysFall n) (sym (ap (map (key_of_monomial i)) (reverse-cons k ks) ∙ map_append (key_of_monomial i) (reverse ks) (k ∷ [])))
       (falls_append (map (key_of_monomial i) (reverse ks)) (key_of_monomial i k ∷ []) (falls_reversed i ks h.1) (tt, tt)
       (each_of_map (λ l. Each (IsBefore n l) (key_of_monomial i k ∷ [])) (key_of_monomial i) (reverse ks)
       (each_all _ (reverse ks) (λ l c. let r = each_at _ ks l h.0 (reverse_contains ks l c) in (before_of i k l r.0 r.1, tt)))))

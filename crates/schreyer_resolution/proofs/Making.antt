@@ -32,7 +32,7 @@ use Rattle.vector_division.specs.declared.reduction.ScaledProduct.{ScaledProduct
 use Rattle.schreyer_resolution.proofs.Canonical.{column_of}
 use Rattle.schreyer_resolution.specs.Columns.{IsColumnOf, IsDivided, IsProductOf, negated_term}
 use Rattle.schreyer_resolution.specs.Inducing.{Tower, tower_comparison}
-use Rattle.schreyer_resolution.specs.Steps.{IsLast, IsPairKey}
+use Rattle.schreyer_resolution.specs.Steps.{IsLastDivisor, IsPairKey}
 
 abbrev Terms : Type 0
 Terms = List (CodeKey × ℕ)
@@ -94,7 +94,7 @@ module _ {n : ℕ} (S : Setting n) (lawful : IsLawful S) (F : List (FormalSum n)
       )
 
   -- a term of a quotient stands below the lead of the column
-  module _ (q : Key n) (last : IsLast F q) (up_to : S.compare (shift q.1 (leads F q.0)) top_lead ≡ Greater → ⊥) where
+  module _ (q : Key n) (last : IsLastDivisor F q) (up_to : S.compare (shift q.1 (leads F q.0)) top_lead ≡ Greater → ⊥) where
     pub below_lead : T.compare k q ≡ Greater
     below_lead = go (S.compare top_lead (shift q.1 (leads F q.0))) refl
       where
@@ -205,9 +205,9 @@ module _ (ring : Ring) (compare : (n : ℕ) → Key n → Key n → Ordering) (r
     is_syzygy = whole_syzygy S lawful F monic kk pair (cofactors_of (variables ring) qs) (cof_rank qs u.progress.underway.quotients) (cof_reduced qs u.progress.underway.quotients) quotients
 
     one_below :
-        (q : ScaledProduct) → IsLast F (q.index, exponents_of (variables ring) q.monomial.exponents)
+        (q : ScaledProduct) → IsLastDivisor F (q.index, exponents_of (variables ring) q.monomial.exponents)
         → (compare (variables ring) (product_lead (variables ring) cols (unscaled q)) (head_key (sum_of (variables ring) v)) ≡ Greater → ⊥)
-        → ((induced_setting S F).compare kk (q.index, exponents_of (variables ring) q.monomial.exponents) ≡ Greater) × IsLast F (q.index, exponents_of (variables ring) q.monomial.exponents)
+        → ((induced_setting S F).compare kk (q.index, exponents_of (variables ring) q.monomial.exponents) ≡ Greater) × IsLastDivisor F (q.index, exponents_of (variables ring) q.monomial.exponents)
     one_below q last up = (
       below_lead S lawful F monic kk pair (q.index, exponents_of (variables ring) q.monomial.exponents) last
           (λ e. up (ap₂ (compare (variables ring)) (ap (shift (exponents_of (variables ring) q.monomial.exponents)) (sym (at_index q.index))) (v_lead v u.of_column) ∙ e)),
@@ -215,9 +215,9 @@ module _ (ring : Ring) (compare : (n : ℕ) → Key n → Key n → Ordering) (r
     )
 
     all_below :
-        (xs : List ScaledProduct) → Each (λ q. IsLast F (q.index, exponents_of (variables ring) q.monomial.exponents)) xs
+        (xs : List ScaledProduct) → Each (λ q. IsLastDivisor F (q.index, exponents_of (variables ring) q.monomial.exponents)) xs
         → HaveLeadsUpTo (variables ring) (compare (variables ring)) cols (head_key (sum_of (variables ring) v)) xs
-        → Each (λ t. ((induced_setting S F).compare kk t.0 ≡ Greater) × IsLast F t.0) (negated S.modulus (cofactors_of (variables ring) xs))
+        → Each (λ t. ((induced_setting S F).compare kk t.0 ≡ Greater) × IsLastDivisor F t.0) (negated S.modulus (cofactors_of (variables ring) xs))
     unfolding negated
     all_below [] h b = tt
     all_below (q ∷ xs) h b = (one_below q h.0 b.0, all_below xs h.1 b.1)

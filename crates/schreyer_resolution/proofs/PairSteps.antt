@@ -26,7 +26,7 @@ use Rattle.module_vectors.specs.Trails.{lead_at}
 use Rattle.module_vectors.specs.Vectors.{key_of, sum_of, sums_of}
 use Rattle.module_vectors.specs.declared.key.Key.{Key as CodeKey}
 use Rattle.vector_division.proofs.Members.{sums_at}
-use Rattle.schreyer_resolution.specs.Pairs.{AreLeastSoFar, ArePairMonomials, HaveLeads, IsPairMonomial, IsPushed, IsTaken, Rises}
+use Rattle.schreyer_resolution.specs.Pairs.{AreLeastSoFar, ArePairMonomials, AreNonzero, IsPairMonomial, IsPairPut, IsPutUnlessCovered, RisesLex}
 use Rattle.module_vectors.proofs.SumsOfProducts.{Each_member}
 use Rattle.schreyer_resolution.specs.Spans.{ArePast}
 use Rattle.schreyer_resolution.proofs.LeastLeads.{contains_cases, contains_left, contains_one, contains_only, contains_right, each_all, each_at, least_push, least_skip}
@@ -55,7 +55,7 @@ pair_quotient n ws a b l m wa h q =
 
 pub monomials_next :
     (n : ℕ) (ws : List ℕ) (cols : List Terms) (i j : ℕ) (a b : CodeKey) (old new : List Monomial)
-    → ArePairMonomials n ws cols i j old → IsPushed n ws a b old new → i < j
+    → ArePairMonomials n ws cols i j old → IsPairPut n ws a b old new → i < j
     → lead_at n cols i ≡ key_of n a → lead_at n cols j ≡ key_of n b
     → ArePairMonomials n ws cols i (j + 1) new
 monomials_next n ws cols i j a b old new h (inl (ne, e)) lt la lb = record {
@@ -98,7 +98,7 @@ no_monomial : Monomial
 no_monomial = record { exponents = []; degree = 0 }
 
 pub sorted_rise :
-    (n : ℕ) (ws : List ℕ) (ms : List Monomial) → Each (IsWeighed n ws) ms → IsSortedBy (λ (a b : Monomial). is_lt (slice_cmp nat_cmp a.exponents b.exponents)) ms → Rises n ms
+    (n : ℕ) (ws : List ℕ) (ms : List Monomial) → Each (IsWeighed n ws) ms → IsSortedBy (λ (a b : Monomial). is_lt (slice_cmp nat_cmp a.exponents b.exponents)) ms → RisesLex n ms
 sorted_rise n ws ms lens sorted = from ms (λ i j lt le. far i j lt le)
   where
     len_at : (i : ℕ) → i < length ms → length (get_or ms i no_monomial).exponents ≡ n
@@ -117,20 +117,20 @@ sorted_rise n ws ms lens sorted = from ms (λ i j lt le. far i j lt le)
     each_from m [] h = tt
     each_from m (x ∷ xs) h = (h 0 (omega arith), each_from m xs (λ k lt. h (suc k) (omega arith)))
 
-    from : (xs : List Monomial) → ((i j : ℕ) → i < j → j < length xs → lex (exponents_of n (get_or xs i no_monomial).exponents) (exponents_of n (get_or xs j no_monomial).exponents) ≡ Greater → ⊥) → Rises n xs
+    from : (xs : List Monomial) → ((i j : ℕ) → i < j → j < length xs → lex (exponents_of n (get_or xs i no_monomial).exponents) (exponents_of n (get_or xs j no_monomial).exponents) ≡ Greater → ⊥) → RisesLex n xs
     from [] h = tt
     from (x ∷ xs) h = (each_from x xs (λ k lt. h 0 (suc k) (omega arith) (omega arith)), from xs (λ i j lt le. h (suc i) (suc j) (omega arith) (omega arith)))
 
 pub least_next :
     (n : ℕ) (xs : List Monomial) (i : ℕ) (x : Monomial) (kept new : List Monomial)
-    → AreLeastSoFar n (take i xs) (drop i xs) kept → i < length xs → x ≡ get_or xs i x → IsTaken n x kept new
+    → AreLeastSoFar n (take i xs) (drop i xs) kept → i < length xs → x ≡ get_or xs i x → IsPutUnlessCovered n x kept new
     → AreLeastSoFar n (take (i + 1) xs) (drop (i + 1) xs) new
 least_next n xs i x kept new h lt is t = subst (λ z. AreLeastSoFar n z (drop (i + 1) xs) new) (sym (take_item xs i x lt is)) (go t)
   where
     here : AreLeastSoFar n (take i xs) (x ∷ drop (i + 1) xs) kept
     here = subst (λ z. AreLeastSoFar n (take i xs) z kept) (drop_more xs i x lt ∙ ap (λ z. z ∷ drop (i + 1) xs) (sym is)) h
 
-    go : IsTaken n x kept new → AreLeastSoFar n (take i xs ++ x ∷ []) (drop (i + 1) xs) new
+    go : IsPutUnlessCovered n x kept new → AreLeastSoFar n (take i xs ++ x ∷ []) (drop (i + 1) xs) new
     go (inl ((k, c, d), e)) = subst (AreLeastSoFar n (take i xs ++ x ∷ []) (drop (i + 1) xs)) (sym e) (least_skip n (take i xs) (drop (i + 1) xs) kept x here k c d)
     go (inr (free, e)) = subst (AreLeastSoFar n (take i xs ++ x ∷ []) (drop (i + 1) xs)) (sym e) (least_push n (take i xs) (drop (i + 1) xs) kept x here free)
 
@@ -162,10 +162,10 @@ weighed_of n ws xs m i h lt is = each_at (IsWeighed n ws) xs m h (i, lt, sym is)
 
 -- ---- the columns of a base
 pub base_leads :
-    (n : ℕ) (S : Setting n) → IsLawful S → (cols : List Terms) → IsMonicList S (sums_of n cols) → HaveLeads cols
+    (n : ℕ) (S : Setting n) → IsLawful S → (cols : List Terms) → IsMonicList S (sums_of n cols) → AreNonzero cols
 base_leads n S lawful cols monic = each_index cols (λ k lt. go k (omega (arith, lt, length-map cols (λ v. sum_of n v))) (get_or cols k []) refl)
   where
-    each_index : (xs : List Terms) → ((k : ℕ) → k < length xs → 0 < length (get_or xs k [])) → HaveLeads xs
+    each_index : (xs : List Terms) → ((k : ℕ) → k < length xs → 0 < length (get_or xs k [])) → AreNonzero xs
     each_index [] h = tt
     each_index (x ∷ xs) h = (h 0 (omega arith), each_index xs (λ k lt. h (suc k) (omega arith)))
 
@@ -179,7 +179,7 @@ monomials_weighed n ws cols i j ms h = each_all _ ms (λ m c. (h.each m c).3.wei
 -- no later member stands at the position
 pub monomials_end :
     (n : ℕ) (ws : List ℕ) (cols : List Terms) (i j end position : ℕ) (ms : List Monomial)
-    → ArePairMonomials n ws cols i j ms → j ≤ length cols → end ≤ j → HaveLeads cols → (lead_at n cols i).0 ≡ position → ArePast cols position end
+    → ArePairMonomials n ws cols i j ms → j ≤ length cols → end ≤ j → AreNonzero cols → (lead_at n cols i).0 ≡ position → ArePast cols position end
     → ArePairMonomials n ws cols i (length cols) ms
 monomials_end n ws cols i j end position ms h inside le leads at past = record {
   each = λ m c. (let x = h.each m c in (x.0, x.1, (let l = x.2 in omega (arith, l, inside)), x.3));
@@ -194,7 +194,7 @@ monomials_end n ws cols i j end position ms h inside le leads at past = record {
 
 -- and the member itself does
 pub before_end :
-    (n : ℕ) (cols : List Terms) (i end position : ℕ) → i < length cols → HaveLeads cols → (lead_at n cols i).0 ≡ position → ArePast cols position end → i + 1 ≤ end
+    (n : ℕ) (cols : List Terms) (i end position : ℕ) → i < length cols → AreNonzero cols → (lead_at n cols i).0 ≡ position → ArePast cols position end → i + 1 ≤ end
 before_end n cols i end position lt leads at past = go (cases_lt i end)
   where
     go : (i < end) ⊎ (end ≤ i) → i + 1 ≤ end

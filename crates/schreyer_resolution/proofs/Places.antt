@@ -31,7 +31,7 @@ use Rattle.module_vectors.specs.Vectors.{AreVectorsOver, HasPositions, IsVectorO
 use Rattle.module_vectors.specs.declared.key.Key.{Key as CodeKey}
 use Rattle.module_vectors.specs.declared.ring.Ring.{Ring}
 use Rattle.vector_division.proofs.Members.{sums_at}
-use Rattle.schreyer_resolution.specs.Progress.{IsTop}
+use Rattle.schreyer_resolution.specs.Progress.{IsTopMap}
 use Rattle.schreyer_resolution.specs.Sorting.{by_place, place_of}
 
 abbrev Terms : Type 0
@@ -107,7 +107,7 @@ module _ (ring : Ring) (rank : ℕ) (lawful : IsLawful (setting ring (variables 
   ranks : (i : ℕ) → i < length H → IsOfRank S.modulus S.rank (get_or H i [])
   ranks i lt = subst (IsOfRank S.modulus S.rank) (sym (sums_at (variables ring) columns i)) (IsOfRank_of S.modulus S.rank _ (rank_of_positions (get_or columns i []) (Each_member (HasPositions rank) columns i [] column_positions (in_columns i lt))))
 
-  pub sorted_top : IsTop ring [] columns
+  pub sorted_top : IsTopMap ring [] columns
   sorted_top = record {
     vectors = column_vectors;
     base = record {

@@ -8,7 +8,7 @@ use Rattle.module_vectors.specs.declared.key.Key.{Key as CodeKey}
 use Rattle.module_vectors.specs.declared.ring.Ring.{Ring}
 use Rattle.schreyer_resolution.specs.Columns.{AreColumnsTo, IsBase}
 use Rattle.schreyer_resolution.specs.Inducing.{Columns, Tower, over, tower_comparison}
-use Rattle.schreyer_resolution.specs.Progress.{AreResolvedTo, IsTop}
+use Rattle.schreyer_resolution.specs.Progress.{AreResolvedTo, IsTopMap}
 
 abbrev Terms : Type 0
 Terms = List (CodeKey × ℕ)
@@ -34,7 +34,7 @@ canonical_none ring rank reduced e =
 
 -- the first map
 pub resolved_start :
-    (ring : Ring) (rank : ℕ) (reduced F : List Terms) → IsTop ring [] F → Each (HasPositions rank) F
+    (ring : Ring) (rank : ℕ) (reduced F : List Terms) → IsTopMap ring [] F → Each (HasPositions rank) F
     → IsCanonicalMap (setting ring (variables ring) (ring_comparison ring (variables ring)) rank) (sums_of (variables ring) reduced) (sums_of (variables ring) F)
     → AreResolvedTo ring rank reduced (F ∷ [])
 resolved_start ring rank reduced F top positions canonical = record {
@@ -49,11 +49,11 @@ resolved_start ring rank reduced F top positions canonical = record {
 
 -- the last map over the order that the ones below it induce
 pub vectors_at :
-    (ring : Ring) (below : Columns) (cols : List Terms) (f : Tower) → f ≡ over ring below → IsTop ring below cols
+    (ring : Ring) (below : Columns) (cols : List Terms) (f : Tower) → f ≡ over ring below → IsTopMap ring below cols
     → AreVectorsOver f.ring (tower_comparison f) cols
 vectors_at ring below cols f e top = subst (λ (x : Tower). AreVectorsOver x.ring (tower_comparison x) cols) (sym e) top.vectors
 
 pub base_at :
-    (ring : Ring) (below : Columns) (cols : List Terms) (f : Tower) → f ≡ over ring below → IsTop ring below cols
+    (ring : Ring) (below : Columns) (cols : List Terms) (f : Tower) → f ≡ over ring below → IsTopMap ring below cols
     → IsBase f.ring (tower_comparison f) cols
 base_at ring below cols f e top = subst (λ (x : Tower). IsBase x.ring (tower_comparison x) cols) (sym e) top.base

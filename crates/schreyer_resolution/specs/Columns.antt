@@ -21,7 +21,7 @@ use Rattle.vector_division.specs.Progress.{IsDivisor}
 use Rattle.vector_division.specs.Runs.{IsSplit, Supports}
 use Rattle.vector_division.specs.declared.reduction.ScaledProduct.{ScaledProduct}
 use Rattle.schreyer_resolution.specs.Inducing.{Columns, Tower, tower_comparison}
-use Rattle.schreyer_resolution.specs.Steps.{IsColumn, IsLast}
+use Rattle.schreyer_resolution.specs.Steps.{IsColumn, IsLastDivisor}
 
 -- the tower's order is the one that the columns' leads induce above this order
 abbrev pub IsAbove : Ring → ((n : ℕ) → Key n → Key n → Ordering) → List (List (CodeKey × ℕ)) → Tower → Type 0
@@ -69,7 +69,7 @@ pub record IsUnderway (ring : Ring) (compare : (n : ℕ) → Key n → Key n →
       Supports ring.modulus.value left (λ k. IsUncovered (sums_of n columns) k → ⊥)
   pub last :
       let n = variables ring in
-      Each (λ q. IsLast (sums_of n columns) (q.index, exponents_of n q.monomial.exponents)) qs
+      Each (λ q. IsLastDivisor (sums_of n columns) (q.index, exponents_of n q.monomial.exponents)) qs
 
 -- these quotients of the key's product, each of the last column that could be taken, leave nothing
 pub record IsDivided (ring : Ring) (compare : (n : ℕ) → Key n → Key n → Ordering) (columns : List (List (CodeKey × ℕ))) (k : CodeKey)
@@ -81,7 +81,7 @@ pub record IsDivided (ring : Ring) (compare : (n : ℕ) → Key n → Key n → 
       IsSplit n ring.weights ring.modulus.value (compare n) product columns qs [] [] []
   pub last :
       let n = variables ring in
-      Each (λ q. IsLast (sums_of n columns) (q.index, exponents_of n q.monomial.exponents)) qs
+      Each (λ q. IsLastDivisor (sums_of n columns) (q.index, exponents_of n q.monomial.exponents)) qs
 
 -- the term of a column that a quotient's term is
 abbrev pub negated_term : ℕ → ScaledProduct → CodeKey × ℕ

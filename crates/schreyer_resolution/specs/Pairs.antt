@@ -26,9 +26,9 @@ pub record ArePairMonomials (n : ℕ) (ws : List ℕ) (cols : List (List (CodeKe
       → i < l → l < j → (lead_at n cols i).0 ≡ (lead_at n cols l).0 → (m : Monomial) × Contains ms m × IsPairMonomial n ws cols i l m
 
 -- none is lex-above a later one
-abbrev pub Rises : ℕ → List Monomial → Type 0
-Rises n [] = ⊤
-Rises n (m ∷ ms) = Each (λ l. lex (exponents_of n m.exponents) (exponents_of n l.exponents) ≡ Greater → ⊥) ms × Rises n ms
+abbrev pub RisesLex : ℕ → List Monomial → Type 0
+RisesLex n [] = ⊤
+RisesLex n (m ∷ ms) = Each (λ l. lex (exponents_of n m.exponents) (exponents_of n l.exponents) ≡ Greater → ⊥) ms × RisesLex n ms
 
 -- they strictly ascend, and none divides a later one
 abbrev pub AreApart : ℕ → List Monomial → Type 0
@@ -44,7 +44,7 @@ pub record AreLeastSoFar (n : ℕ) (done rest kept : List Monomial) : Type 0 whe
   pub covers : (m : Monomial) → Contains done m → (k : Monomial) × Contains kept k × Divides (exponents_of n k.exponents) (exponents_of n m.exponents)
   pub apart : AreApart n kept
   pub up_to : Each (λ k. Each (λ m. lex (exponents_of n k.exponents) (exponents_of n m.exponents) ≡ Greater → ⊥) rest) kept
-  pub rises : Rises n rest
+  pub rises : RisesLex n rest
 
 -- two keys in the order of columns, neither of which divides the other
 pub record IsBefore (n : ℕ) (k l : CodeKey) : Type 0 where
@@ -53,9 +53,9 @@ pub record IsBefore (n : ℕ) (k l : CodeKey) : Type 0 where
   pub not_free : KeyDivides (key_of n l) (key_of n k) → ⊥
 
 -- each key stands before all later ones
-abbrev pub Falls : ℕ → List CodeKey → Type 0
-Falls n [] = ⊤
-Falls n (k ∷ ks) = Each (IsBefore n k) ks × Falls n ks
+abbrev pub KeysFall : ℕ → List CodeKey → Type 0
+KeysFall n [] = ⊤
+KeysFall n (k ∷ ks) = Each (IsBefore n k) ks × KeysFall n ks
 
 -- the least leads of the pairs of the members before i
 pub record ArePairLeadsTo (n : ℕ) (ws : List ℕ) (cols : List (List (CodeKey × ℕ))) (i : ℕ) (keys : List CodeKey) : Type 0 where
@@ -64,23 +64,23 @@ pub record ArePairLeadsTo (n : ℕ) (ws : List ℕ) (cols : List (List (CodeKey 
       (a b : ℕ)
       → a < i → a < b → b < length cols → (lead_at n cols a).0 ≡ (lead_at n cols b).0
       → (k : CodeKey) × Contains keys k × KeyDivides (key_of n k) (pair_lead_key (sums_of n cols) a b)
-  pub falls : Falls n keys
+  pub falls : KeysFall n keys
 
 -- each vector has a lead: it is not zero
-abbrev pub HaveLeads : List (List (CodeKey × ℕ)) → Type 0
-HaveLeads cols = Each (λ v. 0 < length v) cols
+abbrev pub AreNonzero : List (List (CodeKey × ℕ)) → Type 0
+AreNonzero cols = Each (λ v. 0 < length v) cols
 
 -- where the keys stand at one position, the monomial of their pair was put behind the others
-abbrev pub IsPushed : ℕ → List ℕ → CodeKey → CodeKey → List Monomial → List Monomial → Type 0
-IsPushed n ws a b old new =
+abbrev pub IsPairPut : ℕ → List ℕ → CodeKey → CodeKey → List Monomial → List Monomial → Type 0
+IsPairPut n ws a b old new =
     ((a.position ≡ b.position → ⊥) × (new ≡ old))
     ⊎ ((a.position ≡ b.position) × ((m : Monomial) × (new ≡ old ++ m ∷ []) × IsWeighed n ws m
     × (exponents_of n m.exponents
     ≡ quotient (lcm (exponents_of n a.monomial.exponents) (exponents_of n b.monomial.exponents)) (exponents_of n a.monomial.exponents))))
 
 -- the monomial was put behind the others, unless one of them divides it
-abbrev pub IsTaken : ℕ → Monomial → List Monomial → List Monomial → Type 0
-IsTaken n m old new =
+abbrev pub IsPutUnlessCovered : ℕ → Monomial → List Monomial → List Monomial → Type 0
+IsPutUnlessCovered n m old new =
     (((k : Monomial) × Contains old k × Divides (exponents_of n k.exponents) (exponents_of n m.exponents)) × (new ≡ old))
     ⊎ (((k : Monomial) → Contains old k → Divides (exponents_of n k.exponents) (exponents_of n m.exponents) → ⊥) × (new ≡ old ++ m ∷ []))
 

@@ -12,14 +12,14 @@ use Rattle.schreyer_resolution.specs.Inducing.{Columns, maps_of, over, tower_com
 use Rattle.schreyer_resolution.specs.Resolved.{AreFirstMaps, AreVectorsThrough}
 
 -- the columns F of a map above others: vectors in the order that those induce, monic, and a Gröbner basis
-pub record IsTop (ring : Ring) (below : Columns) (F : List (List (CodeKey × ℕ))) : Type 0 where
+pub record IsTopMap (ring : Ring) (below : Columns) (F : List (List (CodeKey × ℕ))) : Type 0 where
   pub vectors : AreVectorsOver ring (tower_comparison (over ring below)) F
   pub base : IsBase ring (tower_comparison (over ring below)) F
 
 -- H are the columns of the next map: it has the kernel of the map with the columns F as its image, and is canonical where
 -- it has a column
 pub record IsNext (ring : Ring) (below : Columns) (F H : List (List (CodeKey × ℕ))) : Type 0 where
-  pub top : IsTop ring (below ++ F ∷ []) H
+  pub top : IsTopMap ring (below ++ F ∷ []) H
   pub positions : Each (HasPositions (length F)) H
   pub exact : IsExact ring.modulus.value (sums_of (variables ring) F) (sums_of (variables ring) H)
   pub canonical :
@@ -37,7 +37,7 @@ pub record AreResolvedTo (ring : Ring) (rank : ℕ) (reduced : List (List (CodeK
   pub below : Columns
   pub last : List (List (CodeKey × ℕ))
   pub split : maps ≡ below ++ last ∷ []
-  pub top : IsTop ring below last
+  pub top : IsTopMap ring below last
   pub vectors : AreVectorsThrough ring [] maps
   pub positions : HavePositions rank maps
   pub first :

@@ -8,7 +8,7 @@ ghost use Rattle.module_vectors.specs.Trails.{lead_at};
 ghost use Rattle.module_vectors.specs.Vectors.{AreVectorsOver, IsMonomialOver, key_of, sums_of};
 ghost use Rattle.vector_division.specs.Progress.{AreWeighed};
 ghost use Rattle.schreyer_resolution.specs.Columns.{IsBase};
-ghost use Rattle.schreyer_resolution.specs.Pairs.{AreLeastSoFar, ArePairMonomials, HaveLeads, IsPushed, IsTaken, key_at_position};
+ghost use Rattle.schreyer_resolution.specs.Pairs.{AreLeastSoFar, ArePairMonomials, AreNonzero, IsPairPut, IsPutUnlessCovered, key_at_position};
 ghost use Rattle.schreyer_resolution.specs.Spans.{IsIndexOf};
 ghost use Rattle.schreyer_resolution.specs.Steps.{ArePairLeads};
 
@@ -40,7 +40,7 @@ pub(crate) fn pair_monomial(
 /// The key of a column's lead.
 pub(crate) fn lead_key<'a>(ring: &Ring, columns: &'a [Vect], index: usize) -> &'a Key
     requires index { index < length columns.now }
-    requires leads { HaveLeads columns.now }
+    requires leads { AreNonzero columns.now }
     requires weighed { AreWeighed (variables ring.now) ring.now.weights columns.now }
     ensures lead { (n : ℕ) → lead_at n columns.now index ≡ key_of n result.now }
     ensures weighed { IsMonomialOver ring.now result.now.monomial }
@@ -59,7 +59,7 @@ fn push_pair(
 ) -> Result<(), NoMemory>
     requires left { IsMonomialOver ring.now a.now.monomial }
     requires right { IsMonomialOver ring.now b.now.monomial }
-    ensures { OnOk result (IsPushed (variables ring.now) ring.now.weights a.now b.now found.old.items found.new.items) }
+    ensures { OnOk result (IsPairPut (variables ring.now) ring.now.weights a.now b.now found.old.items found.new.items) }
 {
     if a.position != b.position {
         return Ok(());
@@ -78,7 +78,7 @@ fn pair_monomials(
 ) -> Result<Vec<Mono>, NoMemory>
     requires index { index < length columns.now }
     requires indexed { IsIndexOf columns.now leads.now }
-    requires leads { HaveLeads columns.now }
+    requires leads { AreNonzero columns.now }
     requires weighed { AreWeighed (variables ring.now) ring.now.weights columns.now }
     ensures { IfOk result (λ found. ArePairMonomials (variables ring.now) ring.now.weights columns.now index (length columns.now) found.items) }
 {
@@ -112,7 +112,7 @@ fn is_divided(ring: &Ring, kept: &[Mono], m: &Mono) -> bool
 fn take_least(alloc: Global, ring: &Ring, m: &Mono, kept: &mut Vec<Mono>) -> Result<(), NoMemory>
     requires kept { Each (IsMonomialOver ring.now) kept.old.items }
     requires monomial { IsMonomialOver ring.now m.now }
-    ensures { OnOk result (IsTaken (variables ring.now) m.now kept.old.items kept.new.items) }
+    ensures { OnOk result (IsPutUnlessCovered (variables ring.now) m.now kept.old.items kept.new.items) }
 {
     if is_divided(ring, kept, m) {
         return Ok(());

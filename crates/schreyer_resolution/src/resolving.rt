@@ -8,7 +8,7 @@ ghost use Rattle.module_vectors.specs.Vectors.{AreVectorsOver, HasPositions, IsM
 ghost use Rattle.module_vectors.specs.declared.key.Key.{Key as KeyValue};
 ghost use Rattle.schreyer_resolution.specs.Columns.{AreColumnsTo, ColumnStops, IsAbove, IsBase};
 ghost use Rattle.schreyer_resolution.specs.Inducing.{Columns, maps_of};
-ghost use Rattle.schreyer_resolution.specs.Progress.{AreResolvedTo, HavePositions, IsNext, IsTop};
+ghost use Rattle.schreyer_resolution.specs.Progress.{AreResolvedTo, HavePositions, IsNext, IsTopMap};
 ghost use Rattle.schreyer_resolution.specs.Resolved.{AreJoined, AreVectorsThrough, ResolutionStops, columns_of};
 ghost use Rattle.schreyer_resolution.specs.Steps.{ArePairLeads};
 
@@ -59,7 +59,7 @@ fn second_map(
     columns: &VectList,
 ) -> Result<VectList, WorkStop>
     requires maps { maps.now ≡ columns.now ∷ [] }
-    requires top { IsTop ring.now [] columns.now }
+    requires top { IsTopMap ring.now [] columns.now }
     ensures next { IfOk result (IsNext ring.now [] columns.now) }
     ensures stop { IfErr result (ColumnStops ring.now [] columns.now) }
 {
@@ -79,7 +79,7 @@ fn later_map(
 ) -> Result<VectList, WorkStop>
     requires maps { maps.now ≡ below.now ++ columns.now ∷ [] }
     requires some { 0 < length below.now }
-    requires top { IsTop ring.now below.now columns.now }
+    requires top { IsTopMap ring.now below.now columns.now }
     ensures next { IfOk result (IsNext ring.now below.now columns.now) }
     ensures stop { IfErr result (ColumnStops ring.now below.now columns.now) }
 {
@@ -99,7 +99,7 @@ fn map_above(
     columns: &VectList,
 ) -> Result<VectList, WorkStop>
     requires maps { maps.now ≡ below.now ++ columns.now ∷ [] }
-    requires top { IsTop ring.now below.now columns.now }
+    requires top { IsTopMap ring.now below.now columns.now }
     ensures next { IfOk result (IsNext ring.now below.now columns.now) }
     ensures stop { IfErr result (ColumnStops ring.now below.now columns.now) }
 {
@@ -113,7 +113,7 @@ fn map_above(
 // The next map.
 fn next_map(alloc: Global, ring: &Ring, maps: &[VectList]) -> Result<VectList, WorkStop>
     requires some { 0 < length maps.now }
-    requires top { (below : Columns) (last : List (List (KeyValue × ℕ))) → maps.now ≡ below ++ last ∷ [] → IsTop ring.now below last }
+    requires top { (below : Columns) (last : List (List (KeyValue × ℕ))) → maps.now ≡ below ++ last ∷ [] → IsTopMap ring.now below last }
     ensures next { (below : Columns) (last : List (List (KeyValue × ℕ))) → maps.now ≡ below ++ last ∷ []
         → IfOk result (IsNext ring.now below last) }
     ensures stop { (below : Columns) (last : List (List (KeyValue × ℕ))) → maps.now ≡ below ++ last ∷ []

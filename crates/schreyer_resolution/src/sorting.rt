@@ -5,7 +5,7 @@ ghost use Rattle.bases.specs.Bases.{IsReducedBasis};
 ghost use Rattle.resolution_laws.specs.Resolutions.{IsCanonicalMap};
 ghost use Rattle.module_vectors.specs.Rings.{ring_comparison, setting, variables};
 ghost use Rattle.module_vectors.specs.Vectors.{AreVectorsOver, HasPositions, sums_of};
-ghost use Rattle.schreyer_resolution.specs.Progress.{IsTop};
+ghost use Rattle.schreyer_resolution.specs.Progress.{IsTopMap};
 ghost use Rattle.schreyer_resolution.specs.Sorting.{by_place, place_of};
 
 use module_vectors::{NoMemory, Ring, Vect, VectList, lawful_setting};
@@ -47,7 +47,7 @@ pub(crate) fn sorted_columns(
     requires basis { let n = variables ring.now in
         IsReducedBasis (setting ring.now n (ring_comparison ring.now n) rank) (sums_of n reduced.now) (sums_of n reduced.now) }
     requires some { 0 < length reduced.now }
-    ensures top { IfOk result (IsTop ring.now []) }
+    ensures top { IfOk result (IsTopMap ring.now []) }
     ensures positions { IfOk result (Each (HasPositions rank)) }
     ensures canonical { let n = variables ring.now in
         IfOk result (λ columns. IsCanonicalMap (setting ring.now n (ring_comparison ring.now n) rank) (sums_of n reduced.now) (sums_of n columns)) }

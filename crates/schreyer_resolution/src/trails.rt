@@ -10,7 +10,7 @@ ghost use Rattle.vector_division.specs.Progress.{AreWeighed};
 ghost use Rattle.vector_division.specs.Reductions.{unscaled};
 ghost use Rattle.schreyer_resolution.specs.Chains.{IsColumnChain, IsFailing};
 ghost use Rattle.schreyer_resolution.specs.Columns.{ColumnStops, IsBase, IsColumnTrail, IsPartner, IsWhetherPair};
-ghost use Rattle.schreyer_resolution.specs.Pairs.{HaveLeads};
+ghost use Rattle.schreyer_resolution.specs.Pairs.{AreNonzero};
 ghost use Rattle.schreyer_resolution.specs.Steps.{IsPairKey};
 
 use crate::pair_leads::{lead_key, pair_monomial};
@@ -38,7 +38,7 @@ fn is_pair(alloc: Global, ring: &Ring, a: &Key, b: &Key, m: &Mono) -> Result<boo
 
 // A later column that makes a pair with the key's, by the key's monomial.
 fn partner(alloc: Global, ring: &Ring, columns: &[Vect], key: &Key) -> Result<u64, NoMemory>
-    requires leads { HaveLeads columns.now }
+    requires leads { AreNonzero columns.now }
     requires weighed { AreWeighed (variables ring.now) ring.now.weights columns.now }
     requires monomial { IsMonomialOver ring.now key.now.monomial }
     requires pair { let n = variables ring.now in IsPairKey (sums_of n columns.now) (key_of n key.now) }

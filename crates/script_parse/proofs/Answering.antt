@@ -6,11 +6,11 @@ use Rattle.poly_grammar.specs.Numerals.{value_of}
 use Rattle.poly_grammar.specs.declared.step.Step.{Step}
 use Rattle.zp_field.specs.Moduli.{is_modulus}
 use Rattle.module_vectors.specs.declared.ring.Ring.{Ring}
-use Rattle.script_parse.specs.Answers.{Answers}
+use Rattle.script_parse.specs.Answers.{AnswersLine}
 use Rattle.script_parse.specs.Forms.{IsFormOf, IsLineOf, head_of}
 use Rattle.script_parse.specs.Tests.{AnswersForm, HoldsOf, IsFormed, IsPolynomial, IsStated, elimination_fits, known_names, low_degree, rank_fits, repeats, right_kinds}
 use Rattle.script_parse.specs.RingForms.{ring_line_of}
-use Rattle.script_parse.specs.Refusals.{HasFaultyRing, HasGreatDegree, HasGreatNumeral, HasOtherElim, HasOtherFactor, HasOtherKind, HasOtherModulus, HasOtherRank, HasOtherWeights, HasUnknownName, Holds, LacksRing, place}
+use Rattle.script_parse.specs.Refusals.{HasFaultyRing, HasGreatDegree, HasGreatNumeral, HasOtherElim, HasOtherFactor, HasOtherKind, HasOtherModulus, HasOtherRank, HasOtherWeights, HasUnknownName, RefusalHolds, LacksRing, place}
 use Rattle.script_parse.specs.Statements.{Makes}
 use Rattle.script_parse.specs.Written.{IsLine, RingLine, Written, given_by, nothing, polys_of, ring_line, value_places}
 use Rattle.script_parse.specs.declared.form.Form.{Form}
@@ -28,7 +28,7 @@ use Rattle.script_parse.proofs.Testing.{each_known, each_right, great_degree, ha
 use Rattle.script_parse.proofs.Lines.{one_line}
 use Rattle.script_parse.proofs.Texts.{are_polynomials, repeats_not}
 
-none_before_syntax : (ring : Option Ring) (infos : List NameInfo) (line : List ℕ) (earlier : Kind) → place earlier < 1 → Holds ring infos line earlier → ⊥
+none_before_syntax : (ring : Option Ring) (infos : List NameInfo) (line : List ℕ) (earlier : Kind) → place earlier < 1 → RefusalHolds ring infos line earlier → ⊥
 none_before_syntax ring infos line kinds.Syntax lt h = omega (arith, lt)
 none_before_syntax ring infos line kinds.Numeral lt h = omega (arith, lt)
 none_before_syntax ring infos line kinds.Ring lt h = omega (arith, lt)
@@ -43,7 +43,7 @@ none_before_syntax ring infos line kinds.Large lt h = omega (arith, lt)
 none_before_syntax ring infos line kinds.Infinite lt h = omega (arith, lt)
 none_before_syntax ring infos line kinds.Many lt h = omega (arith, lt)
 
-none_before_numeral : (ring : Option Ring) (infos : List NameInfo) (line : List ℕ) → ((w : Written) × IsLine line w) → (earlier : Kind) → place earlier < 2 → Holds ring infos line earlier → ⊥
+none_before_numeral : (ring : Option Ring) (infos : List NameInfo) (line : List ℕ) → ((w : Written) × IsLine line w) → (earlier : Kind) → place earlier < 2 → RefusalHolds ring infos line earlier → ⊥
 none_before_numeral ring infos line is kinds.Syntax lt h = h is.0 is.1
 none_before_numeral ring infos line is kinds.Numeral lt h = omega (arith, lt)
 none_before_numeral ring infos line is kinds.Ring lt h = omega (arith, lt)
@@ -59,7 +59,7 @@ none_before_numeral ring infos line is kinds.Infinite lt h = omega (arith, lt)
 none_before_numeral ring infos line is kinds.Many lt h = omega (arith, lt)
 
 -- what is refused before the form is looked at
-pub early : (ring : Option Ring) (infos : List NameInfo) (line : List ℕ) (stop : ParseStop) → IsFormed line (Err stop) → Answers ring infos line (Err stop)
+pub early : (ring : Option Ring) (infos : List NameInfo) (line : List ℕ) (stop : ParseStop) → IsFormed line (Err stop) → AnswersLine ring infos line (Err stop)
 early ring infos line Memory h = tt
 early ring infos line (Refused kinds.Syntax) h = record { holds = h; first = none_before_syntax ring infos line }
 early ring infos line (Refused kinds.Numeral) h = record { holds = h.0; first = none_before_numeral ring infos line h.1 }
@@ -76,7 +76,7 @@ early ring infos line (Refused kinds.Infinite) h = absurd h
 early ring infos line (Refused kinds.Many) h = absurd h
 
 module _ (ring : Option Ring) (infos : List NameInfo) (line : List ℕ) (w : Written) (is : IsLine line w) (none : HasGreatNumeral line → ⊥) where
-  of_form : (kind : Kind) → Holds ring infos line kind → HoldsOf ring infos line w kind
+  of_form : (kind : Kind) → RefusalHolds ring infos line kind → HoldsOf ring infos line w kind
   of_form kinds.Syntax h = absurd (h w is)
   of_form kinds.Numeral h = absurd (none h)
   of_form kinds.Ring h = subst (λ v. LacksRing ring line v) (one_line line h.0 w h.1 is) h.2
@@ -91,7 +91,7 @@ module _ (ring : Option Ring) (infos : List NameInfo) (line : List ℕ) (w : Wri
   of_form kinds.Infinite h = h
   of_form kinds.Many h = h
 
-  of_line : (kind : Kind) → HoldsOf ring infos line w kind → Holds ring infos line kind
+  of_line : (kind : Kind) → HoldsOf ring infos line w kind → RefusalHolds ring infos line kind
   of_line kinds.Syntax h = absurd h
   of_line kinds.Numeral h = absurd h
   of_line kinds.Ring h = (w, is, h)
@@ -107,7 +107,7 @@ module _ (ring : Option Ring) (infos : List NameInfo) (line : List ℕ) (w : Wri
   of_line kinds.Many h = h
 
   -- what is answered to the form is answered to the line
-  pub late : (result : Result Statement ParseStop) → AnswersForm ring infos line w result → Answers ring infos line result
+  pub late : (result : Result Statement ParseStop) → AnswersForm ring infos line w result → AnswersLine ring infos line result
   late (Ok statement) h = record { written = w; is_line = is; free = λ kind k. h.1 kind (of_form kind k); says = h.0 }
   late (Err Memory) h = tt
   late (Err (Refused kind)) h = record { holds = of_line kind h.0; first = λ earlier lt k. h.1 earlier lt (of_form earlier k) }
@@ -149,28 +149,28 @@ blank_free ring infos line kinds.Large h = h
 blank_free ring infos line kinds.Infinite h = h
 blank_free ring infos line kinds.Many h = h
 
-blank_at : (ring : Option Ring) (infos : List NameInfo) (line : List ℕ) (w : Written) → IsLine line w → IsFormOf forms.Nothing w → (HasGreatNumeral line → ⊥) → Answers ring infos line (Ok statements.Nothing)
+blank_at : (ring : Option Ring) (infos : List NameInfo) (line : List ℕ) (w : Written) → IsLine line w → IsFormOf forms.Nothing w → (HasGreatNumeral line → ⊥) → AnswersLine ring infos line (Ok statements.Nothing)
 blank_at ring infos line nothing is h none = late ring infos line nothing is none (Ok statements.Nothing) (tt, blank_free ring infos line)
 blank_at ring infos line _ is h none = absurd h
 
-pub blank : (ring : Option Ring) (infos : List NameInfo) (line : List ℕ) (form : Form) → form ≡ forms.Nothing → IsFormed line (Ok form) → Answers ring infos line (Ok statements.Nothing)
+pub blank : (ring : Option Ring) (infos : List NameInfo) (line : List ℕ) (form : Form) → form ≡ forms.Nothing → IsFormed line (Ok form) → AnswersLine ring infos line (Ok statements.Nothing)
 blank ring infos line form e h = let f = subst (λ x. IsFormed line (Ok x)) e h in blank_at ring infos line f.0 f.1 f.2 f.4
 
 ring_at :
     (ring : Option Ring) (infos : List NameInfo) (line : List ℕ) (w : Written) (form : RingForm) (result : Result Statement ParseStop) → IsLine line w
-    → IsFormOf (forms.Ring form) w → (HasGreatNumeral line → ⊥) → AnswersForm ring infos line (ring_line (ring_line_of form)) result → Answers ring infos line result
+    → IsFormOf (forms.Ring form) w → (HasGreatNumeral line → ⊥) → AnswersForm ring infos line (ring_line (ring_line_of form)) result → AnswersLine ring infos line result
 ring_at ring infos line (ring_line r) form result is h none f =
     late ring infos line (ring_line r) is none result (subst (λ x. AnswersForm ring infos line (ring_line x) result) h f)
 ring_at ring infos line _ form result is h none f = absurd h
 
 pub ring_answered :
     (ring : Option Ring) (infos : List NameInfo) (line : List ℕ) (form : Form) (words : RingForm) (result : Result Statement ParseStop) → form ≡ forms.Ring words
-    → IsFormed line (Ok form) → AnswersForm ring infos line (ring_line (ring_line_of words)) result → Answers ring infos line result
+    → IsFormed line (Ok form) → AnswersForm ring infos line (ring_line (ring_line_of words)) result → AnswersLine ring infos line result
 ring_answered ring infos line form words result e h f =
     let g = subst (λ x. IsFormed line (Ok x)) e h in ring_at ring infos line g.0 words result g.1 g.2 g.4 f
 
 pub line_answered : (ring : Option Ring) (infos : List NameInfo) (line : List ℕ) (form : Form) (head : Head) (pieces : Vec (Vec Step Global) Global) (result : Result Statement ParseStop) → form ≡ forms.Line head pieces → IsFormed line (Ok form)
-    → ((w : Written) → IsLineOf head pieces.items w → AnswersForm ring infos line w result) → Answers ring infos line result
+    → ((w : Written) → IsLineOf head pieces.items w → AnswersForm ring infos line w result) → AnswersLine ring infos line result
 line_answered ring infos line form head pieces result e h f =
     let g = subst (λ x. IsFormed line (Ok x)) e h in late ring infos line g.0 g.1 g.4 result (f g.0 g.2)
 

@@ -13,7 +13,7 @@ use Rattle.poly_grammar.specs.declared.step.Step.{Step}
 use Rattle.poly_grammar.specs.declared.stop.ReadStop.{ReadStop}
 use Rattle.poly_grammar.specs.declared.stop.ReadStop.TheVariants.{Memory, Syntax}
 use Rattle.poly_grammar.proofs.Unique.{one_tree}
-use Rattle.script_parse.specs.Forms.{AreReadAs, HasNoComma, IsAtComma, IsNoComma, IsPushed}
+use Rattle.script_parse.specs.Forms.{AreReadAs, HasNoComma, IsAtComma, IsNoComma, IsPolynomialPut}
 use Rattle.script_parse.specs.Written.{AreEntries, ArePolys, IsOnePoly}
 
 pub all_append : {X : Type 0} (P : X → Type 0) (xs ys : List X) → AllByRecursion P xs → AllByRecursion P ys → AllByRecursion P (xs ++ ys)
@@ -154,7 +154,7 @@ cut_here rest piece behind after f at is front back whole split =
 pub reading_goes :
     (tokens rest piece after : List Token) (old new : List (Vec Step Global))
     → map lexeme rest ≡ map lexeme piece ++ comma ∷ map lexeme after → HasNoComma (map lexeme piece)
-    → IsReading tokens rest old → IsPushed (map lexeme piece) old new (Ok tt) → IsReading tokens after new
+    → IsReading tokens rest old → IsPolynomialPut (map lexeme piece) old new (Ok tt) → IsReading tokens after new
 reading_goes tokens rest piece after old new e none h p = record {
   done = h.done ++ p.0 ∷ [];
   steps_are = pushed_steps old new h.done p.0 h.steps_are p.2;
@@ -170,7 +170,7 @@ reading_goes tokens rest piece after old new e none h p = record {
 pub reading_fails :
     (tokens rest piece after : List Token) (old new : List (Vec Step Global)) (stop : ReadStop)
     → map lexeme rest ≡ map lexeme piece ++ comma ∷ map lexeme after → HasNoComma (map lexeme piece)
-    → IsReading tokens rest old → IsPushed (map lexeme piece) old new (Err stop) → AreReadAs (ArePolys (map lexeme tokens)) (Err stop)
+    → IsReading tokens rest old → IsPolynomialPut (map lexeme piece) old new (Err stop) → AreReadAs (ArePolys (map lexeme tokens)) (Err stop)
 reading_fails tokens rest piece after old new Memory e none h p = tt
 reading_fails tokens rest piece after old new Syntax e none h p = λ all k.
     let s = h.splits all k in
@@ -180,12 +180,12 @@ reading_fails tokens rest piece after old new Syntax e none h p = λ all k.
 -- the same with the last POLY
 pub reading_ends :
     (tokens rest : List Token) (old : List (Vec Step Global)) (new : Vec (Vec Step Global) Global)
-    → HasNoComma (map lexeme rest) → IsReading tokens rest old → IsPushed (map lexeme rest) old new.items (Ok tt) → AreReadAs (ArePolys (map lexeme tokens)) (Ok new)
+    → HasNoComma (map lexeme rest) → IsReading tokens rest old → IsPolynomialPut (map lexeme rest) old new.items (Ok tt) → AreReadAs (ArePolys (map lexeme tokens)) (Ok new)
 reading_ends tokens rest old new none h p = (h.done ++ p.0 ∷ [], h.joins (p.0 ∷ []) p.1, pushed_steps old new.items h.done p.0 h.steps_are p.2)
 
 pub reading_ends_not :
     (tokens rest : List Token) (old new : List (Vec Step Global)) (stop : ReadStop)
-    → HasNoComma (map lexeme rest) → IsReading tokens rest old → IsPushed (map lexeme rest) old new (Err stop) → AreReadAs (ArePolys (map lexeme tokens)) (Err stop)
+    → HasNoComma (map lexeme rest) → IsReading tokens rest old → IsPolynomialPut (map lexeme rest) old new (Err stop) → AreReadAs (ArePolys (map lexeme tokens)) (Err stop)
 reading_ends_not tokens rest old new Memory none h p = tt
 reading_ends_not tokens rest old new Syntax none h p = λ all k.
     let s = h.splits all k in
@@ -193,7 +193,7 @@ reading_ends_not tokens rest old new Syntax none h p = λ all k.
     p o.0 o.2
 
 -- one POLY
-pub pushed_one : (xs : List Lexeme) (new : Vec (Vec Step Global) Global) → IsPushed xs [] new.items (Ok tt) → AreReadAs (IsOnePoly xs) (Ok new)
+pub pushed_one : (xs : List Lexeme) (new : Vec (Vec Step Global) Global) → IsPolynomialPut xs [] new.items (Ok tt) → AreReadAs (IsOnePoly xs) (Ok new)
 pushed_one xs new p = (p.0 ∷ [], (p.0, refl, p.1), p.2)
 
 -- a VEC that begins with no bracket, and one that does

@@ -10,7 +10,7 @@ use Rattle.poly_grammar.specs.Lexemes.{Lexeme, comma, name, number}
 use Rattle.poly_grammar.specs.Numerals.{text_of}
 use Rattle.script_parse.specs.Forms.{IsNoComma}
 use Rattle.script_parse.specs.RingForms.{all_of, elim_first, list_behind, list_first, list_item, order_first, ring_of, token_of, top_first, weights_of, with_names, with_order, with_weights}
-use Rattle.script_parse.specs.Written.{AreNames, IsOrder, IsRingLine, IsTop, IsWeighting, RingLine, comma_list}
+use Rattle.script_parse.specs.Written.{AreListedNames, IsOrder, IsRingLine, IsTopWord, IsWeighting, RingLine, comma_list}
 use Rattle.script_parse.specs.declared.ring_words.OrderName.{OrderName}
 use Rattle.script_parse.specs.declared.ring_words.OrderName.TheVariants.{Elim, Grevlex, Lex}
 
@@ -129,7 +129,7 @@ order_found line xs o e =
 top_by : List ℕ → Token → List Lexeme → Bool × List Lexeme
 top_by text t xs = cond (pointwise nat_eq text (codes "top")) (true, xs) (false, name t ∷ xs)
 
-top_again : (line : List ℕ) (top : Bool) (xs ys : List Lexeme) (weights : List Token) → IsTop line xs top → IsWeighting line ys weights → top_first line (xs ++ ys) ≡ (top, ys)
+top_again : (line : List ℕ) (top : Bool) (xs ys : List Lexeme) (weights : List Token) → IsTopWord line xs top → IsWeighting line ys weights → top_first line (xs ++ ys) ≡ (top, ys)
 unfolding top_by
 top_again line true xs ys weights h k = ap (λ l. top_first line (l ++ ys)) h.2 ∙ ap (λ text. top_by text h.0 ys) h.1
 top_again line false xs ys [] h k = ap (λ l. top_first line (l ++ ys)) h ∙ ap (top_first line) k ∙ ap (λ l. (false, l)) (sym k)
@@ -138,7 +138,7 @@ top_again line false xs ys (t ∷ ts) h k =
 
 -- whether `top` stands first, and the rest is behind it
 abbrev IsTopFirst : List ℕ → List Lexeme → Bool × List Lexeme → Type 0
-IsTopFirst line xs f = (o : List Lexeme) × IsTop line o f.0 × (xs ≡ o ++ f.1)
+IsTopFirst line xs f = (o : List Lexeme) × IsTopWord line o f.0 × (xs ≡ o ++ f.1)
 
 top_back : (line : List ℕ) (xs : List Lexeme) → IsTopFirst line xs (top_first line xs)
 top_back line [] = ([], refl, refl)
@@ -183,7 +183,7 @@ weights_back line (_ ∷ xs) = tt
 
 -- ---- ring lines
 
-spelled_names : (line : List ℕ) (m : Token) (names : List Token) (xs ys : List Lexeme) → AreNames xs names → BeginsNoComma ys → with_names line m (list_first (token_of kinds.Name) (xs ++ ys)) ≡ with_order line m names (order_first line ys)
+spelled_names : (line : List ℕ) (m : Token) (names : List Token) (xs ys : List Lexeme) → AreListedNames xs names → BeginsNoComma ys → with_names line m (list_first (token_of kinds.Name) (xs ++ ys)) ≡ with_order line m names (order_first line ys)
 spelled_names line m [] xs ys h k = absurd h
 spelled_names line m (t ∷ ts) xs ys h k =
     ap (λ l. with_names line m (list_first (token_of kinds.Name) (l ++ ys))) h ∙ ap (with_names line m) (first_again name (token_of kinds.Name) pick_name name_picked t ts ys k)
@@ -199,7 +199,7 @@ ring_again line xs r h =
     ∙ ap (λ f. with_weights r.modulus r.names r.order f.0 (weights_of line f.1)) top ∙ ap (with_weights r.modulus r.names r.order r.top) (weights_again line h.weights r.weights h.weights_are)
 
 -- what is found is a ring line
-module _ (line : List ℕ) (m t : Token) (ts : List Token) (order_part : List Lexeme) (order : OrderName) (order_is : IsOrder line order_part order) (top_part : List Lexeme) (top : Bool) (top_is : IsTop line top_part top) where
+module _ (line : List ℕ) (m t : Token) (ts : List Token) (order_part : List Lexeme) (order : OrderName) (order_is : IsOrder line order_part order) (top_part : List Lexeme) (top : Bool) (top_is : IsTopWord line top_part top) where
   with_weights_back : (xs : List Lexeme) (o : Option (List Token)) → IfSome o (IsWeighting line xs)
       → IfSome (with_weights m (t ∷ ts) order top o) (IsRingLine line (number m ∷ name t ∷ (comma_list name ts ++ (order_part ++ (top_part ++ xs)))))
   with_weights_back xs None h = tt

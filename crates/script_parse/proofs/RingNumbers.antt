@@ -8,7 +8,7 @@ use Rattle.monomial_orders.specs.Kept.{AreWeights}
 use Rattle.std.proofs.lemmas.List.{take_more}
 use Rattle.script_parse.specs.Refusals.{HasOtherWeights, IsOutside}
 use Rattle.script_parse.specs.Statements.{weights_stated}
-use Rattle.script_parse.specs.Tests.{AreWeighed, IsGood}
+use Rattle.script_parse.specs.Tests.{AreListedWeights, IsGood}
 
 -- a number is within its bounds, or not
 pub outside_great : (last k : ℕ) → last < 2 ^ 32 → 2 ^ 128 ≤ k → IsOutside last k
@@ -23,7 +23,7 @@ within last zero h = absurd (h (inl refl))
 within last (suc k) h = omega arith
 
 -- one more weight
-weighed_push : (line : List ℕ) (ts : List Token) (ws : List ℕ) (t : Token) (w : ℕ) → AreWeighed line ts ws → w ≡ value_of line t → (IsOutside 255 w → ⊥) → AreWeighed line (ts ++ t ∷ []) (ws ++ w ∷ [])
+weighed_push : (line : List ℕ) (ts : List Token) (ws : List ℕ) (t : Token) (w : ℕ) → AreListedWeights line ts ws → w ≡ value_of line t → (IsOutside 255 w → ⊥) → AreListedWeights line (ts ++ t ∷ []) (ws ++ w ∷ [])
 weighed_push line [] [] t w h e fits = (e, fits, tt)
 weighed_push line [] (x ∷ ws) t w h e fits = absurd h
 weighed_push line (s ∷ ts) [] t w h e fits = absurd h
@@ -31,27 +31,27 @@ weighed_push line (s ∷ ts) (x ∷ ws) t w h e fits = (h.0, h.1, weighed_push l
 
 pub weighed_go :
     (line : List ℕ) (ts : List Token) (i : ℕ) (d : Token) (old new : List ℕ) (w : ℕ) → i < length ts → new ≡ old ++ w ∷ []
-    → AreWeighed line (take i ts) old → w ≡ value_of line (get_or ts i d) → (IsOutside 255 (value_of line (get_or ts i d)) → ⊥)
-    → AreWeighed line (take (i + 1) ts) new
+    → AreListedWeights line (take i ts) old → w ≡ value_of line (get_or ts i d) → (IsOutside 255 (value_of line (get_or ts i d)) → ⊥)
+    → AreListedWeights line (take (i + 1) ts) new
 weighed_go line ts i d old new w lt f h value fits =
     let inside = subst (λ k. IsOutside 255 k → ⊥) (sym value) fits in
-    subst (λ l. AreWeighed line l new) (sym (take_more ts i d lt))
-    (subst (AreWeighed line (take i ts ++ get_or ts i d ∷ [])) (sym f) (weighed_push line (take i ts) old (get_or ts i d) w h value inside))
+    subst (λ l. AreListedWeights line l new) (sym (take_more ts i d lt))
+    (subst (AreListedWeights line (take i ts ++ get_or ts i d ∷ [])) (sym f) (weighed_push line (take i ts) old (get_or ts i d) w h value inside))
 
-weighed_are : (line : List ℕ) (ts : List Token) (ws : List ℕ) → AreWeighed line ts ws → ws ≡ map (value_of line) ts
+weighed_are : (line : List ℕ) (ts : List Token) (ws : List ℕ) → AreListedWeights line ts ws → ws ≡ map (value_of line) ts
 weighed_are line [] [] h = refl
 weighed_are line [] (w ∷ ws) h = absurd h
 weighed_are line (t ∷ ts) [] h = absurd h
 weighed_are line (t ∷ ts) (w ∷ ws) h = ap₂ (λ x l. x ∷ l) h.0 (weighed_are line ts ws h.2)
 
-pub weighed_positive : (line : List ℕ) (ts : List Token) (ws : List ℕ) → AreWeighed line ts ws → AreWeights ws
+pub weighed_positive : (line : List ℕ) (ts : List Token) (ws : List ℕ) → AreListedWeights line ts ws → AreWeights ws
 weighed_positive line [] [] h k lt = omega (arith, lt)
 weighed_positive line [] (w ∷ ws) h k lt = absurd h
 weighed_positive line (t ∷ ts) [] h k lt = absurd h
 weighed_positive line (t ∷ ts) (w ∷ ws) h zero lt = within 255 w h.1
 weighed_positive line (t ∷ ts) (w ∷ ws) h (suc k) lt = weighed_positive line ts ws h.2 k (omega (arith, lt))
 
-weighed_fit : (line : List ℕ) (ts : List Token) (ws : List ℕ) (t : Token) → AreWeighed line ts ws → Contains ts t → IsOutside 255 (value_of line t) → ⊥
+weighed_fit : (line : List ℕ) (ts : List Token) (ws : List ℕ) (t : Token) → AreListedWeights line ts ws → Contains ts t → IsOutside 255 (value_of line t) → ⊥
 weighed_fit line [] ws t h c out = omega (arith, c.1)
 weighed_fit line (s ∷ ts) [] t h c out = absurd h
 weighed_fit line (s ∷ ts) (w ∷ ws) t h (zero, lt, is) out = h.1 (subst (IsOutside 255) (sym (h.0 ∙ ap (value_of line) is)) out)
@@ -75,7 +75,7 @@ other_weight line n (t ∷ ts) some h = inr h
 
 -- they are n, and none is outside
 pub good_weights :
-    (line : List ℕ) (n : ℕ) (ts : List Token) (ws us : List ℕ) → (ts ≡ [] → ⊥) → length ts ≡ n → AreWeighed line ts ws → us ≡ ws
+    (line : List ℕ) (n : ℕ) (ts : List Token) (ws us : List ℕ) → (ts ≡ [] → ⊥) → length ts ≡ n → AreListedWeights line ts ws → us ≡ ws
     → IsGood (weights_stated line n ts) (HasOtherWeights line n ts) (Some us)
 good_weights line n [] ws us some e h f = absurd (some refl)
 good_weights line n (t ∷ ts) ws us some e h f = (f ∙ weighed_are line (t ∷ ts) ws h, go)

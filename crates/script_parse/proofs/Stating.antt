@@ -19,7 +19,7 @@ use Rattle.poly_value.specs.Values.{degrees_of, place_of, polynomials_of}
 use Rattle.script_parse.specs.Forms.{IsLineOf, operands_of, shape_behind}
 use Rattle.script_parse.specs.Tests.{AreVectorWorths, AreWorths, HaveNumerals, IsWorkable, IsWorth, StandsForEntries, is_known, is_no_value, known_names, knows, low_degree, module_fits, names_pass, right_kinds}
 use Rattle.script_parse.specs.Refusals.{rank_named}
-use Rattle.script_parse.specs.Statements.{ArePolynomialsOf, AreVectorsOf, IsOperationOf, IsPolynomialOf, IsVectorOf, Says}
+use Rattle.script_parse.specs.Statements.{ArePolynomialsOf, AreVectorsOf, IsOperationOf, IsPolynomialOf, IsVectorWith, Says}
 use Rattle.script_parse.specs.Written.{Written, WrittenOperation, divide_line, ideal_line, module_line, of_polynomial, operation_polys, show_line}
 use Rattle.script_parse.specs.declared.form.Division.TheVariants.{Lift, Member, NormalForm}
 use Rattle.script_parse.specs.declared.form.Head.{Head}
@@ -111,7 +111,7 @@ worths_of g (v ∷ pieces) (p ∷ ps) e =
     ap₂ (λ x l. x ∷ l) (ap (worth_of_steps g) head ∙ worth_is_left g p) (worths_of g pieces ps tail)
 
 vector_is : (ring : Ring) (line : List ℕ) (pieces : List (Vec Step Global)) (ps : List Poly) (u : List (Key × ℕ)) → map (λ v. v.items) pieces ≡ map steps ps
-    → IsVectorOver ring (ring_comparison ring) u → HasPositions (length pieces) u → StandsForEntries ring line pieces u → IsVectorOf ring line ps u
+    → IsVectorOver ring (ring_comparison ring) u → HasPositions (length pieces) u → StandsForEntries ring line pieces u → IsVectorWith ring line ps u
 vector_is ring line pieces ps u e vector positions stands = (
   vector,
   subst (λ k. HasPositions k u) (sym (length-map pieces (λ v. v.items)) ∙ ap length e ∙ length-map ps steps) positions,

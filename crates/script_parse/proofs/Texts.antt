@@ -24,7 +24,7 @@ use Rattle.poly_grammar.proofs.NumbersOfSteps.{steps_have_numbers}
 use Rattle.script_parse.specs.Forms.{IsFormOf, head_of, operands_of, shape_behind}
 use Rattle.script_parse.specs.Tests.{IsPolynomial, IsWellFormed, head_names, operand_places, repeats, stands_among}
 use Rattle.script_parse.specs.Refusals.{HasGreatNumeral, HasRepeat}
-use Rattle.script_parse.specs.Written.{AreEntries, AreNames, ArePolys, AreVectors, IsOperation, IsWritten, Written, WrittenOperation, ask_line, change_line, comma_list, divide_line, elimination, equal_line, ideal_line, let_line, module_line, nothing, of_polynomial, of_two, operation_polys, polys_of, ring_line, show_line, syzygies}
+use Rattle.script_parse.specs.Written.{AreEntries, AreListedNames, ArePolys, AreVectors, IsOperation, IsWritten, Written, WrittenOperation, ask_line, change_line, comma_list, divide_line, elimination, equal_line, ideal_line, let_line, module_line, nothing, of_polynomial, of_two, operation_polys, polys_of, ring_line, show_line, syzygies}
 use Rattle.script_parse.specs.declared.form.Form.{Form}
 use Rattle.script_parse.specs.declared.form.Form.TheVariants as forms
 use Rattle.script_parse.specs.declared.form.Head.{Head}
@@ -72,7 +72,7 @@ names_of_list : (ts : List Token) (ys : List Lexeme) → names_in (comma_list na
 names_of_list [] ys = refl
 names_of_list (t ∷ ts) ys = ap (λ l. t ∷ l) (names_of_list ts ys)
 
-names_of_names : (xs ys : List Lexeme) (ts : List Token) → AreNames xs ts → names_in (xs ++ ys) ≡ ts ++ names_in ys
+names_of_names : (xs ys : List Lexeme) (ts : List Token) → AreListedNames xs ts → names_in (xs ++ ys) ≡ ts ++ names_in ys
 names_of_names xs ys [] h = absurd h
 names_of_names xs ys (t ∷ ts) h = ap (λ l. names_in (l ++ ys)) h ∙ ap (λ l. t ∷ l) (names_of_list ts ys)
 

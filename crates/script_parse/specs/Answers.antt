@@ -9,7 +9,7 @@ use Rattle.script_parse.specs.declared.named.NameInfo.{NameInfo}
 use Rattle.script_parse.specs.declared.stated.Statement.{Statement}
 
 -- a statement is what the line states, a refusal is for the first kind that holds, and memory may be wanting
-abbrev pub Answers : Option Ring → List NameInfo → List ℕ → Result Statement ParseStop → Type 0
-Answers ring names line (Ok statement) = States ring names line statement
-Answers ring names line (Err Memory) = Unit {0}
-Answers ring names line (Err (Refused kind)) = Refuses ring names line kind
+abbrev pub AnswersLine : Option Ring → List NameInfo → List ℕ → Result Statement ParseStop → Type 0
+AnswersLine ring names line (Ok statement) = States ring names line statement
+AnswersLine ring names line (Err Memory) = Unit {0}
+AnswersLine ring names line (Err (Refused kind)) = Refuses ring names line kind

@@ -81,10 +81,10 @@ AreReadAs Are (Err Memory) = Unit {0}
 AreReadAs Are (Err Syntax) = (ps : List Poly) → Are ps → ⊥
 
 -- the POLY that the lexemes are is put behind those found before
-abbrev pub IsPushed : List Lexeme → List (Vec Step Global) → List (Vec Step Global) → Result ⊤ ReadStop → Type 0
-IsPushed xs old new (Ok _) = (p : Poly) × Reads xs p × (map (λ v. v.items) new ≡ map (λ v. v.items) old ++ steps p ∷ [])
-IsPushed xs old new (Err Memory) = Unit {0}
-IsPushed xs old new (Err Syntax) = (p : Poly) → Reads xs p → ⊥
+abbrev pub IsPolynomialPut : List Lexeme → List (Vec Step Global) → List (Vec Step Global) → Result ⊤ ReadStop → Type 0
+IsPolynomialPut xs old new (Ok _) = (p : Poly) × Reads xs p × (map (λ v. v.items) new ≡ map (λ v. v.items) old ++ steps p ∷ [])
+IsPolynomialPut xs old new (Err Memory) = Unit {0}
+IsPolynomialPut xs old new (Err Syntax) = (p : Poly) → Reads xs p → ⊥
 
 -- the lexeme is no comma
 abbrev pub IsNoComma : Lexeme → Type 0

@@ -154,20 +154,20 @@ HasGreatDegree (Some ring) line w =
 
 -- the kind holds of the line, where this ring is stated and values have these names; the last five kinds hold of no line by itself:
 -- the session tells them after the line's run
-abbrev pub Holds : Option Ring → List NameInfo → List ℕ → Kind → Type 0
-Holds ring names line kinds.Syntax = (w : Written) → IsLine line w → ⊥
-Holds ring names line kinds.Numeral = HasGreatNumeral line
-Holds ring names line kinds.Ring = (w : Written) × IsLine line w × LacksRing ring line w
-Holds ring names line kinds.Modulus = (w : Written) × IsLine line w × HasOtherModulus line w
-Holds ring names line kinds.Name = (w : Written) × IsLine line w × HasUnknownName ring names line w
-Holds ring names line kinds.OfKind = (w : Written) × IsLine line w × HasOtherKind ring names line w
-Holds ring names line kinds.Rank = (w : Written) × IsLine line w × HasOtherRank names line w
-Holds ring names line kinds.Degree = (w : Written) × IsLine line w × HasGreatDegree ring line w
-Holds ring names line kinds.Homogeneous = ⊥
-Holds ring names line kinds.Leads = ⊥
-Holds ring names line kinds.Large = ⊥
-Holds ring names line kinds.Infinite = ⊥
-Holds ring names line kinds.Many = ⊥
+abbrev pub RefusalHolds : Option Ring → List NameInfo → List ℕ → Kind → Type 0
+RefusalHolds ring names line kinds.Syntax = (w : Written) → IsLine line w → ⊥
+RefusalHolds ring names line kinds.Numeral = HasGreatNumeral line
+RefusalHolds ring names line kinds.Ring = (w : Written) × IsLine line w × LacksRing ring line w
+RefusalHolds ring names line kinds.Modulus = (w : Written) × IsLine line w × HasOtherModulus line w
+RefusalHolds ring names line kinds.Name = (w : Written) × IsLine line w × HasUnknownName ring names line w
+RefusalHolds ring names line kinds.OfKind = (w : Written) × IsLine line w × HasOtherKind ring names line w
+RefusalHolds ring names line kinds.Rank = (w : Written) × IsLine line w × HasOtherRank names line w
+RefusalHolds ring names line kinds.Degree = (w : Written) × IsLine line w × HasGreatDegree ring line w
+RefusalHolds ring names line kinds.Homogeneous = ⊥
+RefusalHolds ring names line kinds.Leads = ⊥
+RefusalHolds ring names line kinds.Large = ⊥
+RefusalHolds ring names line kinds.Infinite = ⊥
+RefusalHolds ring names line kinds.Many = ⊥
 
 -- the place of a kind in the order in which they are tried
 abbrev pub place : Kind → ℕ
@@ -187,5 +187,5 @@ place kinds.Many = 13
 
 -- the line is refused for this kind: it holds, and none that is tried before it
 pub record Refuses (ring : Option Ring) (names : List NameInfo) (line : List ℕ) (kind : Kind) : Type 0 where
-  pub holds : Holds ring names line kind
-  pub first : (earlier : Kind) → place earlier < place kind → Holds ring names line earlier → ⊥
+  pub holds : RefusalHolds ring names line kind
+  pub first : (earlier : Kind) → place earlier < place kind → RefusalHolds ring names line earlier → ⊥

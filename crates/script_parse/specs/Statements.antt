@@ -15,7 +15,7 @@ use Rattle.module_vectors.specs.Rings.{ring_comparison, variables}
 use Rattle.module_vectors.specs.Vectors.{HasPositions, IsVectorOver, StandsFor}
 use Rattle.module_vectors.specs.declared.key.Key.{Key}
 use Rattle.module_vectors.specs.declared.ring.Ring.{Ring}
-use Rattle.script_parse.specs.Refusals.{Holds}
+use Rattle.script_parse.specs.Refusals.{RefusalHolds}
 use Rattle.script_parse.specs.Written.{IsLine, RingLine, Written, WrittenOperation, ask_line, change_line, divide_line, elimination, equal_line, ideal_line, let_line, module_line, nothing, of_polynomial, of_two, ring_line, show_line, syzygies}
 use Rattle.script_parse.specs.declared.form.Division.TheVariants as divisions
 use Rattle.script_parse.specs.declared.form.Question.TheVariants as questions
@@ -80,8 +80,8 @@ abbrev pub IsVectorOfRank : Ring → List ℕ → ℕ → List Poly → List (Ke
 IsVectorOfRank ring line rank ps v = IsVectorOver ring (ring_comparison ring) v × HasPositions rank v × HasEntries ring line ps v
 
 -- the normal vector with these entries, of as many positions
-abbrev pub IsVectorOf : Ring → List ℕ → List Poly → List (Key × ℕ) → Type 0
-IsVectorOf ring line ps v = IsVectorOfRank ring line (length ps) ps v
+abbrev pub IsVectorWith : Ring → List ℕ → List Poly → List (Key × ℕ) → Type 0
+IsVectorWith ring line ps v = IsVectorOfRank ring line (length ps) ps v
 
 -- one vector of the rank for each list of entries, in order
 abbrev pub AreVectorsOf : Ring → List ℕ → ℕ → List (List Poly) → List (List (Key × ℕ)) → Type 0
@@ -123,9 +123,9 @@ Says ring line (ask_line questions.Resolution value) (statements.Resolution name
 Says ring line (ask_line questions.Minimal value) (statements.Minimal name) = string_bytes name ≡ text_of line value
 Says ring line (ask_line questions.Betti value) (statements.Betti name) = string_bytes name ≡ text_of line value
 Says ring line (ask_line questions.Regularity value) (statements.Regularity name) = string_bytes name ≡ text_of line value
-Says (Some ring) line (divide_line divisions.NormalForm value entries) (statements.NormalForm name v) = (string_bytes name ≡ text_of line value) × IsVectorOf ring line entries v
-Says (Some ring) line (divide_line divisions.Member value entries) (statements.Member name v) = (string_bytes name ≡ text_of line value) × IsVectorOf ring line entries v
-Says (Some ring) line (divide_line divisions.Lift value entries) (statements.Lift name v) = (string_bytes name ≡ text_of line value) × IsVectorOf ring line entries v
+Says (Some ring) line (divide_line divisions.NormalForm value entries) (statements.NormalForm name v) = (string_bytes name ≡ text_of line value) × IsVectorWith ring line entries v
+Says (Some ring) line (divide_line divisions.Member value entries) (statements.Member name v) = (string_bytes name ≡ text_of line value) × IsVectorWith ring line entries v
+Says (Some ring) line (divide_line divisions.Lift value entries) (statements.Lift name v) = (string_bytes name ≡ text_of line value) × IsVectorWith ring line entries v
 Says ring line (equal_line left right) (statements.Equal first second) = (string_bytes first ≡ text_of line left) × (string_bytes second ≡ text_of line right)
 Says ring line (change_line value order) (statements.Change name made) = (string_bytes name ≡ text_of line value) × (made ≡ order_stated line order)
 Says ring line _ _ = ⊥
@@ -135,7 +135,7 @@ Says ring line _ _ = ⊥
 pub record States (ring : Option Ring) (names : List NameInfo) (line : List ℕ) (statement : Statement) : Type 0 where
   pub written : Written
   pub is_line : IsLine line written
-  pub free : (kind : Kind) → Holds ring names line kind → ⊥
+  pub free : (kind : Kind) → RefusalHolds ring names line kind → ⊥
   pub says : Says ring line written statement
 
 -- two operations are one: the same names, terms and numbers

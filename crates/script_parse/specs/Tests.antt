@@ -296,14 +296,14 @@ IsStated ring line head pieces (Err stops.Memory) = Unit {0}
 IsStated ring line head pieces (Err (stops.Refused kind)) = ⊥
 
 -- the weights are those of the NUMs, each from 1 to 255
-abbrev pub AreWeighed : List ℕ → List Token → List ℕ → Type 0
-AreWeighed line [] [] = Unit {0}
-AreWeighed line (t ∷ ts) (w ∷ ws) = (w ≡ value_of line t) × (IsOutside 255 w → ⊥) × AreWeighed line ts ws
-AreWeighed line _ _ = ⊥
+abbrev pub AreListedWeights : List ℕ → List Token → List ℕ → Type 0
+AreListedWeights line [] [] = Unit {0}
+AreListedWeights line (t ∷ ts) (w ∷ ws) = (w ≡ value_of line t) × (IsOutside 255 w → ⊥) × AreListedWeights line ts ws
+AreListedWeights line _ _ = ⊥
 
 -- they are, or none where one of the NUMs is outside 1..255
 abbrev pub AreWeighedAll : List ℕ → List Token → Option (List ℕ) → Type 0
-AreWeighedAll line ts (Some ws) = AreWeighed line ts ws
+AreWeighedAll line ts (Some ws) = AreListedWeights line ts ws
 AreWeighedAll line ts None = (t : Token) × Contains ts t × IsOutside 255 (value_of line t)
 
 -- what is stated, where it is not faulty, and none where it is

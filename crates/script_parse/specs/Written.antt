@@ -131,9 +131,9 @@ comma_list shape [] = []
 comma_list shape (t ∷ ts) = comma ∷ shape t ∷ comma_list shape ts
 
 -- NAME { , NAME }
-abbrev pub AreNames : List Lexeme → List Token → Type 0
-AreNames xs [] = ⊥
-AreNames xs (t ∷ ts) = xs ≡ name t ∷ comma_list name ts
+abbrev pub AreListedNames : List Lexeme → List Token → Type 0
+AreListedNames xs [] = ⊥
+AreListedNames xs (t ∷ ts) = xs ≡ name t ∷ comma_list name ts
 
 -- a NAME that says the word, and then the rest
 abbrev pub IsSaid : List ℕ → List ℕ → List Lexeme → List Lexeme → Type 0
@@ -146,9 +146,9 @@ IsOrder line xs Grevlex = IsSaid line (codes "grevlex") xs []
 IsOrder line xs (Elim k) = IsSaid line (codes "elim") xs (number k ∷ [])
 
 -- [top]
-abbrev pub IsTop : List ℕ → List Lexeme → Bool → Type 0
-IsTop line xs true = IsSaid line (codes "top") xs []
-IsTop line xs false = xs ≡ []
+abbrev pub IsTopWord : List ℕ → List Lexeme → Bool → Type 0
+IsTopWord line xs true = IsSaid line (codes "top") xs []
+IsTopWord line xs false = xs ≡ []
 
 -- [weights NUM {, NUM}]
 abbrev pub IsWeighting : List ℕ → List Lexeme → List Token → Type 0
@@ -161,9 +161,9 @@ pub record IsRingLine (line : List ℕ) (xs : List Lexeme) (r : RingLine) : Type
   pub order : List Lexeme
   pub top : List Lexeme
   pub weights : List Lexeme
-  pub names_are : AreNames names r.names
+  pub names_are : AreListedNames names r.names
   pub order_is : IsOrder line order r.order
-  pub top_is : IsTop line top r.top
+  pub top_is : IsTopWord line top r.top
   pub weights_are : IsWeighting line weights r.weights
   pub spelled : xs ≡ number r.modulus ∷ (names ++ (order ++ (top ++ weights)))
 

@@ -2,7 +2,7 @@
 
 ghost use Rattle.std.specs.Prelude.{◌<◌, length, map, IfSome, IfNone};
 ghost use Rattle.poly_grammar.specs.Lexemes.{lexeme};
-ghost use Rattle.script_parse.specs.Forms.{AreReadAs, HasNoComma, IsAtComma, IsPushed};
+ghost use Rattle.script_parse.specs.Forms.{AreReadAs, HasNoComma, IsAtComma, IsPolynomialPut};
 ghost use Rattle.script_parse.specs.Written.{AreEntries, ArePolys, IsOnePoly};
 
 use poly_grammar::{ReadStop, Step, read_polynomial};
@@ -15,7 +15,7 @@ fn push_polynomial(
     tokens: &[Token],
     found: &mut Vec<Vec<Step>>,
 ) -> Result<(), ReadStop>
-    ensures { IsPushed (map lexeme tokens.now) found.old.items found.new.items result }
+    ensures { IsPolynomialPut (map lexeme tokens.now) found.old.items found.new.items result }
 {
     match read_polynomial(alloc, tokens) {
         Ok(steps) => {

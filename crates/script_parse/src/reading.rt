@@ -1,7 +1,7 @@
 //! Reading a line.
 
 ghost use Rattle.std.specs.Option.{option_copied};
-ghost use Rattle.script_parse.specs.Answers.{Answers};
+ghost use Rattle.script_parse.specs.Answers.{AnswersLine};
 ghost use Rattle.script_parse.specs.Tests.{IsFormed};
 
 use crate::form::{Form, read_form};
@@ -53,7 +53,7 @@ pub fn statement(
     ring: Option<&Ring>,
     names: &NameTable,
 ) -> Result<Statement, ParseStop>
-    ensures { Answers (option_copied ring.entry) names.now line.now result }
+    ensures { AnswersLine (option_copied ring.entry) names.now line.now result }
 {
     let form = match formed(alloc, line) {
         Ok(form) => form,

@@ -8,7 +8,7 @@ use Rattle.module_vectors.specs.declared.ring.Ring.{Ring}
 use Rattle.script_parse.specs.declared.operation.Operation.{Operation}
 use Rattle.script_parse.specs.declared.operation.Operation.TheVariants as operations
 use Rattle.session_lang.proofs.OneAnswer.{one_value}
-use Rattle.session_lang.specs.Kept.{AreGiven, AreOver, IsPolynomialOver, IsSound, IsValueRank, IsWithPolynomial, IsWorkable}
+use Rattle.session_lang.specs.Kept.{AreGiven, IsListOver, IsPolynomialOver, IsSound, IsValueRank, IsWithPolynomial, IsWorkable}
 use Rattle.session_lang.specs.Names.{State}
 use Rattle.session_lang.specs.Operations.{IsResult, Work, WorksOn, colon, eliminate, intersect, multiply, quotient, result_rank, saturate, sum, syzygies}
 use Rattle.session_lang.specs.Tasks.{IsOperand, IsReady}
@@ -26,7 +26,7 @@ sound_result ring work rank list e ranked r =
 
 -- so is a typed list
 pub sound_list :
-    (ring : Ring) (rank : ℕ) (list : List (List (Key × ℕ))) → IsValueRank rank → AreOver ring rank list
+    (ring : Ring) (rank : ℕ) (list : List (List (Key × ℕ))) → IsValueRank rank → IsListOver ring rank list
     → IsSound ring rank (record { list = list; basis = None })
 sound_list ring rank list ranked h = record { ranked = ranked; vectors = h.0; positions = h.1; basis = tt }
 
@@ -49,8 +49,8 @@ module _ (before : State) (over : Ring) where
 
   same_rank :
       (a b : String Global) (m n : ℕ) (left right : Lists) → AreGiven before (string_bytes a) (string_bytes b) (λ r s. r ≡ s) → IsOf a m left → IsOf b n right
-      → AreOver over m right
-  same_rank a b m n left right h f g = subst (λ r. AreOver over r right) (sym (ranks_pass (λ r s. r ≡ s) a b m n left right h f g)) g.vectors
+      → IsListOver over m right
+  same_rank a b m n left right h f g = subst (λ r. IsListOver over r right) (sym (ranks_pass (λ r s. r ≡ s) a b m n left right h f g)) g.vectors
 
   written : (F : ℕ → Lists → Lists → Work) (m n : ℕ) (k l p q : Lists) → m ≡ n → k ≡ l → p ≡ q → F m k p ≡ F n l q
   written F m n k l p q e f g = λ i. F (e i) (f i) (g i)
@@ -71,7 +71,7 @@ module _ (before : State) (over : Ring) where
       let ge = f.ranked.0 in
       let e : m ≡ 1 = omega (arith, le, ge) in (
         (f.value, g.value, f.has, g.has, written multiply n g.value.rank left f.value.list right g.value.list g.rank_is f.list_is g.list_is),
-        ((subst (λ r. AreOver over r left) e f.vectors, g.vectors), g.ranked),
+        ((subst (λ r. IsListOver over r left) e f.vectors, g.vectors), g.ranked),
       )
 
   pub intersect_does :

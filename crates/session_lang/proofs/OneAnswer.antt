@@ -4,7 +4,7 @@ use Rattle.module_vectors.specs.declared.ring.Ring.{Ring}
 use Rattle.poly_text.specs.Texts.{names_of, vector_text}
 use Rattle.session_lang.proofs.OneForm.{one_form, one_reduced}
 use Rattle.session_lang.specs.Answers.{Asked, Decides, IsAnswer, basis, member, normal_form, sizes_of_basis}
-use Rattle.session_lang.specs.Lines.{Answers}
+use Rattle.session_lang.specs.Lines.{AnswersAsked}
 use Rattle.session_lang.specs.Names.{HasValue, State, Value}
 use Rattle.session_lang.specs.Texts.{listing, sizes}
 
@@ -32,7 +32,7 @@ answer_once ring value (normal_form v) x y g h =
     g.2 ∙ ap (λ w. vector_text (names_of ring) value.rank w ++ 10 ∷ []) (one_form ring value.rank value.list v g.0 h.0 g.1 h.1) ∙ sym h.2
 answer_once ring value (member v) x y g h = decides_once _ x y g h
 
-pub answers_once : (before : State) (name : List ℕ) (asked : Asked) (x y : List ℕ) → Answers before name asked x → Answers before name asked y → x ≡ y
+pub answers_once : (before : State) (name : List ℕ) (asked : Asked) (x y : List ℕ) → AnswersAsked before name asked x → AnswersAsked before name asked y → x ≡ y
 answers_once before name asked x y g h =
     answer_once g.0 g.1 asked x y g.3
     (subst₂ (λ r v. IsAnswer r v asked y) (sym (one_ring before name name g.0 h.0 g.1 h.1 g.2 h.2)) (sym (one_value before name g.0 h.0 g.1 h.1 g.2 h.2)) h.3)

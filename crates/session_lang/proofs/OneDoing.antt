@@ -20,7 +20,7 @@ use Rattle.session_lang.proofs.OneResolution.{resolves_once}
 use Rattle.session_lang.proofs.OneText.{counts_once, lifts_once}
 use Rattle.session_lang.proofs.OneWork.{gives_once}
 use Rattle.session_lang.specs.Answers.{Asked, Decides, IsOneModule, basis, member, normal_form, sizes_of_basis}
-use Rattle.session_lang.specs.Lines.{Answers, Does, Gives}
+use Rattle.session_lang.specs.Lines.{AnswersAsked, Does, OperationGives}
 use Rattle.session_lang.specs.Minimising.{IsBettiText, IsMinimalText, IsRegularityText}
 use Rattle.session_lang.specs.Names.{HasValue, State, Value, after_giving, after_run}
 use Rattle.session_lang.specs.Texts.{listing}
@@ -71,8 +71,8 @@ module _ (before : State) where
       text ∙ ap₂ (λ ring value. listing (codes "gens") ring value value.list) (one_ring before m m r s v w has there) (one_value before m r s v w has there)
       ∙ sym text'
 
-  asked_once : (m n : List ℕ) (a b : Asked) (x y : List ℕ) → m ≡ n → a ≡ b → Answers before m a x → Answers before n b y → x ≡ y
-  asked_once m n a b x y e f g h = answers_once before m a x y g (subst₂ (λ name asked. Answers before name asked y) (sym e) (sym f) h)
+  asked_once : (m n : List ℕ) (a b : Asked) (x y : List ℕ) → m ≡ n → a ≡ b → AnswersAsked before m a x → AnswersAsked before n b y → x ≡ y
+  asked_once m n a b x y e f g h = answers_once before m a x y g (subst₂ (λ name asked. AnswersAsked before name asked y) (sym e) (sym f) h)
 
   -- what Equal asks of two lists, over the ring that is stated
   abbrev Compares : Ring → Value → Value → List ℕ → Type 0
@@ -104,7 +104,7 @@ module _ (before : State) where
 
   -- what an operation gives
   abbrev Made : List ℕ → Operation → State → Type 0
-  Made name x after = (ring : Ring) × (rank : ℕ) × (list : List Terms) × Gives before x ring rank list × (after ≡ given before true name rank list)
+  Made name x after = (ring : Ring) × (rank : ℕ) × (list : List Terms) × OperationGives before x ring rank list × (after ≡ given before true name rank list)
 
   made_once : (m n : List ℕ) (x y : Operation) (p q : State) → m ≡ n → IsSameOperation x y → Made m x p → Made n y q → p ≡ q
   made_once m n x y p q e f g h =

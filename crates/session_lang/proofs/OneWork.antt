@@ -15,7 +15,7 @@ use Rattle.script_parse.specs.declared.operation.Operation.{Operation}
 use Rattle.script_parse.specs.declared.operation.Operation.TheVariants as operations
 use Rattle.session_lang.proofs.OneForm.{one_reduced}
 use Rattle.session_lang.proofs.OneAnswer.{one_ring, one_value}
-use Rattle.session_lang.specs.Lines.{Gives}
+use Rattle.session_lang.specs.Lines.{OperationGives}
 use Rattle.session_lang.specs.Names.{HasValue, State, Value}
 use Rattle.session_lang.specs.Operations.{IsResult, Work, WorksOn, colon, eliminate, intersect, multiply, quotient, result_rank, saturate, sum, syzygies}
 
@@ -88,7 +88,7 @@ module _ (before : State) where
 
   -- an operation gives one list of one rank
   pub gives_once :
-      (x y : Operation) (r s : Ring) (m n : ℕ) (A B : Lists) → IsSameOperation x y → Gives before x r m A → Gives before y s n B → (m ≡ n) × (A ≡ B)
+      (x y : Operation) (r s : Ring) (m n : ℕ) (A B : Lists) → IsSameOperation x y → OperationGives before x r m A → OperationGives before y s n B → (m ≡ n) × (A ≡ B)
   gives_once x y r s m n A B e g h =
       let z = works_once x y r s g.0 h.0 e g.1 h.1 in
       let there : IsResult r g.0 B = subst₂ (λ q w. IsResult q w B) (sym z.0) (sym z.1) h.3 in

@@ -22,7 +22,7 @@ use Rattle.session_lang.specs.Answers.{Asked, Decides, IsAnswer, IsOneModule, ba
 use Rattle.session_lang.specs.Asking.{IsAskedOver}
 use Rattle.session_lang.specs.Held.{Held}
 use Rattle.session_lang.specs.Kept.{IsFit, IsGiven}
-use Rattle.session_lang.specs.Lines.{Answers, Does, IsLiftRun, IsRunFor, IsRunForEither, Lifts, Needs, RefusesStated, States}
+use Rattle.session_lang.specs.Lines.{AnswersAsked, Does, IsLiftRun, IsRunForValue, IsRunForEither, Lifts, Needs, RefusesStated, States}
 use Rattle.session_lang.specs.Names.{HasValue, State, Value, after_run}
 use Rattle.session_lang.specs.Parts.{IsRunOf}
 use Rattle.session_lang.specs.Performing.{Performed, Performs, asking}
@@ -110,13 +110,13 @@ module _ (before : State) (name : String Global) where
 
   asked_does :
       (asked : Asked) (after : State) (text : List ℕ)
-      → after ≡ after_run (string_bytes name) before → Answers before (string_bytes name) asked text → Does before (asking name asked) after text
+      → after ≡ after_run (string_bytes name) before → AnswersAsked before (string_bytes name) asked text → Does before (asking name asked) after text
   asked_does basis after text d a = (d, a)
   asked_does sizes_of_basis after text d a = (d, a)
   asked_does (normal_form v) after text d a = (d, a)
   asked_does (member v) after text d a = (d, a)
 
-  asked_needs : (asked : Asked) (ring : Ring) (rank : ℕ) (list : Terms) → IsRunFor before (string_bytes name) ring rank list → Needs before (asking name asked) ring rank list
+  asked_needs : (asked : Asked) (ring : Ring) (rank : ℕ) (list : Terms) → IsRunForValue before (string_bytes name) ring rank list → Needs before (asking name asked) ring rank list
   asked_needs basis ring rank list h = h
   asked_needs sizes_of_basis ring rank list h = h
   asked_needs (normal_form v) ring rank list h = h
@@ -244,7 +244,7 @@ module _ (before : State) (name : String Global) where
   report_refused Regularity over value kind has r = (over, value, has, r)
 
   report_needs :
-      (report : Report) (ring : Ring) (rank : ℕ) (list : Terms) → IsRunFor before (string_bytes name) ring rank list
+      (report : Report) (ring : Ring) (rank : ℕ) (list : Terms) → IsRunForValue before (string_bytes name) ring rank list
       → Needs before (reporting name report) ring rank list
   report_needs Numbers ring rank list h = h
   report_needs (InOrder order) ring rank list h = h

@@ -12,7 +12,7 @@ use Rattle.module_vectors.specs.Rings.{ring_comparison}
 use Rattle.module_vectors.specs.Vectors.{AreVectorsOver, HasPositions, IsVectorOver}
 use Rattle.module_vectors.specs.declared.key.Key.{Key}
 use Rattle.module_vectors.specs.declared.ring.Ring.{Ring}
-use Rattle.script_parse.specs.Refusals.{HasOtherFactor, HasOtherKind, HasOtherOperands, HasOtherRank, HasUnknownName, HaveOtherRanks, Holds, IsNamed, IsOutside, Refuses, length_named, rank_named}
+use Rattle.script_parse.specs.Refusals.{HasOtherFactor, HasOtherKind, HasOtherOperands, HasOtherRank, HasUnknownName, HaveOtherRanks, RefusalHolds, IsNamed, IsOutside, Refuses, length_named, rank_named}
 use Rattle.script_parse.specs.Statements.{ArePolynomialsOf, AreVectorsOf, IsOperationOf, Says, States}
 use Rattle.script_parse.specs.declared.ring_words.OrderName.{OrderName}
 use Rattle.script_parse.specs.Written.{IsLine, Written, WrittenOperation, ask_line, change_line, divide_line, elimination, equal_line, ideal_line, let_line, module_line, nothing, of_polynomial, of_two, ring_line, show_line, syzygies, value_places}
@@ -130,7 +130,7 @@ module _ (ring : Option Ring) (infos more : List NameInfo) (line : List ℕ) (sa
   other_rank (show_line p) h = h
   other_rank (ask_line q t) h = h
 
-  pub holds_alike : (kind : Kind) → Holds ring infos line kind → Holds ring more line kind
+  pub holds_alike : (kind : Kind) → RefusalHolds ring infos line kind → RefusalHolds ring more line kind
   holds_alike kinds.Syntax h = h
   holds_alike kinds.Numeral h = h
   holds_alike kinds.Ring h = h
@@ -215,7 +215,7 @@ value_of_rank (Some v) r e = (v, refl, inner e)
 module _ (values : List Value) (infos : List NameInfo) (line : List ℕ) (told : AreInfosOf values infos) where
   -- a name in a value's place is that of a value
   placed :
-      (ring : Ring) (w : Written) (t : Token) → IsLine line w → ((kind : Kind) → Holds (Some ring) infos line kind → ⊥) → Contains (value_places w) t
+      (ring : Ring) (w : Written) (t : Token) → IsLine line w → ((kind : Kind) → RefusalHolds (Some ring) infos line kind → ⊥) → Contains (value_places w) t
       → (v : Value) × (value_named values (text_of line t) ≡ Some v) × (rank_named infos (text_of line t) ≡ Some v.rank)
   placed ring w t is free stands = go (rank_named infos (text_of line t)) refl
     where
@@ -238,7 +238,7 @@ module _ (values : List Value) (infos : List NameInfo) (line : List ℕ) (told :
   at_name ring name text v e h = record { stated = refl; named = ap (value_named values) e ∙ h }
 
   given :
-      (ring : Ring) (w : Written) (t : Token) (name : List ℕ) → IsLine line w → ((kind : Kind) → Holds (Some ring) infos line kind → ⊥)
+      (ring : Ring) (w : Written) (t : Token) (name : List ℕ) → IsLine line w → ((kind : Kind) → RefusalHolds (Some ring) infos line kind → ⊥)
       → Contains (value_places w) t → name ≡ text_of line t
       → (v : Value) × HasValue (record { ring = Some ring; values = values }) name ring v × (rank_named infos (text_of line t) ≡ Some v.rank)
   given ring w t name is free stands e =
@@ -248,7 +248,7 @@ module _ (values : List Value) (infos : List NameInfo) (line : List ℕ) (told :
   -- the value with a name that a line asks of
   asked_of :
       (ring : Option Ring) (q : Question) (t : Token) (name : List ℕ) → IsLine line (ask_line q t)
-      → ((kind : Kind) → Holds ring infos line kind → ⊥) → name ≡ text_of line t → IsGiven (record { ring = ring; values = values }) name
+      → ((kind : Kind) → RefusalHolds ring infos line kind → ⊥) → name ≡ text_of line t → IsGiven (record { ring = ring; values = values }) name
   asked_of None q t name is free e = absurd (free kinds.Ring (ask_line q t, is, refl))
   asked_of (Some r) q t name is free e =
       let x = given r (ask_line q t) t name is free (0, omega arith, refl) e in
@@ -257,7 +257,7 @@ module _ (values : List Value) (infos : List NameInfo) (line : List ℕ) (told :
   -- the ideal with the name that an order is stated for
   ideal_of :
       (ring : Option Ring) (t : Token) (o : OrderName) (name : List ℕ) → IsLine line (change_line t o)
-      → ((kind : Kind) → Holds ring infos line kind → ⊥) → name ≡ text_of line t → IsIdealGiven (record { ring = ring; values = values }) name
+      → ((kind : Kind) → RefusalHolds ring infos line kind → ⊥) → name ≡ text_of line t → IsIdealGiven (record { ring = ring; values = values }) name
   ideal_of None t o name is free e = absurd (free kinds.Ring (change_line t o, is, inl refl))
   ideal_of (Some r) t o name is free e =
       let x = given r (change_line t o) t name is free (0, omega arith, refl) e in
@@ -266,7 +266,7 @@ module _ (values : List Value) (infos : List NameInfo) (line : List ℕ) (told :
   -- the value with a name that a vector is divided by
   divided_by :
       (r : Ring) (d : Division) (t : Token) (ps : List Poly) (name : List ℕ) (v : List (Key × ℕ)) → IsLine line (divide_line d t ps)
-      → ((kind : Kind) → Holds (Some r) infos line kind → ⊥) → name ≡ text_of line t → IsVectorOver r (ring_comparison r) v
+      → ((kind : Kind) → RefusalHolds (Some r) infos line kind → ⊥) → name ≡ text_of line t → IsVectorOver r (ring_comparison r) v
       → IsOfValue (record { ring = Some r; values = values }) name v
   divided_by r d t ps name v is free e vector =
       let x = given r (divide_line d t ps) t name is free (0, omega arith, refl) e in
@@ -275,7 +275,7 @@ module _ (values : List Value) (infos : List NameInfo) (line : List ℕ) (told :
   -- the same, of as many entries as the value's rank
   lifted_over :
       (r : Ring) (t : Token) (ps : List Poly) (name : List ℕ) (v : List (Key × ℕ)) → IsLine line (divide_line divisions.Lift t ps)
-      → ((kind : Kind) → Holds (Some r) infos line kind → ⊥) → name ≡ text_of line t → IsVectorOver r (ring_comparison r) v → HasPositions (length ps) v
+      → ((kind : Kind) → RefusalHolds (Some r) infos line kind → ⊥) → name ≡ text_of line t → IsVectorOver r (ring_comparison r) v → HasPositions (length ps) v
       → IsOfValueRank (record { ring = Some r; values = values }) name v
   lifted_over r t ps name v is free e vector positions =
       let x = given r (divide_line divisions.Lift t ps) t name is free (0, omega arith, refl) e in
@@ -284,7 +284,7 @@ module _ (values : List Value) (infos : List NameInfo) (line : List ℕ) (told :
 
   -- values with two names, whose ranks pass a test
   two_given :
-      (r : Ring) (w : Written) (s t : Token) (a b : List ℕ) (Test : ℕ → ℕ → Type 0) → IsLine line w → ((kind : Kind) → Holds (Some r) infos line kind → ⊥)
+      (r : Ring) (w : Written) (s t : Token) (a b : List ℕ) (Test : ℕ → ℕ → Type 0) → IsLine line w → ((kind : Kind) → RefusalHolds (Some r) infos line kind → ⊥)
       → Contains (value_places w) s → Contains (value_places w) t → a ≡ text_of line s → b ≡ text_of line t
       → ((m n : ℕ) → rank_named infos (text_of line s) ≡ Some m → rank_named infos (text_of line t) ≡ Some n → Test m n)
       → AreGiven (record { ring = Some r; values = values }) a b Test
@@ -296,7 +296,7 @@ module _ (values : List Value) (infos : List NameInfo) (line : List ℕ) (told :
   -- the values with names that are compared: their ranks are one
   compared :
       (ring : Option Ring) (s t : Token) (a b : List ℕ) → IsLine line (equal_line s t)
-      → ((kind : Kind) → Holds ring infos line kind → ⊥) → a ≡ text_of line s → b ≡ text_of line t
+      → ((kind : Kind) → RefusalHolds ring infos line kind → ⊥) → a ≡ text_of line s → b ≡ text_of line t
       → AreGiven (record { ring = ring; values = values }) a b (λ m n. m ≡ n)
   compared None s t a b is free e f = absurd (free kinds.Ring (equal_line s t, is, refl))
   compared (Some r) s t a b is free e f =
@@ -306,7 +306,7 @@ module _ (values : List Value) (infos : List NameInfo) (line : List ℕ) (told :
   -- the names of an operation are those of values that it can work on
   of_one_rank :
       (r : Ring) (word : Binary) (g s t : Token) (a b : List ℕ) → IsLine line (let_line g (of_two word s t))
-      → ((kind : Kind) → Holds (Some r) infos line kind → ⊥)
+      → ((kind : Kind) → RefusalHolds (Some r) infos line kind → ⊥)
       → (HaveOtherRanks infos line s t → HasOtherOperands infos line (of_two word s t)) → a ≡ text_of line s → b ≡ text_of line t
       → AreGiven (record { ring = Some r; values = values }) a b (λ m n. m ≡ n)
   of_one_rank r word g s t a b is free holds e f =
@@ -315,7 +315,7 @@ module _ (values : List Value) (infos : List NameInfo) (line : List ℕ) (told :
 
   with_polynomial :
       (r : Ring) (w : Written) (t : Token) (name : List ℕ) (f : List (Key × ℕ)) → IsLine line w
-      → ((kind : Kind) → Holds (Some r) infos line kind → ⊥) → Contains (value_places w) t → name ≡ text_of line t
+      → ((kind : Kind) → RefusalHolds (Some r) infos line kind → ⊥) → Contains (value_places w) t → name ≡ text_of line t
       → IsVectorOver r (ring_comparison r) f → HasPositions 1 f → IsWithPolynomial (record { ring = Some r; values = values }) name f
   with_polynomial r w t name f is free stands e vector positions =
       let x = given r w t name is free stands e in
@@ -325,7 +325,7 @@ module _ (values : List Value) (infos : List NameInfo) (line : List ℕ) (told :
   length_some o v e = ap length_of e
 
   workable :
-      (r : Ring) (g : Token) (w : WrittenOperation) (x : Operation) → IsLine line (let_line g w) → ((kind : Kind) → Holds (Some r) infos line kind → ⊥)
+      (r : Ring) (g : Token) (w : WrittenOperation) (x : Operation) → IsLine line (let_line g w) → ((kind : Kind) → RefusalHolds (Some r) infos line kind → ⊥)
       → IsOperationOf r line w x → IsWorkable (record { ring = Some r; values = values }) x
   workable r g (of_two binaries.Sum s t) (operations.Sum a b) is free h =
       of_one_rank r binaries.Sum g s t (string_bytes a) (string_bytes b) is free (λ z. z) h.0 h.1
@@ -362,7 +362,7 @@ module _ (values : List Value) (infos : List NameInfo) (line : List ℕ) (told :
   workable r g (syzygies t) _ is free h = absurd h
 
   fit :
-      (ring : Option Ring) (w : Written) (s : Statement) → IsLine line w → ((kind : Kind) → Holds ring infos line kind → ⊥)
+      (ring : Option Ring) (w : Written) (s : Statement) → IsLine line w → ((kind : Kind) → RefusalHolds ring infos line kind → ⊥)
       → Says ring line w s → IsFit (record { ring = ring; values = values }) s
   fit ring nothing statements.Nothing is free h = tt
   fit ring nothing _ is free h = absurd h

@@ -15,7 +15,7 @@ use Rattle.script_parse.specs.declared.named.NameInfo.{NameInfo}
 use Rattle.session_lang.proofs.KeptValues.{at_place}
 use Rattle.session_lang.specs.Answers.{Asked}
 use Rattle.session_lang.specs.Kept.{value_of}
-use Rattle.session_lang.specs.Lines.{IsRunFor}
+use Rattle.session_lang.specs.Lines.{IsRunForValue}
 use Rattle.session_lang.specs.Names.{HasValue, State, Value}
 use Rattle.session_lang.specs.Parts.{IsRunAt, IsRunOf}
 use Rattle.session_lang.specs.Stops.{IsTrailFor, IsTrailOf}
@@ -57,7 +57,7 @@ no_trail More t h = absurd h
 -- the run for a value, as the run for a name that has it
 pub run_for :
     (before : State) (name : List ℕ) (over : Ring) (value : Value) → HasValue before name over value
-    → (ring : Ring) (rank : ℕ) (list : List (List (Key × ℕ))) → IsRunOf over value ring rank list → IsRunFor before name ring rank list
+    → (ring : Ring) (rank : ℕ) (list : List (List (Key × ℕ))) → IsRunOf over value ring rank list → IsRunForValue before name ring rank list
 run_for before name over value has ring rank list h = (value, subst (λ r. HasValue before name r value) (sym h.0) has, h.1, h.2, h.3)
 
 -- the trail of a value, as one of a name that has it

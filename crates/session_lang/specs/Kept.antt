@@ -109,8 +109,8 @@ IsFit before (statements.Change name order) = IsIdealGiven before (string_bytes 
 IsFit before (statements.Equal first second) = AreGiven before (string_bytes first) (string_bytes second) (λ r s. r ≡ s)
 
 -- a list of vectors over the ring, of this rank
-abbrev pub AreOver : Ring → ℕ → List (List (Key × ℕ)) → Type 0
-AreOver ring rank list = AreVectorsOver ring (ring_comparison ring) list × Each (HasPositions rank) list
+abbrev pub IsListOver : Ring → ℕ → List (List (Key × ℕ)) → Type 0
+IsListOver ring rank list = AreVectorsOver ring (ring_comparison ring) list × Each (HasPositions rank) list
 
 -- a polynomial over the ring
 abbrev pub IsPolynomialOver : Ring → List (Key × ℕ) → Type 0

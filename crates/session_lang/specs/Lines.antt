@@ -51,12 +51,12 @@ abbrev pub Refuses : State → List ℕ → Kind → Type 0
 Refuses before line kind = RefusesReading before line kind ⊎ ((statement : Statement) × States before line statement × RefusesStated before statement kind)
 
 -- the text answers what is asked of the value with this name
-abbrev pub Answers : State → List ℕ → Asked → List ℕ → Type 0
-Answers before name asked text = (ring : Ring) × (value : Value) × HasValue before name ring value × IsAnswer ring value asked text
+abbrev pub AnswersAsked : State → List ℕ → Asked → List ℕ → Type 0
+AnswersAsked before name asked text = (ring : Ring) × (value : Value) × HasValue before name ring value × IsAnswer ring value asked text
 
 -- the operation, on the values with its names, gives this list of this rank over this ring
-abbrev pub Gives : State → Operation → Ring → ℕ → List (List (Key × ℕ)) → Type 0
-Gives before operation ring rank list = (work : Work) × WorksOn before operation ring work × (rank ≡ result_rank work) × IsResult ring work list
+abbrev pub OperationGives : State → Operation → Ring → ℕ → List (List (Key × ℕ)) → Type 0
+OperationGives before operation ring rank list = (work : Work) × WorksOn before operation ring work × (rank ≡ result_rank work) × IsResult ring work list
 
 -- the text is the lift of the vector to the list of the value with this name
 abbrev pub Lifts : State → List ℕ → List (Key × ℕ) → List ℕ → Type 0
@@ -91,14 +91,14 @@ Does before (statements.Ideal name list) after text =
 Does before (statements.Module name rank list) after text =
     (after ≡ after_giving (record { name = string_bytes name; rank = rank; list = list; kept = false }) before) × (text ≡ [])
 Does before (statements.Let name operation) after text =
-    ((ring : Ring) × (rank : ℕ) × (list : List (List (Key × ℕ))) × Gives before operation ring rank list
+    ((ring : Ring) × (rank : ℕ) × (list : List (List (Key × ℕ))) × OperationGives before operation ring rank list
     × (after ≡ after_giving (record { name = string_bytes name; rank = rank; list = list; kept = true }) before)) × (text ≡ [])
 Does before (statements.Gens name) after text =
     (after ≡ before) × ((ring : Ring) × (value : Value) × HasValue before (string_bytes name) ring value × (text ≡ listing (codes "gens") ring value value.list))
-Does before (statements.Gb name) after text = (after ≡ after_run (string_bytes name) before) × Answers before (string_bytes name) basis text
-Does before (statements.Size name) after text = (after ≡ after_run (string_bytes name) before) × Answers before (string_bytes name) sizes_of_basis text
-Does before (statements.NormalForm name v) after text = (after ≡ after_run (string_bytes name) before) × Answers before (string_bytes name) (normal_form v) text
-Does before (statements.Member name v) after text = (after ≡ after_run (string_bytes name) before) × Answers before (string_bytes name) (member v) text
+Does before (statements.Gb name) after text = (after ≡ after_run (string_bytes name) before) × AnswersAsked before (string_bytes name) basis text
+Does before (statements.Size name) after text = (after ≡ after_run (string_bytes name) before) × AnswersAsked before (string_bytes name) sizes_of_basis text
+Does before (statements.NormalForm name v) after text = (after ≡ after_run (string_bytes name) before) × AnswersAsked before (string_bytes name) (normal_form v) text
+Does before (statements.Member name v) after text = (after ≡ after_run (string_bytes name) before) × AnswersAsked before (string_bytes name) (member v) text
 Does before (statements.Lift name v) after text = (after ≡ before) × Lifts before (string_bytes name) v text
 Does before (statements.Hilbert name) after text = (after ≡ after_run (string_bytes name) before) × Counts before (string_bytes name) text
 Does before (statements.Resolution name) after text = (after ≡ after_run (string_bytes name) before) × Resolves before (string_bytes name) text
@@ -116,12 +116,12 @@ abbrev pub Line : State → List ℕ → State → List ℕ → Type 0
 Line before line after text = (statement : Statement) × States before line statement × Does before statement after text
 
 -- the run for the reduced basis of the value with this name, if it is not yet kept
-abbrev pub IsRunFor : State → List ℕ → Ring → ℕ → List (List (Key × ℕ)) → Type 0
-IsRunFor before name ring rank list = (value : Value) × HasValue before name ring value × (value.kept ≡ false) × (rank ≡ value.rank) × (list ≡ value.list)
+abbrev pub IsRunForValue : State → List ℕ → Ring → ℕ → List (List (Key × ℕ)) → Type 0
+IsRunForValue before name ring rank list = (value : Value) × HasValue before name ring value × (value.kept ≡ false) × (rank ≡ value.rank) × (list ≡ value.list)
 
 -- the run for the reduced basis of one of the values with these names, of the second once the first has its basis
 abbrev pub IsRunForEither : State → (first second : List ℕ) → Ring → ℕ → List (List (Key × ℕ)) → Type 0
-IsRunForEither before first second ring rank list = IsRunFor before first ring rank list ⊎ IsRunFor (after_run first before) second ring rank list
+IsRunForEither before first second ring rank list = IsRunForValue before first ring rank list ⊎ IsRunForValue (after_run first before) second ring rank list
 
 -- a run of the operation
 abbrev pub IsRunOfWork : State → Operation → Ring → ℕ → List (List (Key × ℕ)) → Type 0
@@ -134,16 +134,16 @@ IsLiftRun before name ring rank list =
 
 -- the runs that a statement needs
 abbrev pub Needs : State → Statement → Ring → ℕ → List (List (Key × ℕ)) → Type 0
-Needs before (statements.Gb name) ring rank list = IsRunFor before (string_bytes name) ring rank list
-Needs before (statements.Size name) ring rank list = IsRunFor before (string_bytes name) ring rank list
-Needs before (statements.NormalForm name v) ring rank list = IsRunFor before (string_bytes name) ring rank list
-Needs before (statements.Member name v) ring rank list = IsRunFor before (string_bytes name) ring rank list
-Needs before (statements.Hilbert name) ring rank list = IsRunFor before (string_bytes name) ring rank list
-Needs before (statements.Resolution name) ring rank list = IsRunFor before (string_bytes name) ring rank list
-Needs before (statements.Minimal name) ring rank list = IsRunFor before (string_bytes name) ring rank list
-Needs before (statements.Betti name) ring rank list = IsRunFor before (string_bytes name) ring rank list
-Needs before (statements.Regularity name) ring rank list = IsRunFor before (string_bytes name) ring rank list
-Needs before (statements.Change name order) ring rank list = IsRunFor before (string_bytes name) ring rank list
+Needs before (statements.Gb name) ring rank list = IsRunForValue before (string_bytes name) ring rank list
+Needs before (statements.Size name) ring rank list = IsRunForValue before (string_bytes name) ring rank list
+Needs before (statements.NormalForm name v) ring rank list = IsRunForValue before (string_bytes name) ring rank list
+Needs before (statements.Member name v) ring rank list = IsRunForValue before (string_bytes name) ring rank list
+Needs before (statements.Hilbert name) ring rank list = IsRunForValue before (string_bytes name) ring rank list
+Needs before (statements.Resolution name) ring rank list = IsRunForValue before (string_bytes name) ring rank list
+Needs before (statements.Minimal name) ring rank list = IsRunForValue before (string_bytes name) ring rank list
+Needs before (statements.Betti name) ring rank list = IsRunForValue before (string_bytes name) ring rank list
+Needs before (statements.Regularity name) ring rank list = IsRunForValue before (string_bytes name) ring rank list
+Needs before (statements.Change name order) ring rank list = IsRunForValue before (string_bytes name) ring rank list
 Needs before (statements.Let name operation) ring rank list = IsRunOfWork before operation ring rank list
 Needs before (statements.Lift name v) ring rank list = IsLiftRun before (string_bytes name) ring rank list
 Needs before (statements.Equal first second) ring rank list = IsRunForEither before (string_bytes first) (string_bytes second) ring rank list

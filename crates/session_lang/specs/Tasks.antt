@@ -3,7 +3,7 @@ use Rattle.std.specs.Prelude.{List, String, string_bytes, ℕ, ◌≡◌}
 use Rattle.std.specs.Global.{Global}
 use Rattle.module_vectors.specs.declared.key.Key.{Key}
 use Rattle.module_vectors.specs.declared.ring.Ring.{Ring}
-use Rattle.session_lang.specs.Kept.{AreOver, IsPolynomialOver, IsValueRank}
+use Rattle.session_lang.specs.Kept.{IsListOver, IsPolynomialOver, IsValueRank}
 use Rattle.session_lang.specs.Names.{HasValue, State, Value}
 use Rattle.session_lang.specs.Operations.{Work, colon, eliminate, intersect, multiply, quotient, result_rank, saturate, sum, syzygies}
 use Rattle.session_lang.specs.declared.operate.Task.{Task}
@@ -22,14 +22,14 @@ work_of (tasks.Syzygies rank list) = syzygies rank list.now
 
 -- its lists are of vectors over the ring, of its rank, and its polynomial is one over the ring
 abbrev pub HasParts : Ring → Work → Type 0
-HasParts ring (sum rank left right) = AreOver ring rank left × AreOver ring rank right
-HasParts ring (multiply rank left right) = AreOver ring 1 left × AreOver ring rank right
-HasParts ring (intersect rank left right) = AreOver ring rank left × AreOver ring rank right × IsValueRank rank
-HasParts ring (colon rank left right) = AreOver ring rank left × AreOver ring rank right × IsValueRank rank
-HasParts ring (quotient rank list f) = AreOver ring rank list × IsPolynomialOver ring f × IsValueRank rank
-HasParts ring (saturate rank list f) = AreOver ring rank list × IsPolynomialOver ring f × IsValueRank rank
-HasParts ring (eliminate rank list k) = AreOver ring rank list
-HasParts ring (syzygies rank list) = AreOver ring rank list × IsValueRank rank
+HasParts ring (sum rank left right) = IsListOver ring rank left × IsListOver ring rank right
+HasParts ring (multiply rank left right) = IsListOver ring 1 left × IsListOver ring rank right
+HasParts ring (intersect rank left right) = IsListOver ring rank left × IsListOver ring rank right × IsValueRank rank
+HasParts ring (colon rank left right) = IsListOver ring rank left × IsListOver ring rank right × IsValueRank rank
+HasParts ring (quotient rank list f) = IsListOver ring rank list × IsPolynomialOver ring f × IsValueRank rank
+HasParts ring (saturate rank list f) = IsListOver ring rank list × IsPolynomialOver ring f × IsValueRank rank
+HasParts ring (eliminate rank list k) = IsListOver ring rank list
+HasParts ring (syzygies rank list) = IsListOver ring rank list × IsValueRank rank
 
 -- it can be done, and its result is a value
 abbrev pub IsReady : Ring → Work → Type 0
@@ -42,4 +42,4 @@ pub record IsOperand (before : State) (name : String Global) (ring : Ring) (rank
   pub rank_is : rank ≡ value.rank
   pub list_is : list ≡ value.list
   pub ranked : IsValueRank rank
-  pub vectors : AreOver ring rank list
+  pub vectors : IsListOver ring rank list

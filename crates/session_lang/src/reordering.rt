@@ -8,7 +8,7 @@ ghost use Rattle.module_vectors.specs.Vectors.{HasPositions, sums_of};
 ghost use Rattle.module_vectors.specs.declared.key.Key.{Key};
 ghost use Rattle.module_vectors.specs.declared.ring.Ring.{Ring as RingValue};
 ghost use Rattle.monomial_orders.specs.declared.order.Order.{Order as OrderValue};
-ghost use Rattle.order_change.specs.Stops.{ChangeStops};
+ghost use Rattle.order_change.specs.Stops.{OrderChangeStops};
 ghost use Rattle.session_lang.specs.Names.{Value};
 ghost use Rattle.session_lang.specs.Reporting.{Reports, ReportsAs};
 ghost use Rattle.session_lang.specs.declared.reports.Report.TheVariants as reports;
@@ -24,7 +24,7 @@ use std::alloc::Global;
 // What the stop is to the line.
 fn refused(stop: ChangeStop) -> Result<Step, NoMemory>
     ensures { IfOk result (λ step. (ring : RingValue) (value : Value) (order : OrderValue) (basis : List (List (Key × ℕ))) (out : List ℕ)
-        → IsReducedBasisOf ring value.rank value.list basis → ChangeStops (lead_monomials (sums_of (variables ring) basis)) stop
+        → IsReducedBasisOf ring value.rank value.list basis → OrderChangeStops (lead_monomials (sums_of (variables ring) basis)) stop
         → ReportsAs ring value (reports.InOrder order) out out step) }
 {
     match stop {

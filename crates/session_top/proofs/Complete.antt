@@ -13,7 +13,7 @@ use Rattle.script_parse.specs.declared.kind.Kind.{Kind}
 use Rattle.session_top.specs.declared.TheConstants.{SCRIPT_LIMIT}
 use Rattle.session_top.specs.Lines.{lines_in, lines_of, whole_lines, onto_first, onto_whole}
 use Rattle.session_top.specs.Meaning.{Ending, Done, Refused, Folds, Meaning, is_long, last_of, script_lines, closing}
-use Rattle.session_top.specs.Run.{Meant, MeantRefused, IsSettled, IsComplete, Answers}
+use Rattle.session_top.specs.Run.{Meant, MeantRefused, IsSettled, IsComplete, IsToldAs}
 use Rattle.session_top.proofs.Whole.{long_script, short_script}
 
 -- a line that is done has one outcome, a refused one has one kind, and no line is both
@@ -148,10 +148,10 @@ complete laws (Some x) (Some y) t u e meant script text ending told means =
 pub done_complete : LineLaws → (a b t u : Option (List ℕ)) → Meant a b t u Done → IsComplete a b t u 0 0
 done_complete laws a b t u meant script text ending told means =
     let all = complete laws a b t u Done meant script text ending told means in
-    inr (inr (inr (subst (Answers 0 0) (sym all.1) (refl, refl), all.0, all.2)))
+    inr (inr (inr (subst (IsToldAs 0 0) (sym all.1) (refl, refl), all.0, all.2)))
 
 -- a script of which a line is refused is answered by status 1 and this line
 pub refused_complete : LineLaws → (a b t u : Option (List ℕ)) (line : ℕ) → MeantRefused a b t u line → IsComplete a b t u 1 line
 refused_complete laws a b t u line refused script text ending told means =
     let all = complete laws a b t u (Refused line refused.refusal) refused.meant script text ending told means in
-    inr (inr (inr (subst (Answers 1 line) (sym all.1) (refl, refl), all.0, all.2)))
+    inr (inr (inr (subst (IsToldAs 1 line) (sym all.1) (refl, refl), all.0, all.2)))

@@ -12,7 +12,7 @@ use Rattle.session_top.specs.declared.early.Early.TheVariants as early
 use Rattle.session_top.specs.Limits.{Limits}
 use Rattle.session_top.specs.Lines.{lines_in, whole_lines}
 use Rattle.session_top.specs.Meaning.{Ending, Done, Refused, is_long, last_of, script_lines}
-use Rattle.session_top.specs.Run.{AreReady, IsSettled, IsBeingDone, IsTextDue, Meant, RunStops}
+use Rattle.session_top.specs.Run.{AreReady, IsSettled, IsBeingDone, IsTextDue, Meant, ScriptStops}
 use Rattle.session_top.proofs.Complete.{meaning_of_all, whole_first}
 use Rattle.session_top.proofs.Whole.{consumed_whole, long_script, short_script}
 
@@ -101,8 +101,8 @@ place_of_all line lines rest more (inl (number, some)) =
     let len : length (rest ++ more) ≡ length rest + length more = length-append rest more in inl (number, omega (arith, len, some))
 place_of_all line lines rest more (inr none) = inr none
 
-stops_of_all : (all rest : List ℕ) (t u : Option (List ℕ)) (limits : Limits) (stop : Early) → RunStops (Some all) (Some rest) t u limits stop → (stop ≡ early.ReadFault → ⊥)
-    → RunStops (Some all) (Some []) t u limits stop
+stops_of_all : (all rest : List ℕ) (t u : Option (List ℕ)) (limits : Limits) (stop : Early) → ScriptStops (Some all) (Some rest) t u limits stop → (stop ≡ early.ReadFault → ⊥)
+    → ScriptStops (Some all) (Some []) t u limits stop
 stops_of_all all rest t u limits (early.Refused n) stops sure = record { refusal = stops.refusal; meant = meant_of_all all rest t u (Refused n stops.refusal) stops.meant }
 stops_of_all all rest t u limits early.ReadFault stops sure = absurd (sure refl)
 stops_of_all all rest t u limits early.WriteFault cut sure =
@@ -162,7 +162,7 @@ not_faulted : (stop : Early) → (ended stop ≡ ended early.ReadFault → ⊥) 
 not_faulted stop sure same = sure (ap Err same)
 
 pub result_stops : (all rest : List ℕ) (a t u : Option (List ℕ)) (limits : Limits) (result : Result Unit Early) → a ≡ Some all
-    → IfErr result (RunStops a (Some rest) t u limits) → (result ≡ Err early.ReadFault → ⊥) → IfErr result (RunStops (Some all) (Some []) t u limits)
+    → IfErr result (ScriptStops a (Some rest) t u limits) → (result ≡ Err early.ReadFault → ⊥) → IfErr result (ScriptStops (Some all) (Some []) t u limits)
 result_stops all rest a t u limits (Ok x) told stops sure = tt
 result_stops all rest a t u limits (Err e) told stops sure =
-    stops_of_all all rest t u limits e (subst (λ o. RunStops o (Some rest) t u limits e) told stops) (not_faulted e sure)
+    stops_of_all all rest t u limits e (subst (λ o. ScriptStops o (Some rest) t u limits e) told stops) (not_faulted e sure)

@@ -16,7 +16,7 @@ use Rattle.session_top.specs.Limits.{Limits}
 use Rattle.session_top.specs.Lines.{lines_in, whole_lines}
 use Rattle.session_top.specs.Meaning.{Ending, Done, Refused, Folds, AllDone, closing, is_long, last_of, script_lines}
 use Rattle.session_top.specs.Parts.{ErrorEnds, LineStops}
-use Rattle.session_top.specs.Run.{AreReady, IsSettled, Meant, RunStops}
+use Rattle.session_top.specs.Run.{AreReady, IsSettled, Meant, ScriptStops}
 use Rattle.session_top.specs.Stops.{stop_line}
 use Rattle.session_top.proofs.Complete.{whole_first}
 use Rattle.session_top.proofs.Endings.{front_after}
@@ -67,7 +67,7 @@ refused_meant a c t u v line n s kind due refuses wrote =
 
 -- a line was not done to its end
 pub due_stops : (a c t u v : Option (List ℕ)) (line : List ℕ) (n : ℕ) (s : State) (limits : Limits) (stop : Early)
-    → Due a c t u line n s → LineStops u v limits s line (n + 1) stop → RunStops a c t v limits stop
+    → Due a c t u line n s → LineStops u v limits s line (n + 1) stop → ScriptStops a c t v limits stop
 due_stops a c t u v line n s limits (early.Refused m) due (same, (kind, refuses, wrote)) = record {
   refusal = OfLine kind;
   meant = subst (λ k. Meant a c t v (Refused k (OfLine kind))) (sym same) (refused_meant a c t u v line n s kind due refuses wrote);
@@ -190,13 +190,13 @@ last_result_done a b c t u v r n s z line (Err e) so rest some done = tt
 
 pub last_result_stops : (a b c t u v : Option (List ℕ)) (r : Reading) (n : ℕ) (s : State) (line : List ℕ) (limits : Limits) (result : Result Unit Early)
     → Going a b t u r n s → IsRest r b c line → 0 < length line
-    → IfErr result (LineStops u v limits s line (n + 1)) → IfErr result (RunStops a c t v limits)
+    → IfErr result (LineStops u v limits s line (n + 1)) → IfErr result (ScriptStops a c t v limits)
 last_result_stops a b c t u v r n s line limits (Ok x) so rest some stops = tt
 last_result_stops a b c t u v r n s line limits (Err e) so rest some stops = due_stops a c t u v line n s limits e (last_due a b c t u r n s line so rest some) stops
 
 -- another line was not done to its end
 pub line_stops : (a b c t u v : Option (List ℕ)) (r q : Reading) (n : ℕ) (s : State) (line : List ℕ) (limits : Limits) (stop : Early)
-    → Going a b t u r n s → IsNextLine r q b c line → LineStops u v limits s line (n + 1) stop → RunStops a c t v limits stop
+    → Going a b t u r n s → IsNextLine r q b c line → LineStops u v limits s line (n + 1) stop → ScriptStops a c t v limits stop
 line_stops a b c t u v r q n s line limits stop so next stops = due_stops a c t u v line n s limits stop (line_due a b c t u r q n s line so next) stops
 
 long_means : (script text : List ℕ) (lines : List (List ℕ)) (s : State) → is_long script ≡ true → whole_lines (take SCRIPT_LIMIT script) ≡ lines → AllDone no_names lines s text
@@ -208,7 +208,7 @@ long_means script text lines s long same steps =
 
 -- the script is too long, and no line is left among the bytes that count
 pub long_stops : (a b c t u v : Option (List ℕ)) (r : Reading) (n : ℕ) (s : State) (limits : Limits) (stop : Early)
-    → Going a b t u r n s → IsTooLong r b c → ErrorEnds u v 0 Length stop → RunStops a c t v limits stop
+    → Going a b t u r n s → IsTooLong r b c → ErrorEnds u v 0 Length stop → ScriptStops a c t v limits stop
 long_stops a b c t u v r n s limits (early.Refused m) so long (same, wrote) = record {
   refusal = Length;
   meant = subst (λ k. Meant a c t v (Refused k Length)) (sym same) (record {

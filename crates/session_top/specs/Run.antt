@@ -65,8 +65,8 @@ pub record MemoryCut (left left' taken taken' : Option (List ℕ)) (line : ℕ) 
   pub written : Appends taken taken' text
 
 -- the last line is due once each line before it is done
-abbrev pub IsLast : Ending → List (List ℕ) → Ending → Type 0
-IsLast last rest final = (final ≡ Done) ⊎ ((rest ≡ []) × (final ≡ last))
+abbrev pub EndsAtLast : Ending → List (List ℕ) → Ending → Type 0
+EndsAtLast last rest final = (final ≡ Done) ⊎ ((rest ≡ []) × (final ≡ last))
 
 -- the text of these lines and the stop line of the first line of the rest
 pub record IsStopText (limits : Limits) (lines rest : List (List ℕ)) (text : List ℕ) : Type 0 where
@@ -84,7 +84,7 @@ pub record IsStopText (limits : Limits) (lines rest : List (List ℕ)) (text : L
 -- the text that is due of these lines: their own with the error line, if one is due, or with a stop line
 abbrev pub IsTextDue : (limits : Limits) → Ending → (lines rest : List (List ℕ)) → List ℕ → Type 0
 IsTextDue limits last lines rest text =
-    ((final : Ending) × (ending : Ending) × IsLast last rest final × Folds final 1 no_names lines text ending)
+    ((final : Ending) × (ending : Ending) × EndsAtLast last rest final × Folds final 1 no_names lines text ending)
     ⊎ IsStopText limits lines rest text
 
 -- a front was written of the text of the first lines and the error line or stop line, if one was due
@@ -124,12 +124,12 @@ StoppedByDegree left left' taken taken' limits line kept trail =
     (t : KeptTrail) × (trail ≡ Some t) × Stopped left left' taken taken' limits line kept (Some t)
 
 -- why a run did not come to the end of its script
-abbrev pub RunStops : Option (List ℕ) → Option (List ℕ) → Option (List ℕ) → Option (List ℕ) → (limits : Limits) → Early → Type 0
-RunStops left left' taken taken' limits (early.Refused n) = MeantRefused left left' taken taken' n
-RunStops left left' taken taken' limits early.ReadFault = ReadCut left left' taken taken'
-RunStops left left' taken taken' limits early.WriteFault = WriteCut left left' taken taken' limits
-RunStops left left' taken taken' limits (early.NoMemory n) = MemoryCut left left' taken taken' n
-RunStops left left' taken taken' limits (early.Stopped n kept) = Stopped left left' taken taken' limits n kept.state kept.trail
+abbrev pub ScriptStops : Option (List ℕ) → Option (List ℕ) → Option (List ℕ) → Option (List ℕ) → (limits : Limits) → Early → Type 0
+ScriptStops left left' taken taken' limits (early.Refused n) = MeantRefused left left' taken taken' n
+ScriptStops left left' taken taken' limits early.ReadFault = ReadCut left left' taken taken'
+ScriptStops left left' taken taken' limits early.WriteFault = WriteCut left left' taken taken' limits
+ScriptStops left left' taken taken' limits (early.NoMemory n) = MemoryCut left left' taken taken' n
+ScriptStops left left' taken taken' limits (early.Stopped n kept) = Stopped left left' taken taken' limits n kept.state kept.trail
 
 -- The error line for words was written, or a front of it, or memory ran out before.
 abbrev pub WordsEnd : Option (List ℕ) → Option (List ℕ) → ℕ → Type 0
@@ -138,11 +138,11 @@ WordsEnd taken taken' status = ((status ≡ 2) × Appends taken taken' (codes "e
     ⊎ ((status ≡ 5) × Keeps taken taken')
 
 -- the status and the line are those of this ending
-abbrev pub Answers : ℕ → ℕ → Ending → Type 0
-Answers status line Done = (status ≡ 0) × (line ≡ 0)
-Answers status line (Refused n refusal) = (status ≡ 1) × (line ≡ n)
+abbrev pub IsToldAs : ℕ → ℕ → Ending → Type 0
+IsToldAs status line Done = (status ≡ 0) × (line ≡ 0)
+IsToldAs status line (Refused n refusal) = (status ≡ 1) × (line ≡ n)
 
 -- Where the source tells a script of this meaning, the answer is its ending and the bytes are its text; or memory ran out, or a run was stopped by its budget or by a degree.
 abbrev pub IsComplete : Option (List ℕ) → Option (List ℕ) → Option (List ℕ) → Option (List ℕ) → ℕ → ℕ → Type 0
 IsComplete left left' taken taken' status line = (script text : List ℕ) (ending : Ending) → left ≡ Some script → Meaning script text ending
-    → (status ≡ 5) ⊎ (status ≡ 6) ⊎ (status ≡ 7) ⊎ (Answers status line ending × Appends taken taken' text × (ending ≡ Done → IsAtEnd left'))
+    → (status ≡ 5) ⊎ (status ≡ 6) ⊎ (status ≡ 7) ⊎ (IsToldAs status line ending × Appends taken taken' text × (ending ≡ Done → IsAtEnd left'))

@@ -4,7 +4,7 @@ ghost use Rattle.risen_counts.specs.Counts.{Rose};
 ghost use Rattle.large_script.specs.Script.{script_of};
 ghost use Rattle.session_top.specs.Limits.{limits_of};
 ghost use Rattle.session_top.specs.Meaning.{Done};
-ghost use Rattle.session_top.specs.Run.{Meant, RunStops};
+ghost use Rattle.session_top.specs.Run.{Meant, ScriptStops};
 
 use crate::early::Early;
 use crate::lines::do_lines;
@@ -28,7 +28,7 @@ pub fn do_generated<R: Threads + Wait + Sync, K: Sink>(
 ) -> Result<(), Early>
     requires workers { 0 < request.workers }
     ensures done { OnOk result (Meant (Some (script_of seed)) (Some []) (K.taken sink.old) (K.taken sink.new) Done) }
-    ensures stops { IfErr result (RunStops (Some (script_of seed)) (Some []) (K.taken sink.old) (K.taken sink.new) (limits_of request)) }
+    ensures stops { IfErr result (ScriptStops (Some (script_of seed)) (Some []) (K.taken sink.old) (K.taken sink.new) (limits_of request)) }
     ensures read { result ≡ Err Early.ReadFault → ⊥ }
     ensures write { result ≡ Err Early.WriteFault → Rose (K.faults sink.old) (K.faults sink.new) }
     ensures later { K.faults sink.old ≤ K.faults sink.new }

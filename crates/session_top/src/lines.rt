@@ -11,7 +11,7 @@ ghost use Rattle.basis_steps.specs.Steps.{Replays};
 ghost use Rattle.run_endings.specs.Stops.{IsStop};
 ghost use Rattle.session_top.specs.Limits.{limits_in, limits_of};
 ghost use Rattle.session_top.specs.Parts.{ErrorEnds, LineStops, StopEnds};
-ghost use Rattle.session_top.specs.Run.{Meant, RunStops};
+ghost use Rattle.session_top.specs.Run.{Meant, ScriptStops};
 
 use crate::SCRIPT_LIMIT;
 use crate::early::{Early, Kept, Refusal};
@@ -205,7 +205,7 @@ fn do_all<R: Threads + Wait + Sync, S: Source, K: Sink>(
     requires lines { lines.old ≡ record { held = []; room = SCRIPT_LIMIT; is_open = true } }
     requires line { SCRIPT_LIMIT ≤ vec_capacity line.old }
     ensures done { OnOk result (Meant (S.left source.old) (S.left source.new) (K.taken sink.old) (K.taken sink.new) Done) }
-    ensures stops { IfErr result (RunStops (S.left source.old) (S.left source.new) (K.taken sink.old) (K.taken sink.new) (limits_in desk.old.engine)) }
+    ensures stops { IfErr result (ScriptStops (S.left source.old) (S.left source.new) (K.taken sink.old) (K.taken sink.new) (limits_in desk.old.engine)) }
     ensures read { result ≡ Err Early.ReadFault → Rose (S.faults source.old) (S.faults source.new) }
     ensures write { result ≡ Err Early.WriteFault → Rose (K.faults sink.old) (K.faults sink.new) }
     ensures read_later { S.faults source.old ≤ S.faults source.new }
@@ -244,7 +244,7 @@ pub fn do_lines<R: Threads + Wait + Sync, S: Source, K: Sink>(
 ) -> Result<(), Early>
     requires workers { 0 < request.workers }
     ensures done { OnOk result (Meant (S.left source.old) (S.left source.new) (K.taken sink.old) (K.taken sink.new) Done) }
-    ensures stops { IfErr result (RunStops (S.left source.old) (S.left source.new) (K.taken sink.old) (K.taken sink.new) (limits_of request)) }
+    ensures stops { IfErr result (ScriptStops (S.left source.old) (S.left source.new) (K.taken sink.old) (K.taken sink.new) (limits_of request)) }
     ensures read { result ≡ Err Early.ReadFault → Rose (S.faults source.old) (S.faults source.new) }
     ensures write { result ≡ Err Early.WriteFault → Rose (K.faults sink.old) (K.faults sink.new) }
     ensures read_later { S.faults source.old ≤ S.faults source.new }

@@ -8,7 +8,7 @@ ghost use Rattle.session_top.specs.Limits.{limits_of};
 ghost use Rattle.session_top.specs.Meaning.{Done};
 ghost use Rattle.session_top.specs.Scripts.{script_before, script_behind, script_left, script_to_come};
 ghost use Rattle.session_top.specs.Stops.{stop_status};
-ghost use Rattle.session_top.specs.Run.{Meant, MeantRefused, ReadCut, WriteCut, MemoryCut, RunStops, StoppedByDegree, StoppedByPairs, WordsEnd, IsComplete};
+ghost use Rattle.session_top.specs.Run.{Meant, MeantRefused, ReadCut, WriteCut, MemoryCut, ScriptStops, StoppedByDegree, StoppedByPairs, WordsEnd, IsComplete};
 
 use crate::early::{Early, Kept};
 use crate::generated::do_generated;
@@ -88,7 +88,7 @@ fn run_script<R: Threads + Wait + Sync, S: Source, K: Sink>(
 ) -> Result<(), Early>
     requires { 0 < request.workers }
     ensures done { OnOk result (Meant (script_before request.command (S.left source.old)) (script_behind request.command (S.left source.new)) (K.taken sink.old) (K.taken sink.new) Done) }
-    ensures stops { IfErr result (RunStops (script_before request.command (S.left source.old)) (script_behind request.command (S.left source.new)) (K.taken sink.old) (K.taken sink.new) (limits_of request)) }
+    ensures stops { IfErr result (ScriptStops (script_before request.command (S.left source.old)) (script_behind request.command (S.left source.new)) (K.taken sink.old) (K.taken sink.new) (limits_of request)) }
     ensures read { result ≡ Err Early.ReadFault → Rose (S.faults source.old) (S.faults source.new) }
     ensures write { result ≡ Err Early.WriteFault → Rose (K.faults sink.old) (K.faults sink.new) }
     ensures unread { (request.command ≡ Run → ⊥) → source.new ≡ source.old }

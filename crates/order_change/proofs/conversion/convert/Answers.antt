@@ -8,7 +8,7 @@ use Rattle.order_change.proofs.Sorting.{standard_sorted}
 use Rattle.order_change.proofs.Stepping.{few_room}
 use Rattle.order_change.specs.Lists.{AreMonomials, monomials}
 use Rattle.order_change.specs.Products.{HaveRoom}
-use Rattle.order_change.specs.Stops.{ChangeStops}
+use Rattle.order_change.specs.Stops.{OrderChangeStops}
 use Rattle.order_change.specs.Tables.{IsGiven}
 use Rattle.order_change.proofs.conversion.convert.Goals as goal
 
@@ -27,9 +27,9 @@ returns-in-Err-clause-stop c =
     let ws = ring.weights in
     let n = variables ring in
     let stop = c.in-Err.stop in
-    subst (λ L. ChangeStops L stop) c.in_ok-leads.ensures.leads
-    (subst (λ k. ChangeStops (monomials k c.in_ok-leads.leads.items) stop) ring.weighted
-    (subst (λ z. ChangeStops (monomials (length ws) z) stop) c.deref.ensures.value c.in-Err.ensures.stop))
+    subst (λ L. OrderChangeStops L stop) c.in_ok-leads.ensures.leads
+    (subst (λ k. OrderChangeStops (monomials k c.in_ok-leads.leads.items) stop) ring.weighted
+    (subst (λ z. OrderChangeStops (monomials (length ws) z) stop) c.deref.ensures.value c.in-Err.ensures.stop))
 
 pub ascending-requires : goal.ascending-requires
 ascending-requires c =

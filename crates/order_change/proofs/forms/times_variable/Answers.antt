@@ -10,7 +10,7 @@ use Rattle.change_laws.proofs.Modulo.{modulo_same, modulo_trans}
 use Rattle.residues.proofs.Congruences.{IsCongruent_of, IsCongruent_trans}
 use Rattle.order_change.proofs.Reducing.{if_ok2, reduced_at, reduced_expansion, reduced_residues, square_positive}
 use Rattle.order_change.proofs.VariableProducts.{product_all, product_more, product_none, product_skip}
-use Rattle.order_change.specs.Forms.{AreProductsOf, AreResidues, IsForm, before}
+use Rattle.order_change.specs.Forms.{AreProductsOf, AreResidues, IsRowForm, before}
 use Rattle.order_change.proofs.forms.times_variable.Goals.{then-c-gt0, else-c-gt0}
 use Rattle.order_change.proofs.forms.times_variable.Goals as goal
 
@@ -48,7 +48,7 @@ loop-k-preserved c =
             residues : AreResidues (p * p) (length form) z;
             zeros : (t : ℕ) → ((s : ℕ) → 0 < slice_index form s → slice_index (get_or rows s []) t ≡ 0) → IsCongruent p (slice_index z t) 0;
             product : (n : ℕ) (F : List (FormalSum n)) (B : List (Exponents n)) (x : Exponents n) → length B ≡ length form
-                → AreProductsOf p F B x rows form → IsForm p F B (scale 1 x (expansion B (before (k + 1) (slice_index form)))) z;
+                → AreProductsOf p F B x rows form → IsRowForm p F B (scale 1 x (expansion B (before (k + 1) (slice_index form)))) z;
           }) (sym w.product-is)
           (record {
             residues = record { long = w.add_multiple.ensures.long ∙ c.loop-k.invariant.residues.long; small = w.add_multiple.ensures.numbers };
@@ -65,7 +65,7 @@ loop-k-preserved c =
             residues : AreResidues (p * p) (length form) z;
             zeros : (t : ℕ) → ((s : ℕ) → 0 < slice_index form s → slice_index (get_or rows s []) t ≡ 0) → IsCongruent p (slice_index z t) 0;
             product : (n : ℕ) (F : List (FormalSum n)) (B : List (Exponents n)) (x : Exponents n) → length B ≡ length form
-                → AreProductsOf p F B x rows form → IsForm p F B (scale 1 x (expansion B (before (k + 1) (slice_index form)))) z;
+                → AreProductsOf p F B x rows form → IsRowForm p F B (scale 1 x (expansion B (before (k + 1) (slice_index form)))) z;
           }) (sym w.product-is)
           (record {
             residues = c.loop-k.invariant.residues;
@@ -101,7 +101,7 @@ returns-clause-product c =
     let numbers = c.loop-k.product in
     if_ok2 (λ out. length out ≡ length numbers) (λ out. (k : ℕ) → k < length numbers → slice_index out k ≡ slice_index numbers k % p)
     (λ out. (n : ℕ) (F : List (FormalSum n)) (B : List (Exponents n)) (x : Exponents n) → length B ≡ length c.args.form.now
-    → AreProductsOf p F B x c.args.rows.now c.args.form.now → IsForm p F B (scale 1 x (expansion B (slice_index c.args.form.now))) out) c.reduced.result
+    → AreProductsOf p F B x c.args.rows.now c.args.form.now → IsRowForm p F B (scale 1 x (expansion B (slice_index c.args.form.now))) out) c.reduced.result
     (λ out long same n F B x count products.
     modulo_trans F (product_all pos F B x c.args.form.now numbers c.loop-k.k count le (c.loop-k.invariant.product n F B x count products))
     (modulo_same F _ _ (reduced_expansion p pos numbers out (record { long = long; same = same }) B)))

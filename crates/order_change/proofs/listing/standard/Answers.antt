@@ -4,7 +4,7 @@ use Rattle.module_vectors.specs.Rings.{variables}
 use Rattle.change_laws.specs.Standard.{AreStandard}
 use Rattle.order_change.proofs.BasisLeads.{each_item}
 use Rattle.order_change.specs.Lists.{AreMonomials, monomials}
-use Rattle.order_change.specs.Stops.{AreFew, ChangeStops}
+use Rattle.order_change.specs.Stops.{AreFew, OrderChangeStops}
 use Rattle.order_change.proofs.listing.standard.Goals as goal
 
 pub standard_monomials-requires : goal.standard_monomials-requires
@@ -52,6 +52,6 @@ returns-clause-stop c =
     let n = variables ring in
     let e : length ws ≡ n = ring.weighted in
     let stop = c.in-Err.stop in
-    subst (λ L. ChangeStops L stop) c.in_ok-leads.ensures.leads
-    (subst (λ k. ChangeStops (monomials k c.in_ok-leads.leads.items) stop) e
-    (subst (λ z. ChangeStops (monomials (length ws) z) stop) c.deref.ensures.value c.in-Err.ensures.stop))
+    subst (λ L. OrderChangeStops L stop) c.in_ok-leads.ensures.leads
+    (subst (λ k. OrderChangeStops (monomials k c.in_ok-leads.leads.items) stop) e
+    (subst (λ z. OrderChangeStops (monomials (length ws) z) stop) c.deref.ensures.value c.in-Err.ensures.stop))

@@ -6,7 +6,7 @@ use Rattle.module_vectors.specs.Vectors.{sums_of}
 use Rattle.order_change.proofs.Filling.{filling_candidate, filling_least, filling_more, sum_below}
 use Rattle.order_change.proofs.Items.{length_monomials}
 use Rattle.order_change.specs.Lists.{monomials}
-use Rattle.order_change.specs.Products.{AreOver, IsCandidate, IsLeast}
+use Rattle.order_change.specs.Products.{HadAllItems, IsCandidate, IsLeast}
 use Rattle.order_change.proofs.table.fill_next.Goals as goal
 
 pub product_form-requires-clause-candidate : goal.product_form-requires-clause-candidate
@@ -15,7 +15,7 @@ product_form-requires-clause-candidate c =
     let n = length ring.weights in
     let standard = c.args.standard.now in
     let turns = c.args.turns.now in
-    let both = subst (λ z. MatchOption z (AreOver (slice_index turns) n (length standard)) (λ x. IsCandidate n ring.weights standard (slice_index turns) x
+    let both = subst (λ z. MatchOption z (HadAllItems (slice_index turns) n (length standard)) (λ x. IsCandidate n ring.weights standard (slice_index turns) x
     × IsLeast n (comparison ring.order ring.weights n) (monomials n standard) (slice_index turns) n (exponents_of n x.monomial.exponents))) c.in-Some.is c.in_ok-candidate.ensures in
     filling_candidate (comparison ring.order ring.weights n) ring.modulus.value (sums_of n c.args.basis.now) ring.weights standard turns c.args.table.now c.in-Some.candidate c.requires.filling both.0
 
@@ -25,7 +25,7 @@ product_form-requires-clause-least c =
     let n = length ring.weights in
     let standard = c.args.standard.now in
     let turns = c.args.turns.now in
-    let both = subst (λ z. MatchOption z (AreOver (slice_index turns) n (length standard)) (λ x. IsCandidate n ring.weights standard (slice_index turns) x
+    let both = subst (λ z. MatchOption z (HadAllItems (slice_index turns) n (length standard)) (λ x. IsCandidate n ring.weights standard (slice_index turns) x
     × IsLeast n (comparison ring.order ring.weights n) (monomials n standard) (slice_index turns) n (exponents_of n x.monomial.exponents))) c.in-Some.is c.in_ok-candidate.ensures in
     filling_least (comparison ring.order ring.weights n) ring.modulus.value (sums_of n c.args.basis.now) (monomials n standard) turns c.args.table.now (exponents_of n c.in-Some.candidate.monomial.exponents) c.requires.filling both.1
 
@@ -36,7 +36,7 @@ returns-in_ok-push-in-Some-clause-filling c =
     let standard = c.args.standard.now in
     let turns = c.args.turns.now in
     let x = c.in-Some.candidate in
-    let both = subst (λ z. MatchOption z (AreOver (slice_index turns) n (length standard)) (λ x. IsCandidate n ring.weights standard (slice_index turns) x
+    let both = subst (λ z. MatchOption z (HadAllItems (slice_index turns) n (length standard)) (λ x. IsCandidate n ring.weights standard (slice_index turns) x
     × IsLeast n (comparison ring.order ring.weights n) (monomials n standard) (slice_index turns) n (exponents_of n x.monomial.exponents))) c.in-Some.is c.in_ok-candidate.ensures in
     let candidate = both.0 in
     let kl : x.parent < length (monomials n standard) = (let lt = candidate.parent in omega (arith, lt, length_monomials n standard)) in
@@ -51,7 +51,7 @@ returns-in_ok-push-in-Some-clause-more c =
     let standard = c.args.standard.now in
     let turns = c.args.turns.now in
     let x = c.in-Some.candidate in
-    let both = subst (λ z. MatchOption z (AreOver (slice_index turns) n (length standard)) (λ x. IsCandidate n ring.weights standard (slice_index turns) x
+    let both = subst (λ z. MatchOption z (HadAllItems (slice_index turns) n (length standard)) (λ x. IsCandidate n ring.weights standard (slice_index turns) x
     × IsLeast n (comparison ring.order ring.weights n) (monomials n standard) (slice_index turns) n (exponents_of n x.monomial.exponents))) c.in-Some.is c.in_ok-candidate.ensures in
     let candidate = both.0 in
     let filling = c.requires.filling in

@@ -18,7 +18,7 @@ use Rattle.s_vectors.proofs.Leaving.{divided_zero, first_steps}
 use Rattle.s_vectors.proofs.Lists.{empty_list}
 use Rattle.s_vectors.proofs.Solved.{solved_zero}
 use Rattle.s_vectors.specs.Divided.{IsDivided, IsTopVector}
-use Rattle.s_vectors.specs.Parts.{ArePairParts, SumStops}
+use Rattle.s_vectors.specs.Parts.{ArePairParts, PartsStop}
 use Rattle.s_vectors.specs.Solutions.{IsSolved}
 use Rattle.s_vectors.specs.PairProducts.{PairStops}
 use Rattle.s_vectors.proofs.division.divide_over.Goals as goal
@@ -55,7 +55,7 @@ returns-in-Err-clause-stop c =
     subst (λ (r : Ring). ArePairParts (variables r) r.weights r.modulus.value (vectors_in m.list) x c.in_ok-parts.parts.items) c.requires.over c.in_ok-parts.ensures in
     subst (λ (r : Ring). PairStops (variables r) r.weights m.list (key_of (variables r) x.lcm) c.stop_of_sum.result) (sym c.requires.over)
     (c.stop_of_sum.ensures n m.shared.ring.weights m.list (key_of n x.lcm) (first_steps m x c.requires.pair c.in_ok-parts.parts.items two)
-    (subst (λ ps. SumStops (vectors_in m.list) ps c.in-Err.stop) c.deref.ensures.value c.in-Err.ensures.stop))
+    (subst (λ ps. PartsStop (vectors_in m.list) ps c.in-Err.stop) c.deref.ensures.value c.in-Err.ensures.stop))
 
 pub returns-then-is_empty-clause-solved : goal.returns-then-is_empty-clause-solved
 returns-then-is_empty-clause-solved c =

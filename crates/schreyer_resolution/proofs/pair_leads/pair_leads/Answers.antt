@@ -3,7 +3,7 @@ use Rattle.formal_sums.proofs.Combining.{Each_map}
 use Rattle.module_vectors.specs.Rings.{setting, variables}
 use Rattle.vector_division.proofs.Looping.{are_weighed}
 use Rattle.vector_division.specs.Progress.{AreWeighed}
-use Rattle.schreyer_resolution.specs.Pairs.{AreLeastSoFar, ArePairLeadsTo, ArePairMonomials, HaveLeads}
+use Rattle.schreyer_resolution.specs.Pairs.{AreLeastSoFar, ArePairLeadsTo, ArePairMonomials, AreNonzero}
 use Rattle.schreyer_resolution.proofs.LeastLeads.{pairs_all, pairs_next}
 use Rattle.schreyer_resolution.proofs.PairSteps.{base_leads, monomials_weighed}
 use Rattle.schreyer_resolution.proofs.pair_leads.pair_leads.Goals as goal
@@ -13,7 +13,7 @@ pair_monomials-requires-clause-leads g c =
     let ring = g.F.Frame.over c.args.frame.now in
     let n = variables ring in
     let base = c.requires.base in
-    subst HaveLeads (sym c.as_slice-in-loop-i.ensures) (base_leads n (setting ring n (g.F.Frame.compare c.args.frame.now n) base.rank) (c.lawful_setting.ensures base.rank) c.args.columns.now base.monic)
+    subst AreNonzero (sym c.as_slice-in-loop-i.ensures) (base_leads n (setting ring n (g.F.Frame.compare c.args.frame.now n) base.rank) (c.lawful_setting.ensures base.rank) c.args.columns.now base.monic)
 
 pub pair_monomials-requires-clause-weighed : goal.pair_monomials-requires-clause-weighed
 pair_monomials-requires-clause-weighed g c =

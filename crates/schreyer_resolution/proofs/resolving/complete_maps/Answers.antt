@@ -5,7 +5,7 @@ use Rattle.resolution_laws.specs.Resolutions.{IsExact}
 use Rattle.module_vectors.specs.Rings.{ring_comparison, setting, variables}
 use Rattle.module_vectors.specs.Vectors.{sums_of}
 use Rattle.schreyer_resolution.specs.Inducing.{maps_of}
-use Rattle.schreyer_resolution.specs.Progress.{AreResolvedTo, IsTop}
+use Rattle.schreyer_resolution.specs.Progress.{AreResolvedTo, IsTopMap}
 use Rattle.schreyer_resolution.proofs.FirstMaps.{none_at_all, resolution_stop, resolved_done, resolved_more, some_at_all, some_map, split_unique}
 use Rattle.schreyer_resolution.proofs.Lengths.{first_length}
 use Rattle.schreyer_resolution.proofs.Places.{ranks_of}
@@ -20,7 +20,7 @@ pub next_map-requires-clause-top : goal.next_map-requires-clause-top
 next_map-requires-clause-top c = λ below last e.
     let r = c.loop-next.invariant in
     let u = split_unique r.below below r.last last (sym (c.deref.ensures.value ∙ r.split) ∙ e) in
-    subst₂ (λ b l. IsTop c.args.ring.now b l) u.0 u.1 r.top
+    subst₂ (λ b l. IsTopMap c.args.ring.now b l) u.0 u.1 r.top
 
 pub returns-then-is_empty-clause-canonical : goal.returns-then-is_empty-clause-canonical
 returns-then-is_empty-clause-canonical c =

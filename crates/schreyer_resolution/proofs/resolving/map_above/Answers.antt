@@ -1,7 +1,7 @@
 use Rattle.std.specs.Prelude.{IfErr, IfOk}
 use Rattle.std.proofs.Common.{[], subst, sym, ◌++◌, ◌∷◌, ◌≡◌}
 use Rattle.schreyer_resolution.specs.Columns.{ColumnStops}
-use Rattle.schreyer_resolution.specs.Progress.{IsNext, IsTop}
+use Rattle.schreyer_resolution.specs.Progress.{IsNext, IsTopMap}
 use Rattle.schreyer_resolution.proofs.FirstMaps.{none_at_all, some_at_all}
 use Rattle.schreyer_resolution.proofs.resolving.map_above.Goals as goal
 
@@ -10,7 +10,7 @@ second_map-requires-clause-maps c =
     subst (λ b. c.args.maps.now ≡ b ++ c.args.columns.now ∷ []) (none_at_all c.args.below.now c.if-is_empty.ensures) c.requires.maps
 
 pub second_map-requires-clause-top : goal.second_map-requires-clause-top
-second_map-requires-clause-top c = subst (λ b. IsTop c.args.ring.now b c.args.columns.now) (none_at_all c.args.below.now c.if-is_empty.ensures) c.requires.top
+second_map-requires-clause-top c = subst (λ b. IsTopMap c.args.ring.now b c.args.columns.now) (none_at_all c.args.below.now c.if-is_empty.ensures) c.requires.top
 
 pub later_map-requires-clause-some : goal.later_map-requires-clause-some
 later_map-requires-clause-some c = some_at_all c.args.below.now c.if-is_empty.ensures

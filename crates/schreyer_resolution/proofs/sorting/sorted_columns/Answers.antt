@@ -4,7 +4,7 @@ use Rattle.module_vectors.specs.Rings.{ring_comparison, setting, variables}
 use Rattle.formal_sums.specs.FormalSums.{Each}
 use Rattle.module_vectors.proofs.Gathers.{Each_permutation}
 use Rattle.module_vectors.specs.Vectors.{HasPositions, sums_of}
-use Rattle.schreyer_resolution.specs.Progress.{IsTop}
+use Rattle.schreyer_resolution.specs.Progress.{IsTopMap}
 use Rattle.std.proofs.lemmas.Fn.{always_returns_same}
 use Rattle.std.specs.List.Sorted.{IsPermutation}
 use Rattle.std.specs.Ordering.{is_lt}
@@ -16,7 +16,7 @@ pub returns-clause-top : goal.returns-clause-top
 returns-clause-top c =
     let moved = subst (λ z. IsPermutation z c.sort_unstable_by.new.self.items) c.into_vec-columns.ensures c.sort_unstable_by.ensures.permutation in
     let moved' = subst (λ z. IsPermutation z c.sort_unstable_by.new.self.items) c.in_ok-copy_of.ensures moved in
-    subst (IsTop c.args.ring.now []) (sym c.from_vec.ensures) (sorted_top c.args.ring.now c.args.rank (c.lawful_setting.ensures c.args.rank) c.args.reduced.now c.sort_unstable_by.new.self.items c.requires.vectors c.requires.positions c.requires.basis c.requires.some moved'
+    subst (IsTopMap c.args.ring.now []) (sym c.from_vec.ensures) (sorted_top c.args.ring.now c.args.rank (c.lawful_setting.ensures c.args.rank) c.args.reduced.now c.sort_unstable_by.new.self.items c.requires.vectors c.requires.positions c.requires.basis c.requires.some moved'
     (c.sort_unstable_by.ensures.sorted (λ v w. is_lt (by_place v w)) by_place_weak (always_returns_same _ _ _ (λ a r f k. search rules))))
 
 pub returns-clause-canonical : goal.returns-clause-canonical

@@ -4,7 +4,7 @@ use Rattle.module_vectors.specs.Vectors.{IsMonomialOver, key_of, sums_of}
 use Rattle.vector_division.proofs.Looping.{are_weighed}
 use Rattle.vector_division.specs.Progress.{AreWeighed}
 use Rattle.schreyer_resolution.specs.Columns.{IsPartner}
-use Rattle.schreyer_resolution.specs.Pairs.{HaveLeads}
+use Rattle.schreyer_resolution.specs.Pairs.{AreNonzero}
 use Rattle.schreyer_resolution.specs.Steps.{IsPairKey}
 use Rattle.schreyer_resolution.proofs.Dividing.{some}
 use Rattle.schreyer_resolution.proofs.PairSteps.{base_leads}
@@ -16,7 +16,7 @@ partner-requires-clause-leads g c =
     let ring = g.F.Frame.over c.args.frame.now in
     let n = variables ring in
     let base = c.requires.base in
-    subst HaveLeads (sym c.as_slice.ensures) (base_leads n (setting ring n (g.F.Frame.compare c.args.frame.now n) base.rank) (c.lawful_setting.ensures base.rank) c.args.columns.now base.monic)
+    subst AreNonzero (sym c.as_slice.ensures) (base_leads n (setting ring n (g.F.Frame.compare c.args.frame.now n) base.rank) (c.lawful_setting.ensures base.rank) c.args.columns.now base.monic)
 
 pub partner-requires-clause-weighed : goal.partner-requires-clause-weighed
 partner-requires-clause-weighed g c =

@@ -1,6 +1,6 @@
 use Rattle.std.proofs.Common.{IfErr, [], subst}
 use Rattle.std.proofs.KnownBytes.{Consumes-nil, Keeps-refl}
-use Rattle.session_top.specs.Run.{RunStops}
+use Rattle.session_top.specs.Run.{ScriptStops}
 use Rattle.session_top.proofs.Whole.{nothing_done}
 use Rattle.session_top.proofs.lines.do_lines.Goals as goal
 
@@ -13,6 +13,6 @@ returns-in-Err-with_capacity-clause-stops g c = nothing_done _ _ _ _ [] (Consume
 pub returns-clause-stops : goal.returns-clause-stops
 returns-clause-stops g c =
     subst
-    (λ l. IfErr c.do_all-result.result (RunStops (g.S.Source.left c.args.source.now) (g.S.Source.left c.do_all-result.new.source) (g.K.Sink.taken c.args.sink.now)
+    (λ l. IfErr c.do_all-result.result (ScriptStops (g.S.Source.left c.args.source.now) (g.S.Source.left c.do_all-result.new.source) (g.K.Sink.taken c.args.sink.now)
     (g.K.Sink.taken c.do_all-result.new.sink) l))
     c.set_desk-desk.ensures.limits c.do_all-result.ensures.stops

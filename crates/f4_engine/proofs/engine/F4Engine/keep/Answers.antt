@@ -1,5 +1,5 @@
 use Rattle.std.proofs.Common.{arith, subst, sym, ◌<◌}
-use Rattle.run_endings.specs.Stops.{IsCounted, IsStop}
+use Rattle.run_endings.specs.Stops.{IsKeptWhereCounted, IsStop}
 use Rattle.f4_engine.specs.Engines.{EngineShown}
 use Rattle.f4_engine.proofs.engine.F4Engine.keep.Goals as goal
 
@@ -9,7 +9,7 @@ invariant_of-self c =
     record {
       some = c.self.invariant.some;
       stop = subst (λ (e : EngineShown). IsStop e.pairs e.workers c.args.state c.args.trail) (sym c.self.view_is) c.requires.stop;
-      counted = subst (IsCounted c.saturating_add-self-inside.result) (sym c.requires.some.1) more;
+      counted = subst (IsKeptWhereCounted c.saturating_add-self-inside.result) (sym c.requires.some.1) more;
       by_all = c.requires.by_all;
       last = c.self.invariant.last;
     }

@@ -10,7 +10,7 @@ use Rattle.order_change.proofs.Filling.{sum_below}
 use Rattle.order_change.proofs.Items.{length_monomials}
 use Rattle.order_change.proofs.Stepping.{candidate_next, few_room, new_or_not, turns_added, turns_over}
 use Rattle.order_change.specs.Lists.{IsNew, monomials}
-use Rattle.order_change.specs.Products.{AreOver, HaveRoom, IsCandidate, IsLeast}
+use Rattle.order_change.specs.Products.{HadAllItems, HaveRoom, IsCandidate, IsLeast}
 use Rattle.order_change.proofs.change.Change.advance.Goals as goal
 
 pub least_product-requires-clause-room : goal.least_product-requires-clause-room
@@ -36,7 +36,7 @@ pass-requires-clause-room c =
     let x = c.in-Some.candidate in
     let both : IsCandidate n ring.weights change.monomials.items (slice_index change.turns) x × IsLeast n (comparison ring.order ring.weights n) (monomials n change.monomials.items) (slice_index change.turns) n (exponents_of n x.monomial.exponents) =
     subst (λ l. IsCandidate n ring.weights l (slice_index change.turns) x × IsLeast n (comparison ring.order ring.weights n) (monomials n l) (slice_index change.turns) n (exponents_of n x.monomial.exponents)) c.deref.ensures.value
-    (subst (λ z. MatchOption z (AreOver (slice_index change.turns) n (length c.deref.result.now)) (λ x. IsCandidate n ring.weights c.deref.result.now (slice_index change.turns) x
+    (subst (λ z. MatchOption z (HadAllItems (slice_index change.turns) n (length c.deref.result.now)) (λ x. IsCandidate n ring.weights c.deref.result.now (slice_index change.turns) x
     × IsLeast n (comparison ring.order ring.weights n) (monomials n c.deref.result.now) (slice_index change.turns) n (exponents_of n x.monomial.exponents))) c.in-Some.is c.in_ok-candidate.ensures) in
     let lawful : IsLawful (setting ring n (ring_comparison ring n) 1) = subst (λ z. IsLawful (setting ring z (ring_comparison ring z) 1)) (sym ring.weighted) (c.lawful_setting.ensures 1) in
     let least = few n ring F B lawful change.monomials.items change.forms.items change.rows.items h.known.standard in
@@ -55,7 +55,7 @@ take-requires c =
     let x = c.in-Some.candidate in
     let both : IsCandidate n ring.weights change.monomials.items (slice_index change.turns) x × IsLeast n (comparison ring.order ring.weights n) (monomials n change.monomials.items) (slice_index change.turns) n (exponents_of n x.monomial.exponents) =
     subst (λ l. IsCandidate n ring.weights l (slice_index change.turns) x × IsLeast n (comparison ring.order ring.weights n) (monomials n l) (slice_index change.turns) n (exponents_of n x.monomial.exponents)) c.deref.ensures.value
-    (subst (λ z. MatchOption z (AreOver (slice_index change.turns) n (length c.deref.result.now)) (λ x. IsCandidate n ring.weights c.deref.result.now (slice_index change.turns) x
+    (subst (λ z. MatchOption z (HadAllItems (slice_index change.turns) n (length c.deref.result.now)) (λ x. IsCandidate n ring.weights c.deref.result.now (slice_index change.turns) x
     × IsLeast n (comparison ring.order ring.weights n) (monomials n c.deref.result.now) (slice_index change.turns) n (exponents_of n x.monomial.exponents))) c.in-Some.is c.in_ok-candidate.ensures) in
     let new : IsNew (monomials n change.leads.items) (monomials n change.monomials.items) (exponents_of n x.monomial.exponents) =
     subst (λ z. IsNew (monomials n z) (monomials n change.monomials.items) (exponents_of n x.monomial.exponents)) c.deref-in-Some.ensures.value
@@ -82,7 +82,7 @@ returns-in_ok-take-in-Some-clause-changing c =
     let x = c.in-Some.candidate in
     let both : IsCandidate n ring.weights change.monomials.items (slice_index change.turns) x × IsLeast n (comparison ring.order ring.weights n) (monomials n change.monomials.items) (slice_index change.turns) n (exponents_of n x.monomial.exponents) =
     subst (λ l. IsCandidate n ring.weights l (slice_index change.turns) x × IsLeast n (comparison ring.order ring.weights n) (monomials n l) (slice_index change.turns) n (exponents_of n x.monomial.exponents)) c.deref.ensures.value
-    (subst (λ z. MatchOption z (AreOver (slice_index change.turns) n (length c.deref.result.now)) (λ x. IsCandidate n ring.weights c.deref.result.now (slice_index change.turns) x
+    (subst (λ z. MatchOption z (HadAllItems (slice_index change.turns) n (length c.deref.result.now)) (λ x. IsCandidate n ring.weights c.deref.result.now (slice_index change.turns) x
     × IsLeast n (comparison ring.order ring.weights n) (monomials n c.deref.result.now) (slice_index change.turns) n (exponents_of n x.monomial.exponents))) c.in-Some.is c.in_ok-candidate.ensures) in
     record {
       known = c.in_ok-take-in-Some.ensures.known;
@@ -101,7 +101,7 @@ returns-in_ok-take-in-Some-clause-more c =
     let x = c.in-Some.candidate in
     let both : IsCandidate n ring.weights change.monomials.items (slice_index change.turns) x × IsLeast n (comparison ring.order ring.weights n) (monomials n change.monomials.items) (slice_index change.turns) n (exponents_of n x.monomial.exponents) =
     subst (λ l. IsCandidate n ring.weights l (slice_index change.turns) x × IsLeast n (comparison ring.order ring.weights n) (monomials n l) (slice_index change.turns) n (exponents_of n x.monomial.exponents)) c.deref.ensures.value
-    (subst (λ z. MatchOption z (AreOver (slice_index change.turns) n (length c.deref.result.now)) (λ x. IsCandidate n ring.weights c.deref.result.now (slice_index change.turns) x
+    (subst (λ z. MatchOption z (HadAllItems (slice_index change.turns) n (length c.deref.result.now)) (λ x. IsCandidate n ring.weights c.deref.result.now (slice_index change.turns) x
     × IsLeast n (comparison ring.order ring.weights n) (monomials n c.deref.result.now) (slice_index change.turns) n (exponents_of n x.monomial.exponents))) c.in-Some.is c.in_ok-candidate.ensures) in
     let lawful : IsLawful (setting ring n (ring_comparison ring n) 1) = subst (λ z. IsLawful (setting ring z (ring_comparison ring z) 1)) (sym ring.weighted) (c.lawful_setting.ensures 1) in
     let least = few n ring F B lawful change.monomials.items change.forms.items change.rows.items h.known.standard in
@@ -127,7 +127,7 @@ returns-else-is_new-clause-changing c =
     let x = c.in-Some.candidate in
     let both : IsCandidate n ring.weights change.monomials.items (slice_index change.turns) x × IsLeast n (comparison ring.order ring.weights n) (monomials n change.monomials.items) (slice_index change.turns) n (exponents_of n x.monomial.exponents) =
     subst (λ l. IsCandidate n ring.weights l (slice_index change.turns) x × IsLeast n (comparison ring.order ring.weights n) (monomials n l) (slice_index change.turns) n (exponents_of n x.monomial.exponents)) c.deref.ensures.value
-    (subst (λ z. MatchOption z (AreOver (slice_index change.turns) n (length c.deref.result.now)) (λ x. IsCandidate n ring.weights c.deref.result.now (slice_index change.turns) x
+    (subst (λ z. MatchOption z (HadAllItems (slice_index change.turns) n (length c.deref.result.now)) (λ x. IsCandidate n ring.weights c.deref.result.now (slice_index change.turns) x
     × IsLeast n (comparison ring.order ring.weights n) (monomials n c.deref.result.now) (slice_index change.turns) n (exponents_of n x.monomial.exponents))) c.in-Some.is c.in_ok-candidate.ensures) in
     let old : IsNew (monomials n change.leads.items) (monomials n change.monomials.items) (exponents_of n x.monomial.exponents) → ⊥ =
     subst (λ z. IsNew (monomials n z) (monomials n change.monomials.items) (exponents_of n x.monomial.exponents) → ⊥) c.deref-in-Some.ensures.value
@@ -149,7 +149,7 @@ returns-else-is_new-clause-more c =
     let x = c.in-Some.candidate in
     let both : IsCandidate n ring.weights change.monomials.items (slice_index change.turns) x × IsLeast n (comparison ring.order ring.weights n) (monomials n change.monomials.items) (slice_index change.turns) n (exponents_of n x.monomial.exponents) =
     subst (λ l. IsCandidate n ring.weights l (slice_index change.turns) x × IsLeast n (comparison ring.order ring.weights n) (monomials n l) (slice_index change.turns) n (exponents_of n x.monomial.exponents)) c.deref.ensures.value
-    (subst (λ z. MatchOption z (AreOver (slice_index change.turns) n (length c.deref.result.now)) (λ x. IsCandidate n ring.weights c.deref.result.now (slice_index change.turns) x
+    (subst (λ z. MatchOption z (HadAllItems (slice_index change.turns) n (length c.deref.result.now)) (λ x. IsCandidate n ring.weights c.deref.result.now (slice_index change.turns) x
     × IsLeast n (comparison ring.order ring.weights n) (monomials n c.deref.result.now) (slice_index change.turns) n (exponents_of n x.monomial.exponents))) c.in-Some.is c.in_ok-candidate.ensures) in
     let lawful : IsLawful (setting ring n (ring_comparison ring n) 1) = subst (λ z. IsLawful (setting ring z (ring_comparison ring z) 1)) (sym ring.weighted) (c.lawful_setting.ensures 1) in
     let least = few n ring F B lawful change.monomials.items change.forms.items change.rows.items h.known.standard in

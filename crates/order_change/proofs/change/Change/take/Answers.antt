@@ -5,7 +5,7 @@ use Rattle.module_vectors.specs.Vectors.{sums_of}
 use Rattle.order_change.proofs.Borders.{IsProductWhere}
 use Rattle.order_change.proofs.Filling.{item_read}
 use Rattle.order_change.proofs.Stepping.{variable_covered, variable_form, variable_rows}
-use Rattle.order_change.specs.Forms.{AreResidues, IsForm, monomial_vector}
+use Rattle.order_change.specs.Forms.{AreResidues, IsRowForm, monomial_vector}
 use Rattle.order_change.specs.Lists.{monomials}
 use Rattle.order_change.proofs.change.Change.take.Goals as goal
 
@@ -53,7 +53,7 @@ add-requires-clause-form c =
     let rows = c.of_variable-rows.ensures in
     let out = c.in_ok-form.form in
     let pos : 0 < p = let s = residues.small 0 in omega (arith, s) in
-    let form : IsForm p F B (monomial_vector (get_or (monomials n change.monomials.items) k (unit n))) row =
-    subst (IsForm p F B (monomial_vector (get_or (monomials n change.monomials.items) k (unit n)))) is (standard.forms_are k c.requires.parent) in
+    let form : IsRowForm p F B (monomial_vector (get_or (monomials n change.monomials.items) k (unit n))) row =
+    subst (IsRowForm p F B (monomial_vector (get_or (monomials n change.monomials.items) k (unit n)))) is (standard.forms_are k c.requires.parent) in
     variable_form n ring F B table c.requires.table v c.requires.variable row residues (get_or (monomials n change.monomials.items) k (unit n)) (exponents_of n candidate.monomial.exponents) out pos form c.requires.product
     c.in_ok-form.ensures.residues (subst (λ z. IsProductWhere p z row out) rows c.in_ok-form.ensures.product)

@@ -1,5 +1,5 @@
 use Rattle.std.proofs.Common.{arith, subst, sym, ◌<◌}
-use Rattle.run_endings.specs.Stops.{IsCounted, IsStop}
+use Rattle.run_endings.specs.Stops.{IsKeptWhereCounted, IsStop}
 use Rattle.plain_buchberger.specs.Engines.{EngineShown}
 use Rattle.plain_buchberger.proofs.engine.PlainEngine.keep.Goals as goal
 
@@ -8,6 +8,6 @@ invariant_of-self c =
     let more : 0 < c.saturating_add-self-inside.result = omega (arith, c.saturating_add-self-inside.ensures) in
     record {
       stop = subst (λ (e : EngineShown). IsStop e.pairs 1 c.args.state c.args.trail) (sym c.self.view_is) c.requires.stop;
-      counted = subst (IsCounted c.saturating_add-self-inside.result) (sym c.requires.some.1) more;
+      counted = subst (IsKeptWhereCounted c.saturating_add-self-inside.result) (sym c.requires.some.1) more;
       left = c.requires.left;
     }
