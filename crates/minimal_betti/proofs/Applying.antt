@@ -7,14 +7,14 @@ use Rattle.residues.specs.Residues.{IsCongruent}
 use Rattle.monomials.proofs.Monomials.{degree-times, degree-unit, degree_zero}
 use Rattle.monomials.specs.Exponents.{Exponents, degree, times, unit}
 use Rattle.formal_sums.proofs.Linear.{IsLinear, linear_after, linear_same}
-use Rattle.formal_sums.proofs.Sameness.{IsSame_append, IsSame_of, IsSame_refl, IsSame_scale, IsSame_sym, IsSame_trans}
+use Rattle.formal_sums.proofs.Sameness.{IsSame_append, IsSame_of, IsSame_refl, IsSame_scale, IsSame_trans}
 use Rattle.formal_sums.proofs.WeightedSums.{indicator_other, key_cases, weighted_sum_zero_mod}
 use Rattle.formal_sums.specs.FormalSums.{Each, FormalSum, IsSame, Key, coefficient, indicator, product, scale, shift, weighted_sum}
 use Rattle.minimal_laws.proofs.Clearing.{get_or-remove_at}
 use Rattle.minimal_laws.proofs.Grading.{homogeneous_split}
 use Rattle.minimal_laws.proofs.Rows.{close, linear_cleared, linear_without_row, skip}
 use Rattle.minimal_laws.proofs.SameMaps.{same_graded}
-use Rattle.minimal_laws.proofs.Splitting.{get_or-images, length-images}
+use Rattle.minimal_laws.proofs.Splitting.{length-images}
 use Rattle.minimal_laws.specs.Cancellation.{AreSameColumns, cleared, component, remove_at, split_map, without_row}
 use Rattle.minimal_laws.specs.Gradings.{AreHomogeneous, GradedMap}
 use Rattle.minimal_laws.specs.Minimal.{IsConstantAt}

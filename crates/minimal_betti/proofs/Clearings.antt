@@ -1,7 +1,8 @@
 -- A row that is cleared term by term, and taken out
 use Rattle.std.specs.Prelude.{Contains, Err, Ok, OnOk, Result, nat_eq}
-use Rattle.std.proofs.Common.{Bool, List, [], ap, ap₂, append-nil, arith, cond, eq-eqb, eqb-true, false, get_or, length, mod-lt, refl, subst, suc, sym, take, true, zero, ℕ, ◌%◌, ◌*◌, ◌++◌, ◌+◌, ◌-◌, ◌<◌, ◌∙◌, ◌∷◌, ◌≡◌}
-use Rattle.std.proofs.lemmas.List.{append_assoc, map-append, take_more}
+use Rattle.std.proofs.Common.{Bool, List, [], ap, ap₂, drop, append-nil, arith, cond, eq-eqb, eqb-true, false, get_or, length, mod-lt, refl, subst, suc, sym, take, true, zero, ℕ, ◌%◌, ◌*◌, ◌++◌, ◌+◌, ◌-◌, ◌<◌, ◌∙◌, ◌∷◌, ◌≡◌}
+use Rattle.std.proofs.lemmas.List.{append_assoc, map-append, take-append-drop, take_more}
+use Rattle.std.proofs.lemmas.List.Elements.{Contains-append_left, Contains-append_right}
 use Rattle.residues.proofs.Congruences.{IsCongruent_add, IsCongruent_cancel, IsCongruent_minus, IsCongruent_mod, IsCongruent_multiply, IsCongruent_of, IsCongruent_refl, IsCongruent_sym, IsCongruent_trans}
 use Rattle.residues.specs.Residues.{IsCongruent}
 use Rattle.monomials.proofs.Monomials.{times-unit}
@@ -109,6 +110,43 @@ module _ (ring : Ring) (r s : ℕ) (w : Terms) where
       IsSame_trans step (IsSame_trans (IsSame_append h (IsSame_refl p (multiple_of ring r s w (t ∷ []))))
       (IsSame_trans (IsSame_of p _ _ (append_assoc V (multiple_of ring r s w (take i v)) (multiple_of ring r s w (t ∷ []))))
       (IsSame_append (IsSame_refl p V) (IsSame_trans (IsSame_sym more) (IsSame_of p _ _ (sym (ap T split)))))))
+
+-- ---- halves of the terms
+module _ (ring : Ring) (r s : ℕ) (w : Terms) where
+  multiple_append :
+      (u v : Terms) → IsSame ring.modulus.value (multiple_of ring r s w (u ++ v)) (multiple_of ring r s w u ++ multiple_of ring r s w v)
+  multiple_append u v =
+      let n = variables ring in
+      let T = λ (x : FormalSum n). product (scale ((ring.modulus.value - 1) * s) (unit n) (component r x)) (sum_of n w) in
+      IsSame_trans (IsSame_of ring.modulus.value _ _ (ap T (map-append _ u v)))
+      (linear_append (linear_after (linear_product (sum_of n w)) (linear_after (linear_times ((ring.modulus.value - 1) * s)) (linear_component r)))
+      (sum_of n u) (sum_of n v))
+
+  pub multiple_halves :
+      (i : ℕ) (v front back left right out : Terms) → front ≡ take i v → back ≡ drop i v
+      → StandsFor ring left (multiple_of ring r s w front) → StandsFor ring right (multiple_of ring r s w back)
+      → StandsFor ring out (sum_of (variables ring) left ++ sum_of (variables ring) right)
+      → StandsFor ring out (multiple_of ring r s w v)
+  multiple_halves i v front back left right out ef eb h g o =
+      let whole : front ++ back ≡ v = ap₂ ◌++◌ ef eb ∙ take-append-drop i v in
+      IsSame_trans o (IsSame_trans (IsSame_append h g)
+      (IsSame_trans (IsSame_sym (multiple_append front back)) (IsSame_of ring.modulus.value _ _ (ap (multiple_of ring r s w) whole))))
+
+pub stop_front : (r i : ℕ) (w v front : Terms) (stop : VectStop) → front ≡ take i v → ClearingStops r w front stop → ClearingStops r w v stop
+stop_front r i w v front Memory e h = tt
+stop_front r i w v front (Degree a b) e h = (in_front h.0, h.1, h.2)
+  where
+    in_front : IsMonomialAt r front a → IsMonomialAt r v a
+    in_front (t, c, p, m) =
+        (t, subst (λ z. Contains z t) (take-append-drop i v) (Contains-append_left (take i v) (drop i v) t (subst (λ z. Contains z t) e c)), p, m)
+
+pub stop_back : (r i : ℕ) (w v back : Terms) (stop : VectStop) → back ≡ drop i v → ClearingStops r w back stop → ClearingStops r w v stop
+stop_back r i w v back Memory e h = tt
+stop_back r i w v back (Degree a b) e h = (in_back h.0, h.1, h.2)
+  where
+    in_back : IsMonomialAt r back a → IsMonomialAt r v a
+    in_back (t, c, p, m) =
+        (t, subst (λ z. Contains z t) (take-append-drop i v) (Contains-append_right (take i v) (drop i v) t (subst (λ z. Contains z t) e c)), p, m)
 
 -- ---- nothing is taken away
 component_none : (n r : ℕ) (v : Terms) → Each (λ t. t.0.position ≡ r → ⊥) v → component r (sum_of n v) ≡ []

@@ -1,7 +1,7 @@
 -- A row leaves the terms of a vector
 use Rattle.std.specs.Ordering.{nat_cmp, ordering_then}
 use Rattle.std.specs.Prelude.{nat_eq, nat_lt}
-use Rattle.std.proofs.Common.{Bool, Greater, List, Ordering, [], ap, arith, cond, drop, eqb-true, false, filter, get_or, length, map, not, refl, set, subst, suc, sym, take, true, zero, ℕ, ◌++◌, ◌+◌, ◌-◌, ◌<◌, ◌==◌, ◌∙◌, ◌∷◌, ◌≡◌}
+use Rattle.std.proofs.Common.{Bool, Greater, List, [], ap, arith, cond, drop, false, filter, get_or, length, not, refl, set, suc, sym, take, true, zero, ℕ, ◌++◌, ◌+◌, ◌-◌, ◌<◌, ◌==◌, ◌∙◌, ◌∷◌, ◌≡◌}
 use Rattle.std.proofs.lemmas.Bool.Decides.{nat_tests}
 use Rattle.monomials.specs.Exponents.{Exponents, exponents_of}
 use Rattle.formal_sums.specs.FormalSums.{Each}

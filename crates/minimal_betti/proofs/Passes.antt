@@ -6,9 +6,9 @@ use Rattle.residues.proofs.Congruences.{IsCongruent_multiply, IsCongruent_of, Is
 use Rattle.residues.specs.Residues.{IsCongruent}
 use Rattle.monomials.specs.Exponents.{unit}
 use Rattle.formal_sums.proofs.Sameness.{IsSame_refl, IsSame_sym, IsSame_trans}
-use Rattle.formal_sums.specs.FormalSums.{Each, FormalSum, IsSame, coefficient}
+use Rattle.formal_sums.specs.FormalSums.{Each, FormalSum, IsSame}
 use Rattle.bases.specs.Settings.{IsLawful}
-use Rattle.minimal_laws.proofs.SameMaps.{same_graded, turned}
+use Rattle.minimal_laws.proofs.SameMaps.{same_graded}
 use Rattle.minimal_laws.specs.Cancellation.{AreSameColumns, remove_at}
 use Rattle.minimal_laws.specs.Gradings.{IsHomogeneous}
 use Rattle.minimal_laws.specs.Minimal.{IsConstantAt}
@@ -17,13 +17,13 @@ use Rattle.module_vectors.specs.Rings.{ring_comparison, setting, variables}
 use Rattle.module_vectors.specs.Vectors.{AreVectorsOver, IsVectorOver, StandsFor, sum_of, sums_of}
 use Rattle.module_vectors.specs.declared.key.Key.{Key as CodeKey}
 use Rattle.module_vectors.specs.declared.ring.Ring.{Ring}
-use Rattle.minimal_betti.specs.Carried.{HasNone, IsGraded}
+use Rattle.minimal_betti.specs.Carried.{IsGraded}
 use Rattle.minimal_betti.specs.Constants.{IsLeastUnit}
 use Rattle.minimal_betti.specs.Passing.{AreFinished, AreFirstSteps, AreGradedColumns, AreKeptOver, IsFirstStep, IsPassed, IsSorted, IsStepOver, applied, applied_all, finished, left_by, left_by_all}
 use Rattle.minimal_betti.specs.declared.one_pass.Kept.{Kept}
 use Rattle.minimal_betti.specs.declared.one_pass.Passed.{Passed}
 use Rattle.minimal_betti.specs.declared.steps.Step.{Step}
-use Rattle.minimal_betti.proofs.Applying.{applied_all_same, applied_end, columns_trans, first_end, left_end, left_graded, left_same, no_constant_applied, no_constant_at, no_constant_zero}
+use Rattle.minimal_betti.proofs.Applying.{applied_end, columns_trans, first_end, left_end, left_graded, left_same, no_constant_applied, no_constant_at, no_constant_zero}
 use Rattle.minimal_betti.proofs.Columns.{drop_none, map_same}
 use Rattle.minimal_betti.proofs.Growing.{all_append, all_map}
 use Rattle.minimal_betti.proofs.Reaching.{constant_there}

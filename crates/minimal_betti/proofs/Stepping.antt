@@ -1,11 +1,11 @@
 -- Steps on a map, and what they leave of the maps before and after it
 use Rattle.std.specs.Prelude.{drop}
-use Rattle.std.proofs.Common.{List, [], ap, ap₂, arith, get_or, inl, inr, length, map, refl, reverse, subst, suc, sym, zero, ℕ, ◌*◌, ◌++◌, ◌+◌, ◌<◌, ◌∙◌, ◌∷◌, ◌≡◌, ◌⊎◌}
-use Rattle.std.proofs.lemmas.List.{length-map, map-append, reverse-append}
+use Rattle.std.proofs.Common.{List, [], ap, ap₂, arith, get_or, inl, inr, length, map, refl, reverse, subst, suc, sym, zero, ℕ, ◌*◌, ◌++◌, ◌<◌, ◌∙◌, ◌∷◌, ◌≡◌}
+use Rattle.std.proofs.lemmas.List.{map-append, reverse-append}
 use Rattle.residues.specs.Residues.{IsCongruent}
 use Rattle.monomials.specs.Exponents.{unit}
 use Rattle.formal_sums.proofs.Sameness.{IsSame_refl}
-use Rattle.formal_sums.specs.FormalSums.{Each, FormalSum, coefficient}
+use Rattle.formal_sums.specs.FormalSums.{Each, coefficient}
 use Rattle.minimal_laws.proofs.Clearing.{get_or-remove_at}
 use Rattle.minimal_laws.proofs.Grading.{split_graded}
 use Rattle.minimal_laws.proofs.OneCancellation.{same_maps_trans}
@@ -22,7 +22,7 @@ use Rattle.module_vectors.specs.declared.ring.Ring.{Ring}
 use Rattle.minimal_betti.specs.Carried.{AreOrdered, HasNone, LeadsTo, graded_map, graded_maps}
 use Rattle.minimal_betti.specs.Minimising.{IsReached}
 use Rattle.minimal_betti.specs.Passing.{AreFirstSteps, IsFirstStep, left_by, left_by_all}
-use Rattle.minimal_betti.specs.Splitting.{AreWithout, IsFewer, IsFormerLeft, IsNextLeft, IsUnderway, all_removed, in_turn, without_all}
+use Rattle.minimal_betti.specs.Splitting.{IsFormerLeft, IsNextLeft, IsUnderway, all_removed, in_turn, without_all}
 use Rattle.minimal_betti.specs.declared.carried.Carried.{Carried}
 use Rattle.minimal_betti.specs.declared.steps.Step.{Step}
 use Rattle.minimal_betti.proofs.Applying.{split_columns_same}

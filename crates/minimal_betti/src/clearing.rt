@@ -1,5 +1,5 @@
 // A row leaves the columns of a map.
-ghost use Rattle.std.specs.Prelude.{◌≡◌, ◌<◌, ◌++◌, ◌∷◌, ◌-◌, ℕ, [], IfErr, IfOk, OnOk, cond, false, nat_lt};
+ghost use Rattle.std.specs.Prelude.{◌≡◌, ◌<◌, ◌≤◌, ◌++◌, ◌∷◌, ◌-◌, ℕ, [], IfErr, IfOk, OnOk, cond, false, length, nat_lt};
 ghost use Rattle.formal_sums.specs.FormalSums.{Each};
 ghost use Rattle.minimal_laws.specs.Cancellation.{cleared, without_row};
 ghost use Rattle.module_vectors.specs.Rings.{ring_comparison, variables};
@@ -37,6 +37,86 @@ fn clear_term(
     out.add_scaled(alloc, ring, factor, &term.0.monomial, w)
 }
 
+// The same of at most one term.
+fn small_multiple(
+    alloc: Global,
+    ring: &Ring,
+    w: &Vect,
+    row: u64,
+    inverse: u32,
+    terms: &[(Key, u32)],
+) -> Result<Vect, VectStop>
+    requires few { length terms.now ≤ 1 }
+    requires inverse { inverse < ring.now.modulus.value }
+    requires column { IsVectorOver ring.now (ring_comparison ring.now) w.now }
+    requires terms { AreTermsOver ring.now terms.now }
+    ensures vector { IfOk result (IsVectorOver ring.now (ring_comparison ring.now)) }
+    ensures sum { IfOk result (λ m. StandsFor ring.now m (multiple_of ring.now row inverse w.now terms.now)) }
+    ensures stop { IfErr result (ClearingStops row w.now terms.now) }
+{
+    lawful_setting(ring);
+    let mut out = Vect::zero(alloc);
+    for term in terms {
+        match clear_term(alloc, ring, w, row, inverse, term, &mut out) {
+            Ok(()) => {}
+            Err(stop) => return Err(stop),
+        }
+    }
+    Ok(out)
+}
+
+// The sum of two vectors; where one is zero, the other as it is.
+fn sum_of_two(alloc: Global, ring: &Ring, left: Vect, right: Vect) -> Result<Vect, NoMemory>
+    requires left { IsVectorOver ring.now (ring_comparison ring.now) left }
+    requires right { IsVectorOver ring.now (ring_comparison ring.now) right }
+    ensures vector { IfOk result (IsVectorOver ring.now (ring_comparison ring.now)) }
+    ensures sum { let n = variables ring.now in IfOk result (λ s. StandsFor ring.now s (sum_of n left ++ sum_of n right)) }
+{
+    lawful_setting(ring);
+    if right.terms().is_empty() {
+        return Ok(left);
+    }
+    if left.terms().is_empty() {
+        return Ok(right);
+    }
+    let mut sum = left;
+    sum.add(alloc, ring, right)?;
+    Ok(sum)
+}
+
+// The multiple of w that the terms' entry in row r takes away, by halves of the terms: so none of its terms is moved more often than
+// they can be halved.
+fn multiple(
+    alloc: Global,
+    ring: &Ring,
+    w: &Vect,
+    row: u64,
+    inverse: u32,
+    terms: &[(Key, u32)],
+) -> Result<Vect, VectStop>
+    requires inverse { inverse < ring.now.modulus.value }
+    requires column { IsVectorOver ring.now (ring_comparison ring.now) w.now }
+    requires terms { AreTermsOver ring.now terms.now }
+    ensures vector { IfOk result (IsVectorOver ring.now (ring_comparison ring.now)) }
+    ensures sum { IfOk result (λ m. StandsFor ring.now m (multiple_of ring.now row inverse w.now terms.now)) }
+    ensures stop { IfErr result (ClearingStops row w.now terms.now) }
+{
+    lawful_setting(ring);
+    if terms.len() <= 1 {
+        return small_multiple(alloc, ring, w, row, inverse, terms);
+    }
+    let (front, back) = terms.split_at(terms.len() / 2);
+    let left = match multiple(alloc, ring, w, row, inverse, front) {
+        Ok(left) => left,
+        Err(stop) => return Err(stop),
+    };
+    let right = match multiple(alloc, ring, w, row, inverse, back) {
+        Ok(right) => right,
+        Err(stop) => return Err(stop),
+    };
+    Ok(sum_of_two(alloc, ring, left, right)?)
+}
+
 /// v less the multiple of the column w by which its entry in the row vanishes; `inverse` is that of the constant of w there.
 ///
 /// `Degree` comes where a monomial of the entry times one of w has a degree above 65,535, and carries the two; `Memory` where
@@ -57,13 +137,13 @@ pub(crate) fn cleared_vector(
         IfOk result (λ u. StandsFor ring.now u (cleared ring.now.modulus.value row inverse (sum_of n w.now) (sum_of n v.now))) }
     ensures stop { IfErr result (ClearingStops row w.now v.now) }
 {
+    lawful_setting(ring);
+    let taken = match multiple(alloc, ring, w, row, inverse, v.terms()) {
+        Ok(taken) => taken,
+        Err(stop) => return Err(stop),
+    };
     let mut out = v.try_copy(alloc)?;
-    for term in v.terms() {
-        match clear_term(alloc, ring, w, row, inverse, term, &mut out) {
-            Ok(()) => {}
-            Err(stop) => return Err(stop),
-        }
-    }
+    out.add(alloc, ring, taken)?;
     Ok(out)
 }
 

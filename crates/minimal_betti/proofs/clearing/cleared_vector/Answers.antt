@@ -1,14 +1,13 @@
-use Rattle.std.proofs.Common.{arith}
+use Rattle.std.proofs.Common.{ap, subst}
+use Rattle.formal_sums.proofs.Sameness.{IsSame_append, IsSame_of, IsSame_trans}
 use Rattle.module_vectors.specs.Rings.{variables}
-use Rattle.module_vectors.specs.Vectors.{sum_of}
-use Rattle.minimal_betti.proofs.Clearings.{clear_more}
+use Rattle.module_vectors.specs.Vectors.{StandsFor, sum_of}
+use Rattle.minimal_betti.specs.Clearing.{multiple_of}
 use Rattle.minimal_betti.proofs.clearing.cleared_vector.Goals as goal
 
-pub loop-term-preserved : goal.loop-term-preserved
-loop-term-preserved c =
+pub returns-clause-sum : goal.returns-clause-sum
+returns-clause-sum c =
     let ring = c.args.ring.now in
-    record {
-      vector = c.in-Ok.ensures.vector;
-      sum = clear_more ring c.args.row c.args.inverse c.args.w.now c.terms-term-items.result.now c.loop-term.out c.clear_term.new.out c.loop-term.term-index c.term-item.result (sum_of (variables ring) c.args.v.now)
-          (omega arith) c.term-item.is c.loop-term.invariant.sum c.in-Ok.ensures.sum;
-    }
+    let taken = subst (λ ts. StandsFor ring c.in-Ok.taken (multiple_of ring c.args.row c.args.inverse c.args.w.now ts)) c.terms.ensures c.in-Ok.ensures.sum in
+    IsSame_trans c.in_ok-add.ensures.sum
+    (IsSame_append (IsSame_of ring.modulus.value _ _ (ap (sum_of (variables ring)) c.in_ok-out.ensures)) taken)

@@ -1,7 +1,6 @@
-use Rattle.std.proofs.Common.{List, [], ap, append-nil, map, rules, subst, sym, ◌++◌, ◌∙◌, ◌≡◌}
+use Rattle.std.proofs.Common.{[], rules, subst, sym, ◌∙◌, ◌≡◌}
 use Rattle.module_vectors.specs.Rings.{ring_comparison, variables}
-use Rattle.module_vectors.specs.Vectors.{AreVectorsOver, sums_of}
-use Rattle.minimal_betti.specs.Splitting.{AreWithout, without_all}
+use Rattle.module_vectors.specs.Vectors.{AreVectorsOver}
 use Rattle.minimal_betti.proofs.Columns.{columns_done, columns_more, columns_start, vectors_pushed}
 use Rattle.minimal_betti.proofs.leaving.columns_without.Goals as goal
 
