@@ -91,17 +91,13 @@ adds_more p factor done e start acc b pos h lt c = record {
 
 -- the step of the loop
 pub adds_step :
-    (p factor : ℕ) (entries : List Entry) (i : ℕ) (e : Entry) (start acc : List ℕ) (a b : ℕ)
+    (p factor : ℕ) (entries : List Entry) (i : ℕ) (e : Entry) (start acc : List ℕ) (b : ℕ)
     → 0 < p → AddsMultiple p factor (take i entries) start acc → i < length entries → e ≡ get_or entries i e
-    → AreWithin p (length start) entries → a ≡ get_or acc e.0 a
-    → IsCongruent p b (a + factor * e.1)
+    → AreWithin p (length start) entries → IsCongruent p b (get_or acc e.0 0 + factor * e.1)
     → AddsMultiple p factor (take (i + 1) entries) start (set acc e.0 b)
-adds_step p factor entries i e start acc a b pos h lt at within is c =
-    let q = Each_at _ entries i e within lt at in
-    let l : e.0 < length acc = omega (arith, q.0, h.count) in
-    let r : a ≡ get_or acc e.0 0 = is ∙ get_or_default acc e.0 a 0 l in
+adds_step p factor entries i e start acc b pos h lt at within c =
     subst (λ xs. AddsMultiple p factor xs start (set acc e.0 b)) (sym (take_item entries i e lt at))
-    (adds_more p factor (take i entries) e start acc b pos h q.0 (subst (λ x. IsCongruent p b (x + factor * e.1)) r c))
+    (adds_more p factor (take i entries) e start acc b pos h (Each_at _ entries i e within lt at).0 c)
 
 -- all are below the limit with one square more, and what is still to be added to is below the limit
 pub record AreAddedTo (square limit : ℕ) (rest : List Entry) (acc : List ℕ) : Type 0 where

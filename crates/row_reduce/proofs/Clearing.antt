@@ -1,6 +1,6 @@
 -- A column is cleared
-use Rattle.std.proofs.Common.{List, [], ap, ap₂, append-nil, append_assoc, arith, drop, get_or, get_or-set_other, get_or-set_same, inl, inr, length, set, subst, sym, ℕ, ◌%◌, ◌*◌, ◌+◌, ◌++◌, ◌-◌, ◌<◌, ◌∙◌, ◌∷◌, ◌≡◌}
-use Rattle.std.proofs.lemmas.Bool.{cases_eq}
+use Rattle.std.proofs.Common.{List, [], ap, ap₂, append-nil, append_assoc, arith, drop, get_or, get_or-set_other, get_or-set_same, inl, inr, length, refl, set, subst, sym, ℕ, ◌%◌, ◌*◌, ◌+◌, ◌++◌, ◌-◌, ◌<◌, ◌∙◌, ◌∷◌, ◌≡◌, ◌≤◌}
+use Rattle.std.proofs.lemmas.Bool.{cases_eq, cases_lt}
 use Rattle.std.proofs.lemmas.List.{get_or-map, get_or_default, length-set, map-append, set-get_or, set-set}
 use Rattle.residues.proofs.Congruences.{IsCongruent_add, IsCongruent_mod, IsCongruent_multiply, IsCongruent_of, IsCongruent_refl, IsCongruent_sym, IsCongruent_trans}
 use native.Mathlib.Nat.{mod_self, zero-mod}
@@ -13,12 +13,12 @@ use Rattle.formal_sums.specs.Combinations.{combination}
 use Rattle.formal_sums.specs.FormalSums.{Each, FormalSum, IsSame, Key, coefficient, indicator, scale}
 use Rattle.row_laws.proofs.RowSpans.{IsInSpan_append, IsInSpan_itself, IsInSpan_scale}
 use Rattle.row_laws.specs.Rows.{IsInSpan}
-use Rattle.row_matrix.specs.Rows.{AreEntries, Entry, IsRow, RowShown, first_column, row_sum, source_key}
+use Rattle.row_matrix.specs.Rows.{AreEntries, Entry, IsRow, RowShown, row_sum, source_key}
 use Rattle.module_vectors.proofs.Scaling.{Each_at}
 use Rattle.row_reduce.proofs.Adding.{Each_set, dense_add}
 use Rattle.row_reduce.proofs.Entries.{entries_from, entries_push, entries_widen, monic_entries}
 use Rattle.row_reduce.specs.Dense.{AddsMultiple, AreWithin, HasRoom, IsDense, dense_sum}
-use Rattle.row_reduce.specs.Pivots.{ArePivots, lead_column, no_row, row_at, row_vectors}
+use Rattle.row_reduce.specs.Pivots.{lead_column, no_row, row_at, row_vectors}
 use Rattle.row_reduce.specs.Underway.{AreCombined, IsReducedTo, IsUnderway, sources_sum, taken_sum}
 
 -- the number at a column is its residue, which is taken out
@@ -169,6 +169,25 @@ combined_more {n} p pos F key rows row pivot taken taken' number factor t t' mor
     (IsSame_trans (IsSame_append h (IsSame_scale pos factor (unit n) from)) (IsSame_sym e))
 
 -- ---- the record of the way
+-- nothing stands at the columns from c to d
+pub underway_skip :
+    (p limit c d columns count : ℕ) (pivots : List ℕ) (left : List Entry) (numbers : List ℕ) (taken : List Entry)
+    → IsUnderway p limit c columns count pivots left numbers taken
+    → c ≤ d → ((j : ℕ) → c ≤ j → j < d → get_or numbers j 0 ≡ 0)
+    → IsUnderway p limit d columns count pivots left numbers taken
+underway_skip p limit c d columns count pivots left numbers taken h le zeros = record {
+  numbered = h.numbered;
+  room = h.room;
+  small = h.small;
+  known = h.known;
+  cleared = λ j l. elim (cases_lt j c) [
+    | inl before ↦ h.cleared j before
+    | inr from ↦ zeros j from l
+  ];
+  entries = entries_widen p 0 c d left le h.entries;
+  free = h.free;
+}
+
 module _ (p limit c columns count : ℕ) (pivots : List ℕ) (left : List Entry) (numbers : List ℕ) (taken : List Entry) (h : IsUnderway p limit c columns count pivots left numbers taken) (lt : c < length numbers) where
   cleared_more : (j : ℕ) → j < c + 1 → get_or (set numbers c 0) j 0 ≡ 0
   cleared_more j l = elim (cases_eq j c) [
@@ -180,21 +199,6 @@ module _ (p limit c columns count : ℕ) (pivots : List ℕ) (left : List Entry)
   small_set =
       let a : get_or numbers c 0 < limit = Each_at (λ a. a < limit) numbers c (get_or numbers c 0) h.small lt (get_or_default numbers c 0 (get_or numbers c 0) lt) in
       Each_set (λ a. a < limit) numbers c 0 h.small (omega arith)
-
-  -- nothing stands there
-  pub underway_skip : get_or numbers c 0 ≡ 0 → IsUnderway p limit (c + 1) columns count pivots left numbers taken
-  underway_skip zero = record {
-    numbered = h.numbered;
-    room = h.room;
-    small = h.small;
-    known = h.known;
-    cleared = λ j l. elim (cases_eq j c) [
-      | inl e ↦ ap (λ k. get_or numbers k 0) e ∙ zero
-      | inr ne ↦ h.cleared j (omega arith)
-    ];
-    entries = entries_widen p 0 c (c + 1) left (omega arith) h.entries;
-    free = h.free;
-  }
 
   pub underway_none : IsUnderway p limit (c + 1) columns count pivots left (set numbers c 0) taken
   underway_none = record {
@@ -245,21 +249,18 @@ pub record IsPivot (p c columns inputs : ℕ) (rows : List RowShown) (row : RowS
   pub entries : row.entries ≡ (c, 1) ∷ drop 1 row.entries
   pub tail : AreEntries p (c + 1) columns (drop 1 row.entries)
 
-pub pivot_of :
-    (p c columns inputs : ℕ) (rows : List RowShown) (pivots : List ℕ) (pivot : ℕ) (row : RowShown)
-    → ArePivots p columns inputs rows pivots → c < columns → pivot ≡ get_or pivots c 0 → 0 < pivot
-    → row ≡ get_or rows (pivot - 1) row → IsPivot p c columns inputs rows row
-pivot_of p c columns inputs rows pivots pivot row h lt e pos is =
-    let named = h.named c lt (subst (λ x. 0 < x) e pos) in
-    let l : pivot - 1 < length rows = subst (λ x. x - 1 < length rows) (sym e) named.0 in
-    let at : row ≡ row_at rows (pivot - 1) = is ∙ get_or_default rows (pivot - 1) row no_row l in
-    let good : IsRow p columns inputs row = Each_at (IsRow p columns inputs) rows (pivot - 1) row h.monic l is in
-    let first : first_column row.entries ≡ c = ap (λ (r : RowShown). first_column r.entries) at ∙ ap (λ x. lead_column rows (x - 1)) e ∙ named.1 in
+pub pivot_row :
+    (p c columns inputs : ℕ) (rows : List RowShown) (number : ℕ)
+    → Each (IsRow p columns inputs) rows → number < length rows → lead_column rows number ≡ c
+    → IsPivot p c columns inputs rows (row_at rows number)
+pivot_row p c columns inputs rows number h lt first =
+    let row = row_at rows number in
+    let good : IsRow p columns inputs row = Each_at (IsRow p columns inputs) rows number row h lt (get_or_default rows number no_row row lt) in
     let m = monic_entries p 0 columns row.entries good.entries good.monic in
     record {
-      number = pivot - 1;
-      within = l;
-      at = at;
+      number = number;
+      within = lt;
+      at = refl;
       entries = m.0 ∙ ap (λ x. (x, 1) ∷ drop 1 row.entries) first;
       tail = subst (λ x. AreEntries p (x + 1) columns (drop 1 row.entries)) first m.1;
     }

@@ -1,20 +1,37 @@
--- Rows that are put behind the pivots
-use Rattle.std.proofs.Common.{List, [], ap, arith, get_or, get_or-set_other, get_or-set_same, inl, inr, length, refl, replicate, set, subst, sym, ℕ, ◌+◌, ◌++◌, ◌-◌, ◌<◌, ◌∙◌, ◌∷◌, ◌≡◌, ◌≤◌}
-use Rattle.std.proofs.lemmas.Bool.{cases_eq, cases_lt}
-use Rattle.std.proofs.lemmas.List.{get_or_append_left, get_or_default, get_or_past, get_or_push, length-map, length-replicate, length-set, length_push, map-append}
+-- Pivots of rows, rows between two passes, and the echelon form that they are at the end
+use Rattle.std.proofs.Common.{Contains, List, None, Option, Some, [], ap, append-nil, arith, eqb, false, get_or, drop, get_or-set_other, get_or-set_same, inl, inr, length, map, refl, replicate, reverse, set, subst, subst₂, suc, take, sym, true, zero, ℕ, ◌+◌, ◌++◌, ◌-◌, ◌<◌, ◌∙◌, ◌∷◌, ◌≡◌, ◌≤◌}
+use Rattle.std.proofs.lemmas.Bool.Decides.{Decides-eqb}
+use Rattle.std.proofs.lemmas.Bool.{cases_eq, eq-eqb, eqb-true, ne_eqb}
+use Rattle.std.proofs.lemmas.List.{get_or-map, get_or-reverse, get_or_append_left, get_or_default, get_or_push, length-append, length-map, length-replicate, length-reverse, length-set, length_push, map-append, map-id, reverse-append}
+use Rattle.std.proofs.lemmas.List.FromFn.{get_or-map-range_with_len, get_or-range_with_len, length-map-range_with_len, length-range_with_len, map-range_with_len_more}
+use Rattle.std.proofs.lemmas.List.Sorted.{Contains-permutation, IsPermutation-reverse, IsPermutation-sym, length_permutation, sum_by-IsPermutation}
+use Rattle.std.proofs.lemmas.List.Sums.{sum_by-append, sum_by-cons}
+use Rattle.std.proofs.lemmas.Option.{slice_get-get_or}
+use Rattle.std.proofs.Math.Seq.{drop-cons}
+use Rattle.std.proofs.lemmas.Map.Keys.{IsDistinct-IsPermutation}
+use Rattle.std.proofs.lemmas.Map.Made.{IsDistinct-from_AllPairs}
+use Rattle.std.proofs.lemmas.Map.Views.{Contains-from_any}
+use Rattle.std.proofs.lemmas.Map.Steps.{length-le_from_distinct_below}
+use Rattle.std.specs.List.{AllByRecursion, IsDistinct, list_any, range_with_len}
 use Rattle.formal_sums.proofs.WeightedSums.{Each_append}
-use Rattle.formal_sums.specs.FormalSums.{Each, FormalSum, Key}
-use Rattle.module_vectors.proofs.Scaling.{Each_at}
+use Rattle.formal_sums.specs.FormalSums.{Each, Key}
+use Rattle.module_vectors.proofs.Gathers.{Each_permutation}
+use Rattle.module_vectors.proofs.Scaling.{Each_at, take_item}
+use Rattle.pivot_table.specs.Law.{LeadsFit}
 use Rattle.row_laws.proofs.RowSpans.{IsInSpan_itself, IsInSpan_through}
 use Rattle.row_laws.specs.Rows.{IsInSpan}
 use Rattle.row_matrix.specs.Rows.{IsRow, RowShown, first_column, row_sum}
-use Rattle.row_reduce.proofs.Adding.{Each_back, Each_front}
-use Rattle.row_reduce.proofs.Entries.{first_below}
-use Rattle.row_reduce.proofs.Reducing.{span_front, span_last, zeros_at}
-use Rattle.row_reduce.specs.Echelons.{IsAdded, IsEchelonOf, IsReducing}
+use Rattle.row_reduce.proofs.Adding.{Each_back, Each_front, Each_set}
+use Rattle.row_reduce.proofs.Entries.{first_below, monic_entries}
+use Rattle.row_reduce.proofs.Orders.{vector_at}
+use Rattle.row_reduce.proofs.Reducing.{zeros_at}
+use Rattle.row_reduce.specs.Echelons.{AreBetween, AreFrom, IsEchelonOf, with_left, columns_behind}
+use Rattle.row_reduce.specs.Passes.{IsLeftOf, IsPass, Names, leads_of, named, places, rows_left}
 use Rattle.row_reduce.specs.Pivots.{ArePivots, lead_column, no_row, row_at, row_vectors}
-use Rattle.row_reduce.specs.Underway.{AreCombined, IsRemainder, IsSpanned}
+use Rattle.row_reduce.specs.Underway.{IsSpanned}
+use Rattle.row_reduce.specs.declared.lefts.Left.{Left}
 
+-- ---- pivots of rows
 -- a row whose first column has no pivot becomes one
 pub pivots_more :
     (p columns inputs : ℕ) (rows : List RowShown) (pivots : List ℕ) (row : RowShown)
@@ -56,126 +73,6 @@ pivots_more p columns inputs rows pivots row h good free lt = record {
     pivots' : List ℕ
     pivots' = set pivots (first_column row.entries) (length rows + 1)
 
--- what had a pivot has one
-pub pivots_kept : (pivots : List ℕ) (at b c : ℕ) → 0 < b → 0 < get_or pivots c 0 → 0 < get_or (set pivots at b) c 0
-pivots_kept pivots at b c pos h = elim (cases_eq c at) [
-  | inl e ↦ elim (cases_lt at (length pivots)) [
-    | inl lt ↦ let q : get_or (set pivots at b) c 0 ≡ b = ap (λ x. get_or (set pivots at b) x 0) e ∙ get_or-set_same pivots at b 0 lt in omega arith
-    | inr ge ↦ let q : get_or pivots c 0 ≡ 0 = get_or_past pivots c 0 (omega arith) in omega arith
-  ]
-  | inr ne ↦ let q : get_or (set pivots at b) c 0 ≡ get_or pivots c 0 = get_or-set_other pivots at c b 0 ne in omega arith
-]
-
--- the row itself is added
-pub added_itself :
-    (p : ℕ) (old : List RowShown) (row : RowShown) (new : List RowShown)
-    → new ≡ old ++ row ∷ [] → IsAdded p old row new
-added_itself p old row new e = record {
-  spanned = λ n key. subst (λ rows. IsInSpan p (row_vectors key rows) (row_sum key row.entries)) (sym e) (span_last key old row);
-  grown = inr (row, e, (λ n key. span_last key old row), λ n F key from one. one);
-}
-
--- nothing is left of it
-pub added_nothing : (p : ℕ) (old : List RowShown) (row : RowShown) → IsSpanned p old row → IsAdded p old row old
-added_nothing p old row h = record { spanned = h; grown = inl refl }
-
--- what is left of it is added
-pub added_rest :
-    (p inputs : ℕ) (old : List RowShown) (pivots : List ℕ) (row rest : RowShown) (new : List RowShown)
-    → IsRemainder p inputs old pivots row rest → new ≡ old ++ rest ∷ [] → IsAdded p old row new
-added_rest p inputs old pivots row rest new h e = record {
-  spanned = λ n key. subst (λ rows. IsInSpan p (row_vectors key rows) (row_sum key row.entries)) (sym e) (h.inside n key);
-  grown = inr (rest, e, h.outside, λ n F key from one. (h.combined n F key from one.0, tt));
-}
-
--- ---- row after row
-vectors_push : {n : ℕ} (key : ℕ → Key n) (rows : List RowShown) (r : RowShown) → row_vectors key (rows ++ r ∷ []) ≡ row_vectors key rows ++ row_sum key r.entries ∷ []
-vectors_push key rows r = map-append (λ (x : RowShown). row_sum key x.entries) rows (r ∷ [])
-
-vector_old : {n : ℕ} (key : ℕ → Key n) (rows : List RowShown) (r : RowShown) (i : ℕ) → i < length rows → get_or (row_vectors key (rows ++ r ∷ [])) i [] ≡ get_or (row_vectors key rows) i []
-vector_old key rows r i lt = ap (λ xs. get_or xs i []) (vectors_push key rows r) ∙ get_or_append_left (row_vectors key rows) (row_sum key r.entries ∷ []) [] i (omega (arith, length-map rows (λ (x : RowShown). row_sum key x.entries)))
-
-vector_last : {n : ℕ} (key : ℕ → Key n) (rows : List RowShown) (r : RowShown) (i : ℕ) → i ≡ length rows → get_or (row_vectors key (rows ++ r ∷ [])) i [] ≡ row_sum key r.entries
-vector_last key rows r i e = ap (λ xs. get_or xs i []) (vectors_push key rows r) ∙ get_or_push (row_vectors key rows) (row_sum key r.entries) [] i (length-map rows (λ (x : RowShown). row_sum key x.entries) ∙ sym e)
-
--- rows in the span of rows, where one more row spans no less
-module _ (p columns inputs : ℕ) (M E E' : List RowShown) (row : RowShown) (pivots pivots' : List ℕ)
-    (h : IsReducing p columns inputs M E pivots) (added : IsAdded p E row E') (next : ArePivots p columns inputs E' pivots')
-    (kept : (c : ℕ) → 0 < get_or pivots c 0 → 0 < get_or pivots' c 0) (lead : 0 < get_or pivots' (first_column row.entries) 0) where
-  few : length E' ≤ length (M ++ row ∷ [])
-  few = elim added.grown [
-    | inl e ↦ omega (arith, length_push M row, h.few, ap length e)
-    | inr g ↦ omega (arith, length_push M row, length_push E g.0, h.few, ap length g.1)
-  ]
-
-  leads : (i : ℕ) → i < length (M ++ row ∷ []) → 0 < get_or pivots' (lead_column (M ++ row ∷ []) i) 0
-  leads i lt = elim (cases_eq i (length M)) [
-    | inl e ↦
-        let at : lead_column (M ++ row ∷ []) i ≡ first_column row.entries = ap (λ (r : RowShown). first_column r.entries) (get_or_push M row no_row i (sym e)) in
-        subst (λ c. 0 < get_or pivots' c 0) (sym at) lead
-    | inr ne ↦
-        let lt' : i < length M = omega (arith, length_push M row) in
-        let at : lead_column (M ++ row ∷ []) i ≡ lead_column M i = ap (λ (r : RowShown). first_column r.entries) (get_or_append_left M (row ∷ []) no_row i lt') in
-        subst (λ c. 0 < get_or pivots' c 0) (sym at) (kept (lead_column M i) (h.leads i lt'))
-  ]
-
-  wider : (n : ℕ) (key : ℕ → Key n) (v : FormalSum n) → IsInSpan p (row_vectors key E) v → IsInSpan p (row_vectors key E') v
-  wider n key v s = elim added.grown [
-    | inl e ↦ subst (λ rows. IsInSpan p (row_vectors key rows) v) (sym e) s
-    | inr g ↦ subst (λ rows. IsInSpan p (row_vectors key rows) v) (sym g.1) (span_front key E g.0 v s)
-  ]
-
-  inside : (n : ℕ) (key : ℕ → Key n) (i : ℕ) → i < length (M ++ row ∷ []) → IsInSpan p (row_vectors key E') (get_or (row_vectors key (M ++ row ∷ [])) i [])
-  inside n key i lt = elim (cases_eq i (length M)) [
-    | inl e ↦ subst (IsInSpan p (row_vectors key E')) (sym (vector_last key M row i e)) (added.spanned n key)
-    | inr ne ↦
-        let lt' : i < length M = omega (arith, length_push M row) in
-        subst (IsInSpan p (row_vectors key E')) (sym (vector_old key M row i lt')) (wider n key (get_or (row_vectors key M) i []) (h.inside n key i lt'))
-  ]
-
-  -- old rows are in the span of M and the row
-  old_in : (n : ℕ) (key : ℕ → Key n) (k : ℕ) → k < length E → IsInSpan p (row_vectors key (M ++ row ∷ [])) (get_or (row_vectors key E) k [])
-  old_in n key k lt = span_front key M row (get_or (row_vectors key E) k []) (h.outside n key k lt)
-
-  both_in : (n : ℕ) (key : ℕ → Key n) (k : ℕ) → k < length (row_vectors key (E ++ row ∷ [])) → IsInSpan p (row_vectors key (M ++ row ∷ [])) (get_or (row_vectors key (E ++ row ∷ [])) k [])
-  both_in n key k lt = elim (cases_eq k (length E)) [
-    | inl e ↦ subst (IsInSpan p (row_vectors key (M ++ row ∷ []))) (sym (vector_last key E row k e)) (span_last key M row)
-    | inr ne ↦
-        let lt' : k < length E = omega (arith, length_push E row, length-map (E ++ row ∷ []) (λ (x : RowShown). row_sum key x.entries)) in
-        subst (IsInSpan p (row_vectors key (M ++ row ∷ []))) (sym (vector_old key E row k lt')) (old_in n key k lt')
-  ]
-
-  outside : (n : ℕ) (key : ℕ → Key n) (k : ℕ) → k < length E' → IsInSpan p (row_vectors key (M ++ row ∷ [])) (get_or (row_vectors key E') k [])
-  outside n key k lt = elim added.grown [
-    | inl e ↦ subst (λ rows. IsInSpan p (row_vectors key (M ++ row ∷ [])) (get_or (row_vectors key rows) k [])) (sym e) (old_in n key k (subst (λ rows. k < length rows) e lt))
-    | inr g ↦ subst (λ rows. IsInSpan p (row_vectors key (M ++ row ∷ [])) (get_or (row_vectors key rows) k [])) (sym g.1) (elim (cases_eq k (length E)) [
-      | inl e ↦
-          subst (IsInSpan p (row_vectors key (M ++ row ∷ []))) (sym (vector_last key E g.0 k e))
-          (IsInSpan_through (row_vectors key (M ++ row ∷ [])) (row_vectors key (E ++ row ∷ [])) (both_in n key) (row_sum key g.0.entries) (g.2 n key))
-      | inr ne ↦
-          let lt' : k < length E = omega (arith, subst (λ rows. k < length rows) g.1 lt, length_push E g.0) in
-          subst (IsInSpan p (row_vectors key (M ++ row ∷ []))) (sym (vector_old key E g.0 k lt')) (old_in n key k lt')
-    ])
-  ]
-
-  combined : (n : ℕ) (F : List (FormalSum n)) (key : ℕ → Key n) → AreCombined p F key (M ++ row ∷ []) → AreCombined p F key E'
-  combined n F key from =
-      let old : AreCombined p F key E = h.combined n F key (Each_front _ M (row ∷ []) from) in
-      elim added.grown [
-        | inl e ↦ subst (AreCombined p F key) (sym e) old
-        | inr g ↦ subst (AreCombined p F key) (sym g.1) (Each_append _ E (g.0 ∷ []) old (g.3 n F key old (Each_back _ M (row ∷ []) from)))
-      ]
-
-  pub reducing_more : IsReducing p columns inputs (M ++ row ∷ []) E' pivots'
-  reducing_more = record {
-    pivoted = next;
-    few = few;
-    leads = leads;
-    inside = inside;
-    outside = outside;
-    combined = combined;
-  }
-
 -- no row yet
 pub pivots_none :
     (p columns inputs : ℕ) (pivots : List ℕ) → pivots ≡ replicate columns 0 → ArePivots p columns inputs [] pivots
@@ -186,48 +83,581 @@ pivots_none p columns inputs pivots e = record {
   all = λ k l. absurd (omega arith);
 }
 
--- pivots are an echelon form of themselves
-pub reducing_pivots :
-    (p columns inputs : ℕ) (E : List RowShown) (pivots : List ℕ) → ArePivots p columns inputs E pivots → IsReducing p columns inputs E E pivots
-reducing_pivots p columns inputs E pivots h = record {
-  pivoted = h;
-  few = omega arith;
-  leads = λ i l. (let a : get_or pivots (lead_column E i) 0 ≡ i + 1 = h.all i l in omega arith);
-  inside = λ n key i l. IsInSpan_itself p (row_vectors key E) i;
-  outside = λ n key i l. IsInSpan_itself p (row_vectors key E) i;
+-- ---- lists
+each_more : {X : Type 0} (P Q : X → Type 0) → ((x : X) → P x → Q x) → (xs : List X) → Each P xs → Each Q xs
+each_more P Q f [] h = tt
+each_more P Q f (x ∷ xs) h = (f x h.0, each_more P Q f xs h.1)
+
+each_map : {X Y : Type 0} (P : Y → Type 0) (f : X → Y) (xs : List X) → Each (λ x. P (f x)) xs → Each P (map f xs)
+each_map P f [] h = tt
+each_map P f (x ∷ xs) h = (h.0, each_map P f xs h.1)
+
+each_unmap : {X Y : Type 0} (P : Y → Type 0) (f : X → Y) (xs : List X) → Each P (map f xs) → Each (λ x. P (f x)) xs
+each_unmap P f [] h = tt
+each_unmap P f (x ∷ xs) h = (h.0, each_unmap P f xs h.1)
+
+each_from : {X : Type 0} (P : X → Type 0) (d : X) (xs : List X) → ((i : ℕ) → i < length xs → P (get_or xs i d)) → Each P xs
+each_from P d [] h = tt
+each_from P d (x ∷ xs) h = (h 0 (omega arith), each_from P d xs (λ i lt. h (suc i) (omega arith)))
+
+each_both : {X : Type 0} (P Q : X → Type 0) (xs : List X) → Each P xs → Each Q xs → Each (λ x. P x × Q x) xs
+each_both P Q [] a b = tt
+each_both P Q (x ∷ xs) a b = ((a.0, b.0), each_both P Q xs a.1 b.1)
+
+pub row_of : (P : RowShown → Type 0) (rows : List RowShown) (k : ℕ) → Each P rows → k < length rows → P (row_at rows k)
+row_of P rows k h lt = Each_at P rows k (row_at rows k) h lt (get_or_default rows k no_row (row_at rows k) lt)
+
+pub lead_at : (rows : List RowShown) (k : ℕ) → k < length rows → get_or (leads_of rows) k 0 ≡ lead_column rows k
+lead_at rows k lt = get_or-map (λ (r : RowShown). first_column r.entries) rows k no_row 0 lt
+
+row_some : (p columns inputs : ℕ) (r : RowShown) → IsRow p columns inputs r → 0 < length r.entries
+row_some p columns inputs r good = (monic_entries p 0 columns r.entries good.entries good.monic).2
+
+pub rows_some : (p columns inputs : ℕ) (rows : List RowShown) → Each (IsRow p columns inputs) rows → Each (λ (r : RowShown). 0 < length r.entries) rows
+rows_some p columns inputs rows good = each_more (IsRow p columns inputs) (λ (r : RowShown). 0 < length r.entries) (row_some p columns inputs) rows good
+
+member_of : (P : ℕ → Type 0) (xs : List ℕ) (x : ℕ) → Each P xs → Contains xs x → P x
+member_of P xs x h c = Each_at P xs c.0 x h c.1 (sym c.2)
+
+eqb_flips : (a b : ℕ) → eqb a b ≡ eqb b a
+eqb_flips a b = elim (cases_eq a b) [
+  | inl e ↦ eq-eqb a b e ∙ sym (eq-eqb b a (sym e))
+  | inr ne ↦ ne_eqb a b ne ∙ sym (ne_eqb b a (λ e. ne (sym e)))
+]
+
+-- ---- spans
+-- rows that others span add nothing
+spanned_through : (p : ℕ) (A B : List RowShown) → Each (IsSpanned p A) B → (r : RowShown) → IsSpanned p B r → IsSpanned p A r
+spanned_through p A B h r s = λ n key. IsInSpan_through (row_vectors key A) (row_vectors key B) (λ i lt. at n key B h i lt) (row_sum key r.entries) (s n key)
+  where
+    at :
+        (n : ℕ) (key : ℕ → Key n) (B : List RowShown) → Each (IsSpanned p A) B
+        → (i : ℕ) → i < length (row_vectors key B) → IsInSpan p (row_vectors key A) (get_or (row_vectors key B) i [])
+    at n key [] h i lt = absurd (omega arith)
+    at n key (b ∷ B) h zero lt = h.0 n key
+    at n key (b ∷ B) h (suc i) lt = at n key B h.1 i (omega arith)
+
+all_through : (p : ℕ) (A B C : List RowShown) → Each (IsSpanned p A) B → Each (IsSpanned p B) C → Each (IsSpanned p A) C
+all_through p A B C h s = each_more (IsSpanned p B) (IsSpanned p A) (spanned_through p A B h) C s
+
+spanned_itself : (p : ℕ) (A : List RowShown) (i : ℕ) → i < length A → IsSpanned p A (row_at A i)
+spanned_itself p A i lt = λ n key. subst (IsInSpan p (row_vectors key A)) (vector_at key A i lt) (IsInSpan_itself p (row_vectors key A) i)
+
+all_itself : (p : ℕ) (A : List RowShown) → Each (IsSpanned p A) A
+all_itself p A = each_from (IsSpanned p A) no_row A (spanned_itself p A)
+
+member : (P : RowShown → Type 0) (A : List RowShown) (r : RowShown) → Each P A → Contains A r → P r
+member P A r h c = subst P (get_or_default A c.0 no_row r c.1 ∙ c.2) (row_of P A c.0 h c.1)
+
+-- ---- the rows that words name
+some_some : (j k : ℕ) → Some (Some j) ≡ Some (Some k) → j ≡ k
+some_some j k e = cc
+
+named_each :
+    (P : RowShown → Type 0) (rows : List RowShown) (words : List (Option ℕ))
+    → ((c k : ℕ) → Names words c k → P (row_at rows k)) → Each P (named rows words)
+named_each P rows [] h = tt
+named_each P rows (None ∷ words) h = named_each P rows words (λ c k e. h (suc c) k e)
+named_each P rows (Some j ∷ words) h = (h 0 j refl, named_each P rows words (λ c k e. h (suc c) k e))
+
+named_same :
+    (rows others : List RowShown) (words : List (Option ℕ))
+    → ((c k : ℕ) → Names words c k → row_at others k ≡ row_at rows k) → named others words ≡ named rows words
+named_same rows others [] h = refl
+named_same rows others (None ∷ words) h = named_same rows others words (λ c k e. h (suc c) k e)
+named_same rows others (Some j ∷ words) h =
+    let first = h 0 j refl in
+    let rest = named_same rows others words (λ c k e. h (suc c) k e) in
+    ap (λ r. r ∷ named others words) first ∙ ap (λ xs. row_at rows j ∷ xs) rest
+
+contains_more : {X : Type 0} (x : X) (xs : List X) (y : X) → Contains xs y → Contains (x ∷ xs) y
+contains_more x xs y h = (suc h.0, omega (arith, h.1), h.2)
+
+named_contains : (rows : List RowShown) (words : List (Option ℕ)) (c k : ℕ) → Names words c k → Contains (named rows words) (row_at rows k)
+named_contains rows [] c k e = cc
+named_contains rows (None ∷ words) zero k e = cc
+named_contains rows (Some j ∷ words) zero k e = (0, omega arith, ap (row_at rows) (some_some j k e))
+named_contains rows (None ∷ words) (suc c) k e = named_contains rows words c k e
+named_contains rows (Some j ∷ words) (suc c) k e = contains_more (row_at rows j) (named rows words) (row_at rows k) (named_contains rows words c k e)
+
+-- ---- rows in the places of others
+length_placed : (rows : List RowShown) (left : List Left) → length (with_left rows left) ≡ length rows
+length_placed rows [] = refl
+length_placed rows (l ∷ left) = length_placed (set rows l.number l.row) left ∙ length-set rows l.number l.row
+
+each_placed : (P : RowShown → Type 0) (rows : List RowShown) (left : List Left) → Each P rows → Each P (rows_left left) → Each P (with_left rows left)
+each_placed P rows [] h new = h
+each_placed P rows (l ∷ left) h new = each_placed P (set rows l.number l.row) left (Each_set P rows l.number l.row h new.0) new.1
+
+placed_other :
+    (rows : List RowShown) (left : List Left) (k : ℕ)
+    → Each (λ (l : Left). l.number ≡ k → ⊥) left → row_at (with_left rows left) k ≡ row_at rows k
+placed_other rows [] k h = refl
+placed_other rows (l ∷ left) k h =
+    placed_other (set rows l.number l.row) left k h.1 ∙ get_or-set_other rows l.number k l.row no_row (λ e. h.0 (sym e))
+
+apart_from : (n : ℕ) (left : List Left) → AllByRecursion (λ y. eqb n y ≡ false) (places left) → Each (λ (l : Left). l.number ≡ n → ⊥) left
+apart_from n [] h = tt
+apart_from n (l ∷ left) h = ((λ e. (let t = eq-eqb n l.number (sym e) in let f : true ≡ false = sym t ∙ h.0 in cc)), apart_from n left h.1)
+
+placed_there :
+    (rows : List RowShown) (left : List Left)
+    → IsDistinct eqb (places left) → Each (λ k. k < length rows) (places left) → Each (λ (l : Left). row_at (with_left rows left) l.number ≡ l.row) left
+unfolding IsDistinct
+placed_there rows [] apart within = tt
+placed_there rows (l ∷ left) apart within =
+    let rows' = set rows l.number l.row in
+    let size : length rows' ≡ length rows = length-set rows l.number l.row in (
+      placed_other rows' left l.number (apart_from l.number left apart.0) ∙ get_or-set_same rows l.number l.row no_row within.0,
+      placed_there rows' left apart.1 (each_more (λ k. k < length rows) (λ k. k < length rows') (λ k lt. subst (λ n. k < n) (sym size) lt) (places left) within.1),
+    )
+
+places_rows :
+    (rows : List RowShown) (left : List Left)
+    → Each (λ (l : Left). row_at rows l.number ≡ l.row) left → map (row_at rows) (places left) ≡ rows_left left
+places_rows rows [] h = refl
+places_rows rows (l ∷ left) h =
+    let rest = places_rows rows left h.1 in
+    ap (λ (r : RowShown). r ∷ map (row_at rows) (places left)) h.0 ∙ ap (λ xs. l.row ∷ xs) rest
+
+distinct_front : (xs ys : List ℕ) → IsDistinct eqb (xs ++ ys) → IsDistinct eqb xs
+unfolding IsDistinct
+distinct_front [] ys h = tt
+distinct_front (x ∷ xs) ys h = (front xs h.0, distinct_front xs ys h.1)
+  where
+    front : (zs : List ℕ) → AllByRecursion (λ y. eqb x y ≡ false) (zs ++ ys) → AllByRecursion (λ y. eqb x y ≡ false) zs
+    front [] g = tt
+    front (z ∷ zs) g = (g.0, front zs g.1)
+
+-- each of the rows left has fewer columns behind its lead
+room_less :
+    (columns : ℕ) (rows others : List RowShown) (left : List Left)
+    → Each (λ (l : Left). (lead_column rows l.number < first_column l.row.entries) × (first_column l.row.entries < columns)) left
+    → Each (λ (l : Left). row_at others l.number ≡ l.row) left
+    → columns_behind columns others (places left) + length left ≤ columns_behind columns rows (places left)
+room_less columns rows others [] h same = omega arith
+room_less columns rows others (l ∷ left) h same =
+    let more = room_less columns rows others left h.1 same.1 in
+    let new : columns_behind columns others (places (l ∷ left)) ≡ (columns - lead_column others l.number) + columns_behind columns others (places left)
+    = sum_by-cons (λ k. columns - lead_column others k) l.number (places left) in
+    let old : columns_behind columns rows (places (l ∷ left)) ≡ (columns - lead_column rows l.number) + columns_behind columns rows (places left)
+    = sum_by-cons (λ k. columns - lead_column rows k) l.number (places left) in
+    let at : lead_column others l.number ≡ first_column l.row.entries = ap (λ (r : RowShown). first_column r.entries) same.0 in
+    let a : lead_column rows l.number < first_column l.row.entries = h.0.0 in
+    let b : first_column l.row.entries < columns = h.0.1 in
+    omega arith
+
+room_some : (columns : ℕ) (rows : List RowShown) (ks : List ℕ) → Each (λ k. lead_column rows k < columns) ks → length ks ≤ columns_behind columns rows ks
+room_some columns rows [] h = omega arith
+room_some columns rows (k ∷ ks) h =
+    let more = room_some columns rows ks h.1 in
+    let all : columns_behind columns rows (k ∷ ks) ≡ (columns - lead_column rows k) + columns_behind columns rows ks = sum_by-cons (λ m. columns - lead_column rows m) k ks in
+    let lt : lead_column rows k < columns = h.0 in
+    omega arith
+
+lead_below :
+    (p columns inputs : ℕ) (rows : List RowShown) → Each (IsRow p columns inputs) rows
+    → (k : ℕ) → k < length rows → lead_column rows k < columns
+lead_below p columns inputs rows good k lt =
+    let g = row_of (IsRow p columns inputs) rows k good lt in
+    first_below p columns (row_at rows k).entries g.entries g.monic
+
+-- a pending row has a column
+pub columns_some :
+    (p columns inputs : ℕ) (rows : List RowShown) (leads : List ℕ) (held : List (Option ℕ)) (pending : List ℕ)
+    → AreBetween p columns inputs rows leads held pending → 0 < length pending → 0 < columns
+columns_some p columns inputs rows leads held [] h pos = absurd (omega arith)
+columns_some p columns inputs rows leads held (k ∷ ks) h pos = let lt = lead_below p columns inputs rows h.ready.monic k h.known.0 in omega arith
+
+-- ---- a pass
+module _ (p columns inputs : ℕ) (rows : List RowShown) (leads : List ℕ) (held : List (Option ℕ)) (pending : List ℕ) (words : List (Option ℕ)) (left : List Left)
+    (h : AreBetween p columns inputs rows leads held pending) (pass : IsPass p columns inputs rows held pending words left) where
+  all_known : Each (λ k. k < length rows) (places left ++ pass.gone)
+  all_known = Each_permutation (λ k. k < length rows) pending (places left ++ pass.gone) pass.split h.known
+
+  pub places_known : Each (λ k. k < length rows) (places left)
+  places_known = Each_front (λ k. k < length rows) (places left) pass.gone all_known
+
+  pub left_some : Each (λ (r : RowShown). 0 < length r.entries) (rows_left left)
+  left_some = rows_some p columns inputs (rows_left left) pass.good
+
+  places_apart : IsDistinct eqb (places left)
+  places_apart = distinct_front (places left) pass.gone (IsDistinct-IsPermutation eqb eqb_flips pending (places left ++ pass.gone) pass.split h.apart)
+
+  there : Each (λ (l : Left). row_at (with_left rows left) l.number ≡ l.row) left
+  there = placed_there rows left places_apart places_known
+
+  -- the row that has a column stays
+  untouched : (c k : ℕ) → Names words c k → row_at (with_left rows left) k ≡ row_at rows k
+  untouched c k e = placed_other rows left k (each_more (IsLeftOf rows words) (λ (l : Left). l.number ≡ k → ⊥) (λ l lost same. clash l lost same) left pass.replaced)
+    where
+      fit : (k < length (leads_of rows)) × (get_or (leads_of rows) k 0 ≡ c)
+      fit = pass.fits c k e
+
+      lead : lead_column rows k ≡ c
+      lead = sym (lead_at rows k (omega (arith, fit.0, length-map rows (λ (r : RowShown). first_column r.entries)))) ∙ fit.1
+
+      clash : (l : Left) → IsLeftOf rows words l → l.number ≡ k → ⊥
+      clash l lost same =
+          let mine : Names words c lost.winner = subst (λ d. Names words d lost.winner) (ap (lead_column rows) same ∙ lead) lost.lost in
+          let one : Some (Some lost.winner) ≡ Some (Some k) = sym mine ∙ e in
+          lost.other (some_some lost.winner k one ∙ sym same)
+
+  same_named : named (with_left rows left) words ≡ named rows words
+  same_named = named_same rows (with_left rows left) words untouched
+
+  same_left : map (row_at (with_left rows left)) (places left) ≡ rows_left left
+  same_left = places_rows (with_left rows left) left there
+
+  monic : Each (IsRow p columns inputs) (with_left rows left)
+  monic = each_placed (IsRow p columns inputs) rows left h.ready.monic pass.good
+
+  fits : LeadsFit (leads_of (with_left rows left)) words
+  fits c k e =
+      let old = pass.fits c k e in
+      let lt : k < length rows = omega (arith, old.0, length-map rows (λ (r : RowShown). first_column r.entries)) in
+      let lt' : k < length (with_left rows left) = omega (arith, length_placed rows left) in (
+        omega (arith, length-map (with_left rows left) (λ (r : RowShown). first_column r.entries)),
+        lead_at (with_left rows left) k lt' ∙ ap (λ (r : RowShown). first_column r.entries) (untouched c k e) ∙ sym (lead_at rows k lt) ∙ old.1,
+      )
+
+  pub between_next : AreBetween p columns inputs (with_left rows left) (leads_of (with_left rows left)) words (places left)
+  between_next = record {
+    ready = record { monic = monic; known = refl; wide = pass.wide ∙ h.ready.wide };
+    fits = fits;
+    known = each_more (λ k. k < length rows) (λ k. k < length (with_left rows left)) (λ k lt. subst (λ n. k < n) (sym (length_placed rows left)) lt) (places left) places_known;
+    apart = places_apart;
+  }
+
+  new_span : named (with_left rows left) words ++ map (row_at (with_left rows left)) (places left) ≡ named rows words ++ rows_left left
+  new_span = ap (λ xs. xs ++ map (row_at (with_left rows left)) (places left)) same_named ∙ ap (λ xs. named rows words ++ xs) same_left
+
+  old_in : Each (IsSpanned p (named rows words ++ rows_left left)) (named rows held ++ map (row_at rows) pending)
+  old_in =
+      let S = named rows words ++ rows_left left in
+      let front : Each (IsSpanned p S) (named rows words) = Each_front (IsSpanned p S) (named rows words) (rows_left left) (all_itself p S) in
+      Each_append (IsSpanned p S) (named rows held) (map (row_at rows) pending)
+      (named_each (IsSpanned p S) rows held (λ c k e. member (IsSpanned p S) (named rows words) (row_at rows k) front (named_contains rows words c k (pass.stayed c k e))))
+      (each_map (IsSpanned p S) (row_at rows) pending pass.inside)
+
+  -- what rows come from the rows next come from
+  pub from_next : (M : List RowShown) → AreFrom p M rows held pending → AreFrom p M (with_left rows left) words (places left)
+  from_next M from = record {
+    count = length_placed rows left ∙ from.count;
+    leads = λ i lt. inl (elim (from.leads i lt) [
+      | inl k ↦ (k.0, pass.stayed (lead_column M i) k.0 k.1)
+      | inr k ↦
+          let own = member_of (λ m. (w : ℕ) × Names words (lead_column rows m) w) pending i pass.claimed k.0 in
+          (own.0, subst (λ c. Names words c own.0) k.1 own.1)
+    ]);
+    inside = subst (λ S. Each (IsSpanned p S) M) (sym new_span)
+        (all_through p (named rows words ++ rows_left left) (named rows held ++ map (row_at rows) pending) M old_in from.inside);
+    outside = each_placed (IsSpanned p M) rows left from.outside (all_through p M rows (rows_left left) from.outside pass.outside);
+    combined = λ n F key all.
+        let old = from.combined n F key all in
+        each_placed _ rows left old (pass.combined n F key old);
+  }
+
+  below : (k : ℕ) → k < length rows → lead_column rows k < columns
+  below = lead_below p columns inputs rows h.ready.monic
+
+  -- and there are fewer columns behind the leads of pending rows
+  pub room_next : 0 < length pending → columns_behind columns (with_left rows left) (places left) < columns_behind columns rows pending
+  room_next pos =
+      let f = λ (k : ℕ). columns - lead_column rows k in
+      let split : columns_behind columns rows (places left ++ pass.gone) ≡ columns_behind columns rows pending = sum_by-IsPermutation f pending (places left ++ pass.gone) pass.split in
+      let halves : columns_behind columns rows (places left ++ pass.gone) ≡ columns_behind columns rows (places left) + columns_behind columns rows pass.gone = sum_by-append f (places left) pass.gone in
+      let less = room_less columns rows (with_left rows left) left fewer there in
+      let some = room_some columns rows pass.gone
+      (each_more (λ k. k < length rows) (λ k. lead_column rows k < columns) below pass.gone (Each_back (λ k. k < length rows) (places left) pass.gone all_known)) in
+      let count : length (places left ++ pass.gone) ≡ length pending = length_permutation pending (places left ++ pass.gone) pass.split in
+      let sizes : length (places left ++ pass.gone) ≡ length (places left) + length pass.gone = length-append (places left) pass.gone in
+      let size : length (places left) ≡ length left = length-map left (λ (l : Left). l.number) in
+      omega arith
+    where
+      fewer : Each (λ (l : Left). (lead_column rows l.number < first_column l.row.entries) × (first_column l.row.entries < columns)) left
+      fewer =
+          each_both (λ (l : Left). lead_column rows l.number < first_column l.row.entries) (λ (l : Left). first_column l.row.entries < columns) left
+          (each_more (IsLeftOf rows words) (λ (l : Left). lead_column rows l.number < first_column l.row.entries) (λ l lost. lost.lower) left pass.replaced)
+          (each_unmap (λ (r : RowShown). first_column r.entries < columns) (λ (l : Left). l.row) left
+          (each_more (IsRow p columns inputs) (λ (r : RowShown). first_column r.entries < columns) (λ r good. first_below p columns r.entries good.entries good.monic) (rows_left left) pass.good))
+
+-- ---- the first pass
+none_named : (columns c k : ℕ) → Names (replicate columns None) c k → ⊥
+none_named zero c k e = cc
+none_named (suc columns) zero k e = cc
+none_named (suc columns) (suc c) k e = none_named columns c k e
+
+named_none : (rows : List RowShown) (columns : ℕ) → named rows (replicate columns None) ≡ []
+named_none rows zero = refl
+named_none rows (suc columns) = named_none rows columns
+
+range_below : (n : ℕ) → Each (λ k. k < n) (range_with_len 0 n)
+range_below n =
+    each_from (λ k. k < n) 0 (range_with_len 0 n)
+    (λ i lt. (let l : i < n = omega (arith, length-range_with_len 0 n) in let e : get_or (range_with_len 0 n) i 0 ≡ 0 + i = get_or-range_with_len 0 n i 0 l in omega arith))
+
+range_apart : (n : ℕ) → IsDistinct eqb (range_with_len 0 n)
+range_apart n = IsDistinct-from_AllPairs Decides-eqb (range_with_len 0 n) (λ i j d lt l same.
+    (let m : j < n = omega (arith, length-range_with_len 0 n) in
+    let a : get_or (range_with_len 0 n) i d ≡ 0 + i = get_or-range_with_len 0 n i d (omega arith) in
+    let b : get_or (range_with_len 0 n) j d ≡ 0 + j = get_or-range_with_len 0 n j d m in
+    let e : get_or (range_with_len 0 n) i d ≡ get_or (range_with_len 0 n) j d = same in
+    omega arith))
+
+-- all rows are pending
+pub between_start :
+    (p columns inputs : ℕ) (rows : List RowShown) → Each (IsRow p columns inputs) rows
+    → AreBetween p columns inputs rows (leads_of rows) (replicate columns None) (range_with_len 0 (length rows))
+between_start p columns inputs rows good = record {
+  ready = record { monic = good; known = refl; wide = length-replicate columns None };
+  fits = λ c k e. absurd (none_named columns c k e);
+  known = range_below (length rows);
+  apart = range_apart (length rows);
+}
+
+abbrev pending_rows : List RowShown → List RowShown
+pending_rows rows = map (row_at rows) (range_with_len 0 (length rows))
+
+pub from_start :
+    (p columns : ℕ) (rows : List RowShown) → AreFrom p rows rows (replicate columns None) (range_with_len 0 (length rows))
+from_start p columns rows = record {
+  count = refl;
+  leads = λ i lt. inr ((i, omega (arith, length-range_with_len 0 (length rows)), get_or-range_with_len 0 (length rows) i i lt ∙ plain i), refl);
+  inside = subst (λ xs. Each (IsSpanned p (xs ++ pending_rows rows)) rows) (sym (named_none rows columns))
+      (each_from (IsSpanned p (pending_rows rows)) no_row rows
+      (λ i lt. subst (IsSpanned p (pending_rows rows)) (get_or-map-range_with_len (row_at rows) 0 (length rows) i i no_row lt (plain i))
+      (spanned_itself p (pending_rows rows) i (omega (arith, length-map-range_with_len (row_at rows) 0 (length rows))))));
+  outside = all_itself p rows;
   combined = λ n F key from. from;
 }
+  where
+    plain : (i : ℕ) → 0 + i ≡ i
+    plain i = omega arith
 
--- all rows are done
-pub reducing_end :
-    (p columns inputs : ℕ) (M E : List RowShown) (pivots : List ℕ)
-    → Each (IsRow p columns inputs) M → IsReducing p columns inputs M E pivots → IsEchelonOf p columns inputs M E
-reducing_end p columns inputs M E pivots good h = record {
-  rows = h.pivoted.monic;
-  apart = λ j k lt l e.
-      let a = h.pivoted.all j (omega arith) in
-      let b = h.pivoted.all k l in
-      let c : get_or pivots (lead_column E j) 0 ≡ get_or pivots (lead_column E k) 0 = ap (λ x. get_or pivots x 0) e in
-      omega arith;
-  few = h.few;
-  leads = λ i l.
-      let pos = h.leads i l in
-      let r : IsRow p columns inputs (row_at M i) = Each_at (IsRow p columns inputs) M i (row_at M i) good l (get_or_default M i no_row (row_at M i) l) in
-      let named = h.pivoted.named (lead_column M i) (first_below p columns (row_at M i).entries r.entries r.monic) pos in
-      (get_or pivots (lead_column M i) 0 - 1, named.0, named.1);
-  inside = h.inside;
-  outside = h.outside;
-  combined = h.combined;
-}
+-- ---- the end
+numbers : List (Option ℕ) → List ℕ
+numbers [] = []
+numbers (None ∷ words) = numbers words
+numbers (Some k ∷ words) = k ∷ numbers words
 
--- what the code reads of a column's pivot
-pub pivot_free :
-    (pivots : List ℕ) (at c x : ℕ) → at ≡ c → c < length pivots → x ≡ get_or pivots at x → x ≡ 0 → get_or pivots c 0 ≡ 0
-pivot_free pivots at c x e lt is z = sym (is ∙ ap (λ i. get_or pivots i x) e ∙ get_or_default pivots c x 0 lt) ∙ z
+-- words that name rows with the leads b, b + 1 and so on
+module _ (rows : List RowShown) where
+  abbrev AreLeads : ℕ → List (Option ℕ) → Type 0
+  AreLeads b words = (c k : ℕ) → Names words c k → lead_column rows k ≡ b + c
 
-pub pivot_taken :
-    (pivots : List ℕ) (at c x : ℕ) → at ≡ c → c < length pivots → x ≡ get_or pivots at x → (x ≡ 0 → ⊥) → 0 < get_or pivots c 0
-pivot_taken pivots at c x e lt is ne = let q : x ≡ get_or pivots c 0 = is ∙ ap (λ i. get_or pivots i x) e ∙ get_or_default pivots c x 0 lt in omega arith
+  leads_behind : (b : ℕ) (w : Option ℕ) (words : List (Option ℕ)) → AreLeads b (w ∷ words) → AreLeads (b + 1) words
+  leads_behind b w words h c k e = h (suc c) k e ∙ (let q : b + suc c ≡ (b + 1) + c = omega arith in q)
 
-pub pivot_there : (pivots : List ℕ) (c k : ℕ) → c < length pivots → 0 < get_or (set pivots c (k + 1)) c 0
-pivot_there pivots c k lt = let q : get_or (set pivots c (k + 1)) c 0 ≡ k + 1 = get_or-set_same pivots c (k + 1) 0 lt in omega arith
+  lead_from : (b : ℕ) (words : List (Option ℕ)) → AreLeads b words → (i : ℕ) → i < length (named rows words) → b ≤ lead_column (named rows words) i
+  lead_from b [] h i lt = absurd (omega arith)
+  lead_from b (None ∷ words) h i lt = let more = lead_from (b + 1) words (leads_behind b None words h) i lt in omega arith
+  lead_from b (Some j ∷ words) h zero lt = let here = h 0 j refl in omega arith
+  lead_from b (Some j ∷ words) h (suc i) lt = let more = lead_from (b + 1) words (leads_behind b (Some j) words h) i (omega arith) in omega arith
+
+  leads_ascend :
+      (b : ℕ) (words : List (Option ℕ)) → AreLeads b words
+      → (i j : ℕ) → i < j → j < length (named rows words) → lead_column (named rows words) i < lead_column (named rows words) j
+  leads_ascend b [] h i j lt l = absurd (omega arith)
+  leads_ascend b (None ∷ words) h i j lt l = leads_ascend (b + 1) words (leads_behind b None words h) i j lt l
+  leads_ascend b (Some r ∷ words) h i zero lt l = absurd (omega arith)
+  leads_ascend b (Some r ∷ words) h zero (suc j) lt l =
+      let here = h 0 r refl in
+      let more = lead_from (b + 1) words (leads_behind b (Some r) words h) j (omega arith) in
+      omega arith
+  leads_ascend b (Some r ∷ words) h (suc i) (suc j) lt l = leads_ascend (b + 1) words (leads_behind b (Some r) words h) i j (omega arith) (omega arith)
+
+  length_numbers : (words : List (Option ℕ)) → length (numbers words) ≡ length (named rows words)
+  unfolding numbers
+  length_numbers [] = refl
+  length_numbers (None ∷ words) = length_numbers words
+  length_numbers (Some k ∷ words) = ap (λ m. suc m) (length_numbers words)
+
+  numbers_away : (b r : ℕ) (words : List (Option ℕ)) → AreLeads b words → lead_column rows r < b → AllByRecursion (λ y. eqb r y ≡ false) (numbers words)
+  unfolding numbers
+  numbers_away b r [] h lt = tt
+  numbers_away b r (None ∷ words) h lt = numbers_away (b + 1) r words (leads_behind b None words h) (omega arith)
+  numbers_away b r (Some k ∷ words) h lt = (
+    ne_eqb r k (λ e. (let here = h 0 k refl in let same : lead_column rows r ≡ lead_column rows k = ap (lead_column rows) e in omega arith)),
+    numbers_away (b + 1) r words (leads_behind b (Some k) words h) (omega arith),
+  )
+
+  numbers_apart : (b : ℕ) (words : List (Option ℕ)) → AreLeads b words → IsDistinct eqb (numbers words)
+  unfolding numbers IsDistinct
+  numbers_apart b [] h = tt
+  numbers_apart b (None ∷ words) h = numbers_apart (b + 1) words (leads_behind b None words h)
+  numbers_apart b (Some k ∷ words) h = (
+    numbers_away (b + 1) k words (leads_behind b (Some k) words h) (let here = h 0 k refl in omega arith),
+    numbers_apart (b + 1) words (leads_behind b (Some k) words h),
+  )
+
+  numbers_below :
+      (words : List (Option ℕ)) → ((c k : ℕ) → Names words c k → k < length rows) → (q : ℕ) → list_any (eqb q) (numbers words) ≡ true → q < length rows
+  unfolding numbers
+  numbers_below words h q e = member_of (λ k. k < length rows) (numbers words) q (all words h) (Contains-from_any (λ x y same. eqb-true x y same) q (numbers words) e)
+    where
+      all : (ws : List (Option ℕ)) → ((c k : ℕ) → Names ws c k → k < length rows) → Each (λ k. k < length rows) (numbers ws)
+      all [] g = tt
+      all (None ∷ ws) g = all ws (λ c k e. g (suc c) k e)
+      all (Some k ∷ ws) g = (g 0 k refl, all ws (λ c k e. g (suc c) k e))
+
+module _ (p columns inputs : ℕ) (M rows : List RowShown) (leads : List ℕ) (held : List (Option ℕ)) (pending : List ℕ)
+    (h : AreBetween p columns inputs rows leads held pending) (from : AreFrom p M rows held pending) (none : pending ≡ []) where
+  fit : (c k : ℕ) → Names held c k → (k < length rows) × (lead_column rows k ≡ c)
+  fit c k e =
+      let f = subst (λ ls. LeadsFit ls held) h.ready.known h.fits c k e in
+      let lt : k < length rows = omega (arith, f.0, length-map rows (λ (r : RowShown). first_column r.entries)) in
+      (lt, sym (lead_at rows k lt) ∙ f.1)
+
+  ascending : AreLeads rows 0 held
+  ascending c k e = (fit c k e).1 ∙ (let q : c ≡ 0 + c = omega arith in q)
+
+  each_named : (P : RowShown → Type 0) → Each P rows → Each P (reverse (named rows held))
+  each_named P all =
+      Each_permutation P (named rows held) (reverse (named rows held)) (IsPermutation-reverse (named rows held))
+      (named_each P rows held (λ c k e. row_of P rows k all (fit c k e).0))
+
+  size : length (reverse (named rows held)) ≡ length (named rows held)
+  size = length-reverse (named rows held)
+
+  apart : (j k : ℕ) → j < k → k < length (reverse (named rows held)) → lead_column (reverse (named rows held)) j ≡ lead_column (reverse (named rows held)) k → ⊥
+  apart j k lt l e =
+      let N = named rows held in
+      let at_j : lead_column (reverse N) j ≡ lead_column N (length N - 1 - j) = ap (λ (r : RowShown). first_column r.entries) (get_or-reverse N j no_row (omega (arith, size))) in
+      let at_k : lead_column (reverse N) k ≡ lead_column N (length N - 1 - k) = ap (λ (r : RowShown). first_column r.entries) (get_or-reverse N k no_row (omega (arith, size))) in
+      let less = leads_ascend rows 0 held ascending (length N - 1 - k) (length N - 1 - j) (omega (arith, size)) (omega (arith, size)) in
+      omega arith
+
+  few : length (reverse (named rows held)) ≤ length M
+  few = omega (
+    arith,
+    size,
+    length_numbers rows held,
+    from.count,
+    length-le_from_distinct_below (numbers held) (length rows) (numbers_apart rows 0 held ascending) (numbers_below rows held (λ c k e. (fit c k e).0)),
+  )
+
+  with_lead : (i : ℕ) → i < length M → (k : ℕ) × (k < length (reverse (named rows held))) × (lead_column (reverse (named rows held)) k ≡ lead_column M i)
+  with_lead i lt = elim (from.leads i lt) [
+    | inl w ↦
+        let N = named rows held in
+        let there = Contains-permutation N (reverse N) (row_at rows w.0) (IsPermutation-reverse N) (named_contains rows held (lead_column M i) w.0 w.1) in
+        (there.0, there.1, ap (λ (r : RowShown). first_column r.entries) (get_or_default (reverse N) there.0 no_row (row_at rows w.0) there.1 ∙ there.2) ∙ (fit (lead_column M i) w.0 w.1).1)
+    | inr w ↦ absurd (let lt' : w.0.0 < length pending = w.0.1 in let z : length pending ≡ 0 = ap length none in omega arith)
+  ]
+
+  spanned : Each (IsSpanned p (reverse (named rows held))) M
+  spanned =
+      let N = named rows held in
+      let all : N ++ map (row_at rows) pending ≡ N = ap (λ ks. N ++ map (row_at rows) ks) none ∙ append-nil N in
+      all_through p (reverse N) N M
+      (Each_permutation (IsSpanned p (reverse N)) (reverse N) N (IsPermutation-sym N (reverse N) (IsPermutation-reverse N)) (all_itself p (reverse N)))
+      (subst (λ S. Each (IsSpanned p S) M) all from.inside)
+
+  -- nothing is pending: the rows with columns are an echelon form
+  pub echelon_end : IsEchelonOf p columns inputs M (reverse (named rows held))
+  echelon_end = record {
+    rows = each_named (IsRow p columns inputs) h.ready.monic;
+    apart = apart;
+    few = few;
+    leads = with_lead;
+    inside = λ n key i lt. subst (IsInSpan p (row_vectors key (reverse (named rows held)))) (sym (vector_at key M i lt)) (row_of (IsSpanned p (reverse (named rows held))) M i spanned lt n key);
+    outside = λ n key k lt. subst (IsInSpan p (row_vectors key M)) (sym (vector_at key (reverse (named rows held)) k lt))
+        (row_of (IsSpanned p M) (reverse (named rows held)) k (each_named (IsSpanned p M) from.outside) lt n key);
+    combined = λ n F key all. each_named _ (from.combined n F key all);
+  }
+
+-- ---- what the code reads and makes
+pub column_below :
+    (p inputs : ℕ) (rows : List RowShown) (leads : List ℕ) (held : List (Option ℕ)) (pending : List ℕ)
+    → AreBetween p (length held) inputs rows leads held pending
+    → (items : List ℕ) → items ≡ pending → (i : ℕ) → i < length items → (x : ℕ) → x ≡ get_or leads (get_or items i 0) x → x < length held
+column_below p inputs rows leads held pending h items same i lt x is =
+    let k = get_or items i 0 in
+    let all : Each (λ m. m < length rows) items = subst (Each (λ m. m < length rows)) (sym same) h.known in
+    let known : k < length rows = Each_at (λ m. m < length rows) items i k all lt (get_or_default items i 0 k lt) in
+    let lead : x ≡ lead_column rows k = is ∙ ap (λ ls. get_or ls k x) h.ready.known ∙ get_or-map (λ (r : RowShown). first_column r.entries) rows k no_row x known in
+    let below = lead_below p (length held) inputs rows h.ready.monic k known in
+    omega arith
+
+pub leads_push :
+    (rows : List RowShown) (i : ℕ) (r : RowShown) (lead : ℕ)
+    → i < length rows → r ≡ get_or rows i r → lead ≡ first_column r.entries → leads_of (take i rows) ++ lead ∷ [] ≡ leads_of (take (i + 1) rows)
+leads_push rows i r lead lt is e =
+    ap (λ x. leads_of (take i rows) ++ x ∷ []) e ∙ sym (map-append (λ (x : RowShown). first_column x.entries) (take i rows) (r ∷ []))
+    ∙ ap leads_of (sym (take_item rows i r lt is))
+
+pub range_push : (n m : ℕ) → m ≡ n → range_with_len 0 n ++ m ∷ [] ≡ range_with_len 0 (n + 1)
+range_push n m e =
+    ap (λ x. range_with_len 0 n ++ x ∷ []) e ∙ ap (λ xs. xs ++ n ∷ []) (sym (map-id (range_with_len 0 n)))
+    ∙ sym (map-range_with_len_more (λ x. x) 0 n n (omega arith)) ∙ map-id (range_with_len 0 (n + 1))
+
+-- what a call answers, over equal lists
+pub pass_read :
+    (p inputs : ℕ) (rows' rows : List RowShown) (held' held : List (Option ℕ)) (pending' pending : List ℕ) (words : List (Option ℕ)) (left : List Left)
+    → rows' ≡ rows → held' ≡ held → pending' ≡ pending
+    → IsPass p (length held') inputs rows' held' pending' words left → IsPass p (length held) inputs rows held pending words left
+pass_read p inputs rows' rows held' held pending' pending words left r h k pass =
+    subst (λ ks. IsPass p (length held) inputs rows held ks words left) k
+    (subst₂ (λ rs hs. IsPass p (length hs) inputs rs hs pending' words left) r h pass)
+
+pub between_read :
+    (p columns inputs : ℕ) (rows' rows : List RowShown) (leads : List ℕ) (held' held : List (Option ℕ)) (pending' pending : List ℕ)
+    → rows' ≡ rows → leads ≡ leads_of rows → held' ≡ held → pending' ≡ pending
+    → AreBetween p columns inputs rows (leads_of rows) held pending → AreBetween p columns inputs rows' leads held' pending'
+between_read p columns inputs rows' rows leads held' held pending' pending r l h k between =
+    subst₂ (λ rs ls. AreBetween p columns inputs rs ls held' pending') (sym r) (sym l)
+    (subst₂ (λ hs ks. AreBetween p columns inputs rows (leads_of rows) hs ks) (sym h) (sym k) between)
+
+pub from_read :
+    (p : ℕ) (M rows' rows : List RowShown) (held' held : List (Option ℕ)) (pending' pending : List ℕ)
+    → rows' ≡ rows → held' ≡ held → pending' ≡ pending → AreFrom p M rows held pending → AreFrom p M rows' held' pending'
+from_read p M rows' rows held' held pending' pending r h k from =
+    subst (λ rs. AreFrom p M rs held' pending') (sym r) (subst₂ (λ hs ks. AreFrom p M rows hs ks) (sym h) (sym k) from)
+
+pub room_read :
+    (columns before : ℕ) (rows' rows : List RowShown) (pending' pending : List ℕ)
+    → rows' ≡ rows → pending' ≡ pending → columns_behind columns rows pending < before → columns_behind columns rows' pending' < before
+room_read columns before rows' rows pending' pending r k less = subst₂ (λ rs ks. columns_behind columns rs ks < before) (sym r) (sym k) less
+
+-- one row more is taken out
+module _ (R : List RowShown) (held : List (Option ℕ)) (past : ℕ) (lt : past < length held) (fits : LeadsFit (leads_of R) held) where
+  here : drop (length held - (past + 1)) held ≡ get_or held (length held - 1 - past) None ∷ drop (length held - past) held
+  here =
+      let at : length held - (past + 1) ≡ length held - 1 - past = omega arith in
+      let next : suc (length held - (past + 1)) ≡ length held - past = omega arith in
+      drop-cons held (length held - (past + 1)) None (omega arith)
+      ∙ ap (λ j. get_or held j None ∷ drop (suc (length held - (past + 1))) held) at ∙ ap (λ j. get_or held (length held - 1 - past) None ∷ drop j held) next
+
+  pub taken_none :
+      (found : List RowShown) → found ≡ reverse (named R (drop (length held - past) held)) → get_or held (length held - 1 - past) None ≡ None
+      → found ≡ reverse (named R (drop (length held - (past + 1)) held))
+  taken_none found listed e = listed ∙ ap (λ xs. reverse (named R xs)) (sym (here ∙ ap (λ w. w ∷ drop (length held - past) held) e))
+
+  pub taken_fit : (k : ℕ) → get_or held (length held - 1 - past) None ≡ Some k → (k < length R) × (lead_column R k ≡ length held - 1 - past)
+  taken_fit k e =
+      let f = fits (length held - 1 - past) k (slice_get-get_or held (length held - 1 - past) None (omega arith) ∙ ap (λ w. Some w) e) in
+      let l : k < length R = omega (arith, f.0, length-map R (λ (r : RowShown). first_column r.entries)) in
+      (l, sym (lead_at R k l) ∙ f.1)
+
+  module _ (k : ℕ) (e : get_or held (length held - 1 - past) None ≡ Some k) (rows found : List RowShown)
+      (count : length rows ≡ length R) (kept : (j : ℕ) → lead_column R j < length held - past → row_at rows j ≡ row_at R j) where
+    pub taken_found :
+        (r : RowShown) → found ≡ reverse (named R (drop (length held - past) held)) → r ≡ get_or rows k r
+        → found ++ r ∷ [] ≡ reverse (named R (drop (length held - (past + 1)) held))
+    taken_found r listed is =
+        let N = named R (drop (length held - past) held) in
+        let f = taken_fit k e in
+        let same : r ≡ row_at R k = is ∙ get_or_default rows k r no_row (omega (arith, f.0, count)) ∙ kept k (omega (arith, f.1)) in
+        ap (λ xs. xs ++ r ∷ []) listed ∙ ap (λ x. reverse N ++ x ∷ []) same ∙ sym (reverse-append (row_at R k ∷ []) N)
+        ∙ ap (λ xs. reverse (named R xs)) (sym (here ∙ ap (λ w. w ∷ drop (length held - past) held) e))
+
+    pub taken_kept :
+        (none : RowShown) (j : ℕ) → lead_column R j < length held - (past + 1) → row_at (set rows k none) j ≡ row_at R j
+    taken_kept none j less =
+        let f = taken_fit k e in
+        get_or-set_other rows k j none no_row (λ same. (let q : lead_column R j ≡ lead_column R k = ap (lead_column R) same in omega (arith, f.1)))
+        ∙ kept j (omega arith)
+
+pub taken_read : (rows : List RowShown) (k : ℕ) (r x : RowShown) → r ≡ x → x ≡ get_or rows k x → r ≡ get_or rows k r
+taken_read rows k r x same is = same ∙ is ∙ ap (get_or rows k) (sym same)

@@ -1,8 +1,8 @@
 -- Rows in another order
-use Rattle.std.proofs.Common.{List, [], ap, append_assoc, arith, get_or, length, subst, sym, ℕ, ◌++◌, ◌<◌, ◌∙◌, ◌∷◌, ◌≡◌}
+use Rattle.std.proofs.Common.{List, [], ap, arith, get_or, length, subst, sym, ℕ, ◌<◌, ◌∙◌, ◌≡◌}
 use Rattle.std.proofs.lemmas.List.{get_or-map, get_or_default, length-map}
 use Rattle.std.proofs.lemmas.List.Elements.{Contains-get_or}
-use Rattle.std.proofs.lemmas.List.Sorted.{Contains-permutation, IsPermutation-append_right, IsPermutation-middle, IsPermutation-refl, IsPermutation-sym, length_permutation}
+use Rattle.std.proofs.lemmas.List.Sorted.{Contains-permutation, IsPermutation-sym, length_permutation}
 use Rattle.std.specs.List.Sorted.{IsPermutation}
 use Rattle.formal_sums.specs.FormalSums.{Key}
 use Rattle.module_vectors.proofs.Gathers.{Each_permutation}
@@ -12,29 +12,13 @@ use Rattle.row_matrix.specs.Rows.{RowShown, first_column, row_sum}
 use Rattle.row_reduce.specs.Echelons.{IsEchelonOf}
 use Rattle.row_reduce.specs.Pivots.{no_row, row_at, row_vectors}
 
--- the next row comes to the front ones
-pub chosen_next :
-    (done others rest : List RowShown) (row : RowShown)
-    → IsPermutation (done ++ (others ++ row ∷ rest)) ((done ++ row ∷ []) ++ (others ++ rest))
-chosen_next done others rest row =
-    subst (IsPermutation (done ++ (others ++ row ∷ rest))) (sym (append_assoc done (row ∷ []) (others ++ rest)))
-    (IsPermutation-append_right done (others ++ row ∷ rest) (row ∷ (others ++ rest)) (IsPermutation-middle others row rest))
-
--- or to those behind them
-pub left_next :
-    (done others rest : List RowShown) (row : RowShown)
-    → IsPermutation (done ++ (others ++ row ∷ rest)) (done ++ ((others ++ row ∷ []) ++ rest))
-left_next done others rest row =
-    subst (IsPermutation (done ++ (others ++ row ∷ rest))) (ap (λ xs. done ++ xs) (sym (append_assoc others (row ∷ []) rest)))
-    (IsPermutation-refl (done ++ (others ++ row ∷ rest)))
-
 -- a row of the one list is a row of the other
 row_moved : (A B : List RowShown) → IsPermutation A B → (i : ℕ) → i < length A → (j : ℕ) × (j < length B) × (row_at B j ≡ row_at A i)
 row_moved A B h i lt =
     let there = Contains-permutation A B (row_at A i) h (Contains-get_or A i no_row lt) in
     (there.0, there.1, get_or_default B there.0 no_row (row_at A i) there.1 ∙ there.2)
 
-vector_at : {n : ℕ} (key : ℕ → Key n) (A : List RowShown) (i : ℕ) → i < length A → get_or (row_vectors key A) i [] ≡ row_sum key (row_at A i).entries
+pub vector_at : {n : ℕ} (key : ℕ → Key n) (A : List RowShown) (i : ℕ) → i < length A → get_or (row_vectors key A) i [] ≡ row_sum key (row_at A i).entries
 vector_at key A i lt = get_or-map (λ (x : RowShown). row_sum key x.entries) A i no_row [] lt
 
 -- an echelon form of rows is one of them in another order

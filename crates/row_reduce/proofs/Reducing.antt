@@ -1,6 +1,6 @@
 -- The start of a row's way, and what is left at its end
-use Rattle.std.proofs.Common.{List, [], ap, ap₂, append-nil, arith, get_or, length, mod-lt, refl, replicate, subst, subst₂, suc, sym, take, zero, ℕ, ◌%◌, ◌*◌, ◌+◌, ◌++◌, ◌-◌, ◌<◌, ◌∙◌, ◌∷◌, ◌≡◌, ◌≤◌}
-use Rattle.std.proofs.lemmas.List.{get_or_append_left, get_or_push, length-replicate, length-take-le, map-append, take_more}
+use Rattle.std.proofs.Common.{List, [], ap, ap₂, append-nil, arith, get_or, length, mod-lt, refl, replicate, subst, suc, sym, take, zero, ℕ, ◌%◌, ◌*◌, ◌+◌, ◌++◌, ◌-◌, ◌<◌, ◌∙◌, ◌∷◌, ◌≡◌, ◌≤◌}
+use Rattle.std.proofs.lemmas.List.{get_or_push, length-replicate, length-take-le, map-append, take_more}
 use Rattle.residues.proofs.Congruences.{IsCongruent_add, IsCongruent_minus, IsCongruent_mod, IsCongruent_multiply, IsCongruent_of, IsCongruent_refl, IsCongruent_sym, IsCongruent_trans}
 use Rattle.std.proofs.Common.{mul_comm}
 use native.Mathlib.Nat.{zero-mod}
@@ -12,15 +12,16 @@ use Rattle.formal_sums.proofs.WeightedSums.{coefficient-append}
 use Rattle.formal_sums.specs.Combinations.{combination}
 use Rattle.formal_sums.specs.FormalSums.{Each, FormalSum, IsSame, Key, coefficient, indicator, scale, weighted_sum}
 use Rattle.zp_field.specs.Moduli.{IsInverse}
-use Rattle.row_laws.proofs.RowSpans.{IsInSpan_append, IsInSpan_itself, IsInSpan_same, IsInSpan_scale, IsInSpan_through}
+use Rattle.row_laws.proofs.RowSpans.{IsInSpan_append, IsInSpan_itself, IsInSpan_same, IsInSpan_scale}
 use Rattle.row_laws.specs.Rows.{IsInSpan}
-use Rattle.row_matrix.specs.Rows.{AreEntries, Entry, IsRow, RowShown, first_column, first_residue, row_sum, source_key}
+use Rattle.row_matrix.specs.Rows.{AreEntries, Entry, RowShown, first_column, first_residue, row_sum, source_key}
 use Rattle.module_vectors.proofs.Scaling.{take_item}
 use Rattle.row_reduce.proofs.Clearing.{sources_push}
 use Rattle.row_reduce.proofs.Entries.{entries_from}
+use Rattle.row_reduce.proofs.Naming.{span_left}
 use Rattle.row_reduce.specs.Dense.{AddsMultiple, AreWithin, HasRoom, IsDense, dense_sum}
 use Rattle.row_reduce.specs.Pivots.{row_at, row_vectors}
-use Rattle.row_reduce.specs.Underway.{IsCombinedDense, IsDone, IsLeftRow, IsReducedDense, IsRemainder, IsSpanned, IsUnderway, rescaled, sources_sum}
+use Rattle.row_reduce.specs.Underway.{AreIdle, IsCombinedDense, IsLeftRow, IsReducedRow, IsSpanned, IsUnderway, rescaled, sources_sum}
 
 -- ---- numbers, one after another
 dense_push : {n : ℕ} (key : ℕ → Key n) (j a : ℕ) (xs : List ℕ) → dense_sum key j (xs ++ a ∷ []) ≡ dense_sum key j xs ++ (key (j + length xs), a) ∷ []
@@ -148,23 +149,39 @@ zeros_at zero j = refl
 zeros_at (suc m) zero = refl
 zeros_at (suc m) (suc j) = zeros_at m j
 
+-- numbers that are idle
+pub idle_zeros : (columns : ℕ) (numbers : List ℕ) → AreIdle columns numbers → numbers ≡ replicate columns 0
+idle_zeros columns numbers h = go numbers h.1 ∙ ap (λ m. replicate m 0) h.0
+  where
+    go : (xs : List ℕ) → Each (λ a. a ≡ 0) xs → xs ≡ replicate (length xs) 0
+    go [] g = refl
+    go (x ∷ xs) g = ap₂ ◌∷◌ g.0 (go xs g.1)
+
+pub zeros_idle : (columns : ℕ) (numbers : List ℕ) → length numbers ≡ columns → ((j : ℕ) → j < columns → get_or numbers j 0 ≡ 0) → AreIdle columns numbers
+zeros_idle columns numbers e h = (e, go numbers (λ j lt. h j (omega (arith, e, lt))))
+  where
+    go : (xs : List ℕ) → ((j : ℕ) → j < length xs → get_or xs j 0 ≡ 0) → Each (λ a. a ≡ 0) xs
+    go [] g = tt
+    go (x ∷ xs) g = (g 0 (omega arith), go xs (λ j lt. g (suc j) (omega (arith, lt))))
+
+-- the row behind its first entry, and its pivot behind the first one
 pub start_underway :
-    (p limit columns inputs count : ℕ) (pivots : List ℕ) (row : RowShown) (zeros numbers : List ℕ) (left taken : List Entry)
-    → IsRow p columns inputs row → zeros ≡ replicate columns 0 → AddsMultiple p 1 row.entries zeros numbers → left ≡ [] → taken ≡ [] → HasRoom p limit → IsDense limit numbers
-    → IsUnderway p limit (first_column row.entries) columns count pivots left numbers taken
-start_underway p limit columns inputs count pivots row zeros numbers left taken good z a e none room below = record {
-  numbered = a.count ∙ ap length z ∙ length-replicate columns 0;
+    (p limit c columns count number factor : ℕ) (pivots : List ℕ) (tail tail' : List Entry) (zeros numbers numbers' : List ℕ) (left taken : List Entry)
+    → AreEntries p (c + 1) columns tail → AreEntries p (c + 1) columns tail' → zeros ≡ replicate columns 0
+    → AddsMultiple p 1 tail zeros numbers → AddsMultiple p factor tail' numbers numbers' → number < count → factor < p
+    → left ≡ [] → taken ≡ (number, factor) ∷ [] → HasRoom p limit → IsDense limit numbers'
+    → IsUnderway p limit (c + 1) columns count pivots left numbers' taken
+start_underway p limit c columns count number factor pivots tail tail' zeros numbers numbers' left taken es es' z a a' known small e one room below = record {
+  numbered = a'.count ∙ a.count ∙ ap length z ∙ length-replicate columns 0;
   room = room;
   small = below;
-  known = subst (AreWithin p count) (sym none) tt;
-  cleared = λ j lt. a.before j (before row.entries good.entries j lt) ∙ ap (λ xs. get_or xs j 0) z ∙ zeros_at columns j;
-  entries = subst (AreEntries p 0 (first_column row.entries)) (sym e) (let w : 0 ≤ first_column row.entries = omega arith in w);
+  known = subst (AreWithin p count) (sym one) ((known, small), tt);
+  cleared = λ j lt.
+      a'.before j (entries_from p (c + 1) columns j tail' es' lt) ∙ a.before j (entries_from p (c + 1) columns j tail es lt)
+      ∙ ap (λ xs. get_or xs j 0) z ∙ zeros_at columns j;
+  entries = subst (AreEntries p 0 (c + 1)) (sym e) (let w : 0 ≤ c + 1 = omega arith in w);
   free = subst (Each (λ x. get_or pivots x.0 0 ≡ 0)) (sym e) tt;
 }
-  where
-    before : (es : List Entry) → AreEntries p 0 columns es → (j : ℕ) → j < first_column es → Each (λ x. j < x.0) es
-    before [] h j lt = tt
-    before (x ∷ es) h j lt = (lt, entries_from p (x.0 + 1) columns j es h.3 (omega arith))
 
 -- ---- the end
 -- numbers that are all 0
@@ -178,66 +195,44 @@ dense_none key j (x ∷ xs) h f =
     rw a (omega (arith, b))
 
 pub done_sum :
-    {n p limit count : ℕ} (key : ℕ → Key n) (pivots : List ℕ) (left : List Entry) (numbers : List ℕ) (taken : List Entry)
-    → IsUnderway p limit (length pivots) (length pivots) count pivots left numbers taken
+    {n p : ℕ} (key : ℕ → Key n) (left : List Entry) (numbers : List ℕ) → ((j : ℕ) → j < length numbers → get_or numbers j 0 ≡ 0)
     → IsSame p (row_sum key left ++ dense_sum key 0 numbers) (row_sum key left)
-done_sum {n} {p} key pivots left numbers taken h = record {
-  by_key = λ k. IsCongruent_of p _ _ (coefficient-append (row_sum key left) (dense_sum key 0 numbers) k ∙ ap (λ x. coefficient (row_sum key left) k + x) (dense_none key 0 numbers (λ i lt. h.cleared i (omega (arith, h.numbered))) (indicator k)) ∙ omega arith);
+done_sum {n} {p} key left numbers cleared = record {
+  by_key = λ k. IsCongruent_of p _ _ (coefficient-append (row_sum key left) (dense_sum key 0 numbers) k ∙ ap (λ x. coefficient (row_sum key left) k + x) (dense_none key 0 numbers cleared (indicator k)) ∙ omega arith);
 }
 
 -- rows of the front are in the span of more rows
 pub span_front :
     {n p : ℕ} (key : ℕ → Key n) (rows : List RowShown) (r : RowShown) (v : FormalSum n)
     → IsInSpan p (row_vectors key rows) v → IsInSpan p (row_vectors key (rows ++ r ∷ [])) v
-span_front {n} {p} key rows r v h =
-    subst (λ xs. IsInSpan p xs v) (sym (map-append (λ (x : RowShown). row_sum key x.entries) rows (r ∷ [])))
-    (IsInSpan_through (row_vectors key rows ++ row_sum key r.entries ∷ []) (row_vectors key rows)
-    (λ i lt. subst (IsInSpan p (row_vectors key rows ++ row_sum key r.entries ∷ [])) (get_or_append_left (row_vectors key rows) (row_sum key r.entries ∷ []) [] i lt) (IsInSpan_itself p (row_vectors key rows ++ row_sum key r.entries ∷ []) i)) v h)
+span_front key rows r v h = span_left key rows (r ∷ []) v h
 
 pub span_last : {n p : ℕ} (key : ℕ → Key n) (rows : List RowShown) (r : RowShown) → IsInSpan p (row_vectors key (rows ++ r ∷ [])) (row_sum key r.entries)
 span_last {n} {p} key rows r =
     subst (λ xs. IsInSpan p xs (row_sum key r.entries)) (sym (map-append (λ (x : RowShown). row_sum key x.entries) rows (r ∷ [])))
     (subst (IsInSpan p (row_vectors key rows ++ row_sum key r.entries ∷ [])) (get_or_push (row_vectors key rows) (row_sum key r.entries) [] (length (row_vectors key rows)) refl) (IsInSpan_itself p (row_vectors key rows ++ row_sum key r.entries ∷ []) (length (row_vectors key rows))))
 
-module _ (p inputs : ℕ) (pos : 0 < p) (rows : List RowShown) (pivots : List ℕ) (row : RowShown) (left : List Entry) (numbers : List ℕ) (taken : List Entry) (done : IsDone p rows pivots row left numbers taken) where
+-- a row that was reduced by rows to what is left, and the monic row made of that
+module _ (p : ℕ) (pos : 0 < p) (rows : List RowShown) (row : RowShown) (left : List Entry) (numbers : List ℕ)
+    (cleared : (j : ℕ) → j < length numbers → get_or numbers j 0 ≡ 0) (reduced : IsReducedRow p rows row left numbers) where
   -- nothing is left
   pub done_nothing : left ≡ [] → IsSpanned p rows row
   done_nothing e n key =
-      let h = done.reduced n key in
+      let h = reduced n key in
       IsInSpan_same (row_vectors key rows) h.taken (row_sum key row.entries)
-      (IsSame_sym (IsSame_trans h.sums (IsSame_append (IsSame_trans (done_sum key pivots left numbers taken done.underway) (IsSame_of p _ _ (ap (row_sum key) e))) (IsSame_refl p h.taken))))
+      (IsSame_sym (IsSame_trans h.sums (IsSame_append (IsSame_trans (done_sum key left numbers cleared) (IsSame_of p _ _ (ap (row_sum key) e))) (IsSame_refl p h.taken))))
       h.spanned
 
-  -- the row that is left
-  pub done_row : (r : RowShown) → IsLeftRow p (length pivots) inputs rows row left taken r → IsRemainder p inputs rows pivots row r
-  done_row r l = record {
-    good = l.good;
-    free = ap (λ c. get_or pivots c 0) l.first ∙ first left l.some done.underway.free;
-    combined = λ n F key from h.
-        let a : IsSame p (combination F (sources_sum (source_key n) rows row taken)) (row_sum key left) = IsSame_trans (done.combined n F key from h) (done_sum key pivots left numbers taken done.underway) in
-        IsSame_trans (IsSame_combination pos F _ _ (l.combination n (source_key n)))
-        (IsSame_trans (IsSame_of p _ _ (combination-scale F l.factor (unit n) (sources_sum (source_key n) rows row taken)))
-        (IsSame_trans (IsSame_scale pos l.factor (unit n) a) (IsSame_sym (l.entries n key))));
-    inside = λ n key.
-        let h = done.reduced n key in
-        let span = row_vectors key (rows ++ r ∷ []) in
-        let b : IsInSpan p span (scale l.back (unit n) (row_sum key r.entries)) = IsInSpan_scale span l.back (row_sum key r.entries) (span_last key rows r) in
-        IsInSpan_same span (scale l.back (unit n) (row_sum key r.entries) ++ h.taken) (row_sum key row.entries)
-        (IsSame_sym (IsSame_trans h.sums (IsSame_append (IsSame_trans (done_sum key pivots left numbers taken done.underway) (IsSame_sym (back n key))) (IsSame_refl p h.taken))))
-        (IsInSpan_append span (scale l.back (unit n) (row_sum key r.entries)) h.taken b (span_front key rows r h.taken h.spanned));
-    outside = λ n key.
-        let h = done.reduced n key in
-        let span = row_vectors key (rows ++ row ∷ []) in
-        let minus : IsInSpan p span (scale (p - 1) (unit n) h.taken) = IsInSpan_scale span (p - 1) h.taken (span_front key rows row h.taken h.spanned) in
-        let a : IsInSpan p span (row_sum key left) =
-        IsInSpan_same span (row_sum key row.entries ++ scale (p - 1) (unit n) h.taken) (row_sum key left) (less n key h) (IsInSpan_append span (row_sum key row.entries) (scale (p - 1) (unit n) h.taken) (span_last key rows row) minus) in
-        IsInSpan_same span (scale l.factor (unit n) (row_sum key left)) (row_sum key r.entries) (IsSame_sym (l.entries n key)) (IsInSpan_scale span l.factor (row_sum key left) a);
-  }
+  -- the row is spanned with what is left of it
+  pub done_inside : (columns inputs : ℕ) (all : List RowShown) (taken : List Entry) (r : RowShown) → IsLeftRow p columns inputs all row left taken r → IsSpanned p (rows ++ r ∷ []) row
+  done_inside columns inputs all taken r l = λ n key.
+      let h = reduced n key in
+      let span = row_vectors key (rows ++ r ∷ []) in
+      let b : IsInSpan p span (scale l.back (unit n) (row_sum key r.entries)) = IsInSpan_scale span l.back (row_sum key r.entries) (span_last key rows r) in
+      IsInSpan_same span (scale l.back (unit n) (row_sum key r.entries) ++ h.taken) (row_sum key row.entries)
+      (IsSame_sym (IsSame_trans h.sums (IsSame_append (IsSame_trans (done_sum key left numbers cleared) (IsSame_sym (back n key))) (IsSame_refl p h.taken))))
+      (IsInSpan_append span (scale l.back (unit n) (row_sum key r.entries)) h.taken b (span_front key rows r h.taken h.spanned))
     where
-      first : (es : List Entry) → 0 < length es → Each (λ x. get_or pivots x.0 0 ≡ 0) es → get_or pivots (first_column es) 0 ≡ 0
-      first [] s h = absurd (omega arith)
-      first (x ∷ es) s h = h.0
-
       back : (n : ℕ) (key : ℕ → Key n) → IsSame p (scale l.back (unit n) (row_sum key r.entries)) (row_sum key left)
       back n key = record {
         by_key = λ k.
@@ -251,18 +246,41 @@ module _ (p inputs : ℕ) (pos : 0 < p) (rows : List RowShown) (pivots : List �
           again : (a b x : ℕ) → a * (b * x) ≡ b * a * x
           again a b x = grind arith
 
-      less : (n : ℕ) (key : ℕ → Key n) (h : IsReducedDense p rows key (row_sum key row.entries) left numbers) → IsSame p (row_sum key row.entries ++ scale (p - 1) (unit n) h.taken) (row_sum key left)
-      less n key h = record {
+  -- what is left of it is spanned with the row
+  pub done_outside : (columns inputs : ℕ) (all : List RowShown) (taken : List Entry) (r : RowShown) → IsLeftRow p columns inputs all row left taken r → IsSpanned p (rows ++ row ∷ []) r
+  done_outside columns inputs all taken r l = λ n key.
+      let h = reduced n key in
+      let span = row_vectors key (rows ++ row ∷ []) in
+      let minus : IsInSpan p span (scale (p - 1) (unit n) h.taken) = IsInSpan_scale span (p - 1) h.taken (span_front key rows row h.taken h.spanned) in
+      let a : IsInSpan p span (row_sum key left) =
+      IsInSpan_same span (row_sum key row.entries ++ scale (p - 1) (unit n) h.taken) (row_sum key left) (less n key) (IsInSpan_append span (row_sum key row.entries) (scale (p - 1) (unit n) h.taken) (span_last key rows row) minus) in
+      IsInSpan_same span (scale l.factor (unit n) (row_sum key left)) (row_sum key r.entries) (IsSame_sym (l.entries n key)) (IsInSpan_scale span l.factor (row_sum key left) a)
+    where
+      less : (n : ℕ) (key : ℕ → Key n) → IsSame p (row_sum key row.entries ++ scale (p - 1) (unit n) (reduced n key).taken) (row_sum key left)
+      less n key = record {
         by_key = λ k.
+            let h = reduced n key in
             let t = coefficient h.taken k in
             let x = coefficient (row_sum key left) k in
             let v : IsCongruent p (coefficient (row_sum key row.entries) k) (x + t) =
-            IsCongruent_trans ((IsSame_trans h.sums (IsSame_append (done_sum key pivots left numbers taken done.underway) (IsSame_refl p h.taken))).by_key k) (IsCongruent_of p _ _ (coefficient-append (row_sum key left) h.taken k)) in
+            IsCongruent_trans ((IsSame_trans h.sums (IsSame_append (done_sum key left numbers cleared) (IsSame_refl p h.taken))).by_key k) (IsCongruent_of p _ _ (coefficient-append (row_sum key left) h.taken k)) in
             IsCongruent_trans (IsCongruent_of p _ _ (coefficient-append (row_sum key row.entries) (scale (p - 1) (unit n) h.taken) k ∙ ap (λ y. coefficient (row_sum key row.entries) k + y) (coefficient-scale_unit (p - 1) h.taken k)))
             (IsCongruent_trans (IsCongruent_add v (IsCongruent_refl p ((p - 1) * t)))
             (IsCongruent_trans (IsCongruent_of p (x + t + (p - 1) * t) (x + (t + (p - 1) * t)) (omega arith))
             (IsCongruent_trans (IsCongruent_add (IsCongruent_refl p x) (IsCongruent_minus p t pos)) (IsCongruent_of p (x + 0) x (omega arith)))));
       }
+
+-- what is left is a combination of input rows
+pub done_combined :
+    {n : ℕ} (p : ℕ) → 0 < p → (F : List (FormalSum n)) (key : ℕ → Key n) (columns inputs : ℕ) (all : List RowShown) (row : RowShown) (left taken : List Entry) (numbers : List ℕ) (r : RowShown)
+    → ((j : ℕ) → j < length numbers → get_or numbers j 0 ≡ 0) → IsLeftRow p columns inputs all row left taken r
+    → IsCombinedDense p F key all row left numbers taken
+    → IsSame p (combination F (row_sum (source_key n) r.sources)) (row_sum key r.entries)
+done_combined {n} p pos F key columns inputs all row left taken numbers r cleared l h =
+    let a : IsSame p (combination F (sources_sum (source_key n) all row taken)) (row_sum key left) = IsSame_trans h (done_sum key left numbers cleared) in
+    IsSame_trans (IsSame_combination pos F _ _ (l.combination n (source_key n)))
+    (IsSame_trans (IsSame_of p _ _ (combination-scale F l.factor (unit n) (sources_sum (source_key n) all row taken)))
+    (IsSame_trans (IsSame_scale pos l.factor (unit n) a) (IsSame_sym (l.entries n key))))
 
 -- the first entry
 pub first_read : (es : List Entry) (x : Entry) → 0 < length es → x ≡ get_or es 0 x → x.1 ≡ first_residue es
@@ -280,26 +298,6 @@ first_column_within p low high (x ∷ es) h le = omega (arith, bound p (x.0 + 1)
     bound : (p low high : ℕ) (es : List Entry) → AreEntries p low high es → low ≤ high
     bound p low high [] h = h
     bound p low high (e ∷ es) h = omega (arith, h.0, bound p (e.0 + 1) high es h.3)
-
--- at the start the numbers are the row's
-pub start_combined :
-    {n p : ℕ} → (F : List (FormalSum n)) (key : ℕ → Key n) (rows : List RowShown) (row : RowShown) (left : List Entry) (numbers : List ℕ) (taken : List Entry)
-    → left ≡ [] → taken ≡ [] → IsSame p (dense_sum key 0 numbers) (row_sum key row.entries)
-    → IsSame p (combination F (row_sum (source_key n) row.sources)) (row_sum key row.entries)
-    → IsCombinedDense p F key rows row left numbers taken
-start_combined {n} {p} F key rows row left numbers taken e none a h =
-    subst₂ (λ es ts. IsCombinedDense p F key rows row es numbers ts) (sym e) (sym none)
-    (IsSame_trans (IsSame_of p _ _ (ap (combination F) (append-nil (row_sum (source_key n) row.sources)))) (IsSame_trans h (IsSame_sym a)))
-
-pub start_reduced :
-    {n p : ℕ} (rows : List RowShown) (key : ℕ → Key n) (row : RowShown) (left : List Entry) (numbers : List ℕ)
-    → left ≡ [] → IsSame p (dense_sum key 0 numbers) (row_sum key row.entries) → IsReducedDense p rows key (row_sum key row.entries) left numbers
-start_reduced {n} {p} rows key row left numbers e a =
-    subst (λ es. IsReducedDense p rows key (row_sum key row.entries) es numbers) (sym e) (record {
-      taken = [];
-      spanned = record { residues = []; sums = IsSame_refl p [] };
-      sums = IsSame_trans (IsSame_sym a) (IsSame_of p _ _ (sym (append-nil (dense_sum key 0 numbers))));
-    })
 
 -- ---- the sources, composed
 -- the row's own

@@ -1,20 +1,15 @@
--- Rows in echelon form
-use Rattle.std.specs.Prelude.{List, [], length, ℕ, ◌++◌, ◌<◌, ◌∷◌, ◌≡◌, ◌≤◌, ◌⊎◌, get_or}
+-- Rows in echelon form, and rows between two passes
+use Rattle.std.specs.Prelude.{Contains, List, Option, [], eqb, get_or, length, map, slice_set, sum_by}
+use Rattle.std.specs.Prelude.{ℕ, ◌++◌, ◌-◌, ◌<◌, ◌∷◌, ◌≡◌, ◌≤◌, ◌⊎◌}
+use Rattle.std.specs.List.{IsDistinct}
 use Rattle.formal_sums.specs.FormalSums.{Each, FormalSum, Key}
+use Rattle.pivot_table.specs.Law.{LeadsFit}
 use Rattle.row_laws.specs.Rows.{IsInSpan}
 use Rattle.row_matrix.specs.Rows.{IsRow, RowShown}
-use Rattle.row_reduce.specs.Pivots.{ArePivots, lead_column, row_vectors}
+use Rattle.row_reduce.specs.Passes.{AreReady, Names, named}
+use Rattle.row_reduce.specs.Pivots.{lead_column, row_at, row_vectors}
 use Rattle.row_reduce.specs.Underway.{AreCombined, IsSpanned}
-
--- new is old with one row more, or old: with it the row is in the span; and one more row is in that of old and the row, and a combination
--- of input rows where these are
-pub record IsAdded (p : ℕ) (old : List RowShown) (row : RowShown) (new : List RowShown) : Type 0 where
-  pub spanned : IsSpanned p new row
-  pub grown :
-      (new ≡ old)
-      ⊎ ((r : RowShown) × (new ≡ old ++ r ∷ []) × IsSpanned p (old ++ row ∷ []) r
-      × ((n : ℕ) (F : List (FormalSum n)) (key : ℕ → Key n)
-      → AreCombined p F key old → AreCombined p F key (row ∷ []) → AreCombined p F key (r ∷ [])))
+use Rattle.row_reduce.specs.declared.lefts.Left.{Left}
 
 -- E is an echelon form of the rows M: monic rows with columns of their own, as many as M at most, in one span with M, with a row for each
 -- first column of M, and combinations of input rows where those of M are
@@ -27,11 +22,31 @@ pub record IsEchelonOf (p columns inputs : ℕ) (M E : List RowShown) : Type 0 w
   pub outside : (n : ℕ) (key : ℕ → Key n) (k : ℕ) → k < length E → IsInSpan p (row_vectors key M) (get_or (row_vectors key E) k [])
   pub combined : (n : ℕ) (F : List (FormalSum n)) (key : ℕ → Key n) → AreCombined p F key M → AreCombined p F key E
 
--- the same of the rows that are done, with their pivots
-pub record IsReducing (p columns inputs : ℕ) (M E : List RowShown) (pivots : List ℕ) : Type 0 where
-  pub pivoted : ArePivots p columns inputs E pivots
-  pub few : length E ≤ length M
-  pub leads : (i : ℕ) → i < length M → 0 < get_or pivots (lead_column M i) 0
-  pub inside : (n : ℕ) (key : ℕ → Key n) (i : ℕ) → i < length M → IsInSpan p (row_vectors key E) (get_or (row_vectors key M) i [])
-  pub outside : (n : ℕ) (key : ℕ → Key n) (k : ℕ) → k < length E → IsInSpan p (row_vectors key M) (get_or (row_vectors key E) k [])
-  pub combined : (n : ℕ) (F : List (FormalSum n)) (key : ℕ → Key n) → AreCombined p F key M → AreCombined p F key E
+-- rows between two passes with the leads that are known, the words of the columns, and the numbers of those that have no column yet
+pub record AreBetween
+    (p columns inputs : ℕ) (rows : List RowShown) (leads : List ℕ) (held : List (Option ℕ)) (pending : List ℕ)
+    : Type 0 where
+  pub ready : AreReady p columns inputs rows leads held
+  pub fits : LeadsFit leads held
+  pub known : Each (λ k. k < length rows) pending
+  pub apart : IsDistinct eqb pending
+
+-- they come from the rows M: each lead of M has its column or is pending, those with columns and those pending span M, and all are in the
+-- span of M, and combinations of input rows where those of M are
+pub record AreFrom (p : ℕ) (M rows : List RowShown) (held : List (Option ℕ)) (pending : List ℕ) : Type 0 where
+  pub count : length rows ≡ length M
+  pub leads :
+      (i : ℕ) → i < length M
+      → ((k : ℕ) × Names held (lead_column M i) k) ⊎ (Contains pending i × (lead_column rows i ≡ lead_column M i))
+  pub inside : Each (IsSpanned p (named rows held ++ map (row_at rows) pending)) M
+  pub outside : Each (IsSpanned p M) rows
+  pub combined : (n : ℕ) (F : List (FormalSum n)) (key : ℕ → Key n) → AreCombined p F key M → AreCombined p F key rows
+
+-- the rows with these in their places
+abbrev pub with_left : List RowShown → List Left → List RowShown
+with_left rows [] = rows
+with_left rows (l ∷ left) = with_left (slice_set rows l.number l.row) left
+
+-- how many columns there are behind the leads of these rows, all told
+abbrev pub columns_behind : ℕ → List RowShown → List ℕ → ℕ
+columns_behind columns rows pending = sum_by (λ k. columns - lead_column rows k) pending

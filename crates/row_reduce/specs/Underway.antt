@@ -41,10 +41,10 @@ abbrev pub IsCombinedDense :
 IsCombinedDense {n} p F key rows row left numbers taken =
     IsSame p (combination F (sources_sum (source_key n) rows row taken)) (row_sum key left ++ dense_sum key 0 numbers)
 
--- the row with the vector v was reduced to what is left and the numbers
-abbrev pub IsReducedDense : {n : ℕ} → ℕ → List RowShown → (ℕ → Key n) → FormalSum n → List Entry → List ℕ → Type 0
-IsReducedDense p rows key v left numbers =
-    IsReducedTo p (row_vectors key rows) v (row_sum key left ++ dense_sum key 0 numbers)
+-- the row was reduced by these rows to what is left and the numbers
+abbrev pub IsReducedRow : ℕ → List RowShown → RowShown → List Entry → List ℕ → Type 0
+IsReducedRow p rows row left numbers =
+    (n : ℕ) (key : ℕ → Key n) → IsReducedTo p (row_vectors key rows) (row_sum key row.entries) (row_sum key left ++ dense_sum key 0 numbers)
 
 -- each row is the combination of the input rows F by its sources
 abbrev pub AreCombined : {n : ℕ} → ℕ → List (FormalSum n) → (ℕ → Key n) → List RowShown → Type 0
@@ -65,16 +65,6 @@ pub record IsLeftRow (p columns inputs : ℕ) (rows : List RowShown) (row : RowS
   pub entries : (n : ℕ) (key : ℕ → Key n) → IsSame p (row_sum key r.entries) (scale factor (unit n) (row_sum key left))
   pub combination : (n : ℕ) (key : ℕ → Key n) → IsSame p (row_sum key r.sources) (scale factor (unit n) (sources_sum key rows row taken))
 
--- all columns are cleared
-pub record IsDone (p : ℕ) (rows : List RowShown) (pivots : List ℕ) (row : RowShown) (left : List Entry) (numbers : List ℕ) (taken : List Entry) : Type 0 where
-  pub limit : ℕ
-  pub underway : IsUnderway p limit (length pivots) (length pivots) (length rows) pivots left numbers taken
-  pub combined :
-      (n : ℕ) (F : List (FormalSum n)) (key : ℕ → Key n)
-      → AreCombined p F key rows → IsSame p (combination F (row_sum (source_key n) row.sources)) (row_sum key row.entries)
-      → IsCombinedDense p F key rows row left numbers taken
-  pub reduced : (n : ℕ) (key : ℕ → Key n) → IsReducedDense p rows key (row_sum key row.entries) left numbers
-
 -- the row is in the span of the rows
 abbrev pub IsSpanned : ℕ → List RowShown → RowShown → Type 0
 IsSpanned p rows row = (n : ℕ) (key : ℕ → Key n) → IsInSpan p (row_vectors key rows) (row_sum key row.entries)
@@ -89,3 +79,7 @@ pub record IsRemainder (p inputs : ℕ) (rows : List RowShown) (pivots : List �
       → IsSame p (combination F (row_sum (source_key n) r.sources)) (row_sum key r.entries)
   pub inside : IsSpanned p (rows ++ r ∷ []) row
   pub outside : IsSpanned p (rows ++ row ∷ []) r
+
+-- a number for each column, all 0
+abbrev pub AreIdle : ℕ → List ℕ → Type 0
+AreIdle columns numbers = (length numbers ≡ columns) × Each (λ a. a ≡ 0) numbers

@@ -1,69 +1,46 @@
-// The echelon form of the rows of a matrix.
-ghost use Rattle.std.specs.Prelude.{◌≡◌, ◌<◌, ◌≤◌, ◌+◌, ◌++◌, [], ◌∷◌, List, ℕ, length, take, get_or, slice_set, IfOk, OnOk};
+// The echelon form of the rows of a matrix, pass after pass.
+ghost use Rattle.std.specs.Prelude.{◌≡◌, ◌<◌, ◌++◌, [], ◌∷◌, List, None, ℕ, length, replicate, reverse, slice_set, IfOk, OnOk};
+ghost use Rattle.std.specs.List.{range_with_len};
 ghost use Rattle.std.specs.List.Sorted.{IsPermutation};
-ghost use Rattle.formal_sums.specs.FormalSums.{Each, Key as KeyOf};
+ghost use Rattle.formal_sums.specs.FormalSums.{Each};
 ghost use Rattle.bases.specs.Settings.{IsLawful, Setting};
+ghost use Rattle.pivot_table.specs.Law.{LeadsFit};
 ghost use Rattle.row_laws.specs.Jobs.{IsEchelonForm};
-ghost use Rattle.row_matrix.specs.Rows.{Descend, IsRow, RowShown, first_column, vectors_of};
-ghost use Rattle.row_reduce.specs.Echelons.{IsAdded, IsEchelonOf, IsReducing};
-ghost use Rattle.row_reduce.specs.Pivots.{ArePivots};
-ghost use Rattle.row_reduce.specs.Underway.{AreCombined};
+ghost use Rattle.row_matrix.specs.Rows.{Descend, IsRow, RowShown, vectors_of};
+ghost use Rattle.row_reduce.specs.Echelons.{AreBetween, AreFrom, IsEchelonOf, with_left, columns_behind};
+ghost use Rattle.row_reduce.specs.Passes.{IsPass, leads_of, named, places, rows_left};
 
-use crate::reduction::reduce_row;
+use crate::helpers::{Passed, pass};
+use crate::lefts::Left;
 use module_vectors::{Key, NoMemory};
 use row_matrix::{Matrix, Row};
 use std::alloc::Global;
 use std::collections::VecDeque;
+use std::mem;
+use std::thread::Threads;
+use worker_gate::SharedGate;
 use zp_field::Modulus;
-
-// Puts a row behind the others, as the pivot of its first column, which has none.
-fn add_pivot(rows: &mut Vec<Row>, pivots: &mut Vec<usize>, row: Row) -> Result<(), NoMemory>
-    requires some { 0 < length row.entries }
-    requires within { first_column row.entries < length pivots.old.items }
-    ensures rows { OnOk result (rows.new.items ≡ rows.old.items ++ row ∷ []) }
-    ensures pivots { OnOk result (pivots.new.items ≡ slice_set pivots.old.items (first_column row.entries) (length rows.old.items + 1)) }
-{
-    let column = row.entries()[0].0 as usize;
-    rows.push(row)?;
-    pivots[column] = rows.len();
-    Ok(())
-}
-
-// Reduces the row by the pivots if its first column has one, and puts what is left behind the others.
-fn add_row(
-    alloc: Global,
-    modulus: &Modulus,
-    inputs: usize,
-    rows: &mut Vec<Row>,
-    pivots: &mut Vec<usize>,
-    row: Row,
-) -> Result<(), NoMemory>
-    requires pivots { ArePivots modulus.now.value (length pivots.old.items) inputs rows.old.items pivots.old.items }
-    requires row { IsRow modulus.now.value (length pivots.old.items) inputs row }
-    ensures pivots { OnOk result (ArePivots modulus.now.value (length pivots.old.items) inputs rows.new.items pivots.new.items) }
-    ensures added { OnOk result (IsAdded modulus.now.value rows.old.items row rows.new.items) }
-    ensures kept { (c : ℕ) → OnOk result (0 < get_or pivots.old.items c 0 → 0 < get_or pivots.new.items c 0) }
-    ensures lead { OnOk result (0 < get_or pivots.new.items (first_column row.entries) 0) }
-{
-    if pivots[row.entries()[0].0 as usize] == 0 {
-        add_pivot(rows, pivots, row)?;
-        return Ok(());
-    }
-    let left = reduce_row(alloc, modulus, rows, pivots, inputs, &row)?;
-    match left {
-        None => Ok(()),
-        Some(rest) => {
-            add_pivot(rows, pivots, rest)?;
-            Ok(())
-        }
-    }
-}
 
 /// Rows in echelon form over the columns of a matrix.
 #[derive(Drop)]
 pub struct EchelonRows {
     pub columns: Vec<Key>,
     pub rows: Vec<Row>,
+}
+
+// So many additions of a product take about a tenth of a millisecond: no thread is for less.
+const THREAD: usize = 100_000;
+
+// The rows between two passes. Each keeps its number until another is left in its place.
+#[derive(Drop)]
+struct Underway {
+    rows: Vec<Row>,
+    // The first column of each row.
+    leads: Vec<u64>,
+    // For each column the row that has it.
+    held: Vec<Option<u64>>,
+    // The rows that have no column yet.
+    pending: Vec<u64>,
 }
 
 // The rows, those with fewer entries first.
@@ -75,126 +52,251 @@ fn by_weight(rows: Vec<Row>) -> Vec<Row>
     sorted
 }
 
-// Rows that are the pivots of their first columns, and others.
-#[derive(Drop)]
-struct Chosen {
-    done: Vec<Row>,
-    pivots: Vec<usize>,
-    others: Vec<Row>,
+// Rows of which none has a column yet.
+fn begin(alloc: Global, columns: usize, rows: Vec<Row>) -> Result<Underway, NoMemory>
+    requires { Each (λ r. 0 < length r.entries) rows.items }
+    ensures rows { IfOk result (λ s. s.rows.items ≡ rows.items) }
+    ensures leads { IfOk result (λ s. s.leads.items ≡ leads_of rows.items) }
+    ensures held { IfOk result (λ s. s.held.items ≡ replicate columns None) }
+    ensures pending { IfOk result (λ s. s.pending.items ≡ range_with_len 0 (length rows.items)) }
+{
+    let mut leads = Vec::with_capacity(alloc, rows.len())?;
+    let mut pending = Vec::with_capacity(alloc, rows.len())?;
+    for row in &rows {
+        pending.push_reserved(leads.len() as u64);
+        leads.push_reserved(u64::from(row.entries()[0].0));
+    }
+    let held = vec![in alloc; None; columns]?;
+    Ok(Underway {
+        rows,
+        leads,
+        held,
+        pending,
+    })
 }
 
-// Makes the row the pivot of its first column, or puts it behind the others where that has one.
-fn choose_row(
-    chosen: &mut Chosen,
-    _modulus: &Modulus,
-    _inputs: usize,
-    row: Row,
-) -> Result<(), NoMemory>
-    requires pivots { ArePivots _modulus.now.value (length chosen.old.pivots.items) _inputs chosen.old.done.items chosen.old.pivots.items }
-    requires others { Each (IsRow _modulus.now.value (length chosen.old.pivots.items) _inputs) chosen.old.others.items }
-    requires row { IsRow _modulus.now.value (length chosen.old.pivots.items) _inputs row }
-    ensures pivots { OnOk result (ArePivots _modulus.now.value (length chosen.old.pivots.items) _inputs chosen.new.done.items chosen.new.pivots.items) }
-    ensures others { OnOk result (Each (IsRow _modulus.now.value (length chosen.old.pivots.items) _inputs) chosen.new.others.items) }
-    ensures same { (rest : List RowShown) → OnOk result (IsPermutation (chosen.old.done.items ++ (chosen.old.others.items ++ row ∷ rest))
-        (chosen.new.done.items ++ (chosen.new.others.items ++ rest))) }
+// About how many additions of a product the pass makes: for each entry of a row whose column is taken, those of a row.
+fn work_ahead(alloc: Global, state: &Underway) -> Result<usize, NoMemory>
+    requires { (p inputs : ℕ) × AreBetween p (length state.now.held.items) inputs
+        state.now.rows.items state.now.leads.items state.now.held.items state.now.pending.items }
 {
-    if chosen.pivots[row.entries()[0].0 as usize] == 0 {
-        add_pivot(&mut chosen.done, &mut chosen.pivots, row)?;
-        return Ok(());
+    let mut taken = vec![in alloc; false; state.held.len()]?;
+    let mut entries: usize = 0;
+    for number in &state.pending {
+        let row = &state.rows[*number as usize];
+        let column = state.leads[*number as usize] as usize;
+        if taken[column] || state.held[column].is_some() {
+            entries = entries.saturating_add(row.entries().len());
+        }
+        taken[column] = true;
     }
-    chosen.others.push(row)?;
+    let mut all: usize = 0;
+    for row in &state.rows {
+        all = all.saturating_add(row.entries().len());
+    }
+    Ok(entries.saturating_mul(all / state.rows.len().max(1)))
+}
+
+// How many of the helpers get threads, the caller's among them: all under a held gate, where they wait for one another.
+fn threads_for(gate: &SharedGate, helpers: u32, work: usize) -> u32 {
+    if !gate.is_open() {
+        return helpers;
+    }
+    let threads = u32::try_from(work / THREAD).unwrap_or(u32::MAX);
+    helpers.min(threads.saturating_add(1))
+}
+
+// Puts a row that was left in its place.
+fn put_left(state: &mut Underway, left: Left) -> Result<(), NoMemory>
+    requires within { left.number < length state.old.rows.items }
+    requires some { 0 < length left.row.entries }
+    requires leads { state.old.leads.items ≡ leads_of state.old.rows.items }
+    ensures rows { OnOk result (state.new.rows.items ≡ slice_set state.old.rows.items left.number left.row) }
+    ensures leads { OnOk result (state.new.leads.items ≡ leads_of state.new.rows.items) }
+    ensures held { state.new.held.items ≡ state.old.held.items }
+    ensures pending { OnOk result (state.new.pending.items ≡ state.old.pending.items ++ left.number ∷ []) }
+{
+    let number = left.number as usize;
+    state.leads[number] = u64::from(left.row.entries()[0].0);
+    state.pending.push(left.number)?;
+    state.rows[number] = left.row;
     Ok(())
 }
 
-// The first of the rows with each first column becomes its pivot.
-fn choose_pivots(
+// The rows after a pass.
+fn put_all(state: &mut Underway, passed: Passed) -> Result<(), NoMemory>
+    requires within { Each (λ k. k < length state.old.rows.items) (places passed.left.items) }
+    requires some { Each (λ r. 0 < length r.entries) (rows_left passed.left.items) }
+    requires leads { state.old.leads.items ≡ leads_of state.old.rows.items }
+    ensures rows { OnOk result (state.new.rows.items ≡ with_left state.old.rows.items passed.left.items) }
+    ensures leads { OnOk result (state.new.leads.items ≡ leads_of state.new.rows.items) }
+    ensures held { OnOk result (state.new.held.items ≡ passed.words.items) }
+    ensures pending { OnOk result (state.new.pending.items ≡ places passed.left.items) }
+{
+    state.held = passed.words;
+    state.pending.clear();
+    let mut rest = VecDeque::from_vec(passed.left);
+    while let Some(left) = rest.pop_front() {
+        put_left(state, left)?;
+    }
+    Ok(())
+}
+
+// One pass over the pending rows.
+fn pass_over<R: Threads + Sync>(
+    rt: &R,
+    alloc: Global,
+    modulus: &Modulus,
+    inputs: usize,
+    state: &Underway,
+    helpers: u32,
+    gate: &SharedGate,
+) -> Result<Passed, NoMemory>
+    requires some { 0 < length state.now.pending.items }
+    requires ready { AreBetween modulus.now.value (length state.now.held.items) inputs
+        state.now.rows.items state.now.leads.items state.now.held.items state.now.pending.items }
+    ensures { IfOk result (λ p. IsPass modulus.now.value (length state.now.held.items) inputs
+        state.now.rows.items state.now.held.items state.now.pending.items p.words.items p.left.items) }
+{
+    let work = work_ahead(alloc, state)?;
+    let most = helpers.min(u32::try_from(state.pending.len()).unwrap_or(u32::MAX));
+    let threads = threads_for(gate, most, work);
+    let passed = pass(
+        rt,
+        alloc,
+        modulus,
+        gate,
+        &state.rows,
+        inputs,
+        &state.leads,
+        &state.held,
+        &state.pending,
+        most,
+        threads,
+    )?;
+    Ok(passed)
+}
+
+// One pass over the pending rows, and its rows put in their places.
+fn run_pass<R: Threads + Sync>(
+    rt: &R,
+    alloc: Global,
+    modulus: &Modulus,
+    inputs: usize,
+    state: &mut Underway,
+    helpers: u32,
+    gate: &SharedGate,
+) -> Result<(), NoMemory>
+    requires some { 0 < length state.old.pending.items }
+    requires ready { AreBetween modulus.now.value (length state.old.held.items) inputs
+        state.old.rows.items state.old.leads.items state.old.held.items state.old.pending.items }
+    ensures ready { OnOk result (AreBetween modulus.now.value (length state.old.held.items) inputs
+        state.new.rows.items state.new.leads.items state.new.held.items state.new.pending.items) }
+    ensures kept { (M : List RowShown) → AreFrom modulus.now.value M state.old.rows.items state.old.held.items state.old.pending.items
+        → OnOk result (AreFrom modulus.now.value M state.new.rows.items state.new.held.items state.new.pending.items) }
+    ensures less { OnOk result (columns_behind (length state.old.held.items) state.new.rows.items state.new.pending.items
+        < columns_behind (length state.old.held.items) state.old.rows.items state.old.pending.items) }
+{
+    let passed = pass_over(rt, alloc, modulus, inputs, state, helpers, gate)?;
+    put_all(state, passed)?;
+    Ok(())
+}
+
+// Does passes until each row has a column or is gone.
+fn run_passes<R: Threads + Sync>(
+    rt: &R,
+    alloc: Global,
+    modulus: &Modulus,
+    inputs: usize,
+    state: &mut Underway,
+    helpers: u32,
+    gate: &SharedGate,
+) -> Result<(), NoMemory>
+    requires { AreBetween modulus.now.value (length state.old.held.items) inputs
+        state.old.rows.items state.old.leads.items state.old.held.items state.old.pending.items }
+    ensures ready { OnOk result (AreBetween modulus.now.value (length state.old.held.items) inputs
+        state.new.rows.items state.new.leads.items state.new.held.items state.new.pending.items) }
+    ensures kept { (M : List RowShown) → AreFrom modulus.now.value M state.old.rows.items state.old.held.items state.old.pending.items
+        → OnOk result (AreFrom modulus.now.value M state.new.rows.items state.new.held.items state.new.pending.items) }
+    ensures done { OnOk result (state.new.pending.items ≡ []) }
+{
+    while state.pending.len() > 0 {
+        run_pass(rt, alloc, modulus, inputs, state, helpers, gate)?;
+    }
+    Ok(())
+}
+
+// The rows that have columns, the last column's first.
+fn named_rows(alloc: Global, rows: Vec<Row>, held: &[Option<u64>]) -> Result<Vec<Row>, NoMemory>
+    requires { LeadsFit (leads_of rows.items) held.now }
+    ensures { IfOk result (λ found. found.items ≡ reverse (named rows.items held.now)) }
+{
+    let mut rows = rows;
+    let mut found = Vec::with_capacity(alloc, rows.len())?;
+    for past in 0..held.len() {
+        if let Some(number) = held[held.len() - 1 - past] {
+            let none = Row::new(Vec::new(alloc), Vec::new(alloc));
+            found.push(mem::replace(&mut rows[number as usize], none))?;
+        }
+    }
+    Ok(found)
+}
+
+// The rows of a matrix, reduced.
+fn reduce_rows<R: Threads + Sync>(
+    rt: &R,
     alloc: Global,
     modulus: &Modulus,
     columns: usize,
     inputs: usize,
     rows: Vec<Row>,
-) -> Result<Chosen, NoMemory>
-    requires { Each (IsRow modulus.now.value columns inputs) rows.items }
-    ensures pivots { IfOk result (λ c. ArePivots modulus.now.value columns inputs c.done.items c.pivots.items) }
-    ensures others { IfOk result (λ c. Each (IsRow modulus.now.value columns inputs) c.others.items) }
-    ensures same { IfOk result (λ c. IsPermutation rows.items (c.done.items ++ c.others.items)) }
-{
-    let done = Vec::new(alloc);
-    let pivots = vec![in alloc; 0; columns]?;
-    let others = Vec::new(alloc);
-    let mut chosen = Chosen {
-        done,
-        pivots,
-        others,
-    };
-    let mut rest = VecDeque::from_vec(rows);
-    while let Some(row) = rest.pop_front() {
-        choose_row(&mut chosen, modulus, inputs, row)?;
-    }
-    Ok(chosen)
-}
-
-// The pivots and what they leave of the others, one after another.
-fn reduce_others(
-    alloc: Global,
-    modulus: &Modulus,
-    _columns: usize,
-    inputs: usize,
-    chosen: Chosen,
-) -> Result<Vec<Row>, NoMemory>
-    requires pivots { ArePivots modulus.now.value _columns inputs chosen.done.items chosen.pivots.items }
-    requires others { Each (IsRow modulus.now.value _columns inputs) chosen.others.items }
-    ensures { IfOk result (λ done. IsEchelonOf modulus.now.value _columns inputs (chosen.done.items ++ chosen.others.items) done.items) }
-{
-    let mut done = chosen.done;
-    let mut pivots = chosen.pivots;
-    let mut rest = VecDeque::from_vec(chosen.others);
-    while let Some(row) = rest.pop_front() {
-        add_row(alloc, modulus, inputs, &mut done, &mut pivots, row)?;
-    }
-    Ok(done)
-}
-
-// The rows of a matrix, reduced: of the rows with one first column the one with the fewest entries is its pivot, and by
-// the pivots the others are reduced, those with fewer entries first.
-fn reduce_rows(
-    alloc: Global,
-    modulus: &Modulus,
-    columns: usize,
-    inputs: usize,
-    rows: Vec<Row>,
+    helpers: u32,
+    gate: &SharedGate,
 ) -> Result<Vec<Row>, NoMemory>
     requires { Each (IsRow modulus.now.value columns inputs) rows.items }
     ensures { IfOk result (λ done. IsEchelonOf modulus.now.value columns inputs rows.items done.items) }
 {
     let sorted = by_weight(rows);
-    let chosen = choose_pivots(alloc, modulus, columns, inputs, sorted)?;
-    let done = reduce_others(alloc, modulus, columns, inputs, chosen)?;
+    let mut state = begin(alloc, columns, sorted)?;
+    run_passes(rt, alloc, modulus, inputs, &mut state, helpers, gate)?;
+    let done = named_rows(alloc, state.rows, &state.held)?;
     Ok(done)
 }
 
-// The columns of the matrix, and its rows reduced one after another.
-fn reduce_matrix(alloc: Global, modulus: &Modulus, matrix: Matrix) -> Result<EchelonRows, NoMemory>
-    requires { Each (IsRow modulus.now.value (length matrix.columns) matrix.inputs) matrix.rows }
-    ensures columns { IfOk result (λ e. e.columns.items ≡ matrix.columns) }
-    ensures rows { IfOk result (λ e. IsEchelonOf modulus.now.value (length matrix.columns) matrix.inputs matrix.rows e.rows.items) }
-{
-    let (columns, inputs, rows) = matrix.into_parts();
-    let rows = reduce_rows(alloc, modulus, columns.len(), inputs, rows)?;
-    Ok(EchelonRows { columns, rows })
-}
-
-/// The echelon form of the rows of the matrix, by Gaussian elimination of one row after another: monic rows whose leads
-/// are apart, no more than the matrix has, with the same span, each with the combination of the input rows that it is
-/// (IVA chapter 2, section 1; Faugère 1999, section 2). Of the matrix's rows with one lead that with the fewest entries
-/// is among them, as it is; the others are reduced by these and by what was left of others.
-pub fn echelon(alloc: Global, modulus: &Modulus, matrix: Matrix) -> Result<EchelonRows, NoMemory>
-    requires { Each (IsRow modulus.now.value (length matrix.columns) matrix.inputs) matrix.rows }
+/// The echelon form of the rows of the matrix, by passes of so many helpers, one at least (IVA chapter 2, section 1; Faugère 1999,
+/// section 2): monic rows whose leads are apart, no more than the matrix has, with the same span, each with the combination of
+/// the input rows that it is; the least lead comes first.
+///
+/// The rows of a pass are shared and read only. Of n helpers number h has the rows h, h + n, and so on, those with fewer entries
+/// first. It claims the first column of each of its rows, by one exchange, and passes the gate at `RowClaimed`. A row whose
+/// column another row has is reduced by that row and by each other pivot that the helper can read: at each column the row that
+/// has it by then, or else one that the helper left itself. What is left has a lower lead, so the passes end. `NoMemory` is the
+/// only error; the matrix is gone then.
+pub fn echelon<R: Threads + Sync>(
+    rt: &R,
+    alloc: Global,
+    modulus: &Modulus,
+    matrix: Matrix,
+    helpers: u32,
+    gate: &SharedGate,
+) -> Result<EchelonRows, NoMemory>
+    requires rows { Each (IsRow modulus.now.value (length matrix.columns) matrix.inputs) matrix.rows }
+    requires helpers { 0 < helpers }
     ensures columns { IfOk result (λ e. e.columns.items ≡ matrix.columns) }
     ensures rows { IfOk result (λ e. IsEchelonOf modulus.now.value (length matrix.columns) matrix.inputs matrix.rows e.rows.items) }
     ensures form { (n : ℕ) (S : Setting n) → IsLawful S → S.modulus ≡ modulus.now.value → Descend n S.compare matrix.columns
         → IfOk result (λ e. IsEchelonForm S (vectors_of n matrix.columns matrix.rows) (vectors_of n e.columns.items e.rows.items)) }
 {
-    let reduced = reduce_matrix(alloc, modulus, matrix)?;
-    Ok(reduced)
+    let (columns, inputs, rows) = matrix.into_parts();
+    let rows = reduce_rows(
+        rt,
+        alloc,
+        modulus,
+        columns.len(),
+        inputs,
+        rows,
+        helpers,
+        gate,
+    )?;
+    Ok(EchelonRows { columns, rows })
 }

@@ -1,28 +1,83 @@
-// The reduction of a row by pivots.
-ghost use Rattle.std.specs.Prelude.{◌≡◌, ◌<◌, ◌≤◌, ◌*◌, ◌+◌, ◌-◌, ◌%◌, List, [], ℕ, drop, map, length, get_or, IfOk, MatchOption, OnOk};
-ghost use Rattle.std.specs.Vec.{vec_len};
+// The reduction of a row by the pivots that words name and by a helper's own.
+ghost use Rattle.std.specs.Prelude.{◌≡◌, ◌<◌, ◌≤◌, ◌+◌, ◌++◌, ◌-◌, ◌%◌, List, [], ◌∷◌, ℕ, drop, length, get_or, IfOk, MatchOption, OnOk};
 ghost use Rattle.monomials.specs.Exponents.{unit};
-ghost use Rattle.formal_sums.specs.FormalSums.{Each, FormalSum, IsSame, Key as KeyOf, scale};
-ghost use Rattle.row_matrix.specs.Rows.{AreEntries, IsRow, first_column, row_sum};
+ghost use Rattle.formal_sums.specs.FormalSums.{Each, IsSame, Key as KeyOf, scale};
+ghost use Rattle.pivot_table.specs.Law.{IsSeatOf, told};
+ghost use Rattle.pivot_table.specs.declared.law.Entry.{Entry as Told};
+ghost use Rattle.row_matrix.specs.Rows.{AreEntries, IsRow, RowShown, first_column, row_sum};
 ghost use Rattle.row_reduce.specs.Dense.{AddsMultiple, AreWithin, HasRoom, IsDense, dense_sum};
-ghost use Rattle.row_reduce.specs.Pivots.{ArePivots};
-ghost use Rattle.row_reduce.specs.Underway.{AreCombined, IsCombinedDense, IsDone, IsLeftRow, IsReducedDense, IsRemainder};
-ghost use Rattle.row_reduce.specs.Underway.{IsSpanned, IsUnderway, rescaled, sources_sum};
+ghost use Rattle.row_reduce.specs.Passes.{AreReady, Follows, IsGone, IsRest, IsTold, rows_left};
+ghost use Rattle.row_reduce.specs.Pivots.{ArePivots, lead_column, row_at};
+ghost use Rattle.row_reduce.specs.Reductions.{IsPivotFor, IsReducedSoFar};
+ghost use Rattle.row_reduce.specs.Underway.{AreIdle, IsLeftRow, IsUnderway, rescaled, sources_sum};
 
 use crate::accumulating::{add_multiple, first_limit};
+use crate::lefts::Left;
 use module_vectors::NoMemory;
+use pivot_table::{ClaimSeat, Claims};
 use row_matrix::{Row, kept_number};
 use std::alloc::Global;
 use zp_field::Modulus;
 
+/// What the helpers of a pass read together: its rows, each a combination of so many input rows, and the claims.
+#[derive(Clone, Copy)]
+pub(crate) struct Shared<'a> {
+    pub(crate) modulus: &'a Modulus,
+    pub(crate) rows: &'a [Row],
+    pub(crate) inputs: usize,
+    pub(crate) claims: &'a Claims,
+}
+
+/// What a helper has of its own in a pass: the rows that it left, each the pivot of its first column among them.
+#[derive(Drop)]
+pub(crate) struct Own {
+    pub(crate) left: Vec<Left>,
+    /// For each column 1 and the number of its pivot among them, or 0.
+    pub(crate) pivots: Vec<usize>,
+}
+
 /// A row on its way: what is left at the columns that are done, a number for each column from there on, all below the
-/// limit, and the pivots that were added, each by its number and a factor.
+/// limit, and the rows that were added, each by its number and a factor. Its room serves one row after another.
 #[derive(Drop)]
 pub(crate) struct Work {
     pub(crate) left: Vec<(u32, u32)>,
     pub(crate) numbers: Vec<u64>,
     pub(crate) limit: u64,
     pub(crate) taken: Vec<(usize, u32)>,
+}
+
+// The row with this number: the pass's rows come first, then the helper's own.
+fn row_numbered<'a>(rows: &'a [Row], left: &'a [Left], number: usize) -> &'a Row
+    requires { number < length rows.now + length left.now }
+    ensures { result.now ≡ row_at (rows.now ++ rows_left left.now) number }
+{
+    if number < rows.len() {
+        &rows[number]
+    } else {
+        &left[number - rows.len()].row
+    }
+}
+
+// The number of the column's pivot: the row that its word names at a look, or the helper's own.
+fn pivot_of(shared: Shared<'_>, seat: &mut ClaimSeat, own: &Own, c: u32) -> Option<usize>
+    requires at { c < length own.now.pivots.items }
+    requires ready { AreReady shared.modulus.now.value (length own.now.pivots.items) shared.inputs shared.rows.now
+        shared.claims.now.rows.leads.items shared.claims.now.rows.held.items }
+    requires own { ArePivots shared.modulus.now.value (length own.now.pivots.items) shared.inputs (rows_left own.now.left.items) own.now.pivots.items }
+    requires seat { IsSeatOf shared.claims.now.table.shared.table_id shared.claims.now.rows.leads.items seat.old }
+    ensures seat { IsSeatOf shared.entry.claims.now.table.shared.table_id shared.entry.claims.now.rows.leads.items seat.new }
+    ensures follows { Follows (told seat.old) (told seat.new) }
+    ensures pivot { MatchOption result (get_or own.now.pivots.items c 0 ≡ 0)
+        (IsPivotFor shared.entry.modulus.now.value shared.entry.rows.now (rows_left own.now.left.items) (told seat.new) c) }
+{
+    if let Some(row) = shared.claims.look(seat, u64::from(c)) {
+        return Some(row as usize);
+    }
+    let number = own.pivots[c as usize];
+    if number == 0 {
+        return None;
+    }
+    Some(shared.rows.len() + number - 1)
 }
 
 // Adds what is behind the first entry of a row, `factor` times.
@@ -37,77 +92,162 @@ fn add_tail(modulus: &Modulus, row: &Row, factor: u32, numbers: &mut Vec<u64>, l
     ensures small { IsDense result numbers.new.items }
 {
     let entries = row.entries();
-    add_multiple(modulus, numbers, limit, factor, &entries[1..])
+    add_multiple(
+        modulus,
+        numbers.as_mut_slice(),
+        limit,
+        factor,
+        &entries[1..],
+    )
+}
+
+// Adds a pivot, `factor` times, behind its first entry, where the number is taken away.
+fn add_pivot(
+    shared: Shared<'_>,
+    own: &Own,
+    work: &mut Work,
+    pivot: usize,
+    factor: u32,
+) -> Result<(), NoMemory>
+    requires factor { factor < shared.modulus.now.value }
+    requires known { pivot < length (shared.rows.now ++ rows_left own.now.left.items) }
+    requires rows { Each (IsRow shared.modulus.now.value (length work.old.numbers.items) shared.inputs) (shared.rows.now ++ rows_left own.now.left.items) }
+    requires room { HasRoom shared.modulus.now.value work.old.limit }
+    requires small { IsDense work.old.limit work.old.numbers.items }
+    ensures adds { AddsMultiple shared.entry.modulus.now.value factor
+        (drop 1 (row_at (shared.entry.rows.now ++ rows_left own.now.left.items) pivot).entries) work.old.numbers.items work.new.numbers.items }
+    ensures room { HasRoom shared.entry.modulus.now.value work.new.limit }
+    ensures small { IsDense work.new.limit work.new.numbers.items }
+    ensures left { work.new.left.items ≡ work.old.left.items }
+    ensures taken { OnOk result (work.new.taken.items ≡ work.old.taken.items ++ (pivot, factor) ∷ []) }
+{
+    let row = row_numbered(shared.rows, own.left.as_slice(), pivot);
+    work.limit = add_tail(shared.modulus, row, factor, &mut work.numbers, work.limit);
+    work.taken.push((pivot, factor))?;
+    Ok(())
 }
 
 // Clears a column, by its pivot if it has one; else what stands there is left.
 fn clear_column(
-    modulus: &Modulus,
-    rows: &[Row],
-    pivots: &[usize],
-    _inputs: usize,
-    _row: &Row,
+    shared: Shared<'_>,
+    seat: &mut ClaimSeat,
+    own: &Own,
     work: &mut Work,
     c: u32,
 ) -> Result<(), NoMemory>
-    requires at { c < length work.old.numbers.items }
-    requires pivots { ArePivots modulus.now.value (length work.old.numbers.items) _inputs rows.now pivots.now }
-    requires underway { IsUnderway modulus.now.value work.old.limit c (length pivots.now) (length rows.now) pivots.now
-        work.old.left.items work.old.numbers.items work.old.taken.items }
-    ensures underway { OnOk result (IsUnderway modulus.now.value work.new.limit (c + 1) (length pivots.now) (length rows.now) pivots.now
+    requires at { c < length own.now.pivots.items }
+    requires ready { AreReady shared.modulus.now.value (length own.now.pivots.items) shared.inputs shared.rows.now
+        shared.claims.now.rows.leads.items shared.claims.now.rows.held.items }
+    requires own { ArePivots shared.modulus.now.value (length own.now.pivots.items) shared.inputs (rows_left own.now.left.items) own.now.pivots.items }
+    requires seat { IsSeatOf shared.claims.now.table.shared.table_id shared.claims.now.rows.leads.items seat.old }
+    requires underway { IsUnderway shared.modulus.now.value work.old.limit c (length own.now.pivots.items)
+        (length (shared.rows.now ++ rows_left own.now.left.items)) own.now.pivots.items work.old.left.items work.old.numbers.items work.old.taken.items }
+    ensures seat { IsSeatOf shared.entry.claims.now.table.shared.table_id shared.entry.claims.now.rows.leads.items seat.new }
+    ensures follows { Follows (told seat.old) (told seat.new) }
+    ensures underway { OnOk result (IsUnderway shared.entry.modulus.now.value work.new.limit (c + 1) (length own.now.pivots.items)
+        (length (shared.entry.rows.now ++ rows_left own.now.left.items)) own.now.pivots.items work.new.left.items work.new.numbers.items work.new.taken.items) }
+    ensures reduced { (row : RowShown) → first_column row.entries < c
+        → IsReducedSoFar shared.entry.modulus.now.value shared.entry.rows.now (rows_left own.now.left.items) (told seat.old) row
+        work.old.left.items work.old.numbers.items work.old.taken.items
+        → OnOk result (IsReducedSoFar shared.entry.modulus.now.value shared.entry.rows.now (rows_left own.now.left.items) (told seat.new) row
         work.new.left.items work.new.numbers.items work.new.taken.items) }
-    ensures combined { (n : ℕ) (F : List (FormalSum n)) (key : ℕ → KeyOf n) → AreCombined modulus.now.value F key rows.now
-        → IsCombinedDense modulus.now.value F key rows.now _row.now work.old.left.items work.old.numbers.items work.old.taken.items
-        → OnOk result (IsCombinedDense modulus.now.value F key rows.now _row.now work.new.left.items work.new.numbers.items work.new.taken.items) }
-    ensures reduced { (n : ℕ) (key : ℕ → KeyOf n) (v : FormalSum n)
-        → IsReducedDense modulus.now.value rows.now key v work.old.left.items work.old.numbers.items
-        → OnOk result (IsReducedDense modulus.now.value rows.now key v work.new.left.items work.new.numbers.items) }
 {
+    let modulus = shared.modulus;
     modulus.domain();
     let residue = (work.numbers[c as usize] % u64::from(modulus.value())) as u32;
     work.numbers[c as usize] = 0;
     if residue == 0 {
         return Ok(());
     }
-    let pivot = pivots[c as usize];
-    if pivot == 0 {
-        work.left.push((c, residue))?;
-        return Ok(());
+    match pivot_of(shared, seat, own, c) {
+        None => {
+            work.left.push((c, residue))?;
+            Ok(())
+        }
+        Some(pivot) => {
+            add_pivot(shared, own, work, pivot, modulus.neg(residue))?;
+            Ok(())
+        }
     }
-    let factor = modulus.neg(residue);
-    let pivot_row = &rows[pivot - 1];
-    work.limit = add_tail(modulus, pivot_row, factor, &mut work.numbers, work.limit);
-    work.taken.push((pivot - 1, factor))?;
+}
+
+// The row with a number for each column, where its first column is cleared by the row that has it.
+fn start_work(
+    shared: Shared<'_>,
+    own: &Own,
+    work: &mut Work,
+    row: &Row,
+    winner: usize,
+) -> Result<(), NoMemory>
+    requires rows { Each (IsRow shared.modulus.now.value (length work.old.numbers.items) shared.inputs) (shared.rows.now ++ rows_left own.now.left.items) }
+    requires idle { AreIdle (length work.old.numbers.items) work.old.numbers.items }
+    requires row { IsRow shared.modulus.now.value (length work.old.numbers.items) shared.inputs row.now }
+    requires known { winner < length shared.rows.now }
+    requires lead { lead_column shared.rows.now winner ≡ first_column row.now.entries }
+    ensures underway { (pivots : List ℕ) → OnOk result (IsUnderway shared.entry.modulus.now.value work.new.limit (first_column row.now.entries + 1)
+        (length work.old.numbers.items) (length (shared.entry.rows.now ++ rows_left own.now.left.items)) pivots
+        work.new.left.items work.new.numbers.items work.new.taken.items) }
+    ensures reduced { (told : List Told) → IsTold shared.entry.rows.now told (first_column row.now.entries) winner
+        → OnOk result (IsReducedSoFar shared.entry.modulus.now.value shared.entry.rows.now (rows_left own.now.left.items) told row.now
+        work.new.left.items work.new.numbers.items work.new.taken.items) }
+{
+    let modulus = shared.modulus;
+    modulus.domain();
+    work.left.clear();
+    work.taken.clear();
+    work.limit = add_tail(modulus, row, 1, &mut work.numbers, first_limit(modulus));
+    add_pivot(shared, own, work, winner, modulus.neg(1))?;
     Ok(())
 }
 
-// The same, where most columns have nothing.
-fn pass_column(
-    modulus: &Modulus,
-    rows: &[Row],
-    pivots: &[usize],
-    inputs: usize,
-    row: &Row,
-    work: &mut Work,
-    c: u32,
-) -> Result<(), NoMemory>
-    requires at { c < length work.old.numbers.items }
-    requires pivots { ArePivots modulus.now.value (length work.old.numbers.items) inputs rows.now pivots.now }
-    requires underway { IsUnderway modulus.now.value work.old.limit c (length pivots.now) (length rows.now) pivots.now
-        work.old.left.items work.old.numbers.items work.old.taken.items }
-    ensures underway { OnOk result (IsUnderway modulus.now.value work.new.limit (c + 1) (length pivots.now) (length rows.now) pivots.now
-        work.new.left.items work.new.numbers.items work.new.taken.items) }
-    ensures combined { (n : ℕ) (F : List (FormalSum n)) (key : ℕ → KeyOf n) → AreCombined modulus.now.value F key rows.now
-        → IsCombinedDense modulus.now.value F key rows.now row.now work.old.left.items work.old.numbers.items work.old.taken.items
-        → OnOk result (IsCombinedDense modulus.now.value F key rows.now row.now work.new.left.items work.new.numbers.items work.new.taken.items) }
-    ensures reduced { (n : ℕ) (key : ℕ → KeyOf n) (v : FormalSum n)
-        → IsReducedDense modulus.now.value rows.now key v work.old.left.items work.old.numbers.items
-        → OnOk result (IsReducedDense modulus.now.value rows.now key v work.new.left.items work.new.numbers.items) }
+// The first column from this one on whose number is not 0, or the count of the columns.
+fn next_column(numbers: &[u64], from: u32, columns: u32) -> u32
+    requires columns { columns ≡ length numbers.now }
+    requires from { from ≤ columns }
+    ensures from { from ≤ result }
+    ensures within { result ≤ columns }
+    ensures zeros { (j : ℕ) → from ≤ j → j < result → get_or numbers.now j 0 ≡ 0 }
+    ensures found { result < columns → get_or numbers.now result 0 ≡ 0 → ⊥ }
 {
-    if work.numbers[c as usize] == 0 {
-        return Ok(());
+    for c in from..columns {
+        if numbers[c as usize] != 0 {
+            return c;
+        }
     }
-    clear_column(modulus, rows, pivots, inputs, row, work, c)?;
+    columns
+}
+
+// The row with all columns cleared from its first one on; most have nothing.
+fn clear_columns(
+    shared: Shared<'_>,
+    seat: &mut ClaimSeat,
+    own: &Own,
+    work: &mut Work,
+    row: &Row,
+    winner: usize,
+    columns: u32,
+) -> Result<(), NoMemory>
+    requires columns { columns ≡ length own.now.pivots.items }
+    requires ready { AreReady shared.modulus.now.value (length own.now.pivots.items) shared.inputs shared.rows.now
+        shared.claims.now.rows.leads.items shared.claims.now.rows.held.items }
+    requires own { ArePivots shared.modulus.now.value (length own.now.pivots.items) shared.inputs (rows_left own.now.left.items) own.now.pivots.items }
+    requires idle { AreIdle (length own.now.pivots.items) work.old.numbers.items }
+    requires seat { IsSeatOf shared.claims.now.table.shared.table_id shared.claims.now.rows.leads.items seat.old }
+    requires row { IsRow shared.modulus.now.value (length own.now.pivots.items) shared.inputs row.now }
+    requires winner { IsTold shared.rows.now (told seat.old) (first_column row.now.entries) winner }
+    ensures seat { IsSeatOf shared.entry.claims.now.table.shared.table_id shared.entry.claims.now.rows.leads.items seat.new }
+    ensures follows { Follows (told seat.old) (told seat.new) }
+    ensures underway { OnOk result (IsUnderway shared.entry.modulus.now.value work.new.limit (length own.now.pivots.items) (length own.now.pivots.items)
+        (length (shared.entry.rows.now ++ rows_left own.now.left.items)) own.now.pivots.items work.new.left.items work.new.numbers.items work.new.taken.items) }
+    ensures reduced { OnOk result (IsReducedSoFar shared.entry.modulus.now.value shared.entry.rows.now (rows_left own.now.left.items) (told seat.new) row.now
+        work.new.left.items work.new.numbers.items work.new.taken.items) }
+{
+    start_work(shared, own, work, row, winner)?;
+    let mut c = next_column(work.numbers.as_slice(), row.entries()[0].0 + 1, columns);
+    while c < columns {
+        clear_column(shared, seat, own, work, c)?;
+        c = next_column(work.numbers.as_slice(), c + 1, columns);
+    }
     Ok(())
 }
 
@@ -154,28 +294,48 @@ fn rescaled_entries(
     Ok(out)
 }
 
-// The combination of the input rows that the row is with the pivots that were added: a number for each input row.
+// Adds the sources of a row, `factor` times.
+fn add_sources(modulus: &Modulus, row: &Row, factor: u32, sources: &mut Vec<u64>, limit: u64) -> u64
+    requires factor { factor < modulus.now.value }
+    requires entries { AreEntries modulus.now.value 0 (length sources.old.items) row.now.sources }
+    requires limit { HasRoom modulus.now.value limit }
+    requires small { IsDense limit sources.old.items }
+    ensures adds { AddsMultiple modulus.now.value factor row.now.sources sources.old.items sources.new.items }
+    ensures room { HasRoom modulus.now.value result }
+    ensures small { IsDense result sources.new.items }
+{
+    add_multiple(
+        modulus,
+        sources.as_mut_slice(),
+        limit,
+        factor,
+        row.sources(),
+    )
+}
+
+// The combination of the input rows that the row is with the rows that were added: a number for each input row.
 fn compose_sources(
     alloc: Global,
-    modulus: &Modulus,
-    inputs: usize,
-    rows: &[Row],
+    shared: Shared<'_>,
+    own: &Own,
     row: &Row,
     taken: &[(usize, u32)],
 ) -> Result<Vec<u64>, NoMemory>
-    requires rows { Each (λ r. AreEntries modulus.now.value 0 inputs r.sources) rows.now }
-    requires row { AreEntries modulus.now.value 0 inputs row.now.sources }
-    requires taken { AreWithin modulus.now.value (length rows.now) taken.now }
-    ensures count { IfOk result (λ s. length s.items ≡ inputs) }
-    ensures sum { (n : ℕ) (key : ℕ → KeyOf n)
-        → IfOk result (λ s. IsSame modulus.now.value (dense_sum key 0 s.items) (sources_sum key rows.now row.now taken.now)) }
+    requires rows { Each (λ r. AreEntries shared.modulus.now.value 0 shared.inputs r.sources) (shared.rows.now ++ rows_left own.now.left.items) }
+    requires row { AreEntries shared.modulus.now.value 0 shared.inputs row.now.sources }
+    requires taken { AreWithin shared.modulus.now.value (length (shared.rows.now ++ rows_left own.now.left.items)) taken.now }
+    ensures count { IfOk result (λ s. length s.items ≡ shared.entry.inputs) }
+    ensures sum { (n : ℕ) (key : ℕ → KeyOf n) → IfOk result (λ s. IsSame shared.entry.modulus.now.value (dense_sum key 0 s.items)
+        (sources_sum key (shared.entry.rows.now ++ rows_left own.now.left.items) row.now taken.now)) }
 {
+    let modulus = shared.modulus;
     modulus.domain();
-    let mut sources = vec![in alloc; 0; inputs]?;
+    let mut sources = vec![in alloc; 0; shared.inputs]?;
     let mut limit = first_limit(modulus);
-    limit = add_multiple(modulus, &mut sources, limit, 1, row.sources());
+    limit = add_sources(modulus, row, 1, &mut sources, limit);
     for part in taken {
-        limit = add_multiple(modulus, &mut sources, limit, part.1, rows[part.0].sources());
+        let added = row_numbered(shared.rows, own.left.as_slice(), part.0);
+        limit = add_sources(modulus, added, part.1, &mut sources, limit);
     }
     Ok(sources)
 }
@@ -183,110 +343,65 @@ fn compose_sources(
 // The row that is left, monic, or none where nothing is left.
 fn left_row(
     alloc: Global,
-    modulus: &Modulus,
-    inputs: usize,
-    rows: &[Row],
+    shared: Shared<'_>,
+    own: &Own,
     row: &Row,
-    work: Work,
+    work: &Work,
 ) -> Result<Option<Row>, NoMemory>
-    requires entries { AreEntries modulus.now.value 0 (length work.numbers.items) work.left.items }
-    requires rows { Each (λ r. AreEntries modulus.now.value 0 inputs r.sources) rows.now }
-    requires row { AreEntries modulus.now.value 0 inputs row.now.sources }
-    requires taken { AreWithin modulus.now.value (length rows.now) work.taken.items }
-    ensures { IfOk result (λ r. MatchOption r (work.left.items ≡ [])
-        (IsLeftRow modulus.now.value (length work.numbers.items) inputs rows.now row.now work.left.items work.taken.items)) }
+    requires entries { AreEntries shared.modulus.now.value 0 (length work.now.numbers.items) work.now.left.items }
+    requires rows { Each (λ r. AreEntries shared.modulus.now.value 0 shared.inputs r.sources) (shared.rows.now ++ rows_left own.now.left.items) }
+    requires row { AreEntries shared.modulus.now.value 0 shared.inputs row.now.sources }
+    requires taken { AreWithin shared.modulus.now.value (length (shared.rows.now ++ rows_left own.now.left.items)) work.now.taken.items }
+    ensures { IfOk result (λ r. MatchOption r (work.now.left.items ≡ [])
+        (IsLeftRow shared.entry.modulus.now.value (length work.now.numbers.items) shared.entry.inputs (shared.entry.rows.now ++ rows_left own.now.left.items)
+        row.now work.now.left.items work.now.taken.items)) }
 {
+    let modulus = shared.modulus;
     modulus.domain();
-    let left = work.left;
-    if left.len() == 0 {
+    if work.left.len() == 0 {
         return Ok(None);
     }
-    match modulus.invert(left[0].1) {
+    match modulus.invert(work.left[0].1) {
         None => unreachable!(),
         Some(inverse) => {
-            let entries = rescaled_entries(alloc, modulus, inverse, &left)?;
-            let numbers = compose_sources(alloc, modulus, inputs, rows, row, &work.taken)?;
+            let entries = rescaled_entries(alloc, modulus, inverse, &work.left)?;
+            let numbers = compose_sources(alloc, shared, own, row, &work.taken)?;
             let sources = collect_entries(alloc, modulus, inverse, &numbers)?;
             Ok(Some(Row::new(entries, sources)))
         }
     }
 }
 
-// The row with a number for each column.
-fn start_work(
-    alloc: Global,
-    modulus: &Modulus,
-    columns: usize,
-    _inputs: usize,
-    row: &Row,
-) -> Result<Work, NoMemory>
-    requires { IsRow modulus.now.value columns _inputs row.now }
-    ensures underway { (count : ℕ) (pivots : List ℕ)
-        → IfOk result (λ w. IsUnderway modulus.now.value w.limit (first_column row.now.entries) columns count pivots
-        w.left.items w.numbers.items w.taken.items) }
-    ensures left { IfOk result (λ w. w.left.items ≡ []) }
-    ensures taken { IfOk result (λ w. w.taken.items ≡ []) }
-    ensures numbers { (n : ℕ) (key : ℕ → KeyOf n)
-        → IfOk result (λ w. IsSame modulus.now.value (dense_sum key 0 w.numbers.items) (row_sum key row.now.entries)) }
-{
-    modulus.domain();
-    let mut numbers = vec![in alloc; 0; columns]?;
-    let limit = add_multiple(
-        modulus,
-        &mut numbers,
-        first_limit(modulus),
-        1,
-        row.entries(),
-    );
-    let left = Vec::new(alloc);
-    let taken = Vec::new(alloc);
-    Ok(Work {
-        left,
-        numbers,
-        limit,
-        taken,
-    })
-}
-
-// The row with all columns cleared from its first one on.
-fn clear_columns(
-    alloc: Global,
-    modulus: &Modulus,
-    rows: &[Row],
-    pivots: &[usize],
-    inputs: usize,
-    row: &Row,
-) -> Result<Work, NoMemory>
-    requires pivots { ArePivots modulus.now.value (length pivots.now) inputs rows.now pivots.now }
-    requires row { IsRow modulus.now.value (length pivots.now) inputs row.now }
-    ensures { IfOk result (λ w. IsDone modulus.now.value rows.now pivots.now row.now w.left.items w.numbers.items w.taken.items) }
-{
-    modulus.domain();
-    let mut work = start_work(alloc, modulus, pivots.len(), inputs, row)?;
-    let count = kept_number(pivots.len())?;
-    for c in row.entries()[0].0..count {
-        pass_column(modulus, rows, pivots, inputs, row, &mut work, c)?;
-    }
-    Ok(work)
-}
-
-/// What the pivots leave of the row, monic, or none where it is in their span.
+/// What the pivots leave of a row whose column another row has, monic, or none where it is in their span. At each column its
+/// pivot is the row that its word names at a look, or else the helper's own; the first column's is the winner of the claim.
 pub(crate) fn reduce_row(
     alloc: Global,
-    modulus: &Modulus,
-    rows: &[Row],
-    pivots: &[usize],
-    inputs: usize,
+    shared: Shared<'_>,
+    seat: &mut ClaimSeat,
+    own: &Own,
+    work: &mut Work,
     row: &Row,
+    winner: u64,
 ) -> Result<Option<Row>, NoMemory>
-    requires pivots { ArePivots modulus.now.value (length pivots.now) inputs rows.now pivots.now }
-    requires row { IsRow modulus.now.value (length pivots.now) inputs row.now }
-    ensures { IfOk result (λ r. MatchOption r (IsSpanned modulus.now.value rows.now row.now)
-        (IsRemainder modulus.now.value inputs rows.now pivots.now row.now)) }
+    requires ready { AreReady shared.modulus.now.value (length own.now.pivots.items) shared.inputs shared.rows.now
+        shared.claims.now.rows.leads.items shared.claims.now.rows.held.items }
+    requires own { ArePivots shared.modulus.now.value (length own.now.pivots.items) shared.inputs (rows_left own.now.left.items) own.now.pivots.items }
+    requires idle { AreIdle (length own.now.pivots.items) work.old.numbers.items }
+    requires seat { IsSeatOf shared.claims.now.table.shared.table_id shared.claims.now.rows.leads.items seat.old }
+    requires row { IsRow shared.modulus.now.value (length own.now.pivots.items) shared.inputs row.now }
+    requires winner { IsTold shared.rows.now (told seat.old) (first_column row.now.entries) winner }
+    ensures seat { IsSeatOf shared.entry.claims.now.table.shared.table_id shared.entry.claims.now.rows.leads.items seat.new }
+    ensures follows { Follows (told seat.old) (told seat.new) }
+    ensures idle { OnOk result (AreIdle (length own.now.pivots.items) work.new.numbers.items) }
+    ensures rest { IfOk result (λ r. MatchOption r
+        (IsGone shared.entry.modulus.now.value shared.entry.rows.now (rows_left own.now.left.items) (told seat.new) row.now)
+        (IsRest shared.entry.modulus.now.value (length own.now.pivots.items) shared.entry.inputs shared.entry.rows.now (rows_left own.now.left.items)
+        (told seat.new) row.now)) }
 {
-    modulus.domain();
-    let work = clear_columns(alloc, modulus, rows, pivots, inputs, row)?;
-    let left = left_row(alloc, modulus, inputs, rows, row, work)?;
+    shared.modulus.domain();
+    let columns = kept_number(own.pivots.as_slice().len())?;
+    clear_columns(shared, seat, own, work, row, winner as usize, columns)?;
+    let left = left_row(alloc, shared, own, row, work)?;
     match left {
         None => Ok(None),
         Some(rest) => Ok(Some(rest)),

@@ -12,8 +12,8 @@ loop-entry-preserved c =
     let one : 1 < p = c.domain.ensures.above_one in
     let b = c.add_product.result in
     record {
-      adds = adds_step p c.args.factor c.args.entries.now i e c.args.acc.now.items c.loop-entry.acc.items c.index.result.now b
+      adds = adds_step p c.args.factor c.args.entries.now i e c.args.acc.now c.loop-entry.acc b
           (omega arith) c.loop-entry.invariant.adds c.loop-entry-test.true (get_or_default c.args.entries.now i (0, 0) e c.loop-entry-test.true)
-          c.requires.entries c.index.ensures c.add_product.ensures.congruent;
-      small = Each_set (λ a. a < c.args.limit) c.loop-entry.acc.items e.0 b c.loop-entry.invariant.small c.add_product.ensures.small;
+          c.requires.entries c.add_product.ensures.congruent;
+      small = Each_set (λ a. a < c.args.limit) c.loop-entry.acc e.0 b c.loop-entry.invariant.small c.add_product.ensures.small;
     }

@@ -4,6 +4,6 @@ use Rattle.row_reduce.proofs.accumulating.add_below.Given as goal
 
 abbrev pub invariant-loop-entry : goal.invariant-loop-entry
 invariant-loop-entry l = record {
-  adds : AddsMultiple l.modulus.value l.factor (take l.entry-index l.entries) l.fn.acc.items l.acc.items;
-  small : IsDense l.limit l.acc.items;
+  adds : AddsMultiple l.modulus.value l.factor (take l.entry-index l.entries) l.fn.acc l.acc;
+  small : IsDense l.limit l.acc;
 }

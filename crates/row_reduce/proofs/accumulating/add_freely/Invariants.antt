@@ -5,6 +5,6 @@ use Rattle.row_reduce.proofs.accumulating.add_freely.Given as goal
 
 abbrev pub invariant-loop-entry : goal.invariant-loop-entry
 invariant-loop-entry l = record {
-  adds : AddsMultiple l.modulus.value l.factor (take l.entry-index l.entries) l.fn.acc.items l.acc.items;
-  added : AreAddedTo (l.modulus.value * l.modulus.value) l._limit (drop l.entry-index l.entries) l.acc.items;
+  adds : AddsMultiple l.modulus.value l.factor (take l.entry-index l.entries) l.fn.acc l.acc;
+  added : AreAddedTo (l.modulus.value * l.modulus.value) l._limit (drop l.entry-index l.entries) l.acc;
 }

@@ -1,15 +1,16 @@
-use Rattle.std.proofs.Common.{length, take, ℕ, ◌≡◌}
+use Rattle.std.proofs.Common.{length, take, ℕ, ◌++◌, ◌≡◌}
 use Rattle.formal_sums.specs.FormalSums.{IsSame, Key}
 use Rattle.row_reduce.specs.Dense.{HasRoom, IsDense, dense_sum}
+use Rattle.row_reduce.specs.Passes.{rows_left}
 use Rattle.row_reduce.specs.Underway.{sources_sum}
 use Rattle.row_reduce.proofs.reduction.compose_sources.Given as goal
 
 abbrev pub invariant-loop-part : goal.invariant-loop-part
 invariant-loop-part l =
-    let p = l.modulus.value in
+    let p = l.shared.modulus.now.value in
     record {
-      count : length l.sources.items ≡ l.inputs;
+      count : length l.sources.items ≡ l.shared.inputs;
       room : HasRoom p l.limit;
       small : IsDense l.limit l.sources.items;
-      sum : (n : ℕ) (key : ℕ → Key n) → IsSame p (dense_sum key 0 l.sources.items) (sources_sum key l.rows l.row (take l.part-index l.taken));
+      sum : (n : ℕ) (key : ℕ → Key n) → IsSame p (dense_sum key 0 l.sources.items) (sources_sum key (l.shared.rows.now ++ rows_left l.own.left.items) l.row (take l.part-index l.taken));
     }

@@ -1,27 +1,57 @@
-use Rattle.std.proofs.Common.{arith, subst, ◌<◌}
+use Rattle.std.proofs.Common.{arith, length, subst, sym, ◌++◌, ◌<◌}
 use Rattle.formal_sums.proofs.Combining.{Each_map}
+use Rattle.formal_sums.proofs.WeightedSums.{Each_append}
+use Rattle.pivot_table.specs.Law.{told}
 use Rattle.row_matrix.specs.Rows.{AreEntries, IsRow, RowShown}
-use Rattle.row_reduce.proofs.Reducing.{done_nothing, done_row}
+use Rattle.row_reduce.proofs.Reducing.{zeros_idle}
+use Rattle.row_reduce.proofs.Steps.{gone_row, rest_row}
+use Rattle.row_reduce.specs.Passes.{rows_left}
 use Rattle.row_reduce.specs.Underway.{IsLeftRow}
 use Rattle.row_reduce.proofs.reduction.reduce_row.Goals as goal
 
+pub left_row-requires-clause-entries : goal.left_row-requires-clause-entries
+left_row-requires-clause-entries c =
+    let u = c.in_ok-clear_columns.ensures.underway in
+    let w = c.clear_columns.new.work in
+    subst (λ m. AreEntries c.args.shared.modulus.now.value 0 m w.left.items) (sym u.numbered) u.entries
+
 pub left_row-requires-clause-rows : goal.left_row-requires-clause-rows
 left_row-requires-clause-rows c =
-    let p = c.args.modulus.now.value in
-    Each_map (IsRow p _ c.args.inputs) (λ (r : RowShown). AreEntries p 0 c.args.inputs r.sources) c.args.rows.now (λ r h. h.sources) c.requires.pivots.monic
+    let p = c.args.shared.modulus.now.value in
+    let columns = length c.args.own.now.pivots.items in
+    let own = rows_left c.args.own.now.left.items in
+    Each_map (IsRow p columns c.args.shared.inputs) (λ (r : RowShown). AreEntries p 0 c.args.shared.inputs r.sources) (c.args.shared.rows.now ++ own) (λ r h. h.sources)
+    (Each_append (IsRow p columns c.args.shared.inputs) c.args.shared.rows.now own c.requires.ready.monic c.requires.own.monic)
 
-pub returns-in-None : goal.returns-in-None
-returns-in-None c =
-    let one : 1 < c.args.modulus.now.value = c.domain.ensures.above_one in
-    let w = c.in_ok-work.work in
-    done_nothing c.args.modulus.now.value c.args.inputs (omega arith) c.args.rows.now c.args.pivots.now c.args.row.now w.left.items w.numbers.items w.taken.items c.in_ok-work.ensures
-    (rw c.in-None.is at c.in_ok-left.ensures)
+pub returns-in-None-clause-idle : goal.returns-in-None-clause-idle
+returns-in-None-clause-idle c =
+    let u = c.in_ok-clear_columns.ensures.underway in
+    zeros_idle (length c.args.own.now.pivots.items) c.clear_columns.new.work.numbers.items u.numbered u.cleared
 
-pub returns-in-Some : goal.returns-in-Some
-returns-in-Some c =
-    let p = c.args.modulus.now.value in
+pub returns-in-None-clause-rest : goal.returns-in-None-clause-rest
+returns-in-None-clause-rest c =
+    let p = c.args.shared.modulus.now.value in
     let one : 1 < p = c.domain.ensures.above_one in
-    let w = c.in_ok-work.work in
-    let u = c.in_ok-work.ensures.underway in
-    done_row p c.args.inputs (omega arith) c.args.rows.now c.args.pivots.now c.args.row.now w.left.items w.numbers.items w.taken.items c.in_ok-work.ensures c.in-Some.rest
-    (subst (λ a. IsLeftRow p a c.args.inputs c.args.rows.now c.args.row.now w.left.items w.taken.items c.in-Some.rest) u.numbered (rw c.in-Some.is at c.in_ok-left.ensures))
+    let w = c.clear_columns.new.work in
+    let own = rows_left c.args.own.now.left.items in
+    let pivots = c.args.own.now.pivots.items in
+    let e = c.in_ok-clear_columns.ensures in
+    gone_row p w.limit (length pivots) c.args.shared.inputs (length (c.args.shared.rows.now ++ own)) (omega (arith, one)) c.args.shared.rows.now own (told c.clear_columns.new.seat) pivots c.args.row.now w.left.items w.numbers.items w.taken.items
+    e.underway e.reduced (rw c.in-None.is at c.in_ok-left.ensures)
+
+pub returns-in-Some-clause-idle : goal.returns-in-Some-clause-idle
+returns-in-Some-clause-idle c =
+    let u = c.in_ok-clear_columns.ensures.underway in
+    zeros_idle (length c.args.own.now.pivots.items) c.clear_columns.new.work.numbers.items u.numbered u.cleared
+
+pub returns-in-Some-clause-rest : goal.returns-in-Some-clause-rest
+returns-in-Some-clause-rest c =
+    let p = c.args.shared.modulus.now.value in
+    let one : 1 < p = c.domain.ensures.above_one in
+    let w = c.clear_columns.new.work in
+    let own = rows_left c.args.own.now.left.items in
+    let pivots = c.args.own.now.pivots.items in
+    let e = c.in_ok-clear_columns.ensures in
+    rest_row p w.limit (length pivots) c.args.shared.inputs (length (c.args.shared.rows.now ++ own)) (omega (arith, one)) c.args.shared.rows.now own (told c.clear_columns.new.seat) pivots c.args.row.now w.left.items w.numbers.items w.taken.items
+    e.underway e.reduced c.in-Some.rest c.requires.own
+    (subst (λ m. IsLeftRow p m c.args.shared.inputs (c.args.shared.rows.now ++ own) c.args.row.now w.left.items w.taken.items c.in-Some.rest) e.underway.numbered (rw c.in-Some.is at c.in_ok-left.ensures))

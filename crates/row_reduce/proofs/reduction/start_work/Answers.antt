@@ -1,30 +1,56 @@
-use Rattle.std.proofs.Common.{ap, length, subst, sym, ◌∙◌, ◌≡◌}
-use Rattle.std.proofs.lemmas.List.{length-replicate}
-use Rattle.row_matrix.specs.Rows.{AreEntries}
-use Rattle.row_reduce.proofs.Reducing.{dense_start, start_sum, start_underway}
-use Rattle.row_reduce.specs.Dense.{AddsMultiple, IsDense}
+use Rattle.std.proofs.Common.{[], ap, arith, drop, length, subst, sym, ◌+◌, ◌++◌, ◌<◌, ◌∙◌, ◌∷◌}
+use Rattle.std.proofs.lemmas.List.{length-append}
+use Rattle.residues.specs.Residues.{IsCongruent}
+use Rattle.row_matrix.specs.Rows.{first_column}
+use Rattle.row_reduce.proofs.Clearing.{factor_cancels}
+use Rattle.row_reduce.proofs.Entries.{monic_entries}
+use Rattle.row_reduce.proofs.Reducing.{dense_start, idle_zeros, start_underway}
+use Rattle.row_reduce.proofs.Steps.{pivot_first, reduced_first}
+use Rattle.row_reduce.specs.Dense.{IsDense}
+use Rattle.row_reduce.specs.Passes.{rows_left}
+use Rattle.row_reduce.specs.Pivots.{row_at}
 use Rattle.row_reduce.proofs.reduction.start_work.Goals as goal
 
-pub add_multiple-limit-requires-clause-small : goal.add_multiple-limit-requires-clause-small
-add_multiple-limit-requires-clause-small c =
-    subst (IsDense c.first_limit.result) (sym (c.in_ok-numbers.ensures.items_if_clones_equal (λ y e. e))) (dense_start c.args.modulus.now.value c.first_limit.result c.args.columns c.domain.ensures.above_one c.first_limit.ensures.room)
+pub add_tail-work-requires-clause-entries : goal.add_tail-work-requires-clause-entries
+add_tail-work-requires-clause-entries c =
+    let es = c.args.row.now.entries in
+    (first_column es + 1, (monic_entries c.args.shared.modulus.now.value 0 (length c.args.work.now.numbers.items) es c.requires.row.entries c.requires.row.monic).1)
 
-pub add_multiple-limit-requires-clause-entries : goal.add_multiple-limit-requires-clause-entries
-add_multiple-limit-requires-clause-entries c =
-    let p = c.args.modulus.now.value in
-    let size : length c.in_ok-numbers.numbers.items ≡ c.args.columns = ap length (c.in_ok-numbers.ensures.items_if_clones_equal (λ y e. e)) ∙ length-replicate c.args.columns 0 in
-    (0, subst (λ m. AreEntries p 0 m c.entries.result.now) (sym size) (subst (AreEntries p 0 c.args.columns) (sym c.entries.ensures) c.requires.entries))
+pub add_tail-work-requires-clause-small : goal.add_tail-work-requires-clause-small
+add_tail-work-requires-clause-small c =
+    let numbers = c.args.work.now.numbers.items in
+    subst (IsDense c.first_limit.result) (sym (idle_zeros (length numbers) numbers c.requires.idle))
+    (dense_start c.args.shared.modulus.now.value c.first_limit.result (length numbers) c.domain.ensures.above_one c.first_limit.ensures.room)
 
 pub returns-clause-underway : goal.returns-clause-underway
-returns-clause-underway c = λ count pivots.
-    let p = c.args.modulus.now.value in
-    start_underway p c.add_multiple-limit.result c.args.columns c.args._inputs count pivots c.args.row.now c.in_ok-numbers.numbers.items c.add_multiple-limit.new.acc.items c.new-left.result.items c.new-taken.result.items
-    c.requires (c.in_ok-numbers.ensures.items_if_clones_equal (λ y e. e))
-    (subst (λ es. AddsMultiple p 1 es c.in_ok-numbers.numbers.items c.add_multiple-limit.new.acc.items) c.entries.ensures c.add_multiple-limit.ensures.adds)
-    c.new-left.ensures.items c.new-taken.ensures.items c.add_multiple-limit.ensures.room c.add_multiple-limit.ensures.small
+returns-clause-underway c = λ pivots.
+    let p = c.args.shared.modulus.now.value in
+    let numbers = c.args.work.now.numbers.items in
+    let own = rows_left c.args.own.now.left.items in
+    let rows = c.args.shared.rows.now ++ own in
+    let es = c.args.row.now.entries in
+    let lt : c.args.winner < length rows = omega (arith, length-append c.args.shared.rows.now own, c.requires.known) in
+    let g = pivot_first p (first_column es) (length numbers) c.args.shared.inputs c.args.winner c.args.shared.rows.now own c.requires.rows c.requires.known c.requires.lead in
+    let m = monic_entries p 0 (length numbers) es c.requires.row.entries c.requires.row.monic in
+    let e = c.add_pivot.ensures in
+    start_underway p c.add_pivot.new.work.limit (first_column es) (length numbers) (length rows) c.args.winner c.neg.result pivots (drop 1 es) (drop 1 (row_at rows c.args.winner).entries)
+    numbers c.add_tail-work.new.numbers.items c.add_pivot.new.work.numbers.items c.add_pivot.new.work.left.items c.add_pivot.new.work.taken.items
+    m.1 g.tail (idle_zeros (length numbers) numbers c.requires.idle) c.add_tail-work.ensures.adds e.adds lt c.neg.ensures.small
+    (e.left ∙ c.clear.ensures.items) (c.in_ok-add_pivot.ensures.taken ∙ ap (λ ts. ts ++ (c.args.winner, c.neg.result) ∷ []) c.clear-2.ensures.items) e.room e.small
 
-pub returns-clause-numbers : goal.returns-clause-numbers
-returns-clause-numbers c = λ n key.
-    let p = c.args.modulus.now.value in
-    start_sum key c.args.columns c.args.row.now.entries c.in_ok-numbers.numbers.items c.add_multiple-limit.new.acc.items (c.in_ok-numbers.ensures.items_if_clones_equal (λ y e. e))
-    (subst (λ es. AddsMultiple p 1 es c.in_ok-numbers.numbers.items c.add_multiple-limit.new.acc.items) c.entries.ensures c.add_multiple-limit.ensures.adds)
+pub returns-clause-reduced : goal.returns-clause-reduced
+returns-clause-reduced c = λ told is.
+    let p = c.args.shared.modulus.now.value in
+    let one : 1 < p = c.domain.ensures.above_one in
+    let numbers = c.args.work.now.numbers.items in
+    let own = rows_left c.args.own.now.left.items in
+    let rows = c.args.shared.rows.now ++ own in
+    let es = c.args.row.now.entries in
+    let g = pivot_first p (first_column es) (length numbers) c.args.shared.inputs c.args.winner c.args.shared.rows.now own c.requires.rows c.requires.known c.requires.lead in
+    let m = monic_entries p 0 (length numbers) es c.requires.row.entries c.requires.row.monic in
+    let e = c.add_pivot.ensures in
+    reduced_first p (first_column es) (length numbers) c.args.winner c.neg.result c.args.shared.rows.now own told c.args.row.now (drop 1 (row_at rows c.args.winner).entries)
+    numbers c.add_tail-work.new.numbers.items c.add_pivot.new.work.numbers.items c.add_pivot.new.work.left.items c.add_pivot.new.work.taken.items
+    (omega (arith, one)) is m.0 g.entries (idle_zeros (length numbers) numbers c.requires.idle) c.add_tail-work.ensures.adds e.adds
+    (subst (λ x. IsCongruent p (x + 1) 0) (sym c.neg.ensures.value) (factor_cancels p 1 one))
+    (e.left ∙ c.clear.ensures.items) (c.in_ok-add_pivot.ensures.taken ∙ ap (λ ts. ts ++ (c.args.winner, c.neg.result) ∷ []) c.clear-2.ensures.items)

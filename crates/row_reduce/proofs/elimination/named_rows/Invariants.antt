@@ -1,0 +1,11 @@
+use Rattle.std.proofs.Common.{drop, length, reverse, ℕ, ◌-◌, ◌<◌, ◌≡◌}
+use Rattle.row_reduce.specs.Passes.{named}
+use Rattle.row_reduce.specs.Pivots.{lead_column, row_at}
+use Rattle.row_reduce.proofs.elimination.named_rows.Given as goal
+
+abbrev pub invariant-loop-past : goal.invariant-loop-past
+invariant-loop-past l = record {
+  found : l.found.items ≡ reverse (named l.fn.rows.items (drop (length l.held - l.past) l.held));
+  count : length l.rows.items ≡ length l.fn.rows.items;
+  kept : (k : ℕ) → lead_column l.fn.rows.items k < length l.held - l.past → row_at l.rows.items k ≡ row_at l.fn.rows.items k;
+}

@@ -1,0 +1,21 @@
+use Rattle.std.proofs.Common.{IfOk, length, subst}
+use Rattle.pivot_table.specs.Law.{told}
+use Rattle.row_reduce.proofs.HelpedRows.{leads_within, passed}
+use Rattle.row_reduce.specs.Passes.{AreHelped}
+use Rattle.row_reduce.proofs.helpers.pass.Goals as goal
+
+pub new-requires-clause-leads : goal.new-requires-clause-leads
+new-requires-clause-leads g c =
+    leads_within c.args.modulus.now.value (length c.args.held.now) c.args.inputs c.args.rows.now
+    c.args.leads.now c.requires.ready.monic c.requires.ready.known
+
+pub returns : goal.returns
+returns g c =
+    let p = c.args.modulus.now.value in
+    let columns = length c.args.held.now in
+    let rows = c.args.rows.now in
+    let all = told c.help_all-left.result.1 in
+    passed p columns c.args.inputs rows c.args.leads.now c.in-Ok.made.0.rows.leads.items c.args.pending.now
+    c.args.held.now c.in-Ok.made.0.rows.held.items c.close-words.result.items all c.in_ok-left.left.items c.requires.ready.known c.in-Ok.ensures.rows.0 c.in-Ok.ensures.rows.1
+    (subst (λ r. IfOk r (λ left. AreHelped p columns c.args.inputs rows c.args.pending.now all left.items)) c.in_ok-left.was c.help_all-left.ensures.helped)
+    c.close-words.ensures

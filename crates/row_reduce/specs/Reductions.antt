@@ -1,0 +1,29 @@
+-- A row that is being reduced in a pass, by rows that words name and by a helper's own ones
+use Rattle.std.specs.Prelude.{List, Option, length, ℕ, ◌++◌, ◌<◌, ◌≡◌}
+use Rattle.formal_sums.specs.Combinations.{combination}
+use Rattle.formal_sums.specs.FormalSums.{Each, FormalSum, IsSame, Key}
+use Rattle.pivot_table.specs.declared.law.Entry.{Entry as Told}
+use Rattle.row_matrix.specs.Rows.{Entry, RowShown, first_column, row_sum, source_key}
+use Rattle.row_reduce.specs.Passes.{AreAsTold, named}
+use Rattle.row_reduce.specs.Pivots.{lead_column, row_at}
+use Rattle.row_reduce.specs.Underway.{AreCombined, IsCombinedDense, IsReducedRow, IsSpanned}
+
+-- of the pass's rows and the own ones behind them, the one with this number has its lead at the column; the rows told and the own ones
+-- span it
+pub record IsPivotFor (p : ℕ) (rows own : List RowShown) (told : List Told) (column number : ℕ) : Type 0 where
+  pub known : number < length (rows ++ own)
+  pub lead : lead_column (rows ++ own) number ≡ column
+  pub spanned : (words : List (Option ℕ)) → AreAsTold words told → IsSpanned p (named rows words ++ own) (row_at (rows ++ own) number)
+
+-- the row is the sum of what is left of it, behind its first column, of the numbers and of a vector in the span of the rows told and the
+-- own ones, so too for all rows; what is left and the numbers are the combination of input rows by the sources of the row and of those added
+pub record IsReducedSoFar
+    (p : ℕ) (rows own : List RowShown) (told : List Told) (row : RowShown) (left : List Entry) (numbers : List ℕ) (taken : List Entry)
+    : Type 0 where
+  pub above : Each (λ e. first_column row.entries < e.0) left
+  pub inside : (words : List (Option ℕ)) → AreAsTold words told → IsReducedRow p (named rows words ++ own) row left numbers
+  pub outside : IsReducedRow p (rows ++ own) row left numbers
+  pub combined :
+      (n : ℕ) (F : List (FormalSum n)) (key : ℕ → Key n)
+      → AreCombined p F key (rows ++ own) → IsSame p (combination F (row_sum (source_key n) row.sources)) (row_sum key row.entries)
+      → IsCombinedDense p F key (rows ++ own) row left numbers taken
