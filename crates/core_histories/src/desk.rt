@@ -3,15 +3,18 @@ use crate::described::{write_state, write_turn};
 use crate::driving::{busy, drive};
 use crate::matrices::compare_jobs;
 use crate::play::{Play, begin};
+use crate::sizes::{measure_jobs, solve_jobs};
 use check_texts::Sheet;
 use std::alloc::Global;
+use std::thread::Threads;
 
-/// The texts of a ring and of its generators, each behind the one before and a `;`, and the rank.
+/// The texts of a ring and of its generators, each behind the one before and a `;`, the rank, and how many helpers reduce a matrix.
 #[derive(Drop)]
 pub struct Input {
     pub ring: String,
     pub rank: u128,
     pub generators: String,
+    pub helpers: u32,
 }
 
 /// What is kept from line to line.
@@ -73,6 +76,7 @@ impl Desk {
                 ring: String::new(alloc),
                 rank: 1,
                 generators: String::new(alloc),
+                helpers: 1,
             },
             play: None,
         }
@@ -81,19 +85,26 @@ impl Desk {
     // `begin WORKERS BUDGET`
     fn begin(&mut self, alloc: Global, sheet: &mut Sheet, text: &str) {
         let (workers, budget) = numbers_of(text);
-        self.play = begin(alloc, sheet, &self.input, budget, small(workers), false);
+        self.play = begin(alloc, sheet, &self.input, budget, small(workers), None);
         write_begun(alloc, sheet, &self.play);
     }
 
     // `take WORKER MOST`, `put WORKER`, `end WORKER`, `stop WORKER`
-    fn event(&mut self, alloc: Global, sheet: &mut Sheet, word: &str, text: &str) {
+    fn event<R: Threads + Sync>(
+        &mut self,
+        rt: &R,
+        alloc: Global,
+        sheet: &mut Sheet,
+        word: &str,
+        text: &str,
+    ) {
         let (worker, most) = numbers_of(text);
         let worker = small(worker);
         let Some(play) = &mut self.play else {
             return;
         };
         let turn = match word {
-            "take" => play.take(alloc, worker, most),
+            "take" => play.take(rt, alloc, worker, most),
             "put" => play.put(alloc, worker),
             "end" => play.end(worker),
             "stop" => play.stop(worker),
@@ -104,31 +115,65 @@ impl Desk {
     }
 
     // `busy TAKES PUTS`
-    fn busy(&self, alloc: Global, sheet: &mut Sheet, text: &str) {
+    fn busy<R: Threads + Sync>(&self, rt: &R, alloc: Global, sheet: &mut Sheet, text: &str) {
         let (takes, puts) = numbers_of(text);
-        busy(alloc, sheet, &self.input, small(takes), small(puts));
+        busy(rt, alloc, sheet, &self.input, small(takes), small(puts));
     }
 
     // `jobs COUNT MOST`
-    fn jobs(&self, alloc: Global, sheet: &mut Sheet, text: &str) {
+    fn jobs<R: Threads + Sync>(&self, rt: &R, alloc: Global, sheet: &mut Sheet, text: &str) {
         let (count, most) = numbers_of(text);
-        compare_jobs(alloc, sheet, &self.input, small(count), most);
+        compare_jobs(rt, alloc, sheet, &self.input, small(count), most);
+    }
+
+    // `solve COUNT MOST`, `divide COUNT MOST`, `sizes COUNT MOST`
+    fn one_way<R: Threads + Sync>(
+        &self,
+        rt: &R,
+        alloc: Global,
+        sheet: &mut Sheet,
+        word: &str,
+        text: &str,
+    ) {
+        let (count, most) = numbers_of(text);
+        let input = &self.input;
+        match word {
+            "sizes" => measure_jobs(rt, alloc, sheet, input, small(count), most),
+            "solve" => solve_jobs(
+                rt,
+                alloc,
+                sheet,
+                input,
+                small(count),
+                most,
+                Some(input.helpers),
+            ),
+            _ => solve_jobs(rt, alloc, sheet, input, small(count), most, None),
+        }
     }
 
     /// Does a line, and writes it with what it answers.
-    pub fn line(&mut self, alloc: Global, sheet: &mut Sheet, line: &str) {
+    pub fn line<R: Threads + Sync>(
+        &mut self,
+        rt: &R,
+        alloc: Global,
+        sheet: &mut Sheet,
+        line: &str,
+    ) {
         sheet.text(line);
         sheet.text("\n");
         let (word, text) = line.split_once(' ').unwrap_or((line, ""));
         match word {
             "ring" => self.input.set_ring(text),
             "rank" => self.input.rank = u128::from(numbers_of(text).0),
+            "helpers" => self.input.helpers = small(numbers_of(text).0),
             "generator" => self.input.add_generator(text),
             "begin" => self.begin(alloc, sheet, text),
-            "drive" => drive(alloc, sheet, &self.input),
-            "jobs" => self.jobs(alloc, sheet, text),
-            "busy" => self.busy(alloc, sheet, text),
-            _ => self.event(alloc, sheet, word, text),
+            "drive" => drive(rt, alloc, sheet, &self.input),
+            "jobs" => self.jobs(rt, alloc, sheet, text),
+            "busy" => self.busy(rt, alloc, sheet, text),
+            "solve" | "divide" | "sizes" => self.one_way(rt, alloc, sheet, word, text),
+            _ => self.event(rt, alloc, sheet, word, text),
         }
     }
 }

@@ -4,12 +4,13 @@ use crate::leading::write_leads;
 use crate::play::{Play, Turn, begin};
 use check_texts::Sheet;
 use std::alloc::Global;
+use std::thread::Threads;
 
 const BUDGET: u64 = 1_000_000;
 
 // One job, taken, solved and handed in; false where there is none.
-fn has_job(alloc: Global, play: &mut Play, most: u64) -> bool {
-    match play.take(alloc, 0, most) {
+fn has_job<R: Threads + Sync>(rt: &R, alloc: Global, play: &mut Play, most: u64) -> bool {
+    match play.take(rt, alloc, 0, most) {
         Turn::Job => {
             play.put(alloc, 0);
             true
@@ -45,14 +46,21 @@ fn are_alike(alloc: Global, sheet: &mut Sheet, plain: &Play, by_matrix: &Play) -
 }
 
 // A job of each; false where neither has one.
-fn have_jobs(alloc: Global, plain: &mut Play, by_matrix: &mut Play, most: u64) -> bool {
-    let left = has_job(alloc, plain, most);
-    let right = has_job(alloc, by_matrix, most);
+fn have_jobs<R: Threads + Sync>(
+    rt: &R,
+    alloc: Global,
+    plain: &mut Play,
+    by_matrix: &mut Play,
+    most: u64,
+) -> bool {
+    let left = has_job(rt, alloc, plain, most);
+    let right = has_job(rt, alloc, by_matrix, most);
     left || right
 }
 
 // Up to so many jobs in both ways: writes how many, and after how many of them the leads are the same.
-fn play_both(
+fn play_both<R: Threads + Sync>(
+    rt: &R,
     alloc: Global,
     sheet: &mut Sheet,
     plain: &mut Play,
@@ -63,7 +71,7 @@ fn play_both(
     let mut jobs: u64 = 0;
     let mut alike: u64 = 0;
     for _ in 0..count {
-        if !have_jobs(alloc, plain, by_matrix, most) {
+        if !have_jobs(rt, alloc, plain, by_matrix, most) {
             break;
         }
         jobs = jobs.saturating_add(1);
@@ -77,7 +85,8 @@ fn play_both(
 }
 
 // The same run by matrices beside that by plain division.
-fn play_beside(
+fn play_beside<R: Threads + Sync>(
+    rt: &R,
     alloc: Global,
     sheet: &mut Sheet,
     input: &Input,
@@ -85,15 +94,22 @@ fn play_beside(
     count: u32,
     most: u64,
 ) {
-    if let Some(mut by_matrix) = begin(alloc, sheet, input, BUDGET, 1, true) {
-        play_both(alloc, sheet, plain, &mut by_matrix, count, most);
+    if let Some(mut by_matrix) = begin(alloc, sheet, input, BUDGET, 1, Some(input.helpers)) {
+        play_both(rt, alloc, sheet, plain, &mut by_matrix, count, most);
     }
 }
 
 /// Up to so many jobs of one worker, each of so many pairs at most, by plain division and by matrices: writes how many there were,
 /// after how many of them the minimal leads of the members are the same, and the leads where they are not.
-pub fn compare_jobs(alloc: Global, sheet: &mut Sheet, input: &Input, count: u32, most: u64) {
-    if let Some(mut plain) = begin(alloc, sheet, input, BUDGET, 1, false) {
-        play_beside(alloc, sheet, input, &mut plain, count, most);
+pub fn compare_jobs<R: Threads + Sync>(
+    rt: &R,
+    alloc: Global,
+    sheet: &mut Sheet,
+    input: &Input,
+    count: u32,
+    most: u64,
+) {
+    if let Some(mut plain) = begin(alloc, sheet, input, BUDGET, 1, None) {
+        play_beside(rt, alloc, sheet, input, &mut plain, count, most);
     }
 }

@@ -13,6 +13,8 @@ use check_texts::{NoValue, Sheet, ring_of, vectors_of};
 use module_vectors::{NoMemory, WorkStop};
 use std::alloc::Global;
 use std::marker::Model;
+use std::thread::Threads;
+use worker_gate::SharedGate;
 
 /// What became of a turn.
 #[derive(Clone, Copy)]
@@ -56,24 +58,29 @@ fn take_back(waiting: &mut Vec<Option<Outcome>>, worker: u32) -> Option<Outcome>
     }
 }
 
-// Solves a job by its matrix or by plain division.
-fn solve(alloc: Global, by_matrix: bool, job: Job) -> Result<Outcome, (WorkStop, Job)>
+// Solves a job by its matrix, with so many helpers, or by plain division.
+fn solve<R: Threads + Sync>(
+    rt: &R,
+    alloc: Global,
+    helpers: Option<u32>,
+    job: Job,
+) -> Result<Outcome, (WorkStop, Job)>
     ensures job { IfOk result (λ o. o.job ≡ job) }
 {
-    if by_matrix {
-        f4_job::solve(alloc, job)
-    } else {
-        s_vectors::solve(alloc, job)
+    match helpers {
+        Some(helpers) => f4_job::solve(rt, alloc, job, helpers.max(1), &SharedGate::open()),
+        None => s_vectors::solve(alloc, job),
     }
 }
 
 // A Take, whose job is solved at once.
-fn take(
+fn take<R: Threads + Sync>(
+    rt: &R,
     alloc: Global,
     state: &mut BasisState,
     waiting: &mut Vec<Option<Outcome>>,
     failure: &mut Option<WorkStop>,
-    by_matrix: bool,
+    helpers: Option<u32>,
     worker: u32,
     most: u64,
 ) -> Turn
@@ -89,7 +96,7 @@ fn take(
         Ok(Taken::Stopped) => return Turn::Stopped,
         Err(NoMemory) => return Turn::NoMemory,
     };
-    match solve(alloc, by_matrix, job) {
+    match solve(rt, alloc, helpers, job) {
         Ok(outcome) => {
             put_aside(waiting, worker, outcome);
             Turn::Job
@@ -168,7 +175,7 @@ pub struct Play {
     state: BasisState,
     waiting: Vec<Option<Outcome>>,
     failure: Option<WorkStop>,
-    by_matrix: bool,
+    helpers: Option<u32>,
 }
 
 impl Model for Play {
@@ -182,14 +189,14 @@ impl Model for Play {
 }
 
 impl Play {
-    /// A state in which nobody has a job. Jobs are solved by their matrices, or by plain division.
-    pub fn new(alloc: Global, state: BasisState, by_matrix: bool) -> Result<Play, NoMemory> {
+    /// A state in which nobody has a job. Jobs are solved by their matrices, with so many helpers, or by plain division.
+    pub fn new(alloc: Global, state: BasisState, helpers: Option<u32>) -> Result<Play, NoMemory> {
         let waiting = no_outcomes(alloc, state.workers())?;
         Ok(Play {
             state,
             waiting,
             failure: None,
-            by_matrix,
+            helpers,
         })
     }
 
@@ -212,14 +219,21 @@ impl Play {
     }
 
     /// The worker asks for a job, and solves it.
-    pub fn take(&mut self, alloc: Global, worker: u32, most: u64) -> Turn {
+    pub fn take<R: Threads + Sync>(
+        &mut self,
+        rt: &R,
+        alloc: Global,
+        worker: u32,
+        most: u64,
+    ) -> Turn {
         if self.state.may_take(worker, most) {
             take(
+                rt,
                 alloc,
                 &mut self.state,
                 &mut self.waiting,
                 &mut self.failure,
-                self.by_matrix,
+                self.helpers,
                 worker,
                 most,
             )
@@ -281,10 +295,10 @@ pub fn begin(
     input: &Input,
     budget: u64,
     workers: u32,
-    by_matrix: bool,
+    helpers: Option<u32>,
 ) -> Option<Play> {
     match begun(alloc, input, budget, workers) {
-        Ok(Ok(state)) => Play::new(alloc, state, by_matrix).ok(),
+        Ok(Ok(state)) => Play::new(alloc, state, helpers).ok(),
         Ok(Err(stop)) => {
             write_stop(sheet, &stop);
             sheet.text("\n");

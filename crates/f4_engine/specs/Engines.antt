@@ -8,11 +8,12 @@ use Rattle.groebner_iface.specs.declared.stop.Stop.TheVariants.{Memory, Pairs, D
 use Rattle.run_endings.specs.Stops.{IsKeptWhereCounted, IsStop, stopped_on, stopped_run}
 use Rattle.f4_engine.specs.Runs.{IsLastRun, IsWorkedByAll}
 
--- its budget of pairs and number of workers; how many runs stopped; the state and the trail that are kept of the last one of them;
--- and the state of the last one that answered
+-- its budget of pairs, its number of workers and that of helpers for one job; how many runs stopped; the state and the trail that are
+-- kept of the last one of them; and the state of the last one that answered
 pub record EngineShown : Type 0 where
   pub pairs : ℕ
   pub workers : ℕ
+  pub helpers : ℕ
   pub stops : ℕ
   pub state : Option Shown
   pub trail : Option KeptTrail
@@ -21,6 +22,7 @@ pub record EngineShown : Type 0 where
 -- what is kept is of runs of this engine, each with an End of each worker; and those that stopped are counted
 pub record IsKeptBy (e : EngineShown) : Type 0 where
   pub some : 0 < e.workers
+  pub helped : 0 < e.helpers
   pub stop : IsStop e.pairs e.workers e.state e.trail
   pub counted : IsKeptWhereCounted e.stops (stopped_run e.state e.trail)
   pub by_all : IfSome e.state IsWorkedByAll
@@ -30,6 +32,7 @@ pub record IsKeptBy (e : EngineShown) : Type 0 where
 pub record Counts (old new : EngineShown) : Type 0 where
   pub pairs : new.pairs ≡ old.pairs
   pub workers : new.workers ≡ old.workers
+  pub helpers : new.helpers ≡ old.helpers
   pub last : new.last ≡ old.last
   pub stops : new.stops ≡ min (old.stops + 1) (2 ^ 64 - 1)
   pub later : old.stops ≤ new.stops

@@ -20,13 +20,14 @@ use std::sync::Wait;
 use std::thread::Threads;
 use worker_gate::SharedGate;
 
-/// Buchberger's algorithm by running workers. The last run that stopped early is kept: by its budget of pairs, its state;
-/// by a degree above 65,535, a trail and its state, or the trail alone where the beginning of the run met it. So is the
-/// state of the last run that answered.
+/// Buchberger's algorithm by running workers, each of which solves its jobs with helpers. The last run that stopped early is
+/// kept: by its budget of pairs, its state; by a degree above 65,535, a trail and its state, or the trail alone where the
+/// beginning of the run met it. So is the state of the last run that answered.
 #[derive(Drop)]
 pub struct F4Engine {
     pairs: u64,
     workers: u32,
+    helpers: u32,
     gate: SharedGate,
     stops: u64,
     state: Option<BasisState>,
@@ -39,17 +40,36 @@ impl Model for F4Engine {
 
     ghost Value = { EngineShown };
 
-    ghost view = { λ e. record { pairs = e.pairs; workers = e.workers; stops = e.stops; state = e.state; trail = e.trail; last = e.last } };
+    ghost view = { λ e. record {
+      pairs = e.pairs;
+      workers = e.workers;
+      helpers = e.helpers;
+      stops = e.stops;
+      state = e.state;
+      trail = e.trail;
+      last = e.last;
+    } };
 
-    ghost invariant = { λ e. IsKeptBy (record { pairs = e.pairs; workers = e.workers; stops = e.stops; state = e.state; trail = e.trail; last = e.last }) };
+    ghost invariant = { λ e. IsKeptBy (record {
+      pairs = e.pairs;
+      workers = e.workers;
+      helpers = e.helpers;
+      stops = e.stops;
+      state = e.state;
+      trail = e.trail;
+      last = e.last;
+    }) };
 }
 
 impl F4Engine {
-    /// An engine whose runs take at most so many pairs each, by so many workers, which pass this gate with each job.
-    pub fn new(pairs: u64, workers: u32, gate: SharedGate) -> F4Engine
-        requires { 0 < workers }
+    /// An engine whose runs take at most so many pairs each, by so many workers, each of which solves its jobs with so many
+    /// helpers. The workers pass this gate with each job, and the helpers with each row whose lead column they claim.
+    pub fn new(pairs: u64, workers: u32, helpers: u32, gate: SharedGate) -> F4Engine
+        requires workers { 0 < workers }
+        requires helpers { 0 < helpers }
         ensures pairs { result.pairs ≡ pairs }
         ensures workers { result.workers ≡ workers }
+        ensures helpers { result.helpers ≡ helpers }
         ensures stops { result.stops ≡ 0 }
         ensures state { result.state ≡ None }
         ensures trail { result.trail ≡ None }
@@ -58,6 +78,7 @@ impl F4Engine {
         F4Engine {
             pairs,
             workers,
+            helpers,
             gate,
             stops: 0,
             state: None,
@@ -81,7 +102,15 @@ impl F4Engine {
         self.workers
     }
 
-    /// The gate that its workers pass.
+    /// The number of helpers that reduce the matrix of one job.
+    pub fn helpers(&self) -> u32
+        ensures helpers { result ≡ self.now.helpers }
+        ensures some { 0 < result }
+    {
+        self.helpers
+    }
+
+    /// The gate that its workers and their helpers pass.
     pub fn gate(&self) -> &SharedGate {
         &self.gate
     }
@@ -187,6 +216,7 @@ impl F4Engine {
             alloc,
             self.pairs,
             self.workers,
+            self.helpers,
             &self.gate,
             ring,
             rank,
@@ -209,7 +239,7 @@ impl Groebner for F4Engine {
 
     ghost stopped = { λ e. stopped_run e.state e.trail };
 
-    ghost settings = { λ e. e.pairs ∷ e.workers ∷ [] };
+    ghost settings = { λ e. e.pairs ∷ e.workers ∷ e.helpers ∷ [] };
 
     fn reduced<R: Threads + Wait + Sync>(
         &mut self,

@@ -49,10 +49,12 @@ fn threads_for(state: &BasisState) -> u32 {
 fn let_work<R: Threads + Wait + Sync>(
     rt: &R,
     alloc: Global,
+    helpers: u32,
     gate: &SharedGate,
     state: BasisState,
 ) -> Option<BasisState>
-    requires { IsNew state }
+    requires new { IsNew state }
+    requires helpers { 0 < helpers }
     ensures { IfSome result (IsLeft state) }
 {
     let workers = state.workers();
@@ -60,7 +62,9 @@ fn let_work<R: Threads + Wait + Sync>(
     match Lock::new(alloc, state) {
         Ok((lock, seat)) => {
             let turns = Mutex::new(());
-            let seat = work_all(rt, alloc, &lock, gate, &turns, seat, workers, threads);
+            let seat = work_all(
+                rt, alloc, &lock, helpers, gate, &turns, seat, workers, threads,
+            );
             let state = lock.close(seat);
             state.kept();
             Some(state)
@@ -93,18 +97,21 @@ fn how_ended(alloc: Global, state: &BasisState) -> Ended
     }
 }
 
-/// The reduced basis of the list, by so many workers with at most so many pairs. IVA chapter 2, section 10.
+/// The reduced basis of the list, by so many workers with at most so many pairs, each job with so many helpers. IVA chapter 2,
+/// section 10.
 pub(crate) fn run<R: Threads + Wait + Sync>(
     rt: &R,
     alloc: Global,
     pairs: u64,
     workers: u32,
+    helpers: u32,
     gate: &SharedGate,
     ring: &Ring,
     rank: u128,
     list: &VectList,
 ) -> Result<(VectList, BasisState), RunStop>
     requires workers { 0 < workers }
+    requires helpers { 0 < helpers }
     requires vectors { AreVectorsOver ring.now (ring_comparison ring.now) list.now }
     requires positions { Each (HasPositions rank) list.now }
     ensures basis { IfOk result (λ t. IsReducedBasisOf ring.now rank list.now t.0) }
@@ -118,7 +125,7 @@ pub(crate) fn run<R: Threads + Wait + Sync>(
         Err(WorkStop::Memory) => return Err(RunStop::Memory),
         Err(WorkStop::Degree(trail)) => return Err(RunStop::Beginning(trail)),
     };
-    let Some(state) = let_work(rt, alloc, gate, state) else {
+    let Some(state) = let_work(rt, alloc, helpers, gate, state) else {
         return Err(RunStop::Memory);
     };
     match how_ended(alloc, &state) {

@@ -12,6 +12,7 @@ use module_vectors::WorkStop;
 use std::alloc::Global;
 use std::sync::{Mutex, MutexGuard, Wait};
 use std::thread;
+use std::thread::Threads;
 use worker_gate::{Gate, Point, SharedGate};
 
 // How many pairs a worker asks for, the most that it may: the more of one degree stand in one matrix, the fewer members a
@@ -61,22 +62,24 @@ fn ask_to_end<R: Wait>(rt: &R, lock: &BasisLock, seat: &mut BasisSeat) -> bool
     }
 }
 
-// Solves a job and hands it in, or gives up. Is the worker done?
-fn do_job<R: Wait>(
+// Solves a job with helpers and hands it in, or gives up. Is the worker done?
+fn do_job<R: Threads + Wait + Sync>(
     rt: &R,
     alloc: Global,
     lock: &BasisLock,
+    helpers: u32,
     gate: &SharedGate,
     seat: &mut BasisSeat,
     job: Job,
 ) -> bool
     requires idle { IsIdle lock.now.table.shared.table_id (base lock.now.table.shared.key.value) seat.old.place }
     requires job { HasJob (base lock.now.table.shared.key.value) seat.old.place.me.0 job }
+    requires helpers { 0 < helpers }
     ensures idle { IsIdle lock.now.table.shared.table_id (base lock.now.table.shared.key.value) seat.new.place }
     ensures ends { RoundEnds (base lock.now.table.shared.key.value) seat.old.place.me.0 seat.new.place.me.0 result }
 {
     gate.pass(seat.worker, Point::JobTaken);
-    match solve(alloc, job) {
+    match solve(rt, alloc, job, helpers, gate) {
         Ok(outcome) => match hand_in(rt, alloc, lock, seat, outcome) {
             Ok(()) => false,
             Err((stop, _outcome)) => {
@@ -92,10 +95,11 @@ fn do_job<R: Wait>(
 }
 
 // Solves a job and hands it in, or gives up, and keeps the turn meanwhile where the job is long. Is the worker done?
-fn do_job_in_turn<R: Wait>(
+fn do_job_in_turn<R: Threads + Wait + Sync>(
     rt: &R,
     alloc: Global,
     lock: &BasisLock,
+    helpers: u32,
     gate: &SharedGate,
     turn: MutexGuard<'_, ()>,
     seat: &mut BasisSeat,
@@ -103,35 +107,38 @@ fn do_job_in_turn<R: Wait>(
 ) -> bool
     requires idle { IsIdle lock.now.table.shared.table_id (base lock.now.table.shared.key.value) seat.old.place }
     requires job { HasJob (base lock.now.table.shared.key.value) seat.old.place.me.0 job }
+    requires helpers { 0 < helpers }
     ensures idle { IsIdle lock.now.table.shared.table_id (base lock.now.table.shared.key.value) seat.new.place }
     ensures ends { RoundEnds (base lock.now.table.shared.key.value) seat.old.place.me.0 seat.new.place.me.0 result }
 {
     if job.pairs().len() < LONG {
         drop(turn);
-        return do_job(rt, alloc, lock, gate, seat, job);
+        return do_job(rt, alloc, lock, helpers, gate, seat, job);
     }
-    let done = do_job(rt, alloc, lock, gate, seat, job);
+    let done = do_job(rt, alloc, lock, helpers, gate, seat, job);
     drop(turn);
     done
 }
 
 // One round: a job, or the answer that there is none. Is the worker done?
-fn do_round<R: Wait>(
+fn do_round<R: Threads + Wait + Sync>(
     rt: &R,
     alloc: Global,
     lock: &BasisLock,
+    helpers: u32,
     gate: &SharedGate,
     turns: &Mutex<()>,
     seat: &mut BasisSeat,
 ) -> bool
     requires idle { IsIdle lock.now.table.shared.table_id (base lock.now.table.shared.key.value) seat.old.place }
     requires works { IsWorking (base lock.now.table.shared.key.value) seat.old.place.me.0 }
+    requires helpers { 0 < helpers }
     ensures idle { IsIdle lock.now.table.shared.table_id (base lock.now.table.shared.key.value) seat.new.place }
     ensures ends { RoundEnds (base lock.now.table.shared.key.value) seat.old.place.me.0 seat.new.place.me.0 result }
 {
     let turn = turns.lock(rt);
     match take_job(rt, alloc, lock, seat, PAIRS) {
-        Ok(Taken::Job(job)) => do_job_in_turn(rt, alloc, lock, gate, turn, seat, job),
+        Ok(Taken::Job(job)) => do_job_in_turn(rt, alloc, lock, helpers, gate, turn, seat, job),
         Ok(Taken::Empty) => {
             drop(turn);
             ask_to_end(rt, lock, seat)
@@ -149,10 +156,11 @@ fn do_round<R: Wait>(
 }
 
 /// The rounds of one worker, until it has ended.
-pub(crate) fn work<R: Wait>(
+pub(crate) fn work<R: Threads + Wait + Sync>(
     rt: &R,
     alloc: Global,
     lock: &BasisLock,
+    helpers: u32,
     gate: &SharedGate,
     turns: &Mutex<()>,
     seat: BasisSeat,
@@ -160,12 +168,13 @@ pub(crate) fn work<R: Wait>(
     requires idle { IsIdle lock.now.table.shared.table_id (base lock.now.table.shared.key.value) seat.place }
     requires fresh { IsFresh seat.worker seat.place.me.0 }
     requires known { seat.worker < (base lock.now.table.shared.key.value).workers }
+    requires helpers { 0 < helpers }
     ensures idle { IsIdle lock.now.table.shared.table_id (base lock.now.table.shared.key.value) result.place }
     ensures done { HasDone seat.worker result.place.me.0 }
 {
     let mut seat = seat;
     for _ in rt.forever() {
-        if do_round(rt, alloc, lock, gate, turns, &mut seat) {
+        if do_round(rt, alloc, lock, helpers, gate, turns, &mut seat) {
             return seat;
         }
     }

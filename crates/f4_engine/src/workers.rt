@@ -40,10 +40,11 @@ fn unite(lock: &BasisLock, seat: BasisSeat, other: BasisSeat, n: u32, last: u32)
 }
 
 // The first worker, where it is alone.
-fn work_alone<R: Wait>(
+fn work_alone<R: Threads + Wait + Sync>(
     rt: &R,
     alloc: Global,
     lock: &BasisLock,
+    helpers: u32,
     gate: &SharedGate,
     turns: &Mutex<()>,
     seat: BasisSeat,
@@ -52,17 +53,19 @@ fn work_alone<R: Wait>(
     requires idle { IsIdle lock.now.table.shared.table_id (base lock.now.table.shared.key.value) seat.place }
     requires ready { IsReady n seat.place.me.0 × (n ≤ 1) }
     requires known { 0 < (base lock.now.table.shared.key.value).workers }
+    requires helpers { 0 < helpers }
     ensures idle { IsIdle lock.now.table.shared.table_id (base lock.now.table.shared.key.value) result.place }
     ensures done { AllDone n result.place.me.0 }
 {
-    work(rt, alloc, lock, gate, turns, seat)
+    work(rt, alloc, lock, helpers, gate, turns, seat)
 }
 
 // The last worker, after those before it have ended.
-fn work_late<R: Wait>(
+fn work_late<R: Threads + Wait + Sync>(
     rt: &R,
     alloc: Global,
     lock: &BasisLock,
+    helpers: u32,
     gate: &SharedGate,
     turns: &Mutex<()>,
     seat: BasisSeat,
@@ -75,10 +78,11 @@ fn work_late<R: Wait>(
     requires done { AllDone last seat.place.me.0 }
     requires fresh { (other.worker ≡ last) × IsFresh last other.place.me.0 }
     requires last { (last + 1 ≡ n) × (last < (base lock.now.table.shared.key.value).workers) }
+    requires helpers { 0 < helpers }
     ensures idle { IsIdle lock.now.table.shared.table_id (base lock.now.table.shared.key.value) result.place }
     ensures done { AllDone n result.place.me.0 }
 {
-    let worked = work(rt, alloc, lock, gate, turns, other);
+    let worked = work(rt, alloc, lock, helpers, gate, turns, other);
     unite(lock, seat, worked, n, last)
 }
 
@@ -88,6 +92,7 @@ pub(crate) fn work_all<R: Threads + Wait + Sync>(
     rt: &R,
     alloc: Global,
     lock: &BasisLock,
+    helpers: u32,
     gate: &SharedGate,
     turns: &Mutex<()>,
     mut seat: BasisSeat,
@@ -97,33 +102,35 @@ pub(crate) fn work_all<R: Threads + Wait + Sync>(
     requires idle { IsIdle lock.now.table.shared.table_id (base lock.now.table.shared.key.value) seat.place }
     requires ready { IsReady n seat.place.me.0 }
     requires known { (n ≤ (base lock.now.table.shared.key.value).workers) × (0 < (base lock.now.table.shared.key.value).workers) }
+    requires helpers { 0 < helpers }
     ensures idle { IsIdle lock.now.table.shared.table_id (base lock.now.table.shared.key.value) result.place }
     ensures done { AllDone n result.place.me.0 }
 {
     if n <= 1 {
-        return work_alone(rt, alloc, lock, gate, turns, seat, n);
+        return work_alone(rt, alloc, lock, helpers, gate, turns, seat, n);
     }
     let last = n - 1;
     let other = part(lock, &mut seat, n, last);
     if threads <= last {
-        let seat = work_all(rt, alloc, lock, gate, turns, seat, last, threads);
-        return work_late(rt, alloc, lock, gate, turns, seat, other, n, last);
+        let seat = work_all(rt, alloc, lock, helpers, gate, turns, seat, last, threads);
+        return work_late(rt, alloc, lock, helpers, gate, turns, seat, other, n, last);
     }
     let (theirs, ours) = join(
         rt,
         || -> BasisSeat
-            requires { IsIdle lock.now.table.shared.table_id (base lock.now.table.shared.key.value) other.place
-                × IsFresh other.worker other.place.me.0 × (other.worker < (base lock.now.table.shared.key.value).workers) }
+            requires { IsSync R.row × IsIdle lock.now.table.shared.table_id (base lock.now.table.shared.key.value) other.place
+                × IsFresh other.worker other.place.me.0 × (other.worker < (base lock.now.table.shared.key.value).workers)
+                × (0 < helpers) }
             ensures { IsIdle lock.entry.now.table.shared.table_id (base lock.entry.now.table.shared.key.value) result.place
                 × HasDone other.worker result.place.me.0 }
-        { work(rt, alloc, lock, gate, turns, other) },
+        { work(rt, alloc, lock, helpers, gate, turns, other) },
         || -> BasisSeat
             requires { IsSync R.row × IsIdle lock.now.table.shared.table_id (base lock.now.table.shared.key.value) seat.place
                 × IsReady last seat.place.me.0 × (last ≤ (base lock.now.table.shared.key.value).workers)
-                × (0 < (base lock.now.table.shared.key.value).workers) }
+                × (0 < (base lock.now.table.shared.key.value).workers) × (0 < helpers) }
             ensures { IsIdle lock.entry.now.table.shared.table_id (base lock.entry.now.table.shared.key.value) result.place
                 × AllDone last result.place.me.0 }
-        { work_all(rt, alloc, lock, gate, turns, seat, last, threads) },
+        { work_all(rt, alloc, lock, helpers, gate, turns, seat, last, threads) },
     );
     unite(lock, ours, theirs, n, last)
 }

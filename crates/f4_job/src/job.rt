@@ -1,5 +1,5 @@
 // A job solved by its matrix.
-ghost use Rattle.std.specs.Prelude.{◌≡◌, IfOk, IfErr};
+ghost use Rattle.std.specs.Prelude.{◌≡◌, ◌<◌, IfOk, IfErr};
 ghost use Rattle.module_vectors.specs.Rings.{variables};
 ghost use Rattle.basis_core.specs.Outcomes.{IsOutcomeOver};
 ghost use Rattle.basis_core.specs.Members.{setting_of};
@@ -15,17 +15,27 @@ use member_products::Row;
 use module_vectors::{Ring, WorkStop};
 use monomial_orders::Mono;
 use std::alloc::Global;
+use std::thread::Threads;
+use worker_gate::SharedGate;
 
 // The new rows of the job's matrix, where `ring` is that of the job.
-fn rows_over(alloc: Global, ring: &Ring, job: &Job) -> Result<NewRows, MatrixStop>
+fn rows_over<R: Threads + Sync>(
+    rt: &R,
+    alloc: Global,
+    ring: &Ring,
+    job: &Job,
+    helpers: u32,
+    gate: &SharedGate,
+) -> Result<NewRows, MatrixStop>
     requires over { ring.now ≡ job.now.shared.ring }
+    requires helpers { 0 < helpers }
     ensures { let n = variables job.now.shared.ring in IfOk result (λ r. AreNewRows n (setting_of n job.now.shared)
         (vectors_in job.now.members) job.now.pairs r.products.items r.columns.items r.rows.items) }
 {
     job.kept();
     let members = job.members();
     members.kept();
-    let found = new_rows(alloc, ring, members, job.pairs())?;
+    let found = new_rows(rt, alloc, ring, members, job.pairs(), helpers, gate)?;
     Ok(found)
 }
 
@@ -37,14 +47,22 @@ struct Solution {
 }
 
 // The rows of the job's matrix, where `ring` is that of the job.
-fn solve_matrix(alloc: Global, ring: &Ring, job: &Job) -> Result<Solution, MatrixStop>
+fn solve_matrix<R: Threads + Sync>(
+    rt: &R,
+    alloc: Global,
+    ring: &Ring,
+    job: &Job,
+    helpers: u32,
+    gate: &SharedGate,
+) -> Result<Solution, MatrixStop>
     requires over { ring.now ≡ job.now.shared.ring }
+    requires helpers { 0 < helpers }
     ensures { IfOk result (λ s. IsOutcomeOver (record { job = job.now; rows = s.rows.items; products = s.products.items })) }
 {
     job.kept();
     let members = job.members();
     members.kept();
-    let found = rows_over(alloc, ring, job)?;
+    let found = rows_over(rt, alloc, ring, job, helpers, gate)?;
     let rows = make_rows(alloc, ring, &found.columns, &found.products, &found.rows)?;
     Ok(Solution {
         rows,
@@ -56,14 +74,25 @@ fn solve_matrix(alloc: Global, ring: &Ring, job: &Job) -> Result<Solution, Matri
 /// products of which it is a combination (Faugère 1999, section 2). Where a product of the matrix has a degree above
 /// 65,535, the job is solved by plain division, which may need no such product.
 ///
+/// So many helpers, one at least, bring the matrix into echelon form together: each claims the lead columns of its share of the
+/// rows, passes the gate with its own number at `RowClaimed`, and reduces its rows whose column another row has. The first works
+/// in the caller's thread, others in threads of their own, as many as there is work for. Division is by the caller alone.
+///
 /// `Degree` comes with a trail of the job to a product of degree above 65,535, `Memory` where there is none; both
 /// give the job back.
-pub fn solve(alloc: Global, job: Job) -> Result<Outcome, (WorkStop, Job)>
+pub fn solve<R: Threads + Sync>(
+    rt: &R,
+    alloc: Global,
+    job: Job,
+    helpers: u32,
+    gate: &SharedGate,
+) -> Result<Outcome, (WorkStop, Job)>
+    requires helpers { 0 < helpers }
     ensures job { IfOk result (λ o. o.job ≡ job) }
     ensures back { IfErr result (λ e. e.1 ≡ job) }
     ensures stop { IfErr result (λ e. JobStops job e.0) }
 {
-    match solve_matrix(alloc, &job.shared().ring, &job) {
+    match solve_matrix(rt, alloc, &job.shared().ring, &job, helpers, gate) {
         Ok(solution) => Ok(Outcome::new(job, solution.rows, solution.products)),
         Err(MatrixStop::Memory) => Err((WorkStop::Memory, job)),
         Err(MatrixStop::Degree) => s_vectors::solve(alloc, job),

@@ -15,7 +15,9 @@ use pair_criteria::Pair;
 use row_matrix::Row;
 use row_reduce::echelon;
 use std::alloc::Global;
+use std::thread::Threads;
 use symbolic_prep::{PrepareStop, prepare};
+use worker_gate::SharedGate;
 
 /// Rows over columns that descend, and the products of members of which they are combinations.
 #[derive(Drop)]
@@ -25,17 +27,21 @@ pub(crate) struct NewRows {
     pub(crate) products: Vec<(u64, Mono)>,
 }
 
-/// The rows of the echelon form of these pairs' matrix whose lead is the lead of no row of the matrix (Faugère 1999,
-/// section 2).
-pub(crate) fn new_rows<L: Vectors>(
+/// The rows of the echelon form of these pairs' matrix, which so many helpers find, whose lead is the lead of no row of the
+/// matrix (Faugère 1999, section 2).
+pub(crate) fn new_rows<R: Threads + Sync, L: Vectors>(
+    rt: &R,
     alloc: Global,
     ring: &Ring,
     members: &L,
     pairs: &[Pair],
+    helpers: u32,
+    gate: &SharedGate,
 ) -> Result<NewRows, MatrixStop>
     requires members { AreVectorsOver ring.now (ring_comparison ring.now) (L.listed members.now) }
     requires monic { Each (IsMonicVector (variables ring.now)) (L.listed members.now) }
     requires pairs { Each (IsPairOf (variables ring.now) ring.now.weights (L.listed members.now)) pairs.now }
+    requires helpers { 0 < helpers }
     ensures { let n = variables ring.now in (rank : ℕ) → IfOk result (λ r. AreNewRows n (setting ring.now n (ring_comparison ring.now n) rank)
         (L.listed members.now) pairs.now r.products.items r.columns.items r.rows.items) }
 {
@@ -50,7 +56,7 @@ pub(crate) fn new_rows<L: Vectors>(
         prepared.matrix.columns().len(),
         prepared.matrix.rows(),
     )?;
-    let form = echelon(alloc, &ring.modulus, prepared.matrix)?;
+    let form = echelon(rt, alloc, &ring.modulus, prepared.matrix, helpers, gate)?;
     let rows = unflagged_rows(alloc, &flags, form.rows)?;
     Ok(NewRows {
         columns: form.columns,

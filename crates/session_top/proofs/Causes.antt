@@ -55,20 +55,20 @@ run_cause limits before line None (Some t) run same here stop replays = inr (run
 run_cause limits before line (Some s) (Some t) run same here (one, stop) replays =
     (run_state limits before line s (run_here before line s.shared _ run same here) replays one, stop)
 
-same_number : (p q r t : ℕ) → p ∷ r ∷ [] ≡ q ∷ t ∷ [] → (p ≡ q) × (r ≡ t)
-same_number p q r t same = (cc, cc)
+same_numbers : (p q r p' q' r' : ℕ) → p ∷ q ∷ r ∷ [] ≡ p' ∷ q' ∷ r' ∷ [] → (p ≡ p') × (q ≡ q') × (r ≡ r')
+same_numbers p q r p' q' r' same = (cc, cc, cc)
 
-same_budget : (p q : Limits) → p.0 ∷ p.1 ∷ [] ≡ q.0 ∷ q.1 ∷ [] → p ≡ q
-same_budget p q same = let both = same_number p.0 q.0 p.1 q.1 same in λ i. (both.0 i, both.1 i)
+same_limits : (p q : Limits) → p.0 ∷ p.1 ∷ p.2 ∷ [] ≡ q.0 ∷ q.1 ∷ q.2 ∷ [] → p ≡ q
+same_limits p q same = let all = same_numbers p.0 p.1 p.2 q.0 q.1 q.2 same in λ i. (all.0 i, all.1 i, all.2 i)
 
 -- a run of the line stopped, and its stop line or a front of it was written
 pub run_stopped : (a b : Option (List ℕ)) (limits kept_limits : Limits) (before : State) (line : List ℕ) (number : ℕ) (old new : ℕ) (answer : Stop)
-    (state : Option Shown) (trail : Option KeptTrail) (stop : Early) → kept_limits.0 ∷ kept_limits.1 ∷ [] ≡ limits.0 ∷ limits.1 ∷ []
+    (state : Option Shown) (trail : Option KeptTrail) (stop : Early) → kept_limits.0 ∷ kept_limits.1 ∷ kept_limits.2 ∷ [] ≡ limits.0 ∷ limits.1 ∷ limits.2 ∷ []
     → StopsAtRun (RunOf before line) old new (stopped_run state trail) answer
     → IsStop kept_limits.0 kept_limits.1 state trail → IfSome state HasReplay
     → StopEnds a b number state trail stop → LineStops a b limits before line number stop
-run_stopped a b limits kept_limits before line number old new answer state trail stop budget (rose, (ring, rank, list, here, same)) kept replays says =
-    let is_stop = subst (λ (p : Limits). IsStop p.0 p.1 state trail) (same_budget kept_limits limits budget) kept in
+run_stopped a b limits kept_limits before line number old new answer state trail stop settings (rose, (ring, rank, list, here, same)) kept replays says =
+    let is_stop = subst (λ (p : Limits). IsStop p.0 p.1 state trail) (same_limits kept_limits limits settings) kept in
     stopped_stops a b limits before line number state trail stop
     (run_cause limits before line state trail (record { ring = ring; rank = rank; list = list; answer = answer }) same here is_stop replays) says
 

@@ -17,7 +17,7 @@ use std::thread::Threads;
 use worker_gate::SharedGate;
 
 /// Does the lines of the generated script of a seed, which is read from memory, each basis run as the request says, by workers
-/// that pass this gate.
+/// and helpers that pass this gate.
 pub fn do_generated<R: Threads + Wait + Sync, K: Sink>(
     rt: &R,
     alloc: Global,
@@ -27,6 +27,7 @@ pub fn do_generated<R: Threads + Wait + Sync, K: Sink>(
     sink: &mut K,
 ) -> Result<(), Early>
     requires workers { 0 < request.workers }
+    requires helpers { 0 < request.helpers }
     ensures done { OnOk result (Meant (Some (script_of seed)) (Some []) (K.taken sink.old) (K.taken sink.new) Done) }
     ensures stops { IfErr result (ScriptStops (Some (script_of seed)) (Some []) (K.taken sink.old) (K.taken sink.new) (limits_of request)) }
     ensures read { result ≡ Err Early.ReadFault → ⊥ }

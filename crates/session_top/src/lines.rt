@@ -86,7 +86,7 @@ fn replays(state: &Option<BasisState>)
     }
 }
 
-/// Takes out what an engine keeps of the last run that stopped. A new engine with the same budget, workers and
+/// Takes out what an engine keeps of the last run that stopped. A new engine with the same budget, workers, helpers and
 /// gate stands in its place.
 fn take_stop(engine: &mut F4Engine) -> Kept
     ensures state { result.state ≡ engine.old.state }
@@ -94,7 +94,12 @@ fn take_stop(engine: &mut F4Engine) -> Kept
     ensures kept { IsStop engine.old.pairs engine.old.workers engine.old.state engine.old.trail }
     ensures replays { IfSome engine.old.state (λ s. let n = variables_of s in Replays (run_of n s) (state_of n s)) }
 {
-    let fresh = F4Engine::new(engine.pairs(), engine.workers(), engine.gate().shared());
+    let fresh = F4Engine::new(
+        engine.pairs(),
+        engine.workers(),
+        engine.helpers(),
+        engine.gate().shared(),
+    );
     let (state, trail) = replace(engine, fresh).into_stop();
     replays(&state);
     Kept { state, trail }
@@ -145,14 +150,15 @@ pub struct Desk {
     out: Vec<u8>,
 }
 
-/// A desk at which nothing has a name yet, whose basis runs are as the request says, by workers that pass this gate.
+/// A desk at which nothing has a name yet, whose basis runs are as the request says, by workers and helpers that pass this gate.
 fn set_desk(alloc: Global, request: Request, gate: SharedGate) -> Desk
     requires workers { 0 < request.workers }
+    requires helpers { 0 < request.helpers }
     ensures names { result.session ≡ no_names }
     ensures limits { limits_in result.engine ≡ limits_of request }
 {
     Desk {
-        engine: F4Engine::new(request.pairs, request.workers, gate),
+        engine: F4Engine::new(request.pairs, request.workers, request.helpers, gate),
         session: Session::new(alloc),
         out: Vec::new(alloc),
     }
@@ -233,7 +239,7 @@ fn do_all<R: Threads + Wait + Sync, S: Source, K: Sink>(
     }
 }
 
-/// Does the lines of a source, each basis run as the request says, by workers that pass this gate.
+/// Does the lines of a source, each basis run as the request says, by workers and helpers that pass this gate.
 pub fn do_lines<R: Threads + Wait + Sync, S: Source, K: Sink>(
     rt: &R,
     alloc: Global,
@@ -243,6 +249,7 @@ pub fn do_lines<R: Threads + Wait + Sync, S: Source, K: Sink>(
     sink: &mut K,
 ) -> Result<(), Early>
     requires workers { 0 < request.workers }
+    requires helpers { 0 < request.helpers }
     ensures done { OnOk result (Meant (S.left source.old) (S.left source.new) (K.taken sink.old) (K.taken sink.new) Done) }
     ensures stops { IfErr result (ScriptStops (S.left source.old) (S.left source.new) (K.taken sink.old) (K.taken sink.new) (limits_of request)) }
     ensures read { result ≡ Err Early.ReadFault → Rose (S.faults source.old) (S.faults source.new) }

@@ -360,19 +360,61 @@ fn runs_are_told(rt: HostRuntime) -> Result<(), Fail> {
     Ok(())
 }
 
+/// Is a script run as told under a gate that holds the first at this point, and does another come by there?
+fn is_met<R: Threads + Wait + Sync>(
+    rt: &R,
+    alloc: Global,
+    point: Point,
+    case: &Case,
+) -> Result<bool, Fail> {
+    let gate = HeldGate::new(alloc, point)?;
+    let (is_written, told) = run_case(rt, alloc, case, &gate)?;
+    Ok(is_written && told == case.told && gate.met() && !gate.ran_out())
+}
+
 /// The first of two workers that has taken a pair waits until the other has taken one.
 #[test]
 fn workers_pass_the_gate(rt: HostRuntime) -> Result<(), Fail> {
-    let gate = HeldGate::new(rt.alloc(), Point::JobTaken)?;
     let case = calm(
         "p run --workers 2",
         "ring 101 x,y grevlex\nideal T = x^2, x*y, y^2\nsize T\n",
         "size T 3\n2 3\n",
         plain(0, 0),
     );
-    let (is_written, told) = run_case(&rt, rt.alloc(), &case, &gate)?;
-    assert!(rt; is_written);
-    assert_eq!(rt; told, case.told);
-    assert!(rt; !gate.ran_out());
+    assert!(rt; is_met(&rt, rt.alloc(), Point::JobTaken, &case)?);
+    Ok(())
+}
+
+/// The first of two helpers that has claimed the lead column of a row waits until the other has claimed one.
+#[test]
+fn helpers_pass_the_gate(rt: HostRuntime) -> Result<(), Fail> {
+    let case = calm("p run --workers 1 --helpers 2", BASIS, TEXT, plain(0, 0));
+    assert!(rt; is_met(&rt, rt.alloc(), Point::RowClaimed, &case)?);
+    Ok(())
+}
+
+/// The first words with which the basis has another text or another ending.
+fn first_other_words<R: Threads + Wait + Sync>(
+    rt: &R,
+    alloc: Global,
+) -> Result<Option<&'static str>, Fail> {
+    for words in [
+        "p run --workers 1 --helpers 1",
+        "p run --workers 1 --helpers 2",
+        "p run --workers 1 --helpers 16",
+        "p run --workers 2 --helpers 2",
+    ] {
+        let case = calm(words, BASIS, TEXT, plain(0, 0));
+        let (is_written, told) = run_case(rt, alloc, &case, &OpenGate)?;
+        if !is_written || told != case.told {
+            return Ok(Some(words));
+        }
+    }
+    Ok(None)
+}
+
+#[test]
+fn helpers_change_no_text(rt: HostRuntime) -> Result<(), Fail> {
+    assert_eq!(rt; first_other_words(&rt, rt.alloc())?, None);
     Ok(())
 }

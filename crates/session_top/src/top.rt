@@ -77,7 +77,7 @@ fn stop_ending(line: u32, kept: Kept) -> Ended
     }
 }
 
-/// Runs the script of the request, each basis run as it says, by workers that pass this gate.
+/// Runs the script of the request, each basis run as it says, by workers and helpers that pass this gate.
 fn run_script<R: Threads + Wait + Sync, S: Source, K: Sink>(
     rt: &R,
     alloc: Global,
@@ -86,7 +86,8 @@ fn run_script<R: Threads + Wait + Sync, S: Source, K: Sink>(
     source: &mut S,
     sink: &mut K,
 ) -> Result<(), Early>
-    requires { 0 < request.workers }
+    requires workers { 0 < request.workers }
+    requires helpers { 0 < request.helpers }
     ensures done { OnOk result (Meant (script_before request.command (S.left source.old)) (script_behind request.command (S.left source.new)) (K.taken sink.old) (K.taken sink.new) Done) }
     ensures stops { IfErr result (ScriptStops (script_before request.command (S.left source.old)) (script_behind request.command (S.left source.new)) (K.taken sink.old) (K.taken sink.new) (limits_of request)) }
     ensures read { result ≡ Err Early.ReadFault → Rose (S.faults source.old) (S.faults source.new) }
@@ -108,7 +109,7 @@ fn run_script<R: Threads + Wait + Sync, S: Source, K: Sink>(
 /// text of each line that was whole is there. The bytes behind the last newline are a line once the input is at its end. A refused
 /// line writes its error line, and one that stops its stop line, and both end the run. Words that are not of the form write `error
 /// words`, and nothing is read then; nor is anything read with `large`. Basis runs take as many pairs each as the words say, by as
-/// many workers, which pass the gate with each job.
+/// many workers, which pass the gate with each job, and as many helpers for a job, which pass it with each row that they claim.
 pub fn run<R: Threads + Wait + Sync, S: Source, K: Sink, G: Gate + Sync>(
     rt: &R,
     alloc: Global,

@@ -9,24 +9,24 @@ use Rattle.core_histories.proofs.After.{same_state, waits_on, waits_too}
 use Rattle.core_histories.proofs.play.take.Goals as goal
 
 pub returns-in-Ok-Empty : goal.returns-in-Ok-Empty
-returns-in-Ok-Empty c =
+returns-in-Ok-Empty g c =
     waits_on c.args.state.now c.take.new.self c.args.worker c.args.waiting.now.items c.take_back.new.waiting.items c.requires.waiting
     (λ o apart may. c.pending_outcomes.ensures.take c.args.state.now c.take.new.self c.args.worker c.args.most c.in-Ok-Empty.field-0 o c.in-Ok-Empty.ensures.step c.take.ensures.run c.take.ensures.members apart may)
     c.take_back.ensures.others c.take_back.ensures.here
 
 pub returns-in-Ok-Stopped : goal.returns-in-Ok-Stopped
-returns-in-Ok-Stopped c =
+returns-in-Ok-Stopped g c =
     waits_on c.args.state.now c.take.new.self c.args.worker c.args.waiting.now.items c.take_back.new.waiting.items c.requires.waiting
     (λ o apart may. c.pending_outcomes.ensures.take c.args.state.now c.take.new.self c.args.worker c.args.most c.in-Ok-Stopped.field-0 o c.in-Ok-Stopped.ensures.step c.take.ensures.run c.take.ensures.members apart may)
     c.take_back.ensures.others c.take_back.ensures.here
 
 pub returns-in-Err : goal.returns-in-Err
-returns-in-Err c =
+returns-in-Err g c =
     subst (λ (t : Shown). AreWaiting t c.take_back.new.waiting.items) (sym c.in-Err.ensures.err)
     (waits_on c.args.state.now c.args.state.now c.args.worker c.args.waiting.now.items c.take_back.new.waiting.items c.requires.waiting (same_state c.args.state.now c.args.worker) c.take_back.ensures.others c.take_back.ensures.here)
 
 pub returns-in-Ok : goal.returns-in-Ok
-returns-in-Ok c =
+returns-in-Ok g c =
     let s : Shown = c.args.state.now in
     let t : Shown = c.take.new.self in
     let w : ℕ = c.args.worker in
@@ -41,7 +41,7 @@ returns-in-Ok c =
     waits_too t w c.take_back.new.waiting.items c.put_aside.new.waiting.items o before answers.1 may c.put_aside.ensures.here c.put_aside.ensures.others
 
 pub returns : goal.returns
-returns c =
+returns g c =
     waits_on c.args.state.now c.take.new.self c.args.worker c.args.waiting.now.items c.take_back.new.waiting.items c.requires.waiting
     (λ o apart may. c.pending_outcomes.ensures.take c.args.state.now c.take.new.self c.args.worker c.args.most c.in-Ok-Job.field-0 o c.in-Ok-Job.ensures.step c.take.ensures.run c.take.ensures.members apart may)
     c.take_back.ensures.others c.take_back.ensures.here

@@ -10,7 +10,7 @@ pub take_job-requires-clause-may : goal.take_job-requires-clause-may
 take_job-requires-clause-may g c = record { known = c.requires.works.known; works = c.requires.works.works; free = c.requires.works.free; some = omega arith }
 
 pub do_job_in_turn-requires-clause-job : goal.do_job_in_turn-requires-clause-job
-do_job_in_turn-requires-clause-job g c =
+do_job_in_turn-requires-clause-job g c κs within =
     (takes_a_job (base c.args.lock.now.table.shared.key.value) c.args.seat.now.place.me.0 c.take_job.new.seat.place.me.0 512 c.in-Ok-Job.job c.requires.works (rw c.in-Ok-Job.field-0-is at c.in-Ok-Job.ensures.took)).1
 
 pub ask_to_end-requires-clause-none : goal.ask_to_end-requires-clause-none

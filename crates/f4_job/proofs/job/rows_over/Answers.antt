@@ -14,7 +14,7 @@ use Rattle.f4_job.proofs.JobParts.{job_monic, job_pairs}
 use Rattle.f4_job.proofs.job.rows_over.Goals as goal
 
 pub new_rows-requires-clause-members : goal.new_rows-requires-clause-members
-new_rows-requires-clause-members c =
+new_rows-requires-clause-members g c κs within =
     let j = c.args.job.now in
     let tracked : Each (IsTracked j.shared) j.members =
     subst₂ (λ (s : Shared) (l : List Tracked). Each (IsTracked s) l) c.members-members.ensures.shared c.members-members.ensures.list c.kept-2.ensures in
@@ -22,7 +22,7 @@ new_rows-requires-clause-members c =
     (sym c.members-members.ensures.list) (vectors_over j.shared j.members tracked)
 
 pub new_rows-requires-clause-monic : goal.new_rows-requires-clause-monic
-new_rows-requires-clause-monic c =
+new_rows-requires-clause-monic g c κs within =
     let j = c.args.job.now in
     let tracked : Each (IsTracked j.shared) j.members =
     subst₂ (λ (s : Shared) (l : List Tracked). Each (IsTracked s) l) c.members-members.ensures.shared c.members-members.ensures.list c.kept-2.ensures in
@@ -30,7 +30,7 @@ new_rows-requires-clause-monic c =
     (job_monic j.shared j.members tracked c.kept.ensures.monic)
 
 pub new_rows-requires-clause-pairs : goal.new_rows-requires-clause-pairs
-new_rows-requires-clause-pairs c =
+new_rows-requires-clause-pairs g c κs within =
     let j = c.args.job.now in
     let tracked : Each (IsTracked j.shared) j.members =
     subst₂ (λ (s : Shared) (l : List Tracked). Each (IsTracked s) l) c.members-members.ensures.shared c.members-members.ensures.list c.kept-2.ensures in
@@ -40,7 +40,7 @@ new_rows-requires-clause-pairs c =
     (job_pairs j c.kept.ensures (job_monic j.shared j.members tracked c.kept.ensures.monic)))
 
 pub returns : goal.returns
-returns c =
+returns g c =
     let j = c.args.job.now in
     let r = c.in_ok-found.found in
     let h = c.in_ok-found.ensures j.shared.rank in

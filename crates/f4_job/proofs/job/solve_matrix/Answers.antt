@@ -5,7 +5,7 @@ use Rattle.f4_job.proofs.Outcomes.{outcome, weighed_steps}
 use Rattle.f4_job.proofs.job.solve_matrix.Goals as goal
 
 pub make_rows-requires : goal.make_rows-requires
-make_rows-requires c =
+make_rows-requires g c =
     let j = c.args.job.now in
     let new = c.in_ok-found.ensures in
     let tracked : Each (IsTracked j.shared) j.members =
@@ -18,7 +18,7 @@ make_rows-requires c =
     })
 
 pub returns : goal.returns
-returns c =
+returns g c =
     let j = c.args.job.now in
     let tracked : Each (IsTracked j.shared) j.members =
     subst₂ (λ (s : Shared) (l : List Tracked). Each (IsTracked s) l) c.members-members.ensures.shared c.members-members.ensures.list c.kept-2.ensures in

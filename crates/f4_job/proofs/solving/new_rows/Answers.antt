@@ -15,8 +15,8 @@ flags_of-requires g c =
     subst₂ (λ (rows : List RowShown) (columns : List CodeKey). Each
     (λ (r : RowShown). (0 < length r.entries) × (first_column r.entries < length columns)) rows) (sym c.rows.ensures) (sym c.columns.ensures) h
 
-pub echelon-requires : goal.echelon-requires
-echelon-requires g c = (c.in-Ok.ensures.prepared 0).matrix.rows
+pub echelon-requires-clause-rows : goal.echelon-requires-clause-rows
+echelon-requires-clause-rows g c κs within = (c.in-Ok.ensures.prepared 0).matrix.rows
 
 pub unflagged_rows-requires : goal.unflagged_rows-requires
 unflagged_rows-requires g c =

@@ -8,6 +8,7 @@ invariant_of-self c =
     let more : 0 < c.saturating_add-self-inside.result = omega (arith, c.saturating_add-self-inside.ensures) in
     record {
       some = c.self.invariant.some;
+      helped = c.self.invariant.helped;
       stop = subst (λ (e : EngineShown). IsStop e.pairs e.workers c.args.state c.args.trail) (sym c.self.view_is) c.requires.stop;
       counted = subst (IsKeptWhereCounted c.saturating_add-self-inside.result) (sym c.requires.some.1) more;
       by_all = c.requires.by_all;
