@@ -4,7 +4,7 @@ use Rattle.std.proofs.Common.{List, [], ap, append-nil, arith, get_or, inl, inr,
 use Rattle.std.proofs.lemmas.List.{append_assoc, get_or_default, map-append, reverse-append, take_all, take_more}
 use Rattle.formal_sums.proofs.Sameness.{IsSame_refl, IsSame_sym}
 use Rattle.formal_sums.specs.FormalSums.{FormalSum, IsSame}
-use Rattle.minimal_laws.specs.Cancellation.{AreSameColumns, remove_at, without_row}
+use Rattle.minimal_laws.specs.Cancellation.{AreSameColumns, remove_at}
 use Rattle.module_vectors.specs.Rings.{ring_comparison, variables}
 use Rattle.module_vectors.specs.Vectors.{AreVectorsOver, IsVectorOver, StandsFor, sum_of, sums_of}
 use Rattle.module_vectors.specs.declared.key.Key.{Key as CodeKey}
@@ -146,7 +146,7 @@ split_all ring s at columns i others all le e h =
     })
 
 -- ---- what leaves a list
-drop_item : {X : Type 0} (xs : List X) (k : ℕ) (x : X) → k < length xs → x ≡ get_or xs k x → drop k xs ≡ x ∷ drop (k + 1) xs
+pub drop_item : {X : Type 0} (xs : List X) (k : ℕ) (x : X) → k < length xs → x ≡ get_or xs k x → drop k xs ≡ x ∷ drop (k + 1) xs
 drop_item [] k x lt e = absurd (omega (arith, lt))
 drop_item (y ∷ xs) zero x lt e = ap (λ z. z ∷ xs) (sym e)
 drop_item (y ∷ xs) (suc k) x lt e = let q : suc k + 1 ≡ suc (k + 1) = omega arith in drop_item xs k x (omega (arith, lt)) e ∙ ap (λ j. x ∷ drop j (y ∷ xs)) (sym q)
@@ -179,15 +179,6 @@ pub removed_all :
 removed_all places i start old le h = sym (ap (λ z. all_removed z old) (drop_none places i le)) ∙ h
 
 -- ---- rows that leave in turn
-pub without_more :
-    {n : ℕ} (rows : List ℕ) (i r : ℕ) (V old new : FormalSum n) → i < length rows → r ≡ get_or rows i r
-    → without_all (drop i rows) old ≡ V → new ≡ without_row r old → without_all (drop (i + 1) rows) new ≡ V
-without_more rows i r V old new lt is h e =
-    ap (without_all (drop (i + 1) rows)) e ∙ sym (ap (λ z. without_all z old) (drop_item rows i r lt is)) ∙ h
-
-pub without_done : {n : ℕ} (rows : List ℕ) (i : ℕ) (V old : FormalSum n) → length rows ≤ i → without_all (drop i rows) old ≡ V → old ≡ V
-without_done rows i V old le h = sym (ap (λ z. without_all z old) (drop_none rows i le)) ∙ h
-
 pub columns_more :
     (n : ℕ) (rows : List ℕ) (all old new rest rest' : List Terms) (v u : Terms)
     → sums_of n old ++ map (λ w. without_all rows w) (sums_of n rest) ≡ map (λ w. without_all rows w) (sums_of n all)

@@ -1,4 +1,6 @@
+pub mod Apart
 pub mod Applying
+pub mod Canonical
 pub mod Clearings
 pub mod Columns
 pub mod Counts
@@ -7,9 +9,14 @@ pub mod Entries
 pub mod Growing
 pub mod Lowering
 pub mod NoZeroColumns
+pub mod Numbering
 pub mod Passes
+pub mod Places
 pub mod Reaching
 pub mod Reading
+pub mod Reordering
 pub mod Splittings
 pub mod Stepping
+pub mod Turning
 pub mod Units
+pub mod Zeros

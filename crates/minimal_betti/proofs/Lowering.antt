@@ -17,12 +17,11 @@ use Rattle.module_vectors.specs.Vectors.{IsTerm, IsVectorOver, sum_of}
 use Rattle.module_vectors.specs.declared.key.Key.{Key as CodeKey}
 use Rattle.module_vectors.specs.declared.ring.Ring.{Ring}
 use Rattle.minimal_betti.specs.Clearing.{lowered}
-use Rattle.minimal_betti.proofs.Clearings.{nat_eq-other}
 
 abbrev Terms : Type 0
 Terms = List (CodeKey × ℕ)
 
-abbrev low : ℕ → CodeKey × ℕ → CodeKey × ℕ
+abbrev pub low : ℕ → CodeKey × ℕ → CodeKey × ℕ
 low r t = (record { position = cond (nat_lt t.0.position r) t.0.position (t.0.position - 1); monomial = t.0.monomial }, t.1)
 
 -- the terms in other rows, at the positions that are left to them
@@ -40,12 +39,6 @@ lowered_filter r (t ∷ v) = go (nat_eq t.0.position r) (lowered_filter r v)
         ≡ cond b (without_terms r v) (low r t ∷ without_terms r v)
     go true e = e
     go false e = ap (λ z. low r t ∷ z) e
-
--- where none stands in the row, all of them
-pub lowered_other : (r : ℕ) (v : Terms) → Each (λ t. t.0.position ≡ r → ⊥) v → lowered r v ≡ without_terms r v
-lowered_other r [] h = refl
-lowered_other r (t ∷ v) h =
-    ap (λ z. low r t ∷ z) (lowered_other r v h.1) ∙ sym (ap (λ b. cond b (without_terms r v) (low r t ∷ without_terms r v)) (nat_eq-other t.0.position r h.0))
 
 -- they stand for the vector without the row
 pub without_sum : (n r : ℕ) (v : Terms) → sum_of n (without_terms r v) ≡ without_row r (sum_of n v)

@@ -18,11 +18,10 @@ use Rattle.vector_division.proofs.Members.{sums_at}
 use Rattle.vector_division.specs.Progress.{AreWeighed}
 use Rattle.minimal_betti.specs.Carried.{AreOrdered, HasNone, IsFirst, IsGraded, LeadsTo, graded_map, graded_maps}
 use Rattle.minimal_betti.specs.Minimising.{CancellationStops}
-use Rattle.minimal_betti.specs.Passing.{AreFirstSteps, AreGradedColumns, left_by_all}
+use Rattle.minimal_betti.specs.Passing.{AreFirstSteps, AreGradedColumns, Pivot, left_by_all}
 use Rattle.minimal_betti.specs.Splitting.{IsFormerLeft, IsNextLeft, IsSplit, IsUnderway, SplittingStops, in_turn, split_of}
 use Rattle.minimal_betti.specs.declared.carried.Carried.{Carried}
 use Rattle.minimal_betti.specs.declared.constants.Constant.{Constant}
-use Rattle.minimal_betti.specs.declared.steps.Step.{Step}
 use Rattle.minimal_betti.proofs.Growing.{all_append, all_map}
 use Rattle.minimal_betti.proofs.Stepping.{columns_in, each_left, each_mapped, each_right, first_in, steps_lead, steps_underway}
 use Rattle.minimal_betti.proofs.Reaching.{reached_itself}
@@ -89,8 +88,8 @@ module _ (ring : Ring) (at : Constant) where
 
   module _ (cur cur' : Carried) (first : IsFirst ring cur.columns at) (here : IsSplit ring at cur cur') where
     -- the split as a step
-    abbrev the_step : Step
-    the_step = record { row = at.row; index = at.column; inverse = here.inverse; column = get_or cur.columns at.column [] }
+    abbrev the_step : Pivot (variables ring)
+    the_step = record { row = at.row; index = at.column; inverse = here.inverse; column = sum_of (variables ring) (get_or cur.columns at.column []) }
 
     is_first : AreFirstSteps ring (sums_of (variables ring) cur.columns) (the_step ∷ [])
     is_first = (
@@ -148,8 +147,8 @@ module _ (ring : Ring) where
 
   pub graded_columns :
       (rows : List ℕ) (done : List Carried) (cur : Carried) (tail : List Carried)
-      → AreGraded ring.weights ring.modulus.value rows (map (graded_map (variables ring)) (done ++ cur ∷ tail)) → AreGradedColumns ring (sums_of (variables ring) cur.columns)
-  graded_columns rows [] cur tail h = (rows, cur.degrees.items, h.0)
+      → AreGraded ring.weights ring.modulus.value rows (map (graded_map (variables ring)) (done ++ cur ∷ tail)) → AreGradedColumns ring cur.degrees.items (sums_of (variables ring) cur.columns)
+  graded_columns rows [] cur tail h = (rows, h.0)
   graded_columns rows (m ∷ done) cur tail h = graded_columns m.degrees.items done cur tail h.1
 
   pub ordered_here : (done : List Carried) (cur : Carried) (tail : List Carried) → AreOrdered ring (done ++ cur ∷ tail) → AreVectorsOver ring (ring_comparison ring) cur.columns

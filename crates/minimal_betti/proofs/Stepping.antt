@@ -21,10 +21,9 @@ use Rattle.module_vectors.specs.declared.key.Key.{Key as CodeKey}
 use Rattle.module_vectors.specs.declared.ring.Ring.{Ring}
 use Rattle.minimal_betti.specs.Carried.{AreOrdered, HasNone, LeadsTo, graded_map, graded_maps}
 use Rattle.minimal_betti.specs.Minimising.{IsReached}
-use Rattle.minimal_betti.specs.Passing.{AreFirstSteps, IsFirstStep, left_by, left_by_all}
+use Rattle.minimal_betti.specs.Passing.{AreFirstSteps, IsFirstStep, Pivot, left_by, left_by_all}
 use Rattle.minimal_betti.specs.Splitting.{IsFormerLeft, IsNextLeft, IsUnderway, all_removed, in_turn, without_all}
 use Rattle.minimal_betti.specs.declared.carried.Carried.{Carried}
-use Rattle.minimal_betti.specs.declared.steps.Step.{Step}
 use Rattle.minimal_betti.proofs.Applying.{split_columns_same}
 use Rattle.minimal_betti.proofs.Columns.{map_same}
 use Rattle.minimal_betti.proofs.Ending.{each_unmapped}
@@ -193,7 +192,7 @@ module _ (ring : Ring) where
   Becomes C E = LeadsTo ring.modulus.value C E × (AreGraded ring.weights ring.modulus.value C.positions C.maps → AreGraded ring.weights ring.modulus.value E.positions E.maps)
 
   one_step :
-      0 < ring.modulus.value → (rows : List ℕ) (done : List (GradedMap (variables ring))) (M : GradedMap (variables ring)) (tail others : List (GradedMap (variables ring))) (s : Step)
+      0 < ring.modulus.value → (rows : List ℕ) (done : List (GradedMap (variables ring))) (M : GradedMap (variables ring)) (tail others : List (GradedMap (variables ring))) (s : Pivot (variables ring))
       → Each (λ D. HasNone ring.modulus.value D.columns) done → IsFirstStep ring M.columns s
       → AreSameMaps ring.modulus.value ((lose ring.modulus.value s.row rows done).1 ++ record { columns = left_by ring s M.columns; degrees = remove_at s.index M.degrees } ∷ without_rows s.index tail) others
       → Becomes (record { positions = rows; maps = done ++ M ∷ tail }) (record { positions = (lose ring.modulus.value s.row rows done).0; maps = others })
@@ -223,13 +222,13 @@ module _ (ring : Ring) where
       )
 
   all_steps :
-      0 < ring.modulus.value → (s : Step) (steps : List Step) (rows : List ℕ) (done : List (GradedMap (variables ring))) (M : GradedMap (variables ring)) (tail others : List (GradedMap (variables ring)))
+      0 < ring.modulus.value → (s : Pivot (variables ring)) (steps : List (Pivot (variables ring))) (rows : List ℕ) (done : List (GradedMap (variables ring))) (M : GradedMap (variables ring)) (tail others : List (GradedMap (variables ring)))
       → Each (λ D. HasNone ring.modulus.value D.columns) done → AreFirstSteps ring M.columns (s ∷ steps)
       → AreSameMaps ring.modulus.value
-      ((lose_all ring.modulus.value (map (λ (t : Step). t.row) (s ∷ steps)) rows done).1
-      ++ record { columns = left_by_all ring (s ∷ steps) M.columns; degrees = all_removed (map (λ (t : Step). t.index) (s ∷ steps)) M.degrees }
-      ∷ lower_all ring.modulus.value (map (λ (t : Step). t.index) (s ∷ steps)) tail) others
-      → Becomes (record { positions = rows; maps = done ++ M ∷ tail }) (record { positions = (lose_all ring.modulus.value (map (λ (t : Step). t.row) (s ∷ steps)) rows done).0; maps = others })
+      ((lose_all ring.modulus.value (map (λ (t : Pivot (variables ring)). t.row) (s ∷ steps)) rows done).1
+      ++ record { columns = left_by_all ring (s ∷ steps) M.columns; degrees = all_removed (map (λ (t : Pivot (variables ring)). t.index) (s ∷ steps)) M.degrees }
+      ∷ lower_all ring.modulus.value (map (λ (t : Pivot (variables ring)). t.index) (s ∷ steps)) tail) others
+      → Becomes (record { positions = rows; maps = done ++ M ∷ tail }) (record { positions = (lose_all ring.modulus.value (map (λ (t : Pivot (variables ring)). t.row) (s ∷ steps)) rows done).0; maps = others })
   all_steps pos s [] rows done M tail others none f same = one_step pos rows done M tail others s none f.0 same
   all_steps pos s (t ∷ steps) rows done M tail others none f same =
       let p = ring.modulus.value in
@@ -288,31 +287,31 @@ module _ (ring : Ring) where
       (w.vectors, (subst (Each HasVectors) (ap reverse e ∙ reverse-append before (next ∷ [])) o).1)
 
   -- ---- the maps after the steps on the map at hand
-  module _ (pos : 0 < ring.modulus.value) (cur m : Carried) (s : Step) (steps : List Step) (firsts : AreFirstSteps ring (sums_of (variables ring) cur.columns) (s ∷ steps))
+  module _ (pos : 0 < ring.modulus.value) (cur m : Carried) (s : Pivot (variables ring)) (steps : List (Pivot (variables ring))) (firsts : AreFirstSteps ring (sums_of (variables ring) cur.columns) (s ∷ steps))
       (same : AreSameColumns ring.modulus.value (left_by_all ring (s ∷ steps) (sums_of (variables ring) cur.columns)) (sums_of (variables ring) m.columns))
-      (vectors : AreVectorsOver ring (ring_comparison ring) m.columns) (degrees : m.degrees.items ≡ all_removed (map (λ (t : Step). t.index) (s ∷ steps)) cur.degrees.items)
-      (rows rows' : List ℕ) (done done' rest rest' : List Carried) (former : IsFormerLeft (map (λ (t : Step). t.row) (s ∷ steps)) rows rows' done done')
-      (next : IsNextLeft ring (map (λ (t : Step). t.index) (s ∷ steps)) rest rest') (u : IsUnderway ring rows done (in_turn done cur rest)) where
+      (vectors : AreVectorsOver ring (ring_comparison ring) m.columns) (degrees : m.degrees.items ≡ all_removed (map (λ (t : Pivot (variables ring)). t.index) (s ∷ steps)) cur.degrees.items)
+      (rows rows' : List ℕ) (done done' rest rest' : List Carried) (former : IsFormerLeft (map (λ (t : Pivot (variables ring)). t.row) (s ∷ steps)) rows rows' done done')
+      (next : IsNextLeft ring (map (λ (t : Pivot (variables ring)). t.index) (s ∷ steps)) rest rest') (u : IsUnderway ring rows done (in_turn done cur rest)) where
     in_maps : (ds : List Carried) (c : Carried) (rs : List Carried) → map (graded_map (variables ring)) (in_turn ds c rs) ≡ map (graded_map (variables ring)) ds ++ graded_map (variables ring) c ∷ map (graded_map (variables ring)) (reverse rs)
     in_maps ds c rs = map-append G ds (c ∷ reverse rs)
 
-    lost : lose_all ring.modulus.value (map (λ (t : Step). t.row) (s ∷ steps)) rows (map (graded_map (variables ring)) done) ≡ (rows', map (graded_map (variables ring)) done')
-    lost = former_lost (map (λ (t : Step). t.row) (s ∷ steps)) rows rows' done done' former
+    lost : lose_all ring.modulus.value (map (λ (t : Pivot (variables ring)). t.row) (s ∷ steps)) rows (map (graded_map (variables ring)) done) ≡ (rows', map (graded_map (variables ring)) done')
+    lost = former_lost (map (λ (t : Pivot (variables ring)). t.row) (s ∷ steps)) rows rows' done done' former
 
     none_graded : Each (λ (D : GradedMap (variables ring)). HasNone ring.modulus.value D.columns) (map (graded_map (variables ring)) done)
     none_graded = each_mapped (λ (D : GradedMap (variables ring)). HasNone ring.modulus.value D.columns) G done u.none
 
     all_same :
         AreSameMaps ring.modulus.value
-        ((lose_all ring.modulus.value (map (λ (t : Step). t.row) (s ∷ steps)) rows (map (graded_map (variables ring)) done)).1
-        ++ record { columns = left_by_all ring (s ∷ steps) (sums_of (variables ring) cur.columns); degrees = all_removed (map (λ (t : Step). t.index) (s ∷ steps)) cur.degrees.items }
-        ∷ lower_all ring.modulus.value (map (λ (t : Step). t.index) (s ∷ steps)) (map (graded_map (variables ring)) (reverse rest)))
+        ((lose_all ring.modulus.value (map (λ (t : Pivot (variables ring)). t.row) (s ∷ steps)) rows (map (graded_map (variables ring)) done)).1
+        ++ record { columns = left_by_all ring (s ∷ steps) (sums_of (variables ring) cur.columns); degrees = all_removed (map (λ (t : Pivot (variables ring)). t.index) (s ∷ steps)) cur.degrees.items }
+        ∷ lower_all ring.modulus.value (map (λ (t : Pivot (variables ring)). t.index) (s ∷ steps)) (map (graded_map (variables ring)) (reverse rest)))
         (map (graded_map (variables ring)) (in_turn done' m rest'))
     all_same =
         let p = ring.modulus.value in
-        let cs = map (λ (t : Step). t.index) (s ∷ steps) in
+        let cs = map (λ (t : Pivot (variables ring)). t.index) (s ∷ steps) in
         let A : GradedMap (variables ring) = record { columns = left_by_all ring (s ∷ steps) (sums_of (variables ring) cur.columns); degrees = all_removed cs cur.degrees.items } in
-        subst (λ z. AreSameMaps p ((lose_all p (map (λ (t : Step). t.row) (s ∷ steps)) rows (map G done)).1 ++ A ∷ lower_all p cs (map G (reverse rest))) z) (sym (in_maps done' m rest'))
+        subst (λ z. AreSameMaps p ((lose_all p (map (λ (t : Pivot (variables ring)). t.row) (s ∷ steps)) rows (map G done)).1 ++ A ∷ lower_all p cs (map G (reverse rest))) z) (sym (in_maps done' m rest'))
         (subst (λ (z : List ℕ × List (GradedMap (variables ring))). AreSameMaps p (z.1 ++ A ∷ lower_all p cs (map G (reverse rest))) (map G done' ++ G m ∷ map G (reverse rest'))) (sym lost)
         (subst (λ z. AreSameMaps p (map G done' ++ A ∷ z) (map G done' ++ G m ∷ map G (reverse rest'))) (sym (next_lowered cs rest rest' next))
         (same_maps_between p (map G done') A (G m) (map G (reverse rest')) (sym degrees) same)))
@@ -331,21 +330,21 @@ module _ (ring : Ring) where
     pub steps_underway : IsUnderway ring rows' done' (in_turn done' m rest')
     steps_underway = record {
       ordered = all_append HasVectors done' (m ∷ reverse rest')
-          (former_ordered (map (λ (t : Step). t.row) (s ∷ steps)) rows rows' done done' former (each_left HasVectors done (cur ∷ reverse rest) u.ordered))
-          (vectors, next_ordered (map (λ (t : Step). t.index) (s ∷ steps)) rest rest' next (each_right HasVectors done (cur ∷ reverse rest) u.ordered).1);
+          (former_ordered (map (λ (t : Pivot (variables ring)). t.row) (s ∷ steps)) rows rows' done done' former (each_left HasVectors done (cur ∷ reverse rest) u.ordered))
+          (vectors, next_ordered (map (λ (t : Pivot (variables ring)). t.index) (s ∷ steps)) rest rest' next (each_right HasVectors done (cur ∷ reverse rest) u.ordered).1);
       graded = become.1 u.graded;
       none = each_unmapped (λ (D : GradedMap (variables ring)). HasNone ring.modulus.value D.columns) G done'
           (subst (λ (z : List ℕ × List (GradedMap (variables ring))). Each (λ (D : GradedMap (variables ring)). HasNone ring.modulus.value D.columns) z.1) lost
-          (none_all_lost ring.modulus.value (map (λ (t : Step). t.row) (s ∷ steps)) rows (map G done) none_graded));
+          (none_all_lost ring.modulus.value (map (λ (t : Pivot (variables ring)). t.row) (s ∷ steps)) rows (map G done) none_graded));
     }
 
   -- as the pass gives them
   pub passed_leads :
-      0 < ring.modulus.value → (cur m : Carried) (steps : List Step) → 0 < length steps → AreFirstSteps ring (sums_of (variables ring) cur.columns) steps
+      0 < ring.modulus.value → (cur m : Carried) (steps : List (Pivot (variables ring))) → 0 < length steps → AreFirstSteps ring (sums_of (variables ring) cur.columns) steps
       → AreSameColumns ring.modulus.value (left_by_all ring steps (sums_of (variables ring) cur.columns)) (sums_of (variables ring) m.columns)
-      → AreVectorsOver ring (ring_comparison ring) m.columns → m.degrees.items ≡ all_removed (map (λ (t : Step). t.index) steps) cur.degrees.items
-      → (rows rows' : List ℕ) (done done' rest rest' : List Carried) → IsFormerLeft (map (λ (t : Step). t.row) steps) rows rows' done done'
-      → IsNextLeft ring (map (λ (t : Step). t.index) steps) rest rest' → IsUnderway ring rows done (in_turn done cur rest)
+      → AreVectorsOver ring (ring_comparison ring) m.columns → m.degrees.items ≡ all_removed (map (λ (t : Pivot (variables ring)). t.index) steps) cur.degrees.items
+      → (rows rows' : List ℕ) (done done' rest rest' : List Carried) → IsFormerLeft (map (λ (t : Pivot (variables ring)). t.row) steps) rows rows' done done'
+      → IsNextLeft ring (map (λ (t : Pivot (variables ring)). t.index) steps) rest rest' → IsUnderway ring rows done (in_turn done cur rest)
       → LeadsTo ring.modulus.value (graded_maps ring rows (in_turn done cur rest)) (graded_maps ring rows' (in_turn done' m rest'))
       × IsUnderway ring rows' done' (in_turn done' m rest')
   passed_leads pos cur m [] lt firsts same vectors degrees rows rows' done done' rest rest' former next u = absurd (omega (arith, lt))
@@ -356,7 +355,7 @@ module _ (ring : Ring) where
 
   -- a map without constants has no step
   pub no_step_none :
-      (cur columns : List (List (CodeKey × ℕ))) (steps : List Step) → steps ≡ [] → AreSameColumns ring.modulus.value (left_by_all ring steps (sums_of (variables ring) cur)) (sums_of (variables ring) columns)
+      (cur columns : List (List (CodeKey × ℕ))) (steps : List (Pivot (variables ring))) → steps ≡ [] → AreSameColumns ring.modulus.value (left_by_all ring steps (sums_of (variables ring) cur)) (sums_of (variables ring) columns)
       → HasNone ring.modulus.value (sums_of (variables ring) columns) → HasNone ring.modulus.value (sums_of (variables ring) cur)
   no_step_none cur columns steps e same none =
       let n = variables ring in

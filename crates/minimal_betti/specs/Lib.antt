@@ -8,4 +8,6 @@ pub mod Clearing
 pub mod Constants
 pub mod Growing
 pub mod Passing
+pub mod Placing
+pub mod Sorting
 pub mod Splitting

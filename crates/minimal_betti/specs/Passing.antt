@@ -1,5 +1,5 @@
 -- One pass over the columns of a map: its steps, and the columns after them
-use Rattle.std.specs.Prelude.{List, None, Some, [], drop, get_or, length, map, ⊤, ℕ, ◌*◌, ◌++◌, ◌<◌, ◌∷◌, ◌≡◌, ◌≤◌, ◌⊎◌}
+use Rattle.std.specs.Prelude.{List, None, Option, Some, [], drop, get_or, length, map, set, ⊤, ℕ, ◌*◌, ◌+◌, ◌++◌, ◌<◌, ◌∷◌, ◌≡◌, ◌≤◌, ◌⊎◌}
 use Rattle.residues.specs.Residues.{IsCongruent}
 use Rattle.monomials.specs.Exponents.{unit}
 use Rattle.formal_sums.specs.FormalSums.{Each, FormalSum, IsSame, coefficient}
@@ -12,75 +12,125 @@ use Rattle.module_vectors.specs.declared.key.Key.{Key as CodeKey}
 use Rattle.module_vectors.specs.declared.ring.Ring.{Ring}
 use Rattle.minimal_betti.specs.Carried.{HasNone}
 use Rattle.minimal_betti.specs.Constants.{IsLeastUnit}
-use Rattle.minimal_betti.specs.declared.one_pass.Kept.{Kept}
+use Rattle.minimal_betti.specs.Placing.{place_after}
+use Rattle.minimal_betti.specs.Splitting.{without_all}
+use Rattle.minimal_betti.specs.declared.one_pass.Met.{Met}
 use Rattle.minimal_betti.specs.declared.one_pass.Passed.{Passed}
 use Rattle.minimal_betti.specs.declared.steps.Step.{Step}
 
--- v cleared by the step's column, without its row
-abbrev pub applied : (ring : Ring) → Step → FormalSum (variables ring) → FormalSum (variables ring)
-applied ring s v = without_row s.row (cleared ring.modulus.value s.row s.inverse (sum_of (variables ring) s.column) v)
+-- a constant that leaves columns, by its row and the number of its column, with its inverse and its column
+pub record Pivot (n : ℕ) : Type 0 where
+  pub row : ℕ
+  pub index : ℕ
+  pub inverse : ℕ
+  pub column : FormalSum n
 
--- v after steps in turn
-abbrev pub applied_all : (ring : Ring) → List Step → FormalSum (variables ring) → FormalSum (variables ring)
-applied_all ring [] v = v
-applied_all ring (s ∷ steps) v = applied_all ring steps (applied ring s v)
+-- v cleared by the pivot's column, without its row
+abbrev pub applied : (ring : Ring) → Pivot (variables ring) → FormalSum (variables ring) → FormalSum (variables ring)
+applied ring s v = without_row s.row (cleared ring.modulus.value s.row s.inverse s.column v)
 
--- columns after a step: its own is gone
-abbrev pub left_by : (ring : Ring) → Step → List (FormalSum (variables ring)) → List (FormalSum (variables ring))
+-- columns after a pivot: its own is gone
+abbrev pub left_by : (ring : Ring) → Pivot (variables ring) → List (FormalSum (variables ring)) → List (FormalSum (variables ring))
 left_by ring s F = map (applied ring s) (remove_at s.index F)
 
--- columns after steps in turn
-abbrev pub left_by_all : (ring : Ring) → List Step → List (FormalSum (variables ring)) → List (FormalSum (variables ring))
+-- columns after pivots in turn
+abbrev pub left_by_all : (ring : Ring) → List (Pivot (variables ring)) → List (FormalSum (variables ring)) → List (FormalSum (variables ring))
 left_by_all ring [] F = F
-left_by_all ring (s ∷ steps) F = left_by_all ring steps (left_by ring s F)
+left_by_all ring (s ∷ pivots) F = left_by_all ring pivots (left_by ring s F)
 
--- the step is that of the first constant of these columns
-pub record IsFirstStep (ring : Ring) (F : List (FormalSum (variables ring))) (s : Step) : Type 0 where
+-- the pivot is the first constant of these columns
+pub record IsFirstStep (ring : Ring) (F : List (FormalSum (variables ring))) (s : Pivot (variables ring)) : Type 0 where
   pub inside : s.index < length F
   pub constant : IsConstantAt ring.modulus.value (get_or F s.index []) s.row
   pub first_column : (b q : ℕ) → b < s.index → IsConstantAt ring.modulus.value (get_or F b []) q → ⊥
   pub first_row : (q : ℕ) → q < s.row → IsConstantAt ring.modulus.value (get_or F s.index []) q → ⊥
-  pub column : IsSame ring.modulus.value (get_or F s.index []) (sum_of (variables ring) s.column)
+  pub column : IsSame ring.modulus.value (get_or F s.index []) s.column
   pub inverse : IsCongruent ring.modulus.value (s.inverse * coefficient (get_or F s.index []) (s.row, unit (variables ring))) 1
 
--- each step is that of the first constant of the columns after those before
-abbrev pub AreFirstSteps : (ring : Ring) → List (FormalSum (variables ring)) → List Step → Type 0
+-- each pivot is the first constant of the columns after those before
+abbrev pub AreFirstSteps : (ring : Ring) → List (FormalSum (variables ring)) → List (Pivot (variables ring)) → Type 0
 AreFirstSteps ring F [] = ⊤
-AreFirstSteps ring F (s ∷ steps) = IsFirstStep ring F s × AreFirstSteps ring (left_by ring s F) steps
+AreFirstSteps ring F (s ∷ pivots) = IsFirstStep ring F s × AreFirstSteps ring (left_by ring s F) pivots
 
--- the columns are homogeneous, whatever the degrees
-abbrev pub AreGradedColumns : (ring : Ring) → List (FormalSum (variables ring)) → Type 0
-AreGradedColumns ring F = (rows : List ℕ) × (degrees : List ℕ) × AreHomogeneous ring.weights ring.modulus.value rows degrees F
+-- the columns are homogeneous of these degrees, whatever those of the rows
+abbrev pub AreGradedColumns : (ring : Ring) → List ℕ → List (FormalSum (variables ring)) → Type 0
+AreGradedColumns ring degrees F = (rows : List ℕ) × AreHomogeneous ring.weights ring.modulus.value rows degrees F
+
+-- ---- steps in the code, whose rows keep their first numbers
+-- v cleared by the steps' columns in turn
+abbrev pub cleared_all : (ring : Ring) → List Step → FormalSum (variables ring) → FormalSum (variables ring)
+cleared_all ring [] v = v
+cleared_all ring (s ∷ steps) v = cleared_all ring steps (cleared ring.modulus.value s.row s.inverse (sum_of (variables ring) s.column) v)
+
+-- the table has at each step's row the number of the step, from this number on
+abbrev pub AreNumbered : List ℕ → ℕ → List Step → Type 0
+AreNumbered numbers i [] = ⊤
+AreNumbered numbers i (s ∷ steps) = (get_or numbers s.row 18446744073709551615 ≡ i) × AreNumbered numbers (i + 1) steps
 
 -- a step of a vector and a residue
 abbrev pub IsStepOver : Ring → Step → Type 0
 IsStepOver ring s = IsVectorOver ring (ring_comparison ring) s.column × (s.inverse < ring.modulus.value)
 
+-- no step has the vector's first constant in its row
+abbrev pub IsFree : List (CodeKey × ℕ) → List Step → Type 0
+IsFree v steps = (a : ℕ × ℕ) → IsLeastUnit v (Some a) → Each (λ s. s.row ≡ a.0 → ⊥) steps
+
 -- the column was kept, with all steps so far behind it, or its first constant makes the next step
-abbrev pub IsSorted : Ring → List (CodeKey × ℕ) → List Step → List Step → List Kept → List Kept → Type 0
-IsSorted ring v steps steps' kept kept' =
-    (IsLeastUnit v None × (steps' ≡ steps) × (kept' ≡ kept ++ record { column = v; since = length steps } ∷ []))
-    ⊎ ((s : Step) × (residue : ℕ) × IsLeastUnit v (Some (s.row, residue)) × IsCongruent ring.modulus.value (s.inverse * residue) 1
-    × IsStepOver ring s × (s.column ≡ v) × (s.index ≡ length kept) × (steps' ≡ steps ++ s ∷ []) × (kept' ≡ kept))
+abbrev pub IsSorted : Ring → ℕ → List (CodeKey × ℕ) → List Step → List Step → List Met → List Met → Type 0
+IsSorted ring c v steps steps' met met' =
+    (IsLeastUnit v None × (steps' ≡ steps) × (met' ≡ set met c (record { column = v; since = length steps; choice = None })))
+    ⊎ ((row inverse residue : ℕ) × IsLeastUnit v (Some (row, residue)) × IsCongruent ring.modulus.value (inverse * residue) 1
+    × (inverse < ring.modulus.value) × (steps' ≡ steps ++ record { row = row; inverse = inverse; column = v } ∷ [])
+    × (met' ≡ set met c (record { column = []; since = 0; choice = Some (row, inverse) })))
 
--- columns with some of the steps behind them
-abbrev pub AreKeptOver : Ring → List Step → List Kept → Type 0
-AreKeptOver ring steps kept = Each (λ k. IsVectorOver ring (ring_comparison ring) k.column × (k.since ≤ length steps)) kept
+-- the places of the rows of these choices, each after those before and after these rows
+abbrev pub add_place : Option ℕ → List ℕ → List ℕ
+add_place None rows = rows
+add_place (Some r) rows = rows ++ r ∷ []
 
--- a kept column after all steps
-abbrev pub finished : (ring : Ring) → List Step → Kept → FormalSum (variables ring)
-finished ring steps k = applied_all ring (drop k.since steps) (sum_of (variables ring) k.column)
+abbrev pub add_choice : Option (ℕ × ℕ) → List ℕ → List ℕ
+add_choice None rows = rows
+add_choice (Some a) rows = add_place (place_after rows a.0) rows
+
+abbrev pub rows_in_turn : List ℕ → List Met → List ℕ
+rows_in_turn rows [] = rows
+rows_in_turn rows (m ∷ met) = rows_in_turn (add_choice m.choice rows) met
+
+-- the numbers of the columns that leave, each by how many before it are kept
+abbrev pub add_index : Option (ℕ × ℕ) → ℕ → (ℕ → List ℕ) → List ℕ
+add_index None kept more = more (kept + 1)
+add_index (Some a) kept more = kept ∷ more kept
+
+abbrev pub indices_in_turn : ℕ → List Met → List ℕ
+indices_in_turn kept [] = []
+indices_in_turn kept (m ∷ met) = add_index m.choice kept (λ k. indices_in_turn k met)
+
+-- a kept column
+abbrev pub add_kept : {X : Type 0} → Option (ℕ × ℕ) → X → List X → List X
+add_kept None x xs = x ∷ xs
+add_kept (Some a) x xs = xs
+
+-- a kept column is a vector with some of the steps behind it
+abbrev pub IsMetOver : Ring → List Step → Met → Type 0
+IsMetOver ring steps m = IsVectorOver ring (ring_comparison ring) m.column × (m.since ≤ length steps)
+
+-- what is left of the kept columns after all steps, without these rows
+abbrev pub finished_all : (ring : Ring) → List Step → List ℕ → List Met → List (FormalSum (variables ring))
+finished_all ring steps rows [] = []
+finished_all ring steps rows (m ∷ met) =
+    add_kept m.choice (without_all rows (cleared_all ring (drop m.since steps) (sum_of (variables ring) m.column))) (finished_all ring steps rows met)
 
 -- the kept columns after all steps
-pub record AreFinished (ring : Ring) (steps : List Step) (kept : List Kept) (columns : List (List (CodeKey × ℕ))) : Type 0 where
-  pub same : AreSameColumns ring.modulus.value (map (finished ring steps) kept) (sums_of (variables ring) columns)
+pub record AreFinished (ring : Ring) (steps : List Step) (rows : List ℕ) (met : List Met) (columns : List (List (CodeKey × ℕ))) : Type 0 where
+  pub same : AreSameColumns ring.modulus.value (finished_all ring steps rows met) (sums_of (variables ring) columns)
   pub vectors : AreVectorsOver ring (ring_comparison ring) columns
 
 -- the columns that are left when the constants of these leave, each time the first one
 pub record IsPassed (ring : Ring) (columns : List (List (CodeKey × ℕ))) (passed : Passed) : Type 0 where
-  pub steps : AreFirstSteps ring (sums_of (variables ring) columns) passed.steps.items
-  pub same :
-      let n = variables ring in
-      AreSameColumns ring.modulus.value (left_by_all ring passed.steps.items (sums_of n columns)) (sums_of n passed.columns)
+  pub pivots : List (Pivot (variables ring))
+  pub firsts : AreFirstSteps ring (sums_of (variables ring) columns) pivots
+  pub same : let n = variables ring in AreSameColumns ring.modulus.value (left_by_all ring pivots (sums_of n columns)) (sums_of n passed.columns)
   pub vectors : AreVectorsOver ring (ring_comparison ring) passed.columns
   pub none : HasNone ring.modulus.value (sums_of (variables ring) passed.columns)
+  pub rows : passed.rows.items ≡ map (λ s. s.row) pivots
+  pub indices : passed.indices.items ≡ map (λ s. s.index) pivots

@@ -17,7 +17,6 @@ use crate::carried::Carried;
 use crate::clearing::in_own_order;
 use crate::leaving::{drop_degrees, leave_former, leave_next};
 use crate::one_pass::{Passed, pass};
-use crate::steps::{indices_of, rows_of};
 use module_vectors::{NoMemory, Ring, VectList, VectStop, WorkStop, lawful_setting};
 use schreyer_resolution::{Map, Resolution, column_degrees, joined_maps};
 use std::alloc::Global;
@@ -73,22 +72,27 @@ fn leave(
     rest: &mut Vec<Carried>,
 ) -> Result<Carried, NoMemory>
     requires { AreOrdered ring.now rest.old.items }
-    ensures former { let rows = map (λ s. s.row) passed.steps.items in
-        OnOk result (IsFormerLeft rows positions.old.items positions.new.items done.old.items done.new.items) }
-    ensures next { let indices = map (λ s. s.index) passed.steps.items in OnOk result (IsNextLeft ring.now indices rest.old.items rest.new.items) }
+    ensures former { OnOk result (IsFormerLeft passed.rows.items positions.old.items positions.new.items done.old.items done.new.items) }
+    ensures next { OnOk result (IsNextLeft ring.now passed.indices.items rest.old.items rest.new.items) }
     ensures columns { IfOk result (λ m. m.columns ≡ passed.columns) }
-    ensures degrees { IfOk result (λ m. m.degrees.items ≡ all_removed (map (λ s. s.index) passed.steps.items) degrees.items) }
+    ensures degrees { IfOk result (λ m. m.degrees.items ≡ all_removed passed.indices.items degrees.items) }
 {
-    let rows = rows_of(alloc, &passed.steps)?;
-    let indices = indices_of(alloc, &passed.steps)?;
-    leave_former(positions, done, &rows)?;
-    leave_next(alloc, ring, &indices, rest)?;
+    leave_former(positions, done, &passed.rows)?;
+    leave_next(alloc, ring, &passed.indices, degrees.len(), rest)?;
     let mut left = degrees;
-    drop_degrees(&mut left, &indices);
+    drop_degrees(&mut left, &passed.indices);
     Ok(Carried {
         columns: passed.columns,
         degrees: left,
     })
+}
+
+// How many rows the map after these has.
+fn row_count(positions: &[u32], done: &[Carried]) -> usize {
+    match done.last() {
+        Some(former) => former.columns.len(),
+        None => positions.len(),
+    }
 }
 
 // The map at hand when its constants have left. Where a product's degree is too great, they leave by steps, which give the trail.
@@ -111,9 +115,16 @@ fn cancelled_map(
         (graded_maps ring.now positions.old.items (in_turn done.old.items current rest.old.items))) }
 {
     lawful_setting(ring);
-    match pass(alloc, ring, current.columns.as_slice()) {
+    let rows = row_count(positions, done);
+    match pass(
+        alloc,
+        ring,
+        rows,
+        &current.degrees,
+        current.columns.as_slice(),
+    ) {
         Ok(passed) => {
-            if passed.steps.is_empty() {
+            if passed.rows.is_empty() {
                 return Ok(current);
             }
             Ok(leave(alloc, ring, positions, done, current.degrees, passed, rest)?)

@@ -6,6 +6,7 @@ ghost use Rattle.module_vectors.specs.Rings.{ring_comparison, variables};
 ghost use Rattle.module_vectors.specs.Vectors.{AreTermsOver, IsMonomialOver, IsVectorOver, StandsFor, sum_of};
 ghost use Rattle.minimal_betti.specs.Clearing.{ClearingStops, lowered, multiple_of};
 
+use crate::placing::lower_position;
 use module_vectors::{Key, NoMemory, Ring, Vect, VectStop, lawful_setting};
 use std::alloc::Global;
 
@@ -127,34 +128,22 @@ pub(crate) fn cleared_vector(
     w: &Vect,
     row: u64,
     inverse: u32,
-    v: &Vect,
+    v: Vect,
 ) -> Result<Vect, VectStop>
     requires inverse { inverse < ring.now.modulus.value }
     requires column { IsVectorOver ring.now (ring_comparison ring.now) w.now }
-    requires vector { IsVectorOver ring.now (ring_comparison ring.now) v.now }
+    requires vector { IsVectorOver ring.now (ring_comparison ring.now) v }
     ensures vector { IfOk result (IsVectorOver ring.now (ring_comparison ring.now)) }
     ensures sum { let n = variables ring.now in
-        IfOk result (λ u. StandsFor ring.now u (cleared ring.now.modulus.value row inverse (sum_of n w.now) (sum_of n v.now))) }
-    ensures stop { IfErr result (ClearingStops row w.now v.now) }
+        IfOk result (λ u. StandsFor ring.now u (cleared ring.now.modulus.value row inverse (sum_of n w.now) (sum_of n v))) }
+    ensures stop { IfErr result (ClearingStops row w.now v) }
 {
     lawful_setting(ring);
     let taken = match multiple(alloc, ring, w, row, inverse, v.terms()) {
         Ok(taken) => taken,
         Err(stop) => return Err(stop),
     };
-    let mut out = v.try_copy(alloc)?;
-    out.add(alloc, ring, taken)?;
-    Ok(out)
-}
-
-// The position that is left to one when the row leaves.
-fn lower_position(row: u64, position: u64) -> u64
-    ensures { result ≡ cond (nat_lt position row) position (position - 1) }
-{
-    if position < row {
-        return position;
-    }
-    position.saturating_sub(1)
+    Ok(sum_of_two(alloc, ring, v, taken)?)
 }
 
 // Each term at the position that is left to it when the row leaves.
@@ -177,30 +166,6 @@ pub(crate) fn vector_without(ring: &Ring, row: u64, v: Vect) -> Vect
     terms.retain(|term| term.0.position != row);
     lower_terms(row, &mut terms);
     Vect::from_ordered(ring, terms)
-}
-
-/// The same for a vector without a term in the row: each term is looked at once.
-pub(crate) fn lowered_vector(ring: &Ring, row: u64, v: Vect) -> Vect
-    requires vector { IsVectorOver ring.now (ring_comparison ring.now) v }
-    requires other { Each (λ t. t.0.position ≡ row → ⊥) v }
-    ensures vector { IsVectorOver ring.now (ring_comparison ring.now) result }
-    ensures sum { (n : ℕ) → sum_of n result ≡ without_row row (sum_of n v) }
-{
-    let mut terms = v.into_terms();
-    lower_terms(row, &mut terms);
-    Vect::from_ordered(ring, terms)
-}
-
-/// Has the vector a term in the row?
-pub(crate) fn stands_in(row: u64, v: &Vect) -> bool
-    ensures { result ≡ false → Each (λ t. t.0.position ≡ row → ⊥) v.now }
-{
-    for term in v.terms() {
-        if term.0.position == row {
-            return true;
-        }
-    }
-    false
 }
 
 /// The same vector in the ring's own order.

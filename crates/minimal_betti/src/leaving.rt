@@ -1,13 +1,13 @@
 // Rows and columns leave the maps before and after the one at hand.
-ghost use Rattle.std.specs.Prelude.{◌≡◌, ℕ, IfOk, OnOk};
+ghost use Rattle.std.specs.Prelude.{◌≡◌, IfOk, OnOk};
 ghost use Rattle.minimal_laws.specs.Cancellation.{remove_at};
-ghost use Rattle.module_vectors.specs.Rings.{ring_comparison, variables};
-ghost use Rattle.module_vectors.specs.Vectors.{AreVectorsOver, IsVectorOver, sum_of};
+ghost use Rattle.module_vectors.specs.Rings.{ring_comparison};
+ghost use Rattle.module_vectors.specs.Vectors.{AreVectorsOver};
 ghost use Rattle.minimal_betti.specs.Carried.{AreOrdered};
-ghost use Rattle.minimal_betti.specs.Splitting.{AreWithout, IsFormerLeft, IsNextLeft, all_removed, without_all};
+ghost use Rattle.minimal_betti.specs.Splitting.{AreWithout, IsFormerLeft, IsNextLeft, all_removed};
 
 use crate::carried::Carried;
-use crate::clearing::vector_without;
+use crate::placing::{placed_vector, places};
 use module_vectors::{NoMemory, Ring, Vect, VectList};
 use std::alloc::Global;
 use std::collections::VecDeque;
@@ -50,33 +50,22 @@ fn drop_columns(columns: VectList, places: &[u64]) -> VectList
     VectList::from_vec(vectors)
 }
 
-// The vector without the rows in turn.
-fn vector_without_all(ring: &Ring, rows: &[u64], v: Vect) -> Vect
-    requires { IsVectorOver ring.now (ring_comparison ring.now) v }
-    ensures vector { IsVectorOver ring.now (ring_comparison ring.now) result }
-    ensures sum { let n = variables ring.now in sum_of n result ≡ without_all rows.now (sum_of n v) }
-{
-    let mut out = v;
-    for row in rows {
-        out = vector_without(ring, *row, out);
-    }
-    out
-}
-
-// The columns without the rows in turn.
+// The columns without the rows in turn, with a table of places for the first `count` rows.
 fn columns_without(
     alloc: Global,
     ring: &Ring,
     rows: &[u64],
+    count: usize,
     columns: VectList,
 ) -> Result<VectList, NoMemory>
     requires { AreVectorsOver ring.now (ring_comparison ring.now) columns }
     ensures { IfOk result (AreWithout ring.now rows.now columns) }
 {
+    let left = places(alloc, rows, count)?;
     let mut without = Vec::with_capacity(alloc, columns.len())?;
     let mut rest = VecDeque::from_vec(columns.into_vec());
     while let Some(v) = rest.pop_front() {
-        without.push(vector_without_all(ring, rows, v))?;
+        without.push(placed_vector(alloc, ring, &left, rows, v)?)?;
     }
     Ok(VectList::from_vec(without))
 }
@@ -104,11 +93,13 @@ pub(crate) fn leave_former(
     Ok(())
 }
 
-/// Rows of the next map, which stands last, leave in turn, where there is one. After an error the maps are lost.
+/// Rows of the next map, which stands last, leave in turn, where there is one. For the first `count` rows a table is made, so that
+/// the others are compared with each that leaves. After an error the maps are lost.
 pub(crate) fn leave_next(
     alloc: Global,
     ring: &Ring,
     rows: &[u64],
+    count: usize,
     rest: &mut Vec<Carried>,
 ) -> Result<(), NoMemory>
     requires { AreOrdered ring.now rest.old.items }
@@ -116,7 +107,7 @@ pub(crate) fn leave_next(
 {
     if let Some(next) = rest.pop() {
         rest.push(Carried {
-            columns: columns_without(alloc, ring, rows, next.columns)?,
+            columns: columns_without(alloc, ring, rows, count, next.columns)?,
             degrees: next.degrees,
         })?;
     }

@@ -13,6 +13,8 @@ mod constants;
 mod counting;
 mod leaving;
 mod one_pass;
+mod placing;
+mod sorting;
 mod splitting;
 mod steps;
 mod stopping;

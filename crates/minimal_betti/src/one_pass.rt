@@ -1,104 +1,208 @@
-// One pass over the columns of a map, after which they have no constants.
-ghost use Rattle.std.specs.Prelude.{◌≡◌, ◌<◌, IfOk, OnOk};
+// One pass over the columns of a map, by degree, after which they have no constants.
+ghost use Rattle.std.specs.Prelude.{◌≡◌, ◌<◌, [], IfOk, OnOk, get_or, length};
 ghost use Rattle.formal_sums.specs.FormalSums.{Each};
 ghost use Rattle.module_vectors.specs.Rings.{ring_comparison, variables};
 ghost use Rattle.module_vectors.specs.Vectors.{AreVectorsOver, IsVectorOver, sums_of};
-ghost use Rattle.minimal_betti.specs.Passing.{AreFinished, AreGradedColumns, AreKeptOver, IsPassed, IsSorted, IsStepOver};
+ghost use Rattle.minimal_betti.specs.Passing.{AreFinished, AreGradedColumns, AreNumbered, IsFree, IsMetOver, IsPassed, IsSorted, IsStepOver};
+ghost use Rattle.minimal_betti.specs.Passing.{indices_in_turn as leaving_indices, rows_in_turn as leaving_rows};
 
 use crate::constants::least_unit;
-use crate::steps::{Step, apply_all};
+use crate::placing::{place_after, placed_vector, places};
+use crate::sorting::by_degree;
+use crate::steps::{Step, StepTable, clear_since, push_step};
 use module_vectors::{NoMemory, Ring, Vect, VectList, VectStop, lawful_setting};
 use std::alloc::Global;
 use std::collections::VecDeque;
 
-/// A column without constants, and how many steps it has behind it.
+/// What became of a column: it is kept, with so many steps behind it, or left with its first constant, in this row and with this
+/// inverse.
 #[derive(Drop)]
-pub(crate) struct Kept {
+pub(crate) struct Met {
     pub column: Vect,
     pub since: usize,
+    pub choice: Option<(u64, u32)>,
 }
 
-/// The columns that are left, and the steps.
+/// The columns that are left, and the rows and the columns that leave, each by its number at its moment.
 #[derive(Drop)]
 pub(crate) struct Passed {
     pub columns: VectList,
-    pub steps: Vec<Step>,
+    pub rows: Vec<u64>,
+    pub indices: Vec<u64>,
 }
 
-// Keeps the column, or where it has a constant makes a step of its first one.
+// Keeps the column with this number, or where it has a constant makes a step of its first one.
 fn sort_column(
+    alloc: Global,
     ring: &Ring,
+    index: usize,
     column: Vect,
-    steps: &mut Vec<Step>,
-    kept: &mut Vec<Kept>,
+    table: &mut StepTable,
+    met: &mut Vec<Met>,
 ) -> Result<(), NoMemory>
-    requires { IsVectorOver ring.now (ring_comparison ring.now) column }
-    ensures { OnOk result (IsSorted ring.now column steps.old.items steps.new.items kept.old.items kept.new.items) }
+    requires vector { IsVectorOver ring.now (ring_comparison ring.now) column }
+    requires inside { index < length met.old.items }
+    requires numbered { AreNumbered table.old.numbers.items 0 table.old.steps.items }
+    requires free { IsFree column table.old.steps.items }
+    ensures sorted { OnOk result (IsSorted ring.now index column table.old.steps.items table.new.steps.items met.old.items met.new.items) }
+    ensures numbered { OnOk result (AreNumbered table.new.numbers.items 0 table.new.steps.items) }
 {
     lawful_setting(ring);
     match least_unit(&column) {
         None => {
-            kept.push(Kept {
+            met[index] = Met {
                 column,
-                since: steps.len(),
-            })?;
+                since: table.steps.len(),
+                choice: None,
+            };
         }
         Some(found) => {
             let inverse = match ring.modulus.invert(found.1) {
                 Some(inverse) => inverse,
                 None => unreachable!(),
             };
-            steps.push(Step {
+            met[index] = Met {
+                column: Vect::zero(alloc),
+                since: 0,
+                choice: Some((found.0, inverse)),
+            };
+            let step = Step {
                 row: found.0,
-                index: kept.len() as u64,
                 inverse,
                 column,
-            })?;
+            };
+            push_step(table, step)?;
         }
     }
     Ok(())
 }
 
-// The kept columns after the steps that were made since.
-fn finish(alloc: Global, ring: &Ring, steps: &[Step], kept: Vec<Kept>) -> Result<VectList, VectStop>
-    requires steps { Each (IsStepOver ring.now) steps.now }
-    requires kept { AreKeptOver ring.now steps.now kept.items }
-    ensures { IfOk result (AreFinished ring.now steps.now kept.items) }
+// So many columns that are not met yet.
+fn not_met(alloc: Global, count: usize) -> Result<Vec<Met>, NoMemory>
+    ensures count { IfOk result (λ met. length met.items ≡ count) }
+    ensures none { IfOk result (λ met. Each (λ m. (m.column ≡ []) × (m.since ≡ 0)) met.items) }
+{
+    let mut met = Vec::with_capacity(alloc, count)?;
+    while met.len() < count {
+        met.push(Met {
+            column: Vect::zero(alloc),
+            since: 0,
+            choice: None,
+        })?;
+    }
+    Ok(met)
+}
+
+// The rows that leave, each by its number at its moment.
+fn rows_in_turn(alloc: Global, met: &[Met]) -> Result<Vec<u64>, NoMemory>
+    ensures { IfOk result (λ rows. rows.items ≡ leaving_rows [] met.now) }
+{
+    let mut rows = Vec::new(alloc);
+    for m in met {
+        if let Some(choice) = m.choice {
+            if let Some(place) = place_after(&rows, choice.0) {
+                rows.push(place)?;
+            }
+        }
+    }
+    Ok(rows)
+}
+
+// The columns that leave, each by its number at its moment.
+fn indices_in_turn(alloc: Global, met: &[Met]) -> Result<Vec<u64>, NoMemory>
+    ensures { IfOk result (λ indices. indices.items ≡ leaving_indices 0 met.now) }
+{
+    let mut indices = Vec::new(alloc);
+    let mut kept: u64 = 0;
+    for m in met {
+        match m.choice {
+            None => kept += 1,
+            Some(_) => indices.push(kept)?,
+        }
+    }
+    Ok(indices)
+}
+
+// The kept columns after the steps that were made since, without the rows that leave, of which the map has `count` in all.
+fn finish(
+    alloc: Global,
+    ring: &Ring,
+    table: &StepTable,
+    rows: &[u64],
+    count: usize,
+    met: Vec<Met>,
+) -> Result<VectList, VectStop>
+    requires steps { Each (IsStepOver ring.now) table.now.steps.items }
+    requires numbered { AreNumbered table.now.numbers.items 0 table.now.steps.items }
+    requires met { Each (IsMetOver ring.now table.now.steps.items) met.items }
+    ensures { IfOk result (AreFinished ring.now table.now.steps.items rows.now met.items) }
 {
     lawful_setting(ring);
-    let mut columns = Vec::with_capacity(alloc, kept.len())?;
-    let mut rest = VecDeque::from_vec(kept);
+    let left = places(alloc, rows, count)?;
+    let mut columns = Vec::with_capacity(alloc, met.len())?;
+    let mut rest = VecDeque::from_vec(met);
     while let Some(next) = rest.pop_front() {
-        match apply_all(alloc, ring, &steps[next.since..], next.column) {
-            Ok(column) => columns.push(column)?,
-            Err(stop) => return Err(stop),
+        match next.choice {
+            None => match clear_since(alloc, ring, table, next.since, next.column) {
+                Ok(column) => columns.push(placed_vector(alloc, ring, &left, rows, column)?)?,
+                Err(stop) => return Err(stop),
+            },
+            Some(_) => {}
         }
     }
     Ok(VectList::from_vec(columns))
 }
 
-/// What is left of a map's columns when their constants leave, each time the first one.
+// A copy of the column with this number.
+fn column_copy(alloc: Global, columns: &[Vect], number: usize) -> Result<Vect, NoMemory>
+    requires { number < length columns.now }
+    ensures { IfOk result (λ v. v ≡ get_or columns.now number []) }
+{
+    columns[number].try_copy(alloc)
+}
+
+/// What is left of a map's columns when their constants leave, each time the first one. The columns have these degrees; the map has
+/// `count` rows, and for so many a table is made.
 ///
-/// Each column is met once: the steps so far are applied to it, and it is kept, or is the column of the next step. So at any
-/// moment the map's columns are those kept and those not met yet, after all steps. `Degree` comes where a product is too great,
-/// which need not be the first such product by the steps in turn.
-pub(crate) fn pass(alloc: Global, ring: &Ring, columns: &[Vect]) -> Result<Passed, VectStop>
+/// The columns are met by degree, those of one degree in their order: the steps so far are applied to the column, and it is kept, or
+/// is the column of the next step. A step changes columns of its own degree and of greater ones alone, and the constants of columns of
+/// its own degree alone; so what is left is what the first constant each time leaves. Rows keep their numbers until all columns are
+/// met, and a table tells which step a row belongs to: a column is compared with the steps that have their row in it, and no others.
+/// `Degree` comes where a product is too great, which need not be the first such product by the steps in turn.
+pub(crate) fn pass(
+    alloc: Global,
+    ring: &Ring,
+    count: usize,
+    degrees: &[u32],
+    columns: &[Vect],
+) -> Result<Passed, VectStop>
     requires vectors { AreVectorsOver ring.now (ring_comparison ring.now) columns.now }
-    requires graded { AreGradedColumns ring.now (sums_of (variables ring.now) columns.now) }
+    requires graded { AreGradedColumns ring.now degrees.now (sums_of (variables ring.now) columns.now) }
     ensures { IfOk result (IsPassed ring.now columns.now) }
 {
     lawful_setting(ring);
-    let mut steps = Vec::new(alloc);
-    let mut kept = Vec::with_capacity(alloc, columns.len())?;
-    for column in columns {
-        let copy = column.try_copy(alloc)?;
-        match apply_all(alloc, ring, &steps, copy) {
-            Ok(after) => sort_column(ring, after, &mut steps, &mut kept)?,
+    let mut table = StepTable {
+        steps: Vec::new(alloc),
+        numbers: Vec::new(alloc),
+    };
+    let mut met = not_met(alloc, columns.len())?;
+    let order = by_degree(alloc, degrees, columns.len())?;
+    for k in 0..order.len() {
+        let number = order[k];
+        let copy = column_copy(alloc, columns, number)?;
+        match clear_since(alloc, ring, &table, 0, copy) {
+            Ok(after) => sort_column(alloc, ring, number, after, &mut table, &mut met)?,
             Err(stop) => return Err(stop),
         }
     }
-    match finish(alloc, ring, &steps, kept) {
-        Ok(columns) => Ok(Passed { columns, steps }),
+    let rows = rows_in_turn(alloc, &met)?;
+    let indices = indices_in_turn(alloc, &met)?;
+    match finish(alloc, ring, &table, &rows, count, met) {
+        Ok(columns) => Ok(Passed {
+            columns,
+            rows,
+            indices,
+        }),
         Err(stop) => Err(stop),
     }
 }

@@ -37,7 +37,7 @@ fn split_column(
 {
     lawful_setting(ring);
     let w = &columns.as_slice()[at.column];
-    let v = &columns.as_slice()[i];
+    let v = columns.as_slice()[i].try_copy(alloc)?;
     match cleared_vector(alloc, ring, w, at.row, inverse, v) {
         Ok(cleared) => Ok(vector_without(ring, at.row, cleared)),
         Err(stop) => Err(splitting_stop(alloc, ring, columns, at, i, stop)),
@@ -145,7 +145,7 @@ pub(crate) fn cancel(
         Ok(split) => split,
         Err(stop) => return Err(stop),
     };
-    leave_next(alloc, ring, &[at.column as u64], rest)?;
+    leave_next(alloc, ring, &[at.column as u64], 0, rest)?;
     leave_former(positions, done, &[at.row])?;
     Ok(split)
 }

@@ -1,84 +1,125 @@
 // Constants that left a map, and vectors after them.
-ghost use Rattle.std.specs.Prelude.{◌≡◌, ◌<◌, IfOk, map};
+ghost use Rattle.std.specs.Prelude.{◌≡◌, ◌<◌, ◌≤◌, ◌⊎◌, ◌++◌, ◌∷◌, [], ℕ, IfOk, OnOk, drop, get_or};
 ghost use Rattle.formal_sums.specs.FormalSums.{Each};
 ghost use Rattle.module_vectors.specs.Rings.{ring_comparison, variables};
 ghost use Rattle.module_vectors.specs.Vectors.{IsVectorOver, StandsFor, sum_of};
-ghost use Rattle.minimal_betti.specs.Passing.{IsStepOver, applied, applied_all};
+ghost use Rattle.minimal_betti.specs.Passing.{AreNumbered, IsStepOver, cleared_all};
 
-use crate::clearing::{cleared_vector, lowered_vector, stands_in, vector_without};
+use crate::clearing::cleared_vector;
 use module_vectors::{NoMemory, Ring, Vect, VectStop, lawful_setting};
 use std::alloc::Global;
 
-/// A constant that leaves a map, in the numbering of its moment.
+/// What a table of steps has at a row of none.
+pub(crate) const NONE: u64 = u64::MAX;
+
+/// A constant that leaves a map.
 #[derive(Drop)]
 pub(crate) struct Step {
+    /// Its row, by the number that the map's rows have first.
     pub row: u64,
-    pub index: u64,
     /// The inverse of the constant.
     pub inverse: u32,
     /// Its column as it stood.
     pub column: Vect,
 }
 
-// The vector after the step. Where it has no term in the step's row, it takes no memory.
-fn apply(alloc: Global, ring: &Ring, step: &Step, v: Vect) -> Result<Vect, VectStop>
-    requires step { IsStepOver ring.now step.now }
-    requires vector { IsVectorOver ring.now (ring_comparison ring.now) v }
-    ensures vector { IfOk result (IsVectorOver ring.now (ring_comparison ring.now)) }
-    ensures sum { IfOk result (λ u. StandsFor ring.now u (applied ring.now step.now (sum_of (variables ring.now) v))) }
-{
-    lawful_setting(ring);
-    if !stands_in(step.row, &v) {
-        return Ok(lowered_vector(ring, step.row, v));
-    }
-    match cleared_vector(alloc, ring, &step.column, step.row, step.inverse, &v) {
-        Ok(cleared) => Ok(vector_without(ring, step.row, cleared)),
-        Err(stop) => Err(stop),
-    }
+/// The steps so far, and at each row the number of its step.
+#[derive(Drop)]
+pub(crate) struct StepTable {
+    pub steps: Vec<Step>,
+    pub numbers: Vec<u64>,
 }
 
-/// The vector after these steps in turn. `Degree` comes where a product of a step's column is too great, `Memory` where there is
-/// none.
-pub(crate) fn apply_all(
+// The number of the row's step.
+fn number_at(numbers: &[u64], row: u64) -> u64
+    ensures { result ≡ get_or numbers.now row 18446744073709551615 }
+{
+    if row < numbers.len() as u64 {
+        return numbers[row as usize];
+    }
+    NONE
+}
+
+// The less of the two, if the second is not below the bound.
+fn nearer(least: u64, number: u64, from: u64) -> u64
+    ensures bound { from ≤ number → result ≤ number }
+    ensures below { result ≤ least }
+    ensures from { from ≤ least → from ≤ result }
+{
+    if from <= number && number < least {
+        return number;
+    }
+    least
+}
+
+// The least step, from this one on, that has its row among the terms' rows.
+fn next_step(numbers: &[u64], from: u64, v: &Vect) -> u64
+    ensures least { Each (λ t. from ≤ get_or numbers.now t.0.position 18446744073709551615
+        → result ≤ get_or numbers.now t.0.position 18446744073709551615) v.now }
+    ensures from { from ≤ result }
+{
+    let mut least = NONE;
+    for term in v.terms() {
+        least = nearer(least, number_at(numbers, term.0.position), from);
+    }
+    least
+}
+
+/// The vector after the steps from this one on in turn; those are looked at that have their row in it. `Degree` comes where a
+/// product of a step's column is too great, `Memory` where there is none.
+pub(crate) fn clear_since(
     alloc: Global,
     ring: &Ring,
-    steps: &[Step],
+    table: &StepTable,
+    since: usize,
     v: Vect,
 ) -> Result<Vect, VectStop>
-    requires steps { Each (IsStepOver ring.now) steps.now }
+    requires steps { Each (IsStepOver ring.now) table.now.steps.items }
+    requires numbered { AreNumbered table.now.numbers.items 0 table.now.steps.items }
     requires vector { IsVectorOver ring.now (ring_comparison ring.now) v }
     ensures vector { IfOk result (IsVectorOver ring.now (ring_comparison ring.now)) }
-    ensures sum { IfOk result (λ u. StandsFor ring.now u (applied_all ring.now steps.now (sum_of (variables ring.now) v))) }
+    ensures sum { let n = variables ring.now in
+        IfOk result (λ u. StandsFor ring.now u (cleared_all ring.now (drop since table.now.steps.items) (sum_of n v))) }
 {
     lawful_setting(ring);
     let mut out = v;
-    for step in steps {
-        match apply(alloc, ring, step, out) {
-            Ok(after) => out = after,
+    let mut from = since;
+    loop {
+        let next = next_step(&table.numbers, from as u64, &out) as usize;
+        if next >= table.steps.len() {
+            return Ok(out);
+        }
+        let step = &table.steps[next];
+        match cleared_vector(alloc, ring, &step.column, step.row, step.inverse, out) {
+            Ok(cleared) => out = cleared,
             Err(stop) => return Err(stop),
         }
+        from = next + 1;
     }
-    Ok(out)
 }
 
-/// The rows that leave, each in the numbering of its moment.
-pub(crate) fn rows_of(alloc: Global, steps: &[Step]) -> Result<Vec<u64>, NoMemory>
-    ensures { IfOk result (λ rows. rows.items ≡ map (λ s. s.row) steps.now) }
+// Puts the number at the row.
+fn number_row(numbers: &mut Vec<u64>, row: u64, number: u64) -> Result<(), NoMemory>
+    ensures here { OnOk result (get_or numbers.new.items row 18446744073709551615 ≡ number) }
+    ensures others { (q : ℕ) → (q ≡ row → ⊥)
+        → OnOk result (get_or numbers.new.items q 18446744073709551615 ≡ get_or numbers.old.items q 18446744073709551615) }
 {
-    let mut rows = Vec::with_capacity(alloc, steps.len())?;
-    for step in steps {
-        rows.push(step.row)?;
+    while numbers.len() as u64 <= row {
+        numbers.push(NONE)?;
     }
-    Ok(rows)
+    numbers[row as usize] = number;
+    Ok(())
 }
 
-/// The columns that leave, each in the numbering of its moment.
-pub(crate) fn indices_of(alloc: Global, steps: &[Step]) -> Result<Vec<u64>, NoMemory>
-    ensures { IfOk result (λ indices. indices.items ≡ map (λ s. s.index) steps.now) }
+/// Puts the step behind the others; they have other rows.
+pub(crate) fn push_step(table: &mut StepTable, step: Step) -> Result<(), NoMemory>
+    requires numbered { AreNumbered table.old.numbers.items 0 table.old.steps.items }
+    requires other { Each (λ s. s.row ≡ step.row → ⊥) table.old.steps.items }
+    ensures numbered { OnOk result (AreNumbered table.new.numbers.items 0 table.new.steps.items) }
+    ensures steps { OnOk result (table.new.steps.items ≡ table.old.steps.items ++ step ∷ []) }
 {
-    let mut indices = Vec::with_capacity(alloc, steps.len())?;
-    for step in steps {
-        indices.push(step.index)?;
-    }
-    Ok(indices)
+    let number = table.steps.len() as u64;
+    number_row(&mut table.numbers, step.row, number)?;
+    table.steps.push(step)?;
+    Ok(())
 }

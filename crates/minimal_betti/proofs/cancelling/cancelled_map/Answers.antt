@@ -1,11 +1,13 @@
-use Rattle.std.proofs.Common.{ap, arith, reverse, subst, sym, ◌<◌, ◌==◌, ◌∙◌}
+use Rattle.std.proofs.Common.{List, ap, arith, reverse, subst, subst₂, sym, ℕ, ◌<◌, ◌==◌, ◌∙◌}
 use Rattle.minimal_laws.specs.Cancellation.{AreSameColumns}
 use Rattle.module_vectors.specs.Rings.{ring_comparison, variables}
 use Rattle.module_vectors.specs.Vectors.{AreVectorsOver, sums_of}
 use Rattle.minimal_betti.specs.Passing.{AreGradedColumns, IsPassed, left_by_all}
+use Rattle.minimal_betti.specs.Splitting.{IsFormerLeft, IsNextLeft, all_removed}
 use Rattle.minimal_betti.proofs.Ending.{no_columns, some_columns}
 use Rattle.minimal_betti.proofs.Splittings.{graded_columns, ordered_here, ordered_rest}
 use Rattle.minimal_betti.proofs.Stepping.{no_step_none, passed_leads}
+use Rattle.minimal_betti.proofs.Passes.{pivots_none, pivots_some}
 use Rattle.minimal_betti.proofs.cancelling.cancelled_map.Goals as goal
 
 pub pass-requires-clause-vectors : goal.pass-requires-clause-vectors
@@ -17,15 +19,16 @@ pass-requires-clause-vectors c =
 pub pass-requires-clause-graded : goal.pass-requires-clause-graded
 pass-requires-clause-graded c =
     let ring = c.args.ring.now in
-    subst (λ F. AreGradedColumns ring (sums_of (variables ring) F)) (sym c.as_slice.ensures)
-    (graded_columns ring c.args.positions.now.items c.args.done.now.items c.args.current (reverse c.args.rest.now.items) c.requires.underway.graded)
+    let g = graded_columns ring c.args.positions.now.items c.args.done.now.items c.args.current (reverse c.args.rest.now.items) c.requires.underway.graded in
+    subst₂ (λ (ds : List ℕ) F. AreGradedColumns ring ds (sums_of (variables ring) F)) (sym c.deref-3.ensures.value) (sym c.as_slice.ensures) g
 
 pub returns-then-is_empty-clause-none : goal.returns-then-is_empty-clause-none
 returns-then-is_empty-clause-none c =
     let ring = c.args.ring.now in
     let passed = c.in-Ok.passed in
     let h = subst (λ F. IsPassed ring F passed) c.as_slice.ensures c.in-Ok.ensures in
-    no_step_none ring c.args.current.columns passed.columns passed.steps.items (no_columns passed.steps.items (c.if-is_empty.ensures ∙ ap (λ k. k == 0) passed.steps.ok.0)) h.same h.none
+    no_step_none ring c.args.current.columns passed.columns h.pivots
+    (pivots_none ring passed.rows.items h.pivots h.rows (no_columns passed.rows.items (c.if-is_empty.ensures ∙ ap (λ k. k == 0) passed.rows.ok.0))) h.same h.none
 
 pub leave-requires : goal.leave-requires
 leave-requires c = ordered_rest c.args.ring.now c.args.done.now.items c.args.current c.args.rest.now.items c.requires.underway.ordered
@@ -38,11 +41,15 @@ returns-in_ok-leave-in-Ok-clause-underway c =
     let m = c.in_ok-leave-in-Ok.field-0 in
     let is = c.in_ok-leave-in-Ok.ensures.columns in
     let h = subst (λ F. IsPassed ring F passed) c.as_slice.ensures c.in-Ok.ensures in
-    (passed_leads ring (omega (arith, above)) c.args.current m passed.steps.items (some_columns passed.steps.items (c.if-is_empty.ensures ∙ ap (λ k. k == 0) passed.steps.ok.0)) h.steps
-    (subst (λ F. AreSameColumns ring.modulus.value (left_by_all ring passed.steps.items (sums_of (variables ring) c.args.current.columns)) (sums_of (variables ring) F)) (sym is) h.same)
-    (subst (AreVectorsOver ring (ring_comparison ring)) (sym is) h.vectors) c.in_ok-leave-in-Ok.ensures.degrees
+    (passed_leads ring (omega (arith, above)) c.args.current m h.pivots
+    (pivots_some ring passed.rows.items h.pivots h.rows (some_columns passed.rows.items (c.if-is_empty.ensures ∙ ap (λ k. k == 0) passed.rows.ok.0))) h.firsts
+    (subst (λ F. AreSameColumns ring.modulus.value (left_by_all ring h.pivots (sums_of (variables ring) c.args.current.columns)) (sums_of (variables ring) F)) (sym is) h.same)
+    (subst (AreVectorsOver ring (ring_comparison ring)) (sym is) h.vectors)
+    (c.in_ok-leave-in-Ok.ensures.degrees ∙ ap (λ places. all_removed places c.args.current.degrees.items) h.indices)
     c.args.positions.now.items c.leave.new.positions.items c.args.done.now.items c.leave.new.done.items c.args.rest.now.items c.leave.new.rest.items
-    c.in_ok-leave-in-Ok.ensures.former c.in_ok-leave-in-Ok.ensures.next c.requires.underway).1
+    (subst (λ rows. IsFormerLeft rows c.args.positions.now.items c.leave.new.positions.items c.args.done.now.items c.leave.new.done.items) h.rows c.in_ok-leave-in-Ok.ensures.former)
+    (subst (λ indices. IsNextLeft ring indices c.args.rest.now.items c.leave.new.rest.items) h.indices c.in_ok-leave-in-Ok.ensures.next)
+    c.requires.underway).1
 
 pub returns-in_ok-leave-in-Ok-clause-leads : goal.returns-in_ok-leave-in-Ok-clause-leads
 returns-in_ok-leave-in-Ok-clause-leads c =
@@ -52,8 +59,12 @@ returns-in_ok-leave-in-Ok-clause-leads c =
     let m = c.in_ok-leave-in-Ok.field-0 in
     let is = c.in_ok-leave-in-Ok.ensures.columns in
     let h = subst (λ F. IsPassed ring F passed) c.as_slice.ensures c.in-Ok.ensures in
-    (passed_leads ring (omega (arith, above)) c.args.current m passed.steps.items (some_columns passed.steps.items (c.if-is_empty.ensures ∙ ap (λ k. k == 0) passed.steps.ok.0)) h.steps
-    (subst (λ F. AreSameColumns ring.modulus.value (left_by_all ring passed.steps.items (sums_of (variables ring) c.args.current.columns)) (sums_of (variables ring) F)) (sym is) h.same)
-    (subst (AreVectorsOver ring (ring_comparison ring)) (sym is) h.vectors) c.in_ok-leave-in-Ok.ensures.degrees
+    (passed_leads ring (omega (arith, above)) c.args.current m h.pivots
+    (pivots_some ring passed.rows.items h.pivots h.rows (some_columns passed.rows.items (c.if-is_empty.ensures ∙ ap (λ k. k == 0) passed.rows.ok.0))) h.firsts
+    (subst (λ F. AreSameColumns ring.modulus.value (left_by_all ring h.pivots (sums_of (variables ring) c.args.current.columns)) (sums_of (variables ring) F)) (sym is) h.same)
+    (subst (AreVectorsOver ring (ring_comparison ring)) (sym is) h.vectors)
+    (c.in_ok-leave-in-Ok.ensures.degrees ∙ ap (λ places. all_removed places c.args.current.degrees.items) h.indices)
     c.args.positions.now.items c.leave.new.positions.items c.args.done.now.items c.leave.new.done.items c.args.rest.now.items c.leave.new.rest.items
-    c.in_ok-leave-in-Ok.ensures.former c.in_ok-leave-in-Ok.ensures.next c.requires.underway).0
+    (subst (λ rows. IsFormerLeft rows c.args.positions.now.items c.leave.new.positions.items c.args.done.now.items c.leave.new.done.items) h.rows c.in_ok-leave-in-Ok.ensures.former)
+    (subst (λ indices. IsNextLeft ring indices c.args.rest.now.items c.leave.new.rest.items) h.indices c.in_ok-leave-in-Ok.ensures.next)
+    c.requires.underway).0

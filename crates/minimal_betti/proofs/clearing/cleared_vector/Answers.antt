@@ -1,5 +1,5 @@
-use Rattle.std.proofs.Common.{ap, subst}
-use Rattle.formal_sums.proofs.Sameness.{IsSame_append, IsSame_of, IsSame_trans}
+use Rattle.std.proofs.Common.{subst}
+use Rattle.formal_sums.proofs.Sameness.{IsSame_append, IsSame_refl, IsSame_trans}
 use Rattle.module_vectors.specs.Rings.{variables}
 use Rattle.module_vectors.specs.Vectors.{StandsFor, sum_of}
 use Rattle.minimal_betti.specs.Clearing.{multiple_of}
@@ -9,5 +9,4 @@ pub returns-clause-sum : goal.returns-clause-sum
 returns-clause-sum c =
     let ring = c.args.ring.now in
     let taken = subst (λ ts. StandsFor ring c.in-Ok.taken (multiple_of ring c.args.row c.args.inverse c.args.w.now ts)) c.terms.ensures c.in-Ok.ensures.sum in
-    IsSame_trans c.in_ok-add.ensures.sum
-    (IsSame_append (IsSame_of ring.modulus.value _ _ (ap (sum_of (variables ring)) c.in_ok-out.ensures)) taken)
+    IsSame_trans c.in_ok-sum_of_two.ensures.sum (IsSame_append (IsSame_refl ring.modulus.value (sum_of (variables ring) c.args.v)) taken)

@@ -14,8 +14,8 @@ loop-v-init c =
       left = subst (AreVectorsOver ring (ring_comparison ring)) (sym all) c.requires;
     }
 
-pub vector_without_all-requires : goal.vector_without_all-requires
-vector_without_all-requires c =
+pub placed_vector-requires-clause-vector : goal.placed_vector-requires-clause-vector
+placed_vector-requires-clause-vector c =
     let ring = c.args.ring.now in
     (subst (AreVectorsOver ring (ring_comparison ring)) c.in-Some.ensures.items c.loop-v.invariant.left).0
 
@@ -24,9 +24,9 @@ loop-v-preserved c =
     let ring = c.args.ring.now in
     let rest = subst (AreVectorsOver ring (ring_comparison ring)) c.in-Some.ensures.items c.loop-v.invariant.left in
     record {
-      same = columns_more (variables ring) c.args.rows.now c.args.columns c.loop-v.without.items c.push.new.self.items c.loop-v.rest.items c.pop_front.new.self.items c.in-Some.v c.vector_without_all.result
-          c.loop-v.invariant.same c.in-Some.ensures.items c.vector_without_all.ensures.sum c.in_ok-push.ensures.items;
-      vectors = vectors_pushed ring c.loop-v.without.items c.push.new.self.items c.vector_without_all.result c.loop-v.invariant.vectors c.vector_without_all.ensures.vector c.in_ok-push.ensures.items;
+      same = columns_more (variables ring) c.args.rows.now c.args.columns c.loop-v.without.items c.push.new.self.items c.loop-v.rest.items c.pop_front.new.self.items c.in-Some.v c.in_ok-placed_vector.field-0
+          c.loop-v.invariant.same c.in-Some.ensures.items (c.in_ok-placed_vector.ensures.sum (variables ring)) c.in_ok-push.ensures.items;
+      vectors = vectors_pushed ring c.loop-v.without.items c.push.new.self.items c.in_ok-placed_vector.field-0 c.loop-v.invariant.vectors c.in_ok-placed_vector.ensures.vector c.in_ok-push.ensures.items;
       left = rest.1;
     }
 

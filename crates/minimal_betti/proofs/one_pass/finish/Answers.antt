@@ -1,37 +1,26 @@
-use Rattle.std.proofs.Common.{[], rules, subst, sym, ◌≡◌}
-use Rattle.std.proofs.lemmas.List.{take_rest}
-use Rattle.module_vectors.specs.Rings.{ring_comparison, variables}
-use Rattle.module_vectors.specs.Vectors.{AreVectorsOver, StandsFor, sum_of}
-use Rattle.minimal_betti.specs.Passing.{AreKeptOver, applied_all}
+use Rattle.std.proofs.Common.{arith, subst, ◌<◌}
+use Rattle.formal_sums.proofs.Sameness.{IsSame_of, IsSame_trans}
+use Rattle.formal_sums.specs.FormalSums.{Each}
+use Rattle.module_vectors.specs.Rings.{variables}
+use Rattle.minimal_betti.specs.Passing.{IsMetOver}
+use Rattle.minimal_betti.proofs.Canonical.{without_all_same}
 use Rattle.minimal_betti.proofs.Columns.{vectors_pushed}
-use Rattle.minimal_betti.proofs.Passes.{finish_all, finish_more, finish_start}
+use Rattle.minimal_betti.proofs.Passes.{finish_more}
 use Rattle.minimal_betti.proofs.one_pass.finish.Goals as goal
 
-pub loop-next-init : goal.loop-next-init
-loop-next-init c =
+pub loop-next-preserved-in_ok-push-in-Ok : goal.loop-next-preserved-in_ok-push-in-Ok
+loop-next-preserved-in_ok-push-in-Ok c =
     let ring = c.args.ring.now in
+    let n = variables ring in
+    let p = ring.modulus.value in
+    let above : 1 < p = (c.lawful_setting.ensures 0).domain.above_one in
+    let steps = c.args.table.now.steps.items in
+    let rows = c.args.rows.now in
+    let left = subst (Each (IsMetOver ring steps)) c.in-Some.ensures.items c.loop-next.invariant.left in
+    let stands = IsSame_trans (IsSame_of p _ _ (c.in_ok-placed_vector-in-Ok.ensures.sum n)) (without_all_same (omega (arith, above)) rows _ _ c.in-Ok.ensures.sum) in
     record {
-      same = finish_start ring c.args.steps.now c.args.kept.items c.from_vec-rest.result.items c.in_ok-columns.columns.items c.in_ok-columns.ensures.items c.from_vec-rest.ensures.items;
-      vectors = subst (AreVectorsOver ring (ring_comparison ring)) (sym c.in_ok-columns.ensures.items) tt;
-      left = subst (AreKeptOver ring c.args.steps.now) (sym c.from_vec-rest.ensures.items) c.requires.kept;
-    }
-
-pub loop-next-preserved : goal.loop-next-preserved
-loop-next-preserved c =
-    let ring = c.args.ring.now in
-    let left = subst (AreKeptOver ring c.args.steps.now) c.in-Some.ensures.items c.loop-next.invariant.left in
-    let stands =
-    subst (λ z. StandsFor ring c.in-Ok.column (applied_all ring z (sum_of (variables ring) c.in-Some.next.column))) (take_rest c.args.steps.now c.in-Some.next.since) c.in-Ok.ensures.sum
-    in
-    record {
-      same = finish_more ring c.args.steps.now c.args.kept.items c.loop-next.rest.items c.pop_front.new.self.items c.in-Some.next c.loop-next.columns.items c.push.new.self.items c.in-Ok.column
-          c.loop-next.invariant.same c.in-Some.ensures.items stands c.in_ok-push-in-Ok.ensures.items;
-      vectors = vectors_pushed ring c.loop-next.columns.items c.push.new.self.items c.in-Ok.column c.loop-next.invariant.vectors c.in-Ok.ensures.vector c.in_ok-push-in-Ok.ensures.items;
+      same = finish_more ring steps rows c.args.met.items c.loop-next.rest.items c.pop_front.new.self.items c.in-Some.next c.loop-next.columns.items c.push.new.self.items c.in_ok-placed_vector-in-Ok.field-0
+          c.loop-next.invariant.same c.in-Some.ensures.items c.in-None.is stands c.in_ok-push-in-Ok.ensures.items;
+      vectors = vectors_pushed ring c.loop-next.columns.items c.push.new.self.items c.in_ok-placed_vector-in-Ok.field-0 c.loop-next.invariant.vectors c.in_ok-placed_vector-in-Ok.ensures.vector c.in_ok-push-in-Ok.ensures.items;
       left = left.1;
     }
-
-pub returns : goal.returns
-returns c =
-    let ring = c.args.ring.now in
-    let none : c.loop-next.rest.items ≡ [] = search rules in
-    finish_all ring c.args.steps.now c.args.kept.items c.loop-next.rest.items c.loop-next.columns.items c.from_vec.result c.loop-next.invariant.same none c.from_vec.ensures c.loop-next.invariant.vectors

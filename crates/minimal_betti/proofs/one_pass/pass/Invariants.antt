@@ -1,5 +1,9 @@
-use Rattle.minimal_betti.proofs.Passes.{ArePassed}
+use Rattle.minimal_betti.specs.Passing.{AreNumbered}
+use Rattle.minimal_betti.proofs.Passes.{AreMet}
 use Rattle.minimal_betti.proofs.one_pass.pass.Given as goal
 
-abbrev pub invariant-loop-column : goal.invariant-loop-column
-invariant-loop-column l = ArePassed l.ring l.columns l.column-index l.steps.items l.kept.items
+abbrev pub invariant-loop-k : goal.invariant-loop-k
+invariant-loop-k l = record {
+  met : AreMet l.ring l.columns l.order.items l.k l.table.steps.items l.met.items;
+  numbered : AreNumbered l.table.numbers.items 0 l.table.steps.items;
+}
