@@ -28,8 +28,8 @@ pub struct EchelonRows {
     pub rows: Vec<Row>,
 }
 
-// So many additions of a product take about a tenth of a millisecond: no thread is for less.
-const THREAD: usize = 100_000;
+// So many additions of a product take about a millisecond: no thread is for less.
+const THREAD: usize = 1_000_000;
 
 // The rows between two passes. Each keeps its number until another is left in its place.
 #[derive(Drop)]
@@ -97,8 +97,8 @@ fn work_ahead(alloc: Global, state: &Underway) -> Result<usize, NoMemory>
     Ok(entries.saturating_mul(all / state.rows.len().max(1)))
 }
 
-// How many of the helpers get threads, the caller's among them: all under a held gate, where they wait for one another.
-fn threads_for(gate: &SharedGate, helpers: u32, work: usize) -> u32 {
+// How many helpers the pass has, each with a thread: all under a held gate, where they wait for one another.
+fn helpers_for(gate: &SharedGate, helpers: u32, work: usize) -> u32 {
     if !gate.is_open() {
         return helpers;
     }
@@ -160,7 +160,7 @@ fn pass_over<R: Threads + Sync>(
 {
     let work = work_ahead(alloc, state)?;
     let most = helpers.min(u32::try_from(state.pending.len()).unwrap_or(u32::MAX));
-    let threads = threads_for(gate, most, work);
+    let shared_by = helpers_for(gate, most, work);
     let passed = pass(
         rt,
         alloc,
@@ -171,8 +171,8 @@ fn pass_over<R: Threads + Sync>(
         &state.leads,
         &state.held,
         &state.pending,
-        most,
-        threads,
+        shared_by,
+        shared_by,
     )?;
     Ok(passed)
 }
