@@ -1,9 +1,7 @@
 -- What the loop of a division keeps
-use Rattle.std.specs.Prelude.{List, None, Option, Some, [], drop, get_or, length, map, suc, take, ⊤, ℕ, ◌%◌, ◌*◌, ◌++◌, ◌-◌, ◌<◌, ◌∷◌, ◌≡◌, ◌≤◌}
+use Rattle.std.specs.Prelude.{List, None, Option, Some, [], drop, get_or, length, map, suc, ⊤, ℕ, ◌%◌, ◌*◌, ◌++◌, ◌-◌, ◌<◌, ◌∷◌, ◌≡◌, ◌≤◌}
 use Rattle.std.specs.declared.cmp.Ordering.{Ordering}
-use Rattle.std.specs.declared.cmp.Ordering.TheVariants.{Greater}
 use Rattle.monomials.specs.Exponents.{IsWithin, exponents_of}
-use Rattle.formal_sums.specs.Combinations.{combination}
 use Rattle.formal_sums.specs.FormalSums.{Each, FormalSum, IsSame, Key, scale, shift}
 use Rattle.orders.specs.KeyOrders.{KeyDivides}
 use Rattle.orders.specs.Room.{room}
@@ -16,7 +14,7 @@ use Rattle.module_vectors.specs.declared.key.Key.{Key as CodeKey}
 use Rattle.module_vectors.specs.declared.stop.VectStop.{VectStop}
 use Rattle.module_vectors.specs.declared.stop.VectStop.TheVariants.{Memory, Degree}
 use Rattle.vector_division.specs.Divisions.{IsUncovered}
-use Rattle.vector_division.specs.Reductions.{AreMetFrom, HaveLeadsUpTo, IsScaledProduct, cofactors_of, unscaled}
+use Rattle.vector_division.specs.Reductions.{unscaled}
 use Rattle.vector_division.specs.declared.reduction.ScaledProduct.{ScaledProduct}
 
 -- each vector of the list has n variables
@@ -54,17 +52,6 @@ pub record IsFactor (p a b c : ℕ) : Type 0 where
   pub reduced : c < p
   pub product : (c * b) % p ≡ a
 
--- what was taken away and what is left of v stand for v; each key of what is left is met, and none is above v's first
-pub record IsProgress (n : ℕ) (weights : List ℕ) (p : ℕ) (compare : Key n → Key n → Ordering) (v : List (CodeKey × ℕ))
-    (list : List (List (CodeKey × ℕ))) (qs : List ScaledProduct) (work : List (CodeKey × ℕ)) : Type 0 where
-  pub quotients : Each (IsScaledProduct n weights p list) qs
-  pub met : AreMetFrom n (sum_of n v) list [] qs
-  pub bounded : HaveLeadsUpTo n compare list (head_key (sum_of n v)) qs
-  pub sum : IsSame p (sum_of n v) (combination (sums_of n list) (cofactors_of n qs) ++ sum_of n work)
-  pub vector : IsVector n weights p compare work
-  pub keys : Each (λ t. IsMet n (sum_of n v) list (map unscaled qs) t.0) (sum_of n work)
-  pub up_to : Each (λ t. compare t.0 (head_key (sum_of n v)) ≡ Greater → ⊥) (sum_of n work)
-
 -- the greatest position that a key can have
 abbrev pub last_position : ℕ
 last_position = 18446744073709551615
@@ -78,12 +65,6 @@ HasBoundedHead (t ∷ v) = (t.0.0 ≤ last_position) × IsWithin 65535 t.0.1
 abbrev pub room_of : {n : ℕ} → (Key n → Key n → Ordering) → FormalSum n → ℕ
 room_of compare [] = 0
 room_of compare (t ∷ v) = suc (room last_position 65535 compare t.0)
-
--- the terms before this index are the same, and what stands from there on begins below
-pub record IsBelow (n : ℕ) (compare : Key n → Key n → Ordering) (old new : List (CodeKey × ℕ)) (at : ℕ) : Type 0 where
-  pub front : take at (sum_of n new) ≡ take at (sum_of n old)
-  pub length : at ≤ length new
-  pub falls : room_of compare (drop at (sum_of n new)) < room_of compare (drop at (sum_of n old))
 
 -- the quotients are of vectors of the list
 abbrev pub AreKnown : ℕ → List ScaledProduct → Type 0

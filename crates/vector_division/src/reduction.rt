@@ -1,5 +1,5 @@
 // The loop of a division.
-ghost use Rattle.std.specs.Prelude.{◌++◌, [], IfOk, IfErr};
+ghost use Rattle.std.specs.Prelude.{◌++◌, ◌≡◌, [], true, IfOk, IfErr};
 ghost use Rattle.formal_sums.specs.FormalSums.{Each};
 ghost use Rattle.formal_sums.specs.Combinations.{combination};
 ghost use Rattle.bases.specs.Leads.{head_key};
@@ -11,10 +11,9 @@ ghost use Rattle.vector_division.specs.Reductions.{cofactors_of, IsScaledProduct
 
 use crate::buckets::Buckets;
 use crate::divisors::{Divisor, divisors_from_first, find_divisor};
-use crate::products::take_away;
 use crate::runs::Run;
 use crate::underway::advance;
-use module_vectors::{Frame, Vect, Vectors, WorkStop};
+use module_vectors::{Frame, NoMemory, Vect, Vectors, WorkStop};
 use monomial_orders::Mono;
 use std::alloc::Global;
 
@@ -118,8 +117,31 @@ pub fn reduce<F: Frame, L: Vectors>(
     reduce_by(alloc, frame, v, list, &divisors)
 }
 
-/// Takes products of the list's vectors away from `v` until its lead is divisible by no lead of the list. It stops as
-/// `reduce` does.
+// Is the lead of `v`, if it has one, divisible by no lead of the list?
+fn has_reduced_lead<F: Frame, L: Vectors>(
+    alloc: Global,
+    frame: &F,
+    v: &Vect,
+    list: &L,
+    divisors: &[Divisor],
+) -> Result<bool, NoMemory>
+    requires vector { IsVectorOver (F.over frame.now) (F.compare frame.now) v.now }
+    requires list { AreVectorsOver (F.over frame.now) (F.compare frame.now) (L.listed list.now) }
+    requires divisors { AreDivisors (variables (F.over frame.now)) (L.listed list.now) divisors.now }
+    ensures { let n = variables (F.over frame.now) in
+        IfOk result (λ b. b ≡ true → HasReducedLead (sums_of n (L.listed list.now)) (sum_of n v.now)) }
+{
+    match v.lead() {
+        None => Ok(true),
+        Some(lead) => match find_divisor(alloc, frame, lead.key, list, divisors)? {
+            None => Ok(true),
+            Some(_) => Ok(false),
+        },
+    }
+}
+
+/// Takes products of the list's vectors away from `v` until its lead is divisible by no lead of the list: each time of the first
+/// vector of the list whose lead divides that of what is left. It stops as `reduce` does.
 pub fn reduce_lead<F: Frame, L: Vectors>(
     alloc: Global,
     frame: &F,
@@ -141,24 +163,45 @@ pub fn reduce_lead<F: Frame, L: Vectors>(
     ensures stop { IfErr result (DivisionStops (F.over frame.now) v.now (L.listed list.now)) }
 {
     let divisors = divisors_from_first(alloc, list)?;
-    let mut work = v.try_copy(alloc)?;
+    if has_reduced_lead(alloc, frame, v, list, &divisors)? {
+        return Ok(Reduction {
+            quotients: Vec::new(alloc),
+            rest: v.try_copy(alloc)?,
+        });
+    }
+    let mut buckets = Buckets::from_run(alloc, Run::from_vect(v.try_copy(alloc)?))?;
     let mut quotients = Vec::new(alloc);
+    let mut rest = Vec::new(alloc);
+    let mut next = buckets.take_top(alloc, frame)?;
     loop {
-        if work.terms().is_empty() {
-            return Ok(Reduction {
-                quotients,
-                rest: work,
-            });
-        }
-        match find_divisor(alloc, frame, &work.terms()[0].0, list, &divisors)? {
+        match next {
             None => {
                 return Ok(Reduction {
                     quotients,
-                    rest: work,
+                    rest: Vect::zero(alloc),
                 });
             }
-            Some(divisor) => {
-                take_away(alloc, frame, v, list, divisor, 0, &mut work, &mut quotients)?;
+            Some(term) => {
+                advance(
+                    alloc,
+                    frame,
+                    v,
+                    list,
+                    &divisors,
+                    term,
+                    &mut buckets,
+                    &mut quotients,
+                    &mut rest,
+                )?;
+                match rest.pop() {
+                    Some(lead) => {
+                        return Ok(Reduction {
+                            quotients,
+                            rest: buckets.behind(alloc, frame, lead)?,
+                        });
+                    }
+                    None => next = buckets.take_top(alloc, frame)?,
+                }
             }
         }
     }

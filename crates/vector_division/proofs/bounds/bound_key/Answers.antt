@@ -1,6 +1,6 @@
 use Rattle.std.proofs.Common.{ap, get_or, length, subst, ◌<◌, ◌∙◌}
 use Rattle.vector_division.proofs.Advancing.{bound_at}
-use Rattle.vector_division.proofs.products.bound_key.Goals as goal
+use Rattle.vector_division.proofs.bounds.bound_key.Goals as goal
 
 pub returns-then-at-terms : goal.returns-then-at-terms
 returns-then-at-terms c = λ n.
