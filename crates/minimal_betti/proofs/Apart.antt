@@ -56,5 +56,6 @@ module _ {n : ℕ} (p : ℕ) where
         (pivots : List (Pivot n)) (v : FormalSum n) (r : ℕ) → AreZeroBefore [] pivots → IsConstantAt p (through p pivots v) r
         → Each (λ (s : Pivot n). s.row ≡ r → ⊥) pivots
     free_row pivots v r h k =
-        all_map _ _ pivots (λ s z e. k.nonzero (subst (λ q. IsCongruent p (coefficient (through p pivots v) (q, unit n)) 0) e (zero_coefficient p pos s.row (through p pivots v) (unit n) z)))
+        all_map _ _ pivots (λ s z e. k.nonzero
+        (subst (λ q. IsCongruent p (coefficient (through p pivots v) (q, unit n)) 0) e (zero_coefficient p pos s.row (through p pivots v) (unit n) z)))
         (zero_all [] pivots v h tt).0

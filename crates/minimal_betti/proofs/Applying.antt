@@ -1,6 +1,7 @@
 -- Steps applied to vectors and columns
 use Rattle.std.specs.Prelude.{nat_eq}
-use Rattle.std.proofs.Common.{Bool, List, [], ap, arith, cond, false, get_or, inl, inr, length, map, refl, subst, suc, sym, true, zero, ℕ, ◌*◌, ◌++◌, ◌-◌, ◌<◌, ◌∙◌, ◌∷◌, ◌≡◌, ◌⊎◌}
+use Rattle.std.proofs.Common.{Bool, List, [], ap, arith, cond, false, get_or, inl, inr, length, map, refl, subst, suc, sym, true, zero, ℕ, ◌*◌, ◌++◌, ◌-◌}
+use Rattle.std.proofs.Common.{◌<◌, ◌∙◌, ◌∷◌, ◌≡◌, ◌⊎◌}
 use Rattle.residues.proofs.Congruences.{IsCongruent_add, IsCongruent_multiply, IsCongruent_of, IsCongruent_refl, IsCongruent_trans}
 use Rattle.residues.specs.Residues.{IsCongruent}
 use Rattle.monomials.proofs.Monomials.{degree-times, degree-unit, degree_zero}
@@ -38,7 +39,8 @@ module _ {n : ℕ} (p : ℕ) where
   pub removed_columns : (c : ℕ) (F H : List (FormalSum n)) → AreSameColumns p F H → AreSameColumns p (remove_at c F) (remove_at c H)
   removed_columns c F H h = record {
     count = length-removed c F H h.count;
-    each = λ i. IsSame_trans (IsSame_of p _ _ (get_or-remove_at c F i [])) (IsSame_trans (h.each (skip c i)) (IsSame_of p _ _ (sym (get_or-remove_at c H i []))));
+    each = λ i. IsSame_trans (IsSame_of p _ _ (get_or-remove_at c F i []))
+        (IsSame_trans (h.each (skip c i)) (IsSame_of p _ _ (sym (get_or-remove_at c H i []))));
   }
 
   pub image_columns :
@@ -46,7 +48,8 @@ module _ {n : ℕ} (p : ℕ) where
       → (F H : List (FormalSum n)) → AreSameColumns p F H → AreSameColumns p (map f F) (map g H)
   image_columns f g fz gz both F H h = record {
     count = length-images f F ∙ h.count ∙ sym (length-images g H);
-    each = λ i. IsSame_trans (IsSame_of p _ _ (image f fz F i)) (IsSame_trans (both (get_or F i []) (get_or H i []) (h.each i)) (IsSame_of p _ _ (sym (image g gz H i))));
+    each = λ i. IsSame_trans (IsSame_of p _ _ (image f fz F i))
+        (IsSame_trans (both (get_or F i []) (get_or H i []) (h.each i)) (IsSame_of p _ _ (sym (image g gz H i))));
   }
     where
       image : (f : FormalSum n → FormalSum n) → f [] ≡ [] → (F : List (FormalSum n)) (i : ℕ) → get_or (map f F) i [] ≡ f (get_or F i [])
@@ -67,12 +70,14 @@ module _ {n : ℕ} (p : ℕ) where
   no_constant_at v r none h = h.nonzero (none.by_row r)
 
   times_unit_left : (a b : Exponents n) → times a b ≡ unit n → a ≡ unit n
-  times_unit_left a b e = degree_zero a (let x : degree (times a b) ≡ degree (unit n) = ap degree e in let y = degree-times a b in let z = degree-unit n in omega arith)
+  times_unit_left a b e =
+      degree_zero a (let x : degree (times a b) ≡ degree (unit n) = ap degree e in let y = degree-times a b in let z = degree-unit n in omega arith)
 
   -- cleared by whatever column, such a vector has none
   pub no_constant_cleared : (r s : ℕ) (w v : FormalSum n) → HasNoConstant p v → HasNoConstant p (cleared p r s w v)
   no_constant_cleared r s w v h = record {
-    by_row = λ i. IsCongruent_trans (IsCongruent_of p _ _ ((linear_cleared p r s w).sums (indicator (i, unit n)) v)) (weighted_sum_zero_mod _ v (λ k. at i k (key_cases (k.0, unit n) k)));
+    by_row = λ i. IsCongruent_trans (IsCongruent_of p _ _ ((linear_cleared p r s w).sums (indicator (i, unit n)) v))
+        (weighted_sum_zero_mod _ v (λ k. at i k (key_cases (k.0, unit n) k)));
   }
     where
       row :
@@ -81,18 +86,24 @@ module _ {n : ℕ} (p : ℕ) where
       row i k ne false = IsCongruent_refl p 0
       row i k ne true =
           IsCongruent_trans
-          (IsCongruent_multiply (IsCongruent_refl p ((p - 1) * s)) (weighted_sum_zero_mod (λ l. indicator (i, unit n) (shift k.1 l)) w (λ l. inl (IsCongruent_of p _ 0 (indicator_other (i, unit n) (shift k.1 l) (λ q. ne (ap (λ m. (k.0, m)) (sym (times_unit_left k.1 l.1 (sym (ap (λ z. z.1) q)))))))))))
+          (IsCongruent_multiply (IsCongruent_refl p ((p - 1) * s))
+          (weighted_sum_zero_mod (λ l. indicator (i, unit n) (shift k.1 l)) w
+          (λ l. inl (IsCongruent_of p _ 0
+          (indicator_other (i, unit n) (shift k.1 l) (λ q. ne (ap (λ m. (k.0, m)) (sym (times_unit_left k.1 l.1 (sym (ap (λ z. z.1) q)))))))))))
           (IsCongruent_of p ((p - 1) * s * 0) 0 (omega arith))
 
       at :
           (i : ℕ) (k : Key n) → ((k.0, unit n) ≡ k) ⊎ ((k.0, unit n) ≡ k → ⊥)
           → IsCongruent p ((linear_cleared p r s w).adjoint (indicator (i, unit n)) k) 0 ⊎ IsCongruent p (coefficient v k) 0
       at i k (inl e) = inr (subst (λ x. IsCongruent p (coefficient v x) 0) e (h.by_row k.0))
-      at i k (inr ne) = inl (IsCongruent_add (IsCongruent_of p (indicator (i, unit n) k) 0 (indicator_other (i, unit n) k (λ q. ne (ap (λ z. (k.0, z.1)) q)))) (row i k ne (nat_eq k.0 r)))
+      at i k (inr ne) = inl
+          (IsCongruent_add (IsCongruent_of p (indicator (i, unit n) k) 0 (indicator_other (i, unit n) k (λ q. ne (ap (λ z. (k.0, z.1)) q))))
+          (row i k ne (nat_eq k.0 r)))
 
   pub no_constant_without : (r : ℕ) (v : FormalSum n) → HasNoConstant p v → HasNoConstant p (without_row r v)
   no_constant_without r v h = record {
-    by_row = λ i. IsCongruent_trans (IsCongruent_of p _ _ ((linear_without_row r).sums (indicator (i, unit n)) v)) (weighted_sum_zero_mod _ v (λ k. at i k (key_cases (k.0, unit n) k)));
+    by_row = λ i. IsCongruent_trans (IsCongruent_of p _ _ ((linear_without_row r).sums (indicator (i, unit n)) v))
+        (weighted_sum_zero_mod _ v (λ k. at i k (key_cases (k.0, unit n) k)));
   }
     where
       row : (i : ℕ) (k : Key n) → ((k.0, unit n) ≡ k → ⊥) → (b : Bool) → IsCongruent p (cond b 0 (indicator (i, unit n) (close r k.0, k.1))) 0
@@ -119,15 +130,18 @@ module _ (ring : Ring) where
   linear_applied : (s : Pivot (variables ring)) → IsLinear (applied ring s)
   linear_applied s = linear_after (linear_without_row s.row) (linear_cleared ring.modulus.value s.row s.inverse s.column)
 
-  pub applied_same : 0 < ring.modulus.value → (s : Pivot (variables ring)) (v w : FormalSum (variables ring)) → IsSame ring.modulus.value v w → IsSame ring.modulus.value (applied ring s v) (applied ring s w)
+  pub applied_same : 0 < ring.modulus.value → (s : Pivot (variables ring)) (v w : FormalSum (variables ring)) → IsSame ring.modulus.value v w
+      → IsSame ring.modulus.value (applied ring s v) (applied ring s w)
   applied_same pos s v w e = linear_same pos (linear_applied s) e
 
-  pub left_end : (steps : List (Pivot (variables ring))) (s : Pivot (variables ring)) (F : List (FormalSum (variables ring))) → left_by_all ring (steps ++ s ∷ []) F ≡ left_by ring s (left_by_all ring steps F)
+  pub left_end : (steps : List (Pivot (variables ring))) (s : Pivot (variables ring)) (F : List (FormalSum (variables ring)))
+      → left_by_all ring (steps ++ s ∷ []) F ≡ left_by ring s (left_by_all ring steps F)
   left_end [] s F = refl
   left_end (t ∷ steps) s F = left_end steps s (left_by ring t F)
 
   pub first_end :
-      (F : List (FormalSum (variables ring))) (steps : List (Pivot (variables ring))) (s : Pivot (variables ring)) → AreFirstSteps ring F steps → IsFirstStep ring (left_by_all ring steps F) s
+      (F : List (FormalSum (variables ring))) (steps : List (Pivot (variables ring))) (s : Pivot (variables ring)) → AreFirstSteps ring F steps
+      → IsFirstStep ring (left_by_all ring steps F) s
       → AreFirstSteps ring F (steps ++ s ∷ [])
   first_end F [] s h f = (f, tt)
   first_end F (t ∷ steps) s h f = (h.0, first_end (left_by ring t F) steps s h.1 f)
@@ -142,7 +156,8 @@ module _ (ring : Ring) where
   -- a split of the laws leaves what the step leaves
   pub split_columns_same :
       0 < ring.modulus.value → (s : Pivot (variables ring)) (F : List (FormalSum (variables ring))) (degrees : List ℕ) → IsFirstStep ring F s
-      → AreSameColumns ring.modulus.value (split_map ring.modulus.value s.row s.index s.inverse (record { columns = F; degrees = degrees })).columns (left_by ring s F)
+      → AreSameColumns ring.modulus.value (split_map ring.modulus.value s.row s.index s.inverse (record { columns = F; degrees = degrees })).columns
+      (left_by ring s F)
   split_columns_same pos s F degrees f =
       let p = ring.modulus.value in
       image_columns p (λ v. without_row s.row (cleared p s.row s.inverse (get_or F s.index []) v)) (applied ring s) refl refl

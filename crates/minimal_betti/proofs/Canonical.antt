@@ -13,7 +13,8 @@ use Rattle.minimal_laws.specs.Minimal.{IsConstantAt}
 use Rattle.betti_laws.proofs.Constants.{HasNoConstant}
 use Rattle.module_vectors.specs.Rings.{variables}
 use Rattle.module_vectors.specs.declared.ring.Ring.{Ring}
-use Rattle.minimal_betti.specs.Passing.{AreFirstSteps, IsFirstStep, Pivot, add_choice, add_index, add_kept, add_place, applied, indices_in_turn, left_by, left_by_all, rows_in_turn}
+use Rattle.minimal_betti.specs.Passing.{AreFirstSteps, IsFirstStep, Pivot, add_choice, add_index, add_kept, add_place, applied, indices_in_turn, left_by}
+use Rattle.minimal_betti.specs.Passing.{left_by_all, rows_in_turn}
 use Rattle.minimal_betti.specs.Placing.{place_after}
 use Rattle.minimal_betti.specs.Sorting.{numbers_from}
 use Rattle.minimal_betti.specs.Splitting.{without_all}
@@ -24,7 +25,8 @@ use Rattle.minimal_betti.proofs.Columns.{drop_item}
 use Rattle.minimal_betti.proofs.Growing.{all_append, all_map}
 use Rattle.minimal_betti.proofs.Reaching.{constant_there}
 use Rattle.minimal_betti.proofs.Reordering.{AreChosen, IsChosen, grown, pivots_after, through, through_end}
-use Rattle.minimal_betti.proofs.Turning.{AreTurned, applied_turned, coefficient_left, constant_after, constant_before, free_place, no_constant_left, place_skip, skip_all, skip_all_less, turned_end, turned_pivot}
+use Rattle.minimal_betti.proofs.Turning.{AreTurned, applied_turned, coefficient_left, constant_after, constant_before, free_place, no_constant_left}
+use Rattle.minimal_betti.proofs.Turning.{place_skip, skip_all, skip_all_less, turned_end, turned_pivot}
 
 -- ---- lists
 remove_between : {X : Type 0} (xs ys : List X) (y : X) (c : ℕ) → c ≡ length xs → remove_at c (xs ++ y ∷ ys) ≡ xs ++ ys
@@ -63,7 +65,8 @@ abbrev pub left : (ring : Ring) → List (Pivot (variables ring)) → List ℕ �
 left ring T rows v = without_all rows (through ring.modulus.value T v)
 
 -- after the columns before i: T are the pivots, whose rows keep their numbers, P the same in turn, and K the columns that are kept
-pub record AreLeft (ring : Ring) (F : List (FormalSum (variables ring))) (i : ℕ) (T : List (Pivot (variables ring))) (rows : List ℕ) (P : List (Pivot (variables ring)))
+pub record AreLeft (ring : Ring) (F : List (FormalSum (variables ring))) (i : ℕ) (T : List (Pivot (variables ring))) (rows : List ℕ)
+    (P : List (Pivot (variables ring)))
     (K : List (FormalSum (variables ring))) : Type 0 where
   pub firsts : AreFirstSteps ring F P
   pub same : AreSameColumns ring.modulus.value (left_by_all ring P F) (map (left ring T rows) (K ++ drop i F))
@@ -77,7 +80,8 @@ module _ (ring : Ring) (pos : 0 < ring.modulus.value) (F : List (FormalSum (vari
   V = FormalSum (variables ring)
 
   pub none_left :
-      (T : List (Pivot (variables ring))) (rows : List ℕ) (K : List (FormalSum (variables ring))) → Each (λ v. HasNoConstant ring.modulus.value (through ring.modulus.value T v)) K
+      (T : List (Pivot (variables ring))) (rows : List ℕ) (K : List (FormalSum (variables ring)))
+      → Each (λ v. HasNoConstant ring.modulus.value (through ring.modulus.value T v)) K
       → (c : ℕ) → HasNoConstant ring.modulus.value (get_or (map (left ring T rows) K) c [])
   none_left T rows [] h zero = no_constant_zero ring.modulus.value
   none_left T rows [] h (suc c) = no_constant_zero ring.modulus.value
@@ -140,7 +144,9 @@ module _ (ring : Ring) (pos : 0 < ring.modulus.value) (F : List (FormalSum (vari
       row = place_skip rows a.0 place.0 place.1
 
       at_index : IsSame ring.modulus.value (get_or (left_by_all ring P F) (length K) []) U
-      at_index = IsSame_trans (here.each (length K)) (subst (λ z. IsSame ring.modulus.value (get_or (A ++ U ∷ B) (length K) []) z) (get_between A B U [] (length K) count) (IsSame_refl ring.modulus.value _))
+      at_index = IsSame_trans (here.each (length K))
+          (subst (λ z. IsSame ring.modulus.value (get_or (A ++ U ∷ B) (length K) []) z) (get_between A B U [] (length K) count)
+          (IsSame_refl ring.modulus.value _))
 
       constant_here : IsConstantAt ring.modulus.value U place.0
       constant_here =
@@ -165,7 +171,9 @@ module _ (ring : Ring) (pos : 0 < ring.modulus.value) (F : List (FormalSum (vari
                 k.1 (skip_all rows q) (subst (λ z. skip_all rows q < z) row (skip_all_less rows q place.0 lt))
                 (constant_before p rows q (through p T v) (constant_there p _ U q at_index c));
             column = at_index;
-            inverse = IsCongruent_trans (IsCongruent_multiply (IsCongruent_refl p a.1) (IsCongruent_trans (at_index.by_key (place.0, unit (variables ring))) (IsCongruent_of p _ _ coefficient_here))) k.2;
+            inverse = IsCongruent_trans
+                (IsCongruent_multiply (IsCongruent_refl p a.1)
+                (IsCongruent_trans (at_index.by_key (place.0, unit (variables ring))) (IsCongruent_of p _ _ coefficient_here))) k.2;
           }
 
       after : (xs : List (FormalSum (variables ring))) → map (applied ring S) (map (left ring T rows) xs) ≡ map (left ring T' rows') xs
@@ -235,14 +243,16 @@ abbrev pub kept_of : {n : ℕ} → (ℕ → FormalSum n) → ℕ → List Met �
 kept_of F i [] = []
 kept_of F i (m ∷ met) = add_kept m.choice (F i) (kept_of F (i + 1) met)
 
-pub record Ends (ring : Ring) (F : List (FormalSum (variables ring))) (T : List (Pivot (variables ring))) (rows indices : List ℕ) (K : List (FormalSum (variables ring))) : Type 0 where
+pub record Ends (ring : Ring) (F : List (FormalSum (variables ring))) (T : List (Pivot (variables ring))) (rows indices : List ℕ)
+    (K : List (FormalSum (variables ring))) : Type 0 where
   pub pivots : List (Pivot (variables ring))
   pub kept_all : AreLeft ring F (length F) T rows pivots K
   pub indices_are : map (λ (s : Pivot (variables ring)). s.index) pivots ≡ indices
 
 module _ (ring : Ring) (pos : 0 < ring.modulus.value) (F : List (FormalSum (variables ring))) (met : List Met) where
   pub canonical :
-      (ms : List Met) (i : ℕ) (T : List (Pivot (variables ring))) (rows : List ℕ) (P : List (Pivot (variables ring))) (K : List (FormalSum (variables ring))) → drop i met ≡ ms
+      (ms : List Met) (i : ℕ) (T : List (Pivot (variables ring))) (rows : List ℕ) (P : List (Pivot (variables ring)))
+      (K : List (FormalSum (variables ring))) → drop i met ≡ ms
       → i + length ms ≡ length F → AreLeft ring F i T rows P K → AreChosen ring.modulus.value (column_of F) (choice_at met) T (numbers_from i (length ms))
       → Ends ring F (pivots_after ring.modulus.value (column_of F) (choice_at met) T (numbers_from i (length ms))) (rows_in_turn rows ms)
       (map (λ (s : Pivot (variables ring)). s.index) P ++ indices_in_turn (length K) ms) (K ++ kept_of (column_of F) i ms)
@@ -254,7 +264,8 @@ module _ (ring : Ring) (pos : 0 < ring.modulus.value) (F : List (FormalSum (vari
         indices_are = sym (append-nil (map (λ (s : Pivot (variables ring)). s.index) P));
       }
   canonical (m ∷ ms) i T rows P K e size h k =
-      go m.choice (ap (λ (z : Met). z.choice) (head_of met ms i m not_met e)) k.0 k.1 (λ T' rows' P' K' h' k'. canonical ms (i + 1) T' rows' P' K' (tail met ms i m e) (omega (arith, size)) h' k')
+      go m.choice (ap (λ (z : Met). z.choice) (head_of met ms i m not_met e)) k.0 k.1
+      (λ T' rows' P' K' h' k'. canonical ms (i + 1) T' rows' P' K' (tail met ms i m e) (omega (arith, size)) h' k')
     where
       inside : i < length F
       inside = omega (arith, size)
@@ -264,41 +275,61 @@ module _ (ring : Ring) (pos : 0 < ring.modulus.value) (F : List (FormalSum (vari
 
       go :
           (c : Option (ℕ × ℕ)) → choice_at met i ≡ c → IsChosen ring.modulus.value (choice_at met i) (through ring.modulus.value T (column_of F i))
-          → AreChosen ring.modulus.value (column_of F) (choice_at met) (grown ring.modulus.value (choice_at met i) i (column_of F i) T) (numbers_from (i + 1) (length ms))
+          → AreChosen ring.modulus.value (column_of F) (choice_at met) (grown ring.modulus.value (choice_at met i) i (column_of F i) T)
+          (numbers_from (i + 1) (length ms))
           → ((T' : List (Pivot (variables ring))) (rows' : List ℕ) (P' : List (Pivot (variables ring))) (K' : List (FormalSum (variables ring)))
           → AreLeft ring F (i + 1) T' rows' P' K' → AreChosen ring.modulus.value (column_of F) (choice_at met) T' (numbers_from (i + 1) (length ms))
           → Ends ring F (pivots_after ring.modulus.value (column_of F) (choice_at met) T' (numbers_from (i + 1) (length ms))) (rows_in_turn rows' ms)
           (map (λ (s : Pivot (variables ring)). s.index) P' ++ indices_in_turn (length K') ms) (K' ++ kept_of (column_of F) (i + 1) ms))
-          → Ends ring F (pivots_after ring.modulus.value (column_of F) (choice_at met) (grown ring.modulus.value (choice_at met i) i (column_of F i) T) (numbers_from (i + 1) (length ms)))
+          → Ends ring F (pivots_after ring.modulus.value (column_of F) (choice_at met) (grown ring.modulus.value (choice_at met i) i (column_of F i) T)
+          (numbers_from (i + 1) (length ms)))
           (rows_in_turn (add_choice c rows) ms)
-          (map (λ (s : Pivot (variables ring)). s.index) P ++ add_index c (length K) (λ k. indices_in_turn k ms)) (K ++ add_kept c (column_of F i) (kept_of (column_of F) (i + 1) ms))
+          (map (λ (s : Pivot (variables ring)). s.index) P ++ add_index c (length K) (λ k. indices_in_turn k ms))
+          (K ++ add_kept c (column_of F i) (kept_of (column_of F) (i + 1) ms))
       go None q c0 c1 more =
           let v = column_of F i in
-          let c0' : IsChosen ring.modulus.value None (through ring.modulus.value T v) = subst (λ z. IsChosen ring.modulus.value z (through ring.modulus.value T v)) q c0 in
+          let c0' : IsChosen ring.modulus.value None (through ring.modulus.value T v) =
+          subst (λ z. IsChosen ring.modulus.value z (through ring.modulus.value T v)) q c0 in
           let g : grown ring.modulus.value (choice_at met i) i v T ≡ T = ap (λ z. grown ring.modulus.value z i v T) q in
-          let r = more T rows P (K ++ v ∷ []) (kept_more ring pos F i T rows P K h v inside is c0') (subst (λ z. AreChosen ring.modulus.value (column_of F) (choice_at met) z (numbers_from (i + 1) (length ms))) g c1) in
-          let back = subst (λ z. Ends ring F (pivots_after ring.modulus.value (column_of F) (choice_at met) z (numbers_from (i + 1) (length ms))) (rows_in_turn rows ms)
-          (map (λ (s : Pivot (variables ring)). s.index) P ++ indices_in_turn (length (K ++ v ∷ [])) ms) ((K ++ v ∷ []) ++ kept_of (column_of F) (i + 1) ms)) (sym g) r in
-          subst (λ z. Ends ring F (pivots_after ring.modulus.value (column_of F) (choice_at met) (grown ring.modulus.value (choice_at met i) i v T) (numbers_from (i + 1) (length ms))) (rows_in_turn rows ms)
+          let r = more T rows P (K ++ v ∷ []) (kept_more ring pos F i T rows P K h v inside is c0')
+          (subst (λ z. AreChosen ring.modulus.value (column_of F) (choice_at met) z (numbers_from (i + 1) (length ms))) g c1) in
+          let back = subst (λ z. Ends ring F (pivots_after ring.modulus.value (column_of F) (choice_at met) z (numbers_from (i + 1) (length ms)))
+          (rows_in_turn rows ms)
+          (map (λ (s : Pivot (variables ring)). s.index) P ++ indices_in_turn (length (K ++ v ∷ [])) ms)
+          ((K ++ v ∷ []) ++ kept_of (column_of F) (i + 1) ms)) (sym g) r in
+          subst (λ z. Ends ring F
+          (pivots_after ring.modulus.value (column_of F) (choice_at met) (grown ring.modulus.value (choice_at met i) i v T)
+          (numbers_from (i + 1) (length ms))) (rows_in_turn rows ms)
           (map (λ (s : Pivot (variables ring)). s.index) P ++ indices_in_turn z ms) (K ++ v ∷ kept_of (column_of F) (i + 1) ms)) (length_end K v)
-          (subst (Ends ring F (pivots_after ring.modulus.value (column_of F) (choice_at met) (grown ring.modulus.value (choice_at met i) i v T) (numbers_from (i + 1) (length ms))) (rows_in_turn rows ms)
-          (map (λ (s : Pivot (variables ring)). s.index) P ++ indices_in_turn (length (K ++ v ∷ [])) ms)) (append_assoc K (v ∷ []) (kept_of (column_of F) (i + 1) ms)) back)
+          (subst (Ends ring F (pivots_after ring.modulus.value (column_of F) (choice_at met) (grown ring.modulus.value (choice_at met i) i v T)
+          (numbers_from (i + 1) (length ms))) (rows_in_turn rows ms)
+          (map (λ (s : Pivot (variables ring)). s.index) P ++ indices_in_turn (length (K ++ v ∷ [])) ms))
+          (append_assoc K (v ∷ []) (kept_of (column_of F) (i + 1) ms)) back)
       go (Some a) q c0 c1 more =
           let v = column_of F i in
-          let c0' : IsChosen ring.modulus.value (Some a) (through ring.modulus.value T v) = subst (λ z. IsChosen ring.modulus.value z (through ring.modulus.value T v)) q c0 in
+          let c0' : IsChosen ring.modulus.value (Some a) (through ring.modulus.value T v) =
+          subst (λ z. IsChosen ring.modulus.value z (through ring.modulus.value T v)) q c0 in
           let g : grown ring.modulus.value (choice_at met i) i v T ≡ grown ring.modulus.value (Some a) i v T = ap (λ z. grown ring.modulus.value z i v T) q in
           let there = place ring pos F i T rows P K h v inside is a c0' in
-          let S : Pivot (variables ring) = turned_pivot ring rows there.0 (length K) (record { row = a.0; index = i; inverse = a.1; column = through ring.modulus.value T v }) in
-          let r = more (grown ring.modulus.value (Some a) i v T) (rows ++ there.0 ∷ []) (P ++ S ∷ []) K (pivot_more ring pos F i T rows P K h v inside is a c0')
+          let S : Pivot (variables ring) = turned_pivot ring rows there.0 (length K)
+          (record { row = a.0; index = i; inverse = a.1; column = through ring.modulus.value T v }) in
+          let r = more (grown ring.modulus.value (Some a) i v T) (rows ++ there.0 ∷ []) (P ++ S ∷ []) K
+          (pivot_more ring pos F i T rows P K h v inside is a c0')
           (subst (λ z. AreChosen ring.modulus.value (column_of F) (choice_at met) z (numbers_from (i + 1) (length ms))) g c1) in
           let e1 : rows ++ there.0 ∷ [] ≡ add_choice (Some a) rows = sym (ap (λ z. add_place z rows) there.1) in
-          let e2 : map (λ (s : Pivot (variables ring)). s.index) (P ++ S ∷ []) ++ indices_in_turn (length K) ms ≡ map (λ (s : Pivot (variables ring)). s.index) P ++ length K ∷ indices_in_turn (length K) ms =
+          let e2 : map (λ (s : Pivot (variables ring)). s.index) (P ++ S ∷ []) ++ indices_in_turn (length K) ms ≡ map
+          (λ (s : Pivot (variables ring)). s.index) P ++ length K ∷ indices_in_turn (length K) ms =
           ap (λ z. z ++ indices_in_turn (length K) ms) (map-append (λ (s : Pivot (variables ring)). s.index) P (S ∷ []))
           ∙ append_assoc (map (λ (s : Pivot (variables ring)). s.index) P) (length K ∷ []) (indices_in_turn (length K) ms)
           in
-          subst (λ z. Ends ring F (pivots_after ring.modulus.value (column_of F) (choice_at met) z (numbers_from (i + 1) (length ms))) (rows_in_turn (add_choice (Some a) rows) ms)
+          subst (λ z. Ends ring F (pivots_after ring.modulus.value (column_of F) (choice_at met) z (numbers_from (i + 1) (length ms)))
+          (rows_in_turn (add_choice (Some a) rows) ms)
           (map (λ (s : Pivot (variables ring)). s.index) P ++ length K ∷ indices_in_turn (length K) ms) (K ++ kept_of (column_of F) (i + 1) ms)) (sym g)
-          (subst (λ z. Ends ring F (pivots_after ring.modulus.value (column_of F) (choice_at met) (grown ring.modulus.value (Some a) i v T) (numbers_from (i + 1) (length ms))) (rows_in_turn z ms)
+          (subst (λ z. Ends ring F
+          (pivots_after ring.modulus.value (column_of F) (choice_at met) (grown ring.modulus.value (Some a) i v T) (numbers_from (i + 1) (length ms)))
+          (rows_in_turn z ms)
           (map (λ (s : Pivot (variables ring)). s.index) P ++ length K ∷ indices_in_turn (length K) ms) (K ++ kept_of (column_of F) (i + 1) ms)) e1
-          (subst (λ z. Ends ring F (pivots_after ring.modulus.value (column_of F) (choice_at met) (grown ring.modulus.value (Some a) i v T) (numbers_from (i + 1) (length ms))) (rows_in_turn (rows ++ there.0 ∷ []) ms)
+          (subst (λ z. Ends ring F
+          (pivots_after ring.modulus.value (column_of F) (choice_at met) (grown ring.modulus.value (Some a) i v T) (numbers_from (i + 1) (length ms)))
+          (rows_in_turn (rows ++ there.0 ∷ []) ms)
           z (K ++ kept_of (column_of F) (i + 1) ms)) e2 r))

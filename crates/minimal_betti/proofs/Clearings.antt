@@ -1,9 +1,11 @@
 -- A row that is cleared term by term, and taken out
 use Rattle.std.specs.Prelude.{Contains, Err, Ok, OnOk, Result, nat_eq}
-use Rattle.std.proofs.Common.{Bool, List, [], ap, ap₂, drop, append-nil, arith, cond, eq-eqb, eqb-true, false, get_or, length, mod-lt, refl, subst, suc, sym, take, true, zero, ℕ, ◌%◌, ◌*◌, ◌++◌, ◌+◌, ◌-◌, ◌<◌, ◌∙◌, ◌∷◌, ◌≡◌}
+use Rattle.std.proofs.Common.{Bool, List, [], ap, ap₂, drop, append-nil, arith, cond, eq-eqb, eqb-true, false, get_or, length, mod-lt, refl, subst, suc}
+use Rattle.std.proofs.Common.{sym, take, true, zero, ℕ, ◌%◌, ◌*◌, ◌++◌, ◌+◌, ◌-◌, ◌<◌, ◌∙◌, ◌∷◌, ◌≡◌}
 use Rattle.std.proofs.lemmas.List.{append_assoc, map-append, take-append-drop, take_more}
 use Rattle.std.proofs.lemmas.List.Elements.{Contains-append_left, Contains-append_right}
-use Rattle.residues.proofs.Congruences.{IsCongruent_add, IsCongruent_cancel, IsCongruent_minus, IsCongruent_mod, IsCongruent_multiply, IsCongruent_of, IsCongruent_refl, IsCongruent_sym, IsCongruent_trans}
+use Rattle.residues.proofs.Congruences.{IsCongruent_add, IsCongruent_cancel, IsCongruent_minus, IsCongruent_mod, IsCongruent_multiply, IsCongruent_of}
+use Rattle.residues.proofs.Congruences.{IsCongruent_refl, IsCongruent_sym, IsCongruent_trans}
 use Rattle.residues.specs.Residues.{IsCongruent}
 use Rattle.monomials.proofs.Monomials.{times-unit}
 use Rattle.monomials.specs.Exponents.{Exponents, exponents_of, times, unit}
@@ -46,8 +48,11 @@ component-other {n} r t ne =
 minus_product : (p s c f : ℕ) → 0 < p → f ≡ (p - (s * c) % p) % p → IsCongruent p f ((p - 1) * s * c)
 minus_product p s c f pos e =
     IsCongruent_cancel pos (s * c)
-    (IsCongruent_trans (IsCongruent_trans (IsCongruent_add (IsCongruent_sym (IsCongruent_mod p (s * c))) (IsCongruent_trans (IsCongruent_of p f _ e) (IsCongruent_mod p (p - (s * c) % p)))) (whole (s * c) pos))
-    (IsCongruent_sym (IsCongruent_trans (IsCongruent_of p (s * c + (p - 1) * s * c) (s * c + (p - 1) * (s * c)) (omega arith)) (IsCongruent_minus p (s * c) pos))))
+    (IsCongruent_trans (IsCongruent_trans
+    (IsCongruent_add (IsCongruent_sym (IsCongruent_mod p (s * c))) (IsCongruent_trans (IsCongruent_of p f _ e) (IsCongruent_mod p (p - (s * c) % p))))
+    (whole (s * c) pos))
+    (IsCongruent_sym (IsCongruent_trans (IsCongruent_of p (s * c + (p - 1) * s * c) (s * c + (p - 1) * (s * c)) (omega arith))
+    (IsCongruent_minus p (s * c) pos))))
   where
     whole : (x : ℕ) → 0 < p → IsCongruent p (x % p + (p - x % p)) 0
     whole x pos =
@@ -58,7 +63,8 @@ scale_congruent : {n p : ℕ} (c d : ℕ) (m : Exponents n) (v : FormalSum n) �
 scale_congruent {n} {p} c d m v h = record {
   by_key = λ k.
       IsCongruent_trans (IsCongruent_of p _ _ (weighted_sum-scale (indicator k) c m v))
-      (IsCongruent_trans (IsCongruent_multiply h (IsCongruent_refl p (weighted_sum (λ l. indicator k (shift m l)) v))) (IsCongruent_of p _ _ (sym (weighted_sum-scale (indicator k) d m v))));
+      (IsCongruent_trans (IsCongruent_multiply h (IsCongruent_refl p (weighted_sum (λ l. indicator k (shift m l)) v)))
+      (IsCongruent_of p _ _ (sym (weighted_sum-scale (indicator k) d m v))));
 }
 
 module _ (ring : Ring) (r s : ℕ) (w : Terms) where
@@ -74,7 +80,8 @@ module _ (ring : Ring) (r s : ℕ) (w : Terms) where
 
   -- a term in the row
   pub clear_here :
-      (t : CodeKey × ℕ) (out new : Terms) (f : ℕ) → 0 < ring.modulus.value → t.0.position ≡ r → f ≡ (ring.modulus.value - (s * t.1) % ring.modulus.value) % ring.modulus.value
+      (t : CodeKey × ℕ) (out new : Terms) (f : ℕ) → 0 < ring.modulus.value → t.0.position ≡ r
+      → f ≡ (ring.modulus.value - (s * t.1) % ring.modulus.value) % ring.modulus.value
       → StandsFor ring new (sum_of (variables ring) out ++ scale f (exponents_of (variables ring) t.0.monomial.exponents) (sum_of (variables ring) w))
       → StandsFor ring new (sum_of (variables ring) out ++ multiple_of ring r s w (t ∷ []))
   clear_here t out new f pos at is h =
@@ -88,7 +95,8 @@ module _ (ring : Ring) (r s : ℕ) (w : Terms) where
       ∙ append-nil (scale ((p - 1) * s * t.1) (times (unit n) m) W)
       ∙ ap (λ x. scale c x W) (times-unit m)
       in
-      IsSame_trans h (IsSame_append (IsSame_refl p (sum_of n out)) (IsSame_trans (scale_congruent f c m W (minus_product p s t.1 f pos is)) (IsSame_of p _ _ (sym one))))
+      IsSame_trans h (IsSame_append (IsSame_refl p (sum_of n out))
+      (IsSame_trans (scale_congruent f c m W (minus_product p s t.1 f pos is)) (IsSame_of p _ _ (sym one))))
 
   -- one more term
   pub clear_more :
@@ -105,7 +113,8 @@ module _ (ring : Ring) (r s : ℕ) (w : Terms) where
       ap (sum_of n) (take_more v i t lt ∙ ap (λ x. take i v ++ x ∷ []) (sym is)) ∙ map-append _ (take i v) (t ∷ [])
       in
       let more : IsSame p (T (sum_of n (take i v) ++ sum_of n (t ∷ []))) (T (sum_of n (take i v)) ++ T (sum_of n (t ∷ []))) =
-      linear_append (linear_after (linear_product (sum_of n w)) (linear_after (linear_times ((p - 1) * s)) (linear_component r))) (sum_of n (take i v)) (sum_of n (t ∷ []))
+      linear_append (linear_after (linear_product (sum_of n w)) (linear_after (linear_times ((p - 1) * s)) (linear_component r))) (sum_of n (take i v))
+      (sum_of n (t ∷ []))
       in
       IsSame_trans step (IsSame_trans (IsSame_append h (IsSame_refl p (multiple_of ring r s w (t ∷ []))))
       (IsSame_trans (IsSame_of p _ _ (append_assoc V (multiple_of ring r s w (take i v)) (multiple_of ring r s w (t ∷ []))))
@@ -152,14 +161,16 @@ stop_back r i w v back (Degree a b) e h = (in_back h.0, h.1, h.2)
 component_none : (n r : ℕ) (v : Terms) → Each (λ t. t.0.position ≡ r → ⊥) v → component r (sum_of n v) ≡ []
 component_none n r [] h = refl
 component_none n r (t ∷ v) h =
-    ap (λ b. cond b (((0, exponents_of n t.0.monomial.exponents), t.1) ∷ component r (sum_of n v)) (component r (sum_of n v))) (nat_eq-other t.0.position r h.0)
+    ap (λ b. cond b (((0, exponents_of n t.0.monomial.exponents), t.1) ∷ component r (sum_of n v)) (component r (sum_of n v)))
+    (nat_eq-other t.0.position r h.0)
     ∙ component_none n r v h.1
 
 pub cleared_other : (n p r s : ℕ) (w : FormalSum n) (v : Terms) → Each (λ t. t.0.position ≡ r → ⊥) v → cleared p r s w (sum_of n v) ≡ sum_of n v
 cleared_other n p r s w v h = ap (λ u. sum_of n v ++ product (scale ((p - 1) * s) (unit n) u) w) (component_none n r v h) ∙ append-nil (sum_of n v)
 
 -- ---- why a term is not cleared
-pub clear_stop : (r : ℕ) (w : Terms) (t : CodeKey × ℕ) (f : ℕ) (stop : VectStop) → t.0.position ≡ r → ScaledStops f t.0.monomial w stop → ClearingStops r w (t ∷ []) stop
+pub clear_stop : (r : ℕ) (w : Terms) (t : CodeKey × ℕ) (f : ℕ) (stop : VectStop) → t.0.position ≡ r → ScaledStops f t.0.monomial w stop
+    → ClearingStops r w (t ∷ []) stop
 clear_stop r w t f Memory e h = tt
 clear_stop r w t f (Degree a b) e h = ((t, (0, omega arith, refl), e, sym h.1), h.2, h.3)
 
@@ -183,7 +194,8 @@ over_more P (x ∷ v) (suc i) t h lt e = over_more P v i t h.1 (omega (arith, lt
 pub each_more :
     {X : Type 0} (P : X → Type 0) (xs : List X) (i : ℕ) (x : X) → i < length xs → x ≡ get_or xs i x → Each P (take i xs) → P x
     → Each P (take (i + 1) xs)
-each_more P xs i x lt is h q = subst (Each P) (sym (take_more xs i x lt ∙ ap (λ y. take i xs ++ y ∷ []) (sym is))) (all_append P (take i xs) (x ∷ []) h (q, tt))
+each_more P xs i x lt is h q = subst (Each P) (sym (take_more xs i x lt ∙ ap (λ y. take i xs ++ y ∷ []) (sym is)))
+    (all_append P (take i xs) (x ∷ []) h (q, tt))
 
 pub on_ok : {X E : Type 0} (r : Result X E) (P Q : Type 0) → (P → Q) → OnOk r P → OnOk r Q
 on_ok (Ok x) P Q f h = f h

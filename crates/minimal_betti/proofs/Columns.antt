@@ -1,6 +1,7 @@
 -- Columns one by one
 use Rattle.std.specs.Prelude.{drop}
-use Rattle.std.proofs.Common.{List, [], ap, append-nil, arith, get_or, inl, inr, length, map, refl, remove, reverse, subst, subst₂, suc, sym, take, zero, ℕ, ◌++◌, ◌+◌, ◌<◌, ◌∙◌, ◌∷◌, ◌≡◌, ◌≤◌}
+use Rattle.std.proofs.Common.{List, [], ap, append-nil, arith, get_or, inl, inr, length, map, refl, remove, reverse, subst, subst₂, suc, sym, take, zero}
+use Rattle.std.proofs.Common.{ℕ, ◌++◌, ◌+◌, ◌<◌, ◌∙◌, ◌∷◌, ◌≡◌, ◌≤◌}
 use Rattle.std.proofs.lemmas.List.{append_assoc, get_or_default, map-append, reverse-append, take_all, take_more}
 use Rattle.formal_sums.proofs.Sameness.{IsSame_refl, IsSame_sym}
 use Rattle.formal_sums.specs.FormalSums.{FormalSum, IsSame}
@@ -12,7 +13,7 @@ use Rattle.module_vectors.specs.declared.ring.Ring.{Ring}
 use Rattle.schreyer_resolution.specs.Resolved.{degrees_of}
 use Rattle.schreyer_resolution.specs.declared.maps.Map.{Map}
 use Rattle.minimal_betti.specs.Carried.{AreCarried, AreOwn}
-use Rattle.minimal_betti.specs.Splitting.{AreSplit, AreWithout, IsOtherPut, all_removed, split_of, without_all}
+use Rattle.minimal_betti.specs.Splitting.{AreSplit, AreWithout, IsOtherPut, split_of, without_all}
 use Rattle.minimal_betti.specs.declared.carried.Carried.{Carried}
 use Rattle.minimal_betti.specs.declared.constants.Constant.{Constant}
 use Rattle.minimal_betti.proofs.Growing.{all_append}
@@ -56,7 +57,8 @@ pub image_pushed :
     → AreSameColumns ring.modulus.value (map f (sums_of (variables ring) (take (i + 1) xs))) (sums_of (variables ring) new)
 image_pushed ring f xs i x old new w lt is h e en =
     let n = variables ring in
-    let left : map f (sums_of n (take (i + 1) xs)) ≡ map f (sums_of n (take i xs)) ++ f (sum_of n x) ∷ [] = ap (map f) (sums_more n xs i x lt is) ∙ map-append f (sums_of n (take i xs)) (sum_of n x ∷ []) in
+    let left : map f (sums_of n (take (i + 1) xs)) ≡ map f (sums_of n (take i xs)) ++ f (sum_of n x) ∷ [] = ap (map f) (sums_more n xs i x lt is)
+    ∙ map-append f (sums_of n (take i xs)) (sum_of n x ∷ []) in
     let right : sums_of n new ≡ sums_of n old ++ sum_of n w ∷ [] = ap (sums_of n) en ∙ map-append _ old (w ∷ []) in
     subst (λ L. AreSameColumns ring.modulus.value L (sums_of n new)) (sym left)
     (subst (λ R. AreSameColumns ring.modulus.value (map f (sums_of n (take i xs)) ++ f (sum_of n x) ∷ []) R) (sym right)
@@ -117,7 +119,8 @@ module _ (ring : Ring) (f : FormalSum (variables ring) → FormalSum (variables 
 -- the columns before i
 pub record AreSplitTo (ring : Ring) (s : ℕ) (at : Constant) (columns : List Terms) (i : ℕ) (others : List Terms) : Type 0 where
   pub same :
-      AreSameColumns ring.modulus.value (map (split_of ring s at columns) (remove_at at.column (sums_of (variables ring) (take i columns)))) (sums_of (variables ring) others)
+      AreSameColumns ring.modulus.value (map (split_of ring s at columns) (remove_at at.column (sums_of (variables ring) (take i columns))))
+      (sums_of (variables ring) others)
   pub vectors : AreVectorsOver ring (ring_comparison ring) others
 
 pub split_start : (ring : Ring) (s : ℕ) (at : Constant) (columns others : List Terms) → others ≡ [] → AreSplitTo ring s at columns 0 others
@@ -128,11 +131,13 @@ pub split_more :
     → AreSplitTo ring s at columns i old → IsOtherPut ring s at columns i old new → AreSplitTo ring s at columns (i + 1) new
 split_more ring s at columns i old new lt h (inl a) =
     subst (AreSplitTo ring s at columns (i + 1)) (sym a.1) (record {
-      same = other_left ring (split_of ring s at columns) at.column columns i (get_or columns i []) old lt (get_or_default columns i [] (get_or columns i []) lt) a.0 h.same;
+      same = other_left ring (split_of ring s at columns) at.column columns i (get_or columns i []) old lt
+          (get_or_default columns i [] (get_or columns i []) lt) a.0 h.same;
       vectors = h.vectors;
     })
 split_more ring s at columns i old new lt h (inr a) = record {
-  same = other_pushed ring (split_of ring s at columns) at.column columns i (get_or columns i []) old new a.1.0 lt (get_or_default columns i [] (get_or columns i []) lt) a.0 h.same a.1.3 a.1.1;
+  same = other_pushed ring (split_of ring s at columns) at.column columns i (get_or columns i []) old new a.1.0 lt
+      (get_or_default columns i [] (get_or columns i []) lt) a.0 h.same a.1.3 a.1.1;
   vectors = vectors_pushed ring old new a.1.0 h.vectors a.1.2 a.1.1;
 }
 
@@ -141,7 +146,8 @@ pub split_all :
     → AreSplitTo ring s at columns i others → AreSplit ring s at columns all
 split_all ring s at columns i others all le e h =
     subst (AreSplit ring s at columns) (sym e) (record {
-      same = subst (λ z. AreSameColumns ring.modulus.value (map (split_of ring s at columns) (remove_at at.column (sums_of (variables ring) z))) (sums_of (variables ring) others)) (take_all i columns le) h.same;
+      same = subst (λ z. AreSameColumns ring.modulus.value (map (split_of ring s at columns) (remove_at at.column (sums_of (variables ring) z)))
+          (sums_of (variables ring) others)) (take_all i columns le) h.same;
       vectors = h.vectors;
     })
 
@@ -149,7 +155,8 @@ split_all ring s at columns i others all le e h =
 pub drop_item : {X : Type 0} (xs : List X) (k : ℕ) (x : X) → k < length xs → x ≡ get_or xs k x → drop k xs ≡ x ∷ drop (k + 1) xs
 drop_item [] k x lt e = absurd (omega (arith, lt))
 drop_item (y ∷ xs) zero x lt e = ap (λ z. z ∷ xs) (sym e)
-drop_item (y ∷ xs) (suc k) x lt e = let q : suc k + 1 ≡ suc (k + 1) = omega arith in drop_item xs k x (omega (arith, lt)) e ∙ ap (λ j. x ∷ drop j (y ∷ xs)) (sym q)
+drop_item (y ∷ xs) (suc k) x lt e = let q : suc k + 1 ≡ suc (k + 1) = omega arith in drop_item xs k x (omega (arith, lt)) e
+    ∙ ap (λ j. x ∷ drop j (y ∷ xs)) (sym q)
 
 pub drop_none : {X : Type 0} (xs : List X) (i : ℕ) → length xs ≤ i → drop i xs ≡ []
 drop_none [] zero le = refl
@@ -166,17 +173,6 @@ pub removed_past : {X : Type 0} (xs : List X) (i : ℕ) → length xs ≤ i → 
 removed_past [] i le = refl
 removed_past (x ∷ xs) zero le = absurd (omega (arith, le))
 removed_past (x ∷ xs) (suc i) le = ap (λ r. x ∷ r) (removed_past xs i (omega (arith, le)))
-
-pub removed_more :
-    {X : Type 0} (places : List ℕ) (i a : ℕ) (start old new : List X) → i < length places → a ≡ get_or places i a
-    → all_removed (drop i places) old ≡ all_removed places start → new ≡ remove_at a old → all_removed (drop (i + 1) places) new ≡ all_removed places start
-removed_more places i a start old new lt is h e =
-    ap (all_removed (drop (i + 1) places)) e ∙ sym (ap (λ z. all_removed z old) (drop_item places i a lt is)) ∙ h
-
-pub removed_all :
-    {X : Type 0} (places : List ℕ) (i : ℕ) (start old : List X) → length places ≤ i
-    → all_removed (drop i places) old ≡ all_removed places start → old ≡ all_removed places start
-removed_all places i start old le h = sym (ap (λ z. all_removed z old) (drop_none places i le)) ∙ h
 
 -- ---- rows that leave in turn
 pub columns_more :
@@ -199,7 +195,8 @@ columns_start n rows all without rest e er =
 
 pub columns_done :
     (ring : Ring) (rows : List ℕ) (all without rest result : List Terms) → rest ≡ [] → result ≡ without → AreVectorsOver ring (ring_comparison ring) without
-    → sums_of (variables ring) without ++ map (λ w. without_all rows w) (sums_of (variables ring) rest) ≡ map (λ w. without_all rows w) (sums_of (variables ring) all)
+    → sums_of (variables ring) without ++ map (λ w. without_all rows w) (sums_of (variables ring) rest) ≡ map (λ w. without_all rows w)
+    (sums_of (variables ring) all)
     → AreWithout ring rows all result
 columns_done ring rows all without rest result e er v h =
     let n = variables ring in
@@ -228,7 +225,8 @@ pub carried_more :
     → AreOwn ring m.columns c.columns → c.degrees.items ≡ degrees_of ring m.row_degrees.items m.columns
     → AreCarried ring (drop k maps) (reverse old) → new ≡ old ++ c ∷ [] → AreCarried ring (drop j maps) (reverse new)
 carried_more ring maps k j m old new c ej le is own degrees h en =
-    subst₂ (AreCarried ring) (sym (drop_item maps j m (omega (arith, ej, le)) is ∙ ap (λ i. m ∷ drop i maps) ej)) (sym (ap reverse en ∙ reverse-append old (c ∷ []))) (own, degrees, h)
+    subst₂ (AreCarried ring) (sym (drop_item maps j m (omega (arith, ej, le)) is ∙ ap (λ i. m ∷ drop i maps) ej))
+    (sym (ap reverse en ∙ reverse-append old (c ∷ []))) (own, degrees, h)
 
 pub carried_start : (ring : Ring) (maps : List Map) (new : List Carried) → new ≡ [] → AreCarried ring (drop (length maps) maps) (reverse new)
 carried_start ring maps new e = subst (λ z. AreCarried ring (drop (length maps) maps) (reverse z)) (sym e) (go maps)

@@ -22,7 +22,8 @@ pub step_joined :
     → steps_of ring rows maps (suc k) d ≡ occurrences d (degrees_of ring m.row_degrees.items m.columns)
 step_joined ring rows [] k d m joined lt is = absurd (omega (arith, lt))
 step_joined ring rows (x ∷ maps) zero d m joined lt is =
-    ap (λ (r : List ℕ). occurrences d (degrees_of ring r x.columns)) (sym joined.0.degrees) ∙ ap (λ (y : Map). occurrences d (degrees_of ring y.row_degrees.items y.columns)) (sym is)
+    ap (λ (r : List ℕ). occurrences d (degrees_of ring r x.columns)) (sym joined.0.degrees)
+    ∙ ap (λ (y : Map). occurrences d (degrees_of ring y.row_degrees.items y.columns)) (sym is)
 step_joined ring rows (x ∷ maps) (suc k) d m joined lt is = step_joined ring (degrees_of ring rows x.columns) maps k d m joined.1 (omega (arith, lt)) is
 
 -- behind the last map there are none

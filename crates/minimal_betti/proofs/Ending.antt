@@ -1,5 +1,6 @@
 -- What is left when no constant is
-use Rattle.std.proofs.Common.{List, [], ap, ap₂, arith, eqb-true, false, get_or, length, map, refl, subst, suc, sym, take, true, true≢false, zero, ℕ, ◌++◌, ◌+◌, ◌-◌, ◌<◌, ◌==◌, ◌∙◌, ◌∷◌, ◌≡◌, ◌≤◌}
+use Rattle.std.proofs.Common.{List, [], ap, ap₂, arith, eqb-true, false, get_or, length, map, refl, subst, suc, sym, take, true, true≢false, zero, ℕ, ◌++◌}
+use Rattle.std.proofs.Common.{◌+◌, ◌-◌, ◌<◌, ◌==◌, ◌∙◌, ◌∷◌, ◌≡◌, ◌≤◌}
 use Rattle.std.proofs.lemmas.List.{take_more}
 use Rattle.residues.proofs.Congruences.{IsCongruent_minus, IsCongruent_of, IsCongruent_trans}
 use Rattle.monomials.specs.Exponents.{unit}
@@ -50,7 +51,8 @@ module _ {n p : ℕ} (pos : 0 < p) (ws rows : List ℕ) (maps : List (GradedMap 
     count = sym (length-units n 0 (length rows));
     each = λ i h.
         let lt : i < length rows = omega (arith, length-units n 0 (length rows)) in
-        subst (IsHomogeneous ws p rows (get_or rows i 0)) (sym (get_or-units 0 (length rows) i lt ∙ ap (λ x. ((x, unit n), 1) ∷ []) (omega arith))) (unit_homogeneous rows i lt);
+        subst (IsHomogeneous ws p rows (get_or rows i 0)) (sym (get_or-units 0 (length rows) i lt ∙ ap (λ x. ((x, unit n), 1) ∷ []) (omega arith)))
+        (unit_homogeneous rows i lt);
   }
 
   first_rank : (maps : List (GradedMap n)) → AreGraded ws p rows maps → (v : FormalSum n) → IsMember p (first_columns maps) v → IsOfRank p (length rows) v
@@ -65,7 +67,8 @@ module _ {n p : ℕ} (pos : 0 < p) (ws rows : List ℕ) (maps : List (GradedMap 
       → IsSame p (difference p v (combination (units_from 0 (length rows)) (combination (units_from 0 (length rows)) v))) []
   twice v r =
       let a = combination_units pos (length rows) v r in
-      let b : IsSame p (combination (units_from 0 (length rows)) (combination (units_from 0 (length rows)) v)) v = IsSame_trans (IsSame_combination pos (units_from 0 (length rows)) (combination (units_from 0 (length rows)) v) v a) a in
+      let b : IsSame p (combination (units_from 0 (length rows)) (combination (units_from 0 (length rows)) v)) v =
+      IsSame_trans (IsSame_combination pos (units_from 0 (length rows)) (combination (units_from 0 (length rows)) v) v a) a in
       IsSame_trans (IsSame_append (IsSame_refl p v) (IsSame_scale pos (p - 1) (unit n) b))
       (record { by_key = λ k. IsCongruent_trans (IsCongruent_of p _ _ (weighted_sum-minus p (indicator k) v v)) (IsCongruent_minus p (coefficient v k) pos) })
 
@@ -94,14 +97,16 @@ some_end : (n : ℕ) (xs : List Carried) (m : Carried) → 0 < length (map (grad
 some_end n [] m = omega arith
 some_end n (x ∷ xs) m = omega arith
 
-pub trimmed_full : (n : ℕ) (xs : List Carried) (m : Carried) → 0 < length m.columns → trimmed (map (graded_map n) (xs ++ m ∷ [])) ≡ map (graded_map n) (xs ++ m ∷ [])
+pub trimmed_full : (n : ℕ) (xs : List Carried) (m : Carried) → 0 < length m.columns
+    → trimmed (map (graded_map n) (xs ++ m ∷ [])) ≡ map (graded_map n) (xs ++ m ∷ [])
 trimmed_full n [] m lt = go m.columns lt
   where
     go : (F : List (List (CodeKey × ℕ))) → 0 < length F → keep (graded_map n m) (sums_of n F) [] ≡ graded_map n m ∷ []
     go [] lt = absurd (omega (arith, lt))
     go (v ∷ F) lt = refl
 trimmed_full n (x ∷ xs) m lt =
-    ap (keep (graded_map n x) (sums_of n x.columns)) (trimmed_full n xs m lt) ∙ keep_some (graded_map n x) (sums_of n x.columns) (map (graded_map n) (xs ++ m ∷ [])) (some_end n xs m)
+    ap (keep (graded_map n x) (sums_of n x.columns)) (trimmed_full n xs m lt)
+    ∙ keep_some (graded_map n x) (sums_of n x.columns) (map (graded_map n) (xs ++ m ∷ [])) (some_end n xs m)
 
 pub some_columns : {X : Type 0} (xs : List X) → false ≡ (length xs == 0) → 0 < length xs
 some_columns [] e = absurd (true≢false (sym e))
@@ -133,7 +138,8 @@ kept_less n maps k m lt le is none =
 module _ (ring : Ring) where
   pub start_same :
       (rows : List ℕ) (maps : List Map) (start : List Carried) → AreJoined ring rows maps → AreCarried ring maps start
-      → AreSameMaps ring.modulus.value (graded_by_leads ring.weights rows (maps_of (variables ring) (map (λ (m : Map). m.columns) maps))) (map (graded_map (variables ring)) start)
+      → AreSameMaps ring.modulus.value (graded_by_leads ring.weights rows (maps_of (variables ring) (map (λ (m : Map). m.columns) maps)))
+      (map (graded_map (variables ring)) start)
   start_same rows [] [] j c = tt
   start_same rows [] (s ∷ start) j c = elim c [ ]
   start_same rows (m ∷ maps) [] j c = elim c [ ]
@@ -150,12 +156,14 @@ module _ (ring : Ring) where
   start_ordered (m ∷ maps) (s ∷ start) c = (c.0.vectors, start_ordered maps start c.2)
 
   pub start_underway :
-      0 < ring.modulus.value → (r : Resolution) (start : List Carried) (rows : List ℕ) → IsGradedResolution ring r → AreCarried ring r.maps.items start → rows ≡ r.positions.items
+      0 < ring.modulus.value → (r : Resolution) (start : List Carried) (rows : List ℕ) → IsGradedResolution ring r → AreCarried ring r.maps.items start
+      → rows ≡ r.positions.items
       → IsUnderway ring rows [] start
   start_underway pos r start rows given c e = record {
     ordered = start_ordered r.maps.items start c;
     graded = subst (λ z. AreGraded ring.weights ring.modulus.value z (map (graded_map (variables ring)) start)) (sym e)
-        (same_graded ring.modulus.value pos ring.weights r.positions.items (graded_of ring r).maps (map (graded_map (variables ring)) start) (start_same r.positions.items r.maps.items start given.joined c) given.graded);
+        (same_graded ring.modulus.value pos ring.weights r.positions.items (graded_of ring r).maps (map (graded_map (variables ring)) start)
+        (start_same r.positions.items r.maps.items start given.joined c) given.graded);
     none = tt;
   }
 
@@ -167,7 +175,8 @@ module _ (ring : Ring) where
   none_at_all (m ∷ ms) none (suc k) c r h = none_at_all ms none.1 k c r h
 
 -- ---- the whole
-module _ (ring : Ring) (lawful : IsLawful (setting ring (variables ring) (ring_comparison ring (variables ring)) 0)) (r : Resolution) (given : IsGradedResolution ring r)
+module _ (ring : Ring) (lawful : IsLawful (setting ring (variables ring) (ring_comparison ring (variables ring)) 0)) (r : Resolution)
+    (given : IsGradedResolution ring r)
     (start : List Carried) (carried : AreCarried ring r.maps.items start) (rows : List ℕ) (left kept : List Carried)
     (leads : LeadsTo ring.modulus.value (graded_maps ring r.positions.items start) (graded_maps ring rows left)) (under : IsUnderway ring rows left left)
     (trims : (n : ℕ) → trimmed (map (graded_map n) left) ≡ map (graded_map n) kept) (ordered : AreOrdered ring kept)
@@ -194,21 +203,27 @@ module _ (ring : Ring) (lawful : IsLawful (setting ring (variables ring) (ring_c
   same = start_same ring r.positions.items r.maps.items start given.joined carried
 
   start_graded : AreGraded ring.weights ring.modulus.value r.positions.items (map (graded_map (variables ring)) start)
-  start_graded = same_graded ring.modulus.value pos ring.weights r.positions.items (graded_of ring r).maps (map (graded_map (variables ring)) start) same given.graded
+  start_graded = same_graded ring.modulus.value pos ring.weights r.positions.items (graded_of ring r).maps
+      (map (graded_map (variables ring)) start) same given.graded
 
   start_exact : AreExact ring.modulus.value (map (graded_map (variables ring)) start)
   start_exact = same_exact ring.modulus.value pos (graded_of ring r).maps (map (graded_map (variables ring)) start) same given.exact
 
   all : IsCancelled ring.modulus.value (graded_maps ring r.positions.items start) (record { positions = rows; maps = map (graded_map (variables ring)) kept })
-  all = leads.cancelled D (subst (λ ms. IsCancelled ring.modulus.value (graded_maps ring rows left) (record { positions = rows; maps = ms })) (trims (variables ring)) (done rows (map (graded_map (variables ring)) left) (none_at_all ring left under.none)))
+  all = leads.cancelled D
+      (subst (λ ms. IsCancelled ring.modulus.value (graded_maps ring rows left) (record { positions = rows; maps = ms })) (trims (variables ring))
+      (done rows (map (graded_map (variables ring)) left) (none_at_all ring left under.none)))
 
   minimal_kept : IsMinimal ring.weights ring.modulus.value (record { positions = rows; maps = map (graded_map (variables ring)) kept })
-  minimal_kept = (cancelled ring.modulus.value pos r.positions.items (first_columns Start.maps) Start D all start_graded start_exact (presents_itself pos ring.weights r.positions.items Start.maps start_graded)).0
+  minimal_kept = (cancelled ring.modulus.value pos r.positions.items (first_columns Start.maps) Start D all start_graded start_exact
+      (presents_itself pos ring.weights r.positions.items Start.maps start_graded)).0
 
   result_is : graded_of ring s ≡ record { positions = rows; maps = map (graded_map (variables ring)) kept }
   result_is =
-      ap₂ (λ (x : List ℕ) (y : List (List (List (CodeKey × ℕ)))). record { positions = x; maps = graded_by_leads ring.weights x (maps_of (variables ring) y) }) places_are columns_are
-      ∙ ap (λ ms. record { positions = rows; maps = ms }) (leads_are ring lawful rows kept ordered minimal_kept.graded minimal_kept.exact minimal_kept.no_constant)
+      ap₂ (λ (x : List ℕ) (y : List (List (List (CodeKey × ℕ)))). record
+      { positions = x; maps = graded_by_leads ring.weights x (maps_of (variables ring) y) }) places_are columns_are
+      ∙ ap (λ ms. record { positions = rows; maps = ms })
+      (leads_are ring lawful rows kept ordered minimal_kept.graded minimal_kept.exact minimal_kept.no_constant)
 
   pub minimal_result : IsMinimal ring.weights ring.modulus.value (graded_of ring s)
   minimal_result = subst (IsMinimal ring.weights ring.modulus.value) (sym result_is) minimal_kept
@@ -220,7 +235,8 @@ module _ (ring : Ring) (lawful : IsLawful (setting ring (variables ring) (ring_c
       let first = same_first ring.modulus.value (graded_of ring r).maps Start.maps same in
       let there = presents_same pos places A C Start refl
       (same_member ring.modulus.value pos (first_columns C.maps) (first_columns Start.maps) first)
-      (same_member ring.modulus.value pos (first_columns Start.maps) (first_columns C.maps) (turned ring.modulus.value (first_columns C.maps) (first_columns Start.maps) first)) h
+      (same_member ring.modulus.value pos (first_columns Start.maps) (first_columns C.maps)
+      (turned ring.modulus.value (first_columns C.maps) (first_columns Start.maps) first)) h
       in
       subst (λ E. Presents ring.weights ring.modulus.value E places A) (sym result_is)
       (cancelled ring.modulus.value pos places A Start D all start_graded start_exact there).1

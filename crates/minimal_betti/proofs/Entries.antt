@@ -2,7 +2,8 @@
 use Rattle.std.specs.Cmp.{nat_cmp_is}
 use Rattle.std.specs.Ordering.{nat_cmp, ordering_then}
 use Rattle.std.specs.Prelude.{Contains, nat_eq}
-use Rattle.std.proofs.Common.{Bool, Equal, Greater, List, [], ap, arith, cond, eq-eqb, eqb-true, false, get_or, inl, inr, length, map, refl, subst, subst₂, suc, sym, take, true, zero, ℕ, ◌++◌, ◌+◌, ◌<◌, ◌∙◌, ◌∷◌, ◌≡◌}
+use Rattle.std.proofs.Common.{Bool, Equal, Greater, List, [], ap, arith, cond, eq-eqb, eqb-true, false, get_or, inl, inr, length, map, refl, subst, subst₂}
+use Rattle.std.proofs.Common.{suc, sym, take, true, zero, ℕ, ◌++◌, ◌+◌, ◌<◌, ◌∙◌, ◌∷◌, ◌≡◌}
 use Rattle.std.proofs.lemmas.List.{append-nil, get_or_default, take_more}
 use Rattle.monomials.specs.Exponents.{Exponents, exponents_of}
 use Rattle.formal_sums.specs.FormalSums.{Each}
@@ -50,11 +51,13 @@ pub row_more :
     (r : ℕ) (v old new : Terms) (i : ℕ) (t : CodeKey × ℕ) → i < length v → t ≡ get_or v i t
     → old ≡ in_row r (take i v) → IsKeptInRow r t old new → new ≡ in_row r (take (i + 1) v)
 row_more r v old new i t lt is h k =
-    one k ∙ ap (λ z. z ++ in_row r (t ∷ [])) h ∙ sym (in_row-append r (take i v) (t ∷ [])) ∙ ap (in_row r) (sym (take_more v i t lt ∙ ap (λ x. take i v ++ x ∷ []) (sym is)))
+    one k ∙ ap (λ z. z ++ in_row r (t ∷ [])) h ∙ sym (in_row-append r (take i v) (t ∷ []))
+    ∙ ap (in_row r) (sym (take_more v i t lt ∙ ap (λ x. take i v ++ x ∷ []) (sym is)))
   where
     one : IsKeptInRow r t old new → new ≡ old ++ in_row r (t ∷ [])
     one (inl a) = let q : nat_eq t.0.position r ≡ true = eq-eqb t.0.position r a.0 in a.1 ∙ ap (λ b. old ++ cond b (at_zero t ∷ []) []) (sym q)
-    one (inr a) = let q : nat_eq t.0.position r ≡ false = nat_eq-other t.0.position r a.0 in a.1 ∙ sym (append-nil old) ∙ ap (λ b. old ++ cond b (at_zero t ∷ []) []) (sym q)
+    one (inr a) = let q : nat_eq t.0.position r ≡ false = nat_eq-other t.0.position r a.0 in a.1 ∙ sym (append-nil old)
+        ∙ ap (λ b. old ++ cond b (at_zero t ∷ []) []) (sym q)
 
 -- they stand for the entry
 pub entry_is : (n r : ℕ) (v : Terms) → sum_of n (in_row r v) ≡ component r (sum_of n v)
@@ -63,7 +66,8 @@ entry_is n r (t ∷ v) = go (nat_eq t.0.position r) (entry_is n r v)
   where
     go :
         (b : Bool) → sum_of n (in_row r v) ≡ component r (sum_of n v)
-        → sum_of n (cond b (at_zero t ∷ in_row r v) (in_row r v)) ≡ cond b (((0, exponents_of n t.0.monomial.exponents), t.1) ∷ component r (sum_of n v)) (component r (sum_of n v))
+        → sum_of n (cond b (at_zero t ∷ in_row r v) (in_row r v)) ≡ cond b (((0, exponents_of n t.0.monomial.exponents), t.1) ∷ component r (sum_of n v))
+        (component r (sum_of n v))
     go true e = ap (λ z. ((0, exponents_of n t.0.monomial.exponents), t.1) ∷ z) e
     go false e = e
 
@@ -97,7 +101,8 @@ module _ (ring : Ring) (r : ℕ) where
   below_row a (t ∷ v) h = go (nat_eq t.0.position r) refl (below_row a v h.1)
     where
       go :
-          (b : Bool) → nat_eq t.0.position r ≡ b → Each (λ u. ring_comparison ring (variables ring) (0, a) u.0 ≡ Greater) (sum_of (variables ring) (in_row r v))
+          (b : Bool) → nat_eq t.0.position r ≡ b
+          → Each (λ u. ring_comparison ring (variables ring) (0, a) u.0 ≡ Greater) (sum_of (variables ring) (in_row r v))
           → Each (λ u. ring_comparison ring (variables ring) (0, a) u.0 ≡ Greater) (sum_of (variables ring) (cond b (at_zero t ∷ in_row r v) (in_row r v)))
       go true e m =
           let exponents = exponents_of (variables ring) t.0.monomial.exponents in
@@ -108,7 +113,8 @@ module _ (ring : Ring) (r : ℕ) where
           )
       go false e m = m
 
-  descends_row : (v : Terms) → Descends (ring_comparison ring (variables ring)) (sum_of (variables ring) v) → Descends (ring_comparison ring (variables ring)) (sum_of (variables ring) (in_row r v))
+  descends_row : (v : Terms) → Descends (ring_comparison ring (variables ring)) (sum_of (variables ring) v)
+      → Descends (ring_comparison ring (variables ring)) (sum_of (variables ring) (in_row r v))
   descends_row [] h = tt
   descends_row (t ∷ v) h = go (nat_eq t.0.position r) refl (descends_row v h.1)
     where
@@ -117,8 +123,11 @@ module _ (ring : Ring) (r : ℕ) where
           → Descends (ring_comparison ring (variables ring)) (sum_of (variables ring) (cond b (at_zero t ∷ in_row r v) (in_row r v)))
       go true e m =
           let exponents = exponents_of (variables ring) t.0.monomial.exponents in
-          let at : t.0.position ≡ r = eqb-true t.0.position r e in
-          (below_row exponents v (subst (λ i. Each (λ u. ring_comparison ring (variables ring) (i, exponents) u.0 ≡ Greater) (sum_of (variables ring) v)) at h.0), m)
+          let at : t.0.position ≡ r = eqb-true t.0.position r e in (
+            below_row exponents v
+                (subst (λ i. Each (λ u. ring_comparison ring (variables ring) (i, exponents) u.0 ≡ Greater) (sum_of (variables ring) v)) at h.0),
+            m,
+          )
       go false e m = m
 
   pub vector_row : (v : Terms) → IsVectorOver ring (ring_comparison ring) v → IsVectorOver ring (ring_comparison ring) (in_row r v)
@@ -157,7 +166,8 @@ clearing_is ring columns at i entry factor last t vectors inside index apart of_
     let column_at : (c : ℕ) → c < length columns → IsVectorOver ring (ring_comparison ring) (get_or columns c []) =
     λ c lt. Each_at _ columns c (get_or columns c []) vectors lt (get_or_default columns c [] (get_or columns c []) lt)
     in
-    let wf : IsWeighed n ring.weights factor = weighed_at n ring.weights p (get_or columns i []) factor (column_at i index).each (of_row.0, of_row.1, of_row.3) in
+    let wf : IsWeighed n ring.weights factor = weighed_at n ring.weights p (get_or columns i []) factor (column_at i index).each
+    (of_row.0, of_row.1, of_row.3) in
     let wl : IsWeighed n ring.weights last = weighed_at n ring.weights p (get_or columns at.column []) last (column_at at.column inside).each of_column in
     record {
       trail = (
@@ -167,7 +177,8 @@ clearing_is ring columns at i entry factor last t vectors inside index apart of_
           products = ep;
           known = (subst (λ (m : List Terms). at.column < length m) (sym em) inside, tt);
           variables = (subst (λ (r : Ring). IsWeighed (variables r) r.weights factor) (sym er) wf, tt);
-          begins = subst (λ (s : TrailStart). IsStart (variables t.ring) s t.vector t.members (at.column, factor) []) (sym es) (subst (λ (z : Terms). HasMonomial z factor) (sym ev) of_entry, refl);
+          begins = subst (λ (s : TrailStart). IsStart (variables t.ring) s t.vector t.members (at.column, factor) []) (sym es)
+              (subst (λ (z : Terms). HasMonomial z factor) (sym ev) of_entry, refl);
           met = tt;
           last = subst₂ (λ (m : List Terms) (l : Monomial). HasMonomial (get_or m at.column []) l) (sym em) (sym el) of_column;
           last_variables = subst₂ (λ (r : Ring) (l : Monomial). IsWeighed (variables r) r.weights l) (sym er) (sym el) wl;

@@ -1,5 +1,6 @@
 -- Counts, and tables that grow
-use Rattle.std.proofs.Common.{Bool, List, [], ap, arith, cond, eq-eqb, eqb-true, false, get_or, inl, inr, length, map, refl, subst, subst₂, suc, sym, take, true, zero, ℕ, ◌++◌, ◌+◌, ◌<◌, ◌∙◌, ◌∷◌, ◌≡◌, ◌≤◌, ◌⊎◌}
+use Rattle.std.proofs.Common.{Bool, List, [], ap, arith, cond, eq-eqb, eqb-true, false, get_or, inl, inr, length, map, refl, subst, subst₂, suc, sym, take}
+use Rattle.std.proofs.Common.{true, zero, ℕ, ◌++◌, ◌+◌, ◌<◌, ◌∙◌, ◌∷◌, ◌≡◌, ◌≤◌, ◌⊎◌}
 use Rattle.std.proofs.lemmas.Bool.{cases_lt}
 use Rattle.std.proofs.lemmas.List.{take_more}
 use Rattle.std.specs.Prelude.{Contains, nat_eq}
@@ -85,8 +86,13 @@ pub least_more :
     → ((from ≤ x) × (x < least) × (new ≡ x)) ⊎ (((x < from) ⊎ (least ≤ x)) × (new ≡ least))
     → IsLeast from new (take (i + 1) xs)
 least_more from least new xs i x h lt e small (inl c) = record {
-  outside = all_more (IsOutside from new) xs i x (all_map (IsOutside from least) (IsOutside from new) (take i xs) (λ y o. lower y o) h.outside) lt e (inr (omega (arith, eq), small));
-  found = inr ((let a = c.0 in omega (arith, a, eq)), omega (arith, small, eq), (let m = occurrences-more new xs i x lt e in let o = ap (λ z. unit_if z x) eq ∙ same_counts x in omega (arith, m, o)));
+  outside = all_more (IsOutside from new) xs i x (all_map (IsOutside from least) (IsOutside from new) (take i xs) (λ y o. lower y o) h.outside) lt e
+      (inr (omega (arith, eq), small));
+  found = inr (
+    (let a = c.0 in omega (arith, a, eq)),
+    omega (arith, small, eq),
+    (let m = occurrences-more new xs i x lt e in let o = ap (λ z. unit_if z x) eq ∙ same_counts x in omega (arith, m, o)),
+  );
 }
   where
     eq : new ≡ x
@@ -104,9 +110,15 @@ least_more from least new xs i x h lt e small (inr c) = record {
     here (inl a) = inl a
     here (inr a) = inr ((let q = c.1 in omega (arith, a, q)), small)
 
-    kept : (least ≡ 4294967296) ⊎ ((from ≤ least) × (least < 4294967296) × (0 < occurrences least (take i xs))) → (new ≡ 4294967296) ⊎ ((from ≤ new) × (new < 4294967296) × (0 < occurrences new (take (i + 1) xs)))
+    kept : (least ≡ 4294967296) ⊎ ((from ≤ least) × (least < 4294967296) × (0 < occurrences least (take i xs)))
+        → (new ≡ 4294967296) ⊎ ((from ≤ new) × (new < 4294967296) × (0 < occurrences new (take (i + 1) xs)))
     kept (inl a) = inl (c.1 ∙ a)
-    kept (inr a) = inr (subst (λ z. from ≤ z) (sym c.1) a.0, subst (λ z. z < 4294967296) (sym c.1) a.1, subst (λ z. 0 < occurrences z (take (i + 1) xs)) (sym c.1) (let m = occurrences-more least xs i x lt e in let q = a.2 in omega (arith, m, q)))
+    kept (inr a) = inr (
+      subst (λ z. from ≤ z) (sym c.1) a.0,
+      subst (λ z. z < 4294967296) (sym c.1) a.1,
+      subst (λ z. 0 < occurrences z (take (i + 1) xs))
+          (sym c.1) (let m = occurrences-more least xs i x lt e in let q = a.2 in omega (arith, m, q)),
+    )
 
 -- ---- tables that grow
 pub table_start : (counts : ℕ → ℕ → ℕ) → IsTableTo counts [] 0 0
@@ -138,7 +150,8 @@ module _ (counts : ℕ → ℕ → ℕ) (es : List Entry) (step from : ℕ) (h :
       new : Entry
       new = record { step = step; degree = least; count = occurrences least degrees }
 
-      pick : (least ≡ 4294967296) ⊎ ((from ≤ least) × (least < 4294967296) × (0 < occurrences least degrees)) → (from ≤ least) × (least < 4294967296) × (0 < occurrences least degrees)
+      pick : (least ≡ 4294967296) ⊎ ((from ≤ least) × (least < 4294967296) × (0 < occurrences least degrees))
+          → (from ≤ least) × (least < 4294967296) × (0 < occurrences least degrees)
       pick (inl a) = absurd (some a)
       pick (inr a) = a
 
@@ -149,9 +162,11 @@ module _ (counts : ℕ → ℕ → ℕ) (es : List Entry) (step from : ℕ) (h :
       later k d (inl a) = inl a
       later k d (inr a) = inr (a.0, (let q = a.1 in let r = found.0 in omega (arith, q, r)))
 
-      here : (d : ℕ) → d < least + 1 → 0 < counts step d → (d < from) ⊎ (from ≤ d) → (d < least) ⊎ (least ≤ d) → Contains (es ++ new ∷ []) (entry_at counts step d)
+      here : (d : ℕ) → d < least + 1 → 0 < counts step d → (d < from) ⊎ (from ≤ d) → (d < least) ⊎ (least ≤ d)
+          → Contains (es ++ new ∷ []) (entry_at counts step d)
       here d lt pos (inl a) b = contains_left es (new ∷ []) _ (h.complete step d (inr (refl, a)) pos)
-      here d lt pos (inr a) (inl b) = absurd (let z : counts step d ≡ 0 = is d ∙ occurrences-outside d (IsOutside from least) degrees l.outside (λ o. out o) in omega (arith, z, pos))
+      here d lt pos (inr a) (inl b) =
+          absurd (let z : counts step d ≡ 0 = is d ∙ occurrences-outside d (IsOutside from least) degrees l.outside (λ o. out o) in omega (arith, z, pos))
         where
           out : IsOutside from least d → ⊥
           out (inl q) = omega (arith, q, a)
@@ -159,13 +174,16 @@ module _ (counts : ℕ → ℕ → ℕ) (es : List Entry) (step from : ℕ) (h :
       here d lt pos (inr a) (inr b) = subst (λ z. Contains (es ++ new ∷ []) z) (same d (omega (arith, lt, b))) (contains_end es new)
         where
           same : (x : ℕ) → x ≡ least → new ≡ entry_at counts step x
-          same x e = ap (λ z. record { step = step; degree = z; count = occurrences z degrees }) (sym e) ∙ ap (λ z. record { step = step; degree = x; count = z }) (sym (is x))
+          same x e = ap (λ z. record { step = step; degree = z; count = occurrences z degrees }) (sym e)
+              ∙ ap (λ z. record { step = step; degree = x; count = z }) (sym (is x))
 
       go : (k d : ℕ) → IsDone step (least + 1) k d → 0 < counts k d → Contains (es ++ new ∷ []) (entry_at counts k d)
       go k d (inl a) pos = contains_left es (new ∷ []) _ (h.complete k d (inl a) pos)
-      go k d (inr a) pos = subst (λ z. Contains (es ++ new ∷ []) (entry_at counts z d)) (sym a.0) (here d a.1 (subst (λ z. 0 < counts z d) a.0 pos) (cases_lt d from) (cases_lt d least))
+      go k d (inr a) pos = subst (λ z. Contains (es ++ new ∷ []) (entry_at counts z d)) (sym a.0)
+          (here d a.1 (subst (λ z. 0 < counts z d) a.0 pos) (cases_lt d from) (cases_lt d least))
 
-  pub table_step : (least : ℕ) (degrees : List ℕ) → ((d : ℕ) → counts step d ≡ occurrences d degrees) → IsLeast from least degrees → least ≡ 4294967296 → IsTableTo counts es (step + 1) 0
+  pub table_step : (least : ℕ) (degrees : List ℕ) → ((d : ℕ) → counts step d ≡ occurrences d degrees) → IsLeast from least degrees → least ≡ 4294967296
+      → IsTableTo counts es (step + 1) 0
   table_step least degrees is l none = record {
     ascends = h.ascends;
     before = all_map _ _ es (λ e b. inl (less e.step e.degree b)) h.before;
@@ -179,7 +197,8 @@ module _ (counts : ℕ → ℕ → ℕ) (es : List Entry) (step from : ℕ) (h :
 
       here : (d : ℕ) → 0 < counts step d → (d < from) ⊎ (from ≤ d) → Contains es (entry_at counts step d)
       here d pos (inl a) = h.complete step d (inr (refl, a)) pos
-      here d pos (inr a) = absurd (let z : counts step d ≡ 0 = is d ∙ occurrences-outside d (IsOutside from least) degrees l.outside (λ o. out o) in omega (arith, z, pos))
+      here d pos (inr a) =
+          absurd (let z : counts step d ≡ 0 = is d ∙ occurrences-outside d (IsOutside from least) degrees l.outside (λ o. out o) in omega (arith, z, pos))
         where
           out : IsOutside from least d → ⊥
           out (inl q) = omega (arith, q, a)
@@ -187,7 +206,8 @@ module _ (counts : ℕ → ℕ → ℕ) (es : List Entry) (step from : ℕ) (h :
 
       split : (k d : ℕ) → 0 < counts k d → k < step + 1 → (k < step) ⊎ (step ≤ k) → Contains es (entry_at counts k d)
       split k d pos lt (inl a) = h.complete k d (inl a) pos
-      split k d pos lt (inr a) = let e : step ≡ k = omega (arith, lt, a) in subst (λ z. Contains es (entry_at counts z d)) e (here d (subst (λ z. 0 < counts z d) (sym e) pos) (cases_lt d from))
+      split k d pos lt (inr a) = let e : step ≡ k = omega (arith, lt, a) in subst (λ z. Contains es (entry_at counts z d)) e
+          (here d (subst (λ z. 0 < counts z d) (sym e) pos) (cases_lt d from))
 
       go : (k d : ℕ) → IsDone (step + 1) 0 k d → 0 < counts k d → Contains es (entry_at counts k d)
       go k d (inl a) pos = split k d pos a (cases_lt k step)
@@ -207,7 +227,8 @@ pub new_entry :
     → (degree count : ℕ) → degree ≡ least → count ≡ occurrences degree degrees
     → IsTableTo counts (es ++ record { step = step; degree = degree; count = count } ∷ []) step (least + 1)
 new_entry counts es step from h least degrees is l some degree count e ce =
-    subst₂ (λ d k. IsTableTo counts (es ++ record { step = step; degree = d; count = k } ∷ []) step (least + 1)) (sym e) (sym (ce ∙ ap (λ z. occurrences z degrees) e)) (table_next counts es step from h least degrees is l some)
+    subst₂ (λ d k. IsTableTo counts (es ++ record { step = step; degree = d; count = k } ∷ []) step (least + 1)) (sym e)
+    (sym (ce ∙ ap (λ z. occurrences z degrees) e)) (table_next counts es step from h least degrees is l some)
 
 pub table_done : (counts : ℕ → ℕ → ℕ) (es : List Entry) (step : ℕ) → IsTableTo counts es step 0 → ((k d : ℕ) → step ≤ k → counts k d ≡ 0) → IsTable counts es
 table_done counts es step h none = record { ascends = h.ascends; counted = h.counted; complete = λ k d pos. go k d pos (cases_lt k step) }

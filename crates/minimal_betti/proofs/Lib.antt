@@ -1,5 +1,6 @@
 pub mod Apart
 pub mod Applying
+pub mod ByDegree
 pub mod Canonical
 pub mod Clearings
 pub mod Columns

@@ -1,7 +1,8 @@
 -- A row leaves the terms of a vector
 use Rattle.std.specs.Ordering.{nat_cmp, ordering_then}
 use Rattle.std.specs.Prelude.{nat_eq, nat_lt}
-use Rattle.std.proofs.Common.{Bool, Greater, List, [], ap, arith, cond, drop, false, filter, get_or, length, not, refl, set, suc, sym, take, true, zero, ℕ, ◌++◌, ◌+◌, ◌-◌, ◌<◌, ◌==◌, ◌∙◌, ◌∷◌, ◌≡◌}
+use Rattle.std.proofs.Common.{Bool, Greater, List, [], ap, arith, cond, drop, false, filter, get_or, length, not, refl, set, suc, sym, take, true, zero, ℕ}
+use Rattle.std.proofs.Common.{◌++◌, ◌+◌, ◌-◌, ◌<◌, ◌==◌, ◌∙◌, ◌∷◌, ◌≡◌}
 use Rattle.std.proofs.lemmas.Bool.Decides.{nat_tests}
 use Rattle.monomials.specs.Exponents.{Exponents, exponents_of}
 use Rattle.formal_sums.specs.FormalSums.{Each}
@@ -79,11 +80,14 @@ module _ (ring : Ring) (r : ℕ) where
   below_without i a (t ∷ v) other h = go (nat_eq t.0.position r) refl (below_without i a v other h.1)
     where
       go :
-          (b : Bool) → nat_eq t.0.position r ≡ b → Each (λ u. ring_comparison ring (variables ring) (close r i, a) u.0 ≡ Greater) (sum_of (variables ring) (without_terms r v))
-          → Each (λ u. ring_comparison ring (variables ring) (close r i, a) u.0 ≡ Greater) (sum_of (variables ring) (cond b (without_terms r v) (low r t ∷ without_terms r v)))
+          (b : Bool) → nat_eq t.0.position r ≡ b
+          → Each (λ u. ring_comparison ring (variables ring) (close r i, a) u.0 ≡ Greater) (sum_of (variables ring) (without_terms r v))
+          → Each (λ u. ring_comparison ring (variables ring) (close r i, a) u.0 ≡ Greater)
+          (sum_of (variables ring) (cond b (without_terms r v) (low r t ∷ without_terms r v)))
       go true e m = m
       go false e m = (
-        key_compares ring.module_order ring.order ring.weights (variables ring) r i t.0.position a (exponents_of (variables ring) t.0.monomial.exponents) other e ∙ h.0,
+        key_compares ring.module_order ring.order ring.weights (variables ring) r i t.0.position a
+            (exponents_of (variables ring) t.0.monomial.exponents) other e ∙ h.0,
         m,
       )
 
@@ -100,7 +104,8 @@ module _ (ring : Ring) (r : ℕ) where
       go false e m = (below_without t.0.position (exponents_of (variables ring) t.0.monomial.exponents) v e h.0, m)
 
   pub vector_without_row : (v : Terms) → IsVectorOver ring (ring_comparison ring) v → IsVectorOver ring (ring_comparison ring) (without_terms r v)
-  vector_without_row v h = record { each = terms_without (variables ring) ring.weights ring.modulus.value r v h.each; descends = descends_without v h.descends }
+  vector_without_row v h =
+      record { each = terms_without (variables ring) ring.weights ring.modulus.value r v h.each; descends = descends_without v h.descends }
 
 -- ---- the loop that lowers positions in place
 lowered_get :
@@ -128,7 +133,8 @@ lowered_step r xs ys i q x y lt e hx hy eq =
     let j : suc i ≡ i + 1 = omega arith in
     ap (λ z. set z i (record { position = q; monomial = y.0.monomial }, y.1)) e
     ∙ ap (λ (z : ℕ). set (lowered r (take i xs) ++ drop i xs) i (record { position = z; monomial = y.0.monomial }, y.1)) eq
-    ∙ ap (λ (z : CodeKey × ℕ). set (lowered r (take i xs) ++ drop i xs) i (record { position = cond (nat_lt x.0.position r) x.0.position (x.0.position - 1); monomial = z.0.monomial }, z.1)) xy
+    ∙ ap (λ (z : CodeKey × ℕ). set (lowered r (take i xs) ++ drop i xs) i
+    (record { position = cond (nat_lt x.0.position r) x.0.position (x.0.position - 1); monomial = z.0.monomial }, z.1)) xy
     ∙ lowered_set r xs i x lt ex ∙ ap (λ k. lowered r (take k xs) ++ drop k xs) j
   where
     same : (xs : Terms) (i : ℕ) (d d' : CodeKey × ℕ) → i < length xs → get_or xs i d ≡ get_or xs i d'

@@ -9,11 +9,12 @@ use Rattle.module_vectors.specs.Rings.{variables}
 use Rattle.module_vectors.specs.Vectors.{StandsFor, sum_of}
 use Rattle.module_vectors.specs.declared.key.Key.{Key as CodeKey}
 use Rattle.module_vectors.specs.declared.ring.Ring.{Ring}
-use Rattle.minimal_betti.specs.Passing.{AreNumbered, cleared_all}
+use Rattle.minimal_betti.specs.Passing.{AreNumbered, HaveNoOthers, cleared_all}
 use Rattle.minimal_betti.specs.declared.steps.Step.{Step}
 use Rattle.minimal_betti.proofs.Clearings.{cleared_other}
 use Rattle.minimal_betti.proofs.Columns.{drop_item, drop_none}
 use Rattle.minimal_betti.proofs.Growing.{all_map}
+use Rattle.minimal_betti.proofs.Stepping.{each_left, each_right}
 
 abbrev Terms : Type 0
 Terms = List (CodeKey × ℕ)
@@ -25,7 +26,8 @@ number numbers t = get_or numbers t.0.position 18446744073709551615
 numbered_drop : (numbers : List ℕ) (j i : ℕ) (steps : List Step) → AreNumbered numbers j steps → AreNumbered numbers (j + i) (drop i steps)
 numbered_drop numbers j zero steps h = let e : j ≡ j + 0 = omega arith in subst (λ z. AreNumbered numbers z steps) e h
 numbered_drop numbers j (suc i) [] h = tt
-numbered_drop numbers j (suc i) (s ∷ steps) h = let e : (j + 1) + i ≡ j + suc i = omega arith in subst (λ z. AreNumbered numbers z (drop i steps)) e (numbered_drop numbers (j + 1) i steps h.1)
+numbered_drop numbers j (suc i) (s ∷ steps) h = let e : (j + 1) + i ≡ j + suc i = omega arith in subst (λ z. AreNumbered numbers z (drop i steps)) e
+    (numbered_drop numbers (j + 1) i steps h.1)
 
 module _ (ring : Ring) where
   -- the steps before the next one take nothing away
@@ -43,7 +45,8 @@ module _ (ring : Ring) where
       let b : j + suc k ≤ number numbers t = f (omega (arith, a, le)) in
       omega (arith, a, b)) next
       in
-      let more : Each (λ t. from ≤ number numbers t → (j + 1) + k ≤ number numbers t) v = all_map _ _ v (λ t f l. let b : j + suc k ≤ number numbers t = f l in omega (arith, b)) next in
+      let more : Each (λ t. from ≤ number numbers t → (j + 1) + k ≤ number numbers t) v =
+      all_map _ _ v (λ t f l. let b : j + suc k ≤ number numbers t = f l in omega (arith, b)) next in
       ap (cleared_all ring steps) (cleared_other n ring.modulus.value s.row s.inverse (sum_of n s.column) v other)
       ∙ skipped numbers (j + 1) k from steps v h.1 (omega (arith, le)) more
 
@@ -62,10 +65,13 @@ module _ (ring : Ring) where
         let k = next - from in
         let e : from + k ≡ next = omega (arith, after) in
         let f : 0 + from ≡ from = omega arith in
-        let q = skipped numbers from k from (drop from steps) out (subst (λ z. AreNumbered numbers z (drop from steps)) f (numbered_drop numbers 0 from steps numbered)) (omega arith)
+        let q = skipped numbers from k from (drop from steps) out
+        (subst (λ z. AreNumbered numbers z (drop from steps)) f (numbered_drop numbers 0 from steps numbered)) (omega arith)
         (subst (λ z. Each (λ t. from ≤ number numbers t → z ≤ number numbers t) out) (sym e) least)
         in
-        IsSame_trans (IsSame_of ring.modulus.value _ _ (ap (λ z. cleared_all ring (drop z steps) (sum_of (variables ring) out)) (sym e) ∙ sym (ap (λ z. cleared_all ring z (sum_of (variables ring) out)) (drop_drop from k steps)) ∙ sym q)) h
+        IsSame_trans (IsSame_of ring.modulus.value _ _
+        (ap (λ z. cleared_all ring (drop z steps) (sum_of (variables ring) out)) (sym e)
+        ∙ sym (ap (λ z. cleared_all ring z (sum_of (variables ring) out)) (drop_drop from k steps)) ∙ sym q)) h
       where
         drop_drop : (i k : ℕ) (xs : List Step) → drop k (drop i xs) ≡ drop (i + k) xs
         drop_drop zero k xs = let e : k ≡ 0 + k = omega arith in ap (λ z. drop z xs) e
@@ -94,4 +100,22 @@ numbered_end old new i [] s h other same here = (here ∙ omega arith, tt)
 numbered_end old new i (t ∷ steps) s h other same here = (
   same t.row other.0 ∙ h.0,
   numbered_end old new (i + 1) steps s h.1 other.1 same (let e : i + length (t ∷ steps) ≡ (i + 1) + length steps = omega arith in here ∙ e),
+)
+
+pub others_end :
+    (old new : List ℕ) (steps : List Step) (s : Step) → HaveNoOthers old steps
+    → ((q : ℕ) → (q ≡ s.row → ⊥) → get_or new q 18446744073709551615 ≡ get_or old q 18446744073709551615) → HaveNoOthers new (steps ++ s ∷ [])
+others_end old new steps s h same q other =
+    same q (λ e. (each_right (λ (t : Step). t.row ≡ q → ⊥) steps (s ∷ []) other).0 (sym e))
+    ∙ h q (each_left (λ (t : Step). t.row ≡ q → ⊥) steps (s ∷ []) other)
+
+-- a row without a number is of no step
+pub numbered_off :
+    (numbers : List ℕ) (i : ℕ) (steps : List Step) (q : ℕ) → AreNumbered numbers i steps → i + length steps ≤ 18446744073709551615
+    → get_or numbers q 18446744073709551615 ≡ 18446744073709551615 → Each (λ (s : Step). s.row ≡ q → ⊥) steps
+numbered_off numbers i [] q h le none = tt
+numbered_off numbers i (s ∷ steps) q h le none = (
+  (λ e. let a : get_or numbers s.row 18446744073709551615 ≡ get_or numbers q 18446744073709551615 = ap (λ z. get_or numbers z 18446744073709551615) e in
+      let b = h.0 in omega (arith, a, b, none, le)),
+  numbered_off numbers (i + 1) steps q h.1 (omega (arith, le)) none,
 )

@@ -1,8 +1,10 @@
 -- One pass over the columns of a map, by degree
 use Rattle.std.specs.Prelude.{None, Option, Some, drop, set}
-use Rattle.std.proofs.Common.{Bool, List, [], ap, append-nil, arith, false, get_or, inl, inr, length, map, refl, subst, suc, sym, take, true, true≢false, zero, ℕ, ◌*◌, ◌++◌, ◌+◌, ◌<◌, ◌∙◌, ◌∷◌, ◌≡◌, ◌≤◌, ◌⊎◌}
+use Rattle.std.proofs.Common.{Bool, List, [], ap, append-nil, arith, false, get_or, inl, inr, length, map, refl, subst, suc, sym, take, true, true≢false}
+use Rattle.std.proofs.Common.{zero, ℕ, ◌*◌, ◌++◌, ◌+◌, ◌<◌, ◌∙◌, ◌∷◌, ◌≡◌, ◌≤◌, ◌⊎◌}
 use Rattle.std.proofs.lemmas.Bool.{cases_lt}
-use Rattle.std.proofs.lemmas.List.{append_assoc, drop-append-le, get_or-set_other, get_or-set_same, get_or_past, length-map, length-set, map-append, take_all, take_more}
+use Rattle.std.proofs.lemmas.List.{append_assoc, drop-append-le, get_or-set_other, get_or-set_same, get_or_past, length-map, length-set, map-append}
+use Rattle.std.proofs.lemmas.List.{take_all, take_more}
 use Rattle.residues.proofs.Congruences.{IsCongruent_of, IsCongruent_refl, IsCongruent_trans}
 use Rattle.residues.specs.Residues.{IsCongruent}
 use Rattle.monomials.specs.Exponents.{unit}
@@ -14,26 +16,38 @@ use Rattle.minimal_laws.specs.Gradings.{AreHomogeneous, IsHomogeneous}
 use Rattle.minimal_laws.specs.Minimal.{IsConstantAt}
 use Rattle.module_vectors.proofs.Scaling.{Each_at}
 use Rattle.module_vectors.specs.Rings.{ring_comparison, setting, variables}
-use Rattle.module_vectors.specs.Vectors.{IsVectorOver, StandsFor, sum_of, sums_of}
+use Rattle.module_vectors.specs.Vectors.{AreVectorsOver, IsVectorOver, StandsFor, sum_of, sums_of}
 use Rattle.module_vectors.specs.declared.key.Key.{Key as CodeKey}
 use Rattle.module_vectors.specs.declared.ring.Ring.{Ring}
-use Rattle.minimal_betti.specs.Carried.{IsGraded}
+use Rattle.minimal_betti.specs.Carried.{HasNone, IsGraded, LeadsTo, graded_maps}
 use Rattle.minimal_betti.specs.Constants.{IsLeastUnit}
-use Rattle.minimal_betti.specs.Passing.{AreFinished, IsFree, IsMetOver, IsPassed, IsSorted, IsStepOver, Pivot, add_kept, cleared_all, finished_all, indices_in_turn, left_by_all, rows_in_turn}
-use Rattle.minimal_betti.specs.Sorting.{by_degree, numbers_from}
-use Rattle.minimal_betti.specs.Splitting.{without_all}
+use Rattle.minimal_betti.specs.Passing.{AreFinished, AreNumbered, HaveNoOthers, IsFree, IsMetOver, IsPassed, IsSorted, IsStepOver, LeaveNumbered, Pivot}
+use Rattle.minimal_betti.specs.Passing.{add_kept, cleared_all, finished_all, indices_in_turn, left_by_all, rows_in_turn}
+use Rattle.minimal_betti.specs.Placing.{ArePlacesAfter, place_after}
+use Rattle.minimal_betti.specs.Sorting.{AreByDegree, numbers_from}
+use Rattle.minimal_betti.specs.Splitting.{IsFormerLeft, IsNextLeft, IsUnderway, all_removed, in_turn, without_all}
+use Rattle.minimal_betti.specs.declared.carried.Carried.{Carried}
 use Rattle.minimal_betti.specs.declared.one_pass.Met.{Met}
 use Rattle.minimal_betti.specs.declared.one_pass.Passed.{Passed}
+use Rattle.minimal_betti.specs.declared.placing.Leaving.{Leaving}
 use Rattle.minimal_betti.specs.declared.steps.Step.{Step}
 use Rattle.minimal_betti.proofs.Apart.{chosen_apart, free_row}
 use Rattle.minimal_betti.proofs.Applying.{columns_trans, no_constant_at}
-use Rattle.minimal_betti.proofs.Canonical.{AreLeft, canonical, choice_at, column_of, head_of, kept_of, left, none_left, not_met, same_first, tail, without_all_same}
+use Rattle.minimal_betti.proofs.ByDegree.{by_degree, each_by, order_is}
+use Rattle.minimal_betti.proofs.Canonical.{AreLeft, canonical, choice_at, column_of, head_of, kept_of, left, none_left, not_met, same_first, tail}
+use Rattle.minimal_betti.proofs.Canonical.{without_all_same}
 use Rattle.minimal_betti.proofs.Columns.{drop_none, map_same}
 use Rattle.minimal_betti.proofs.Ending.{each_unmapped}
 use Rattle.minimal_betti.proofs.Growing.{all_append, all_map}
 use Rattle.minimal_betti.proofs.Reaching.{constant_there}
-use Rattle.minimal_betti.proofs.Reordering.{AreChosen, IsChosen, after_end, chosen_agree, chosen_end, chosen_graded, chosen_same, cleared_alike, each_by, each_unby, grown, homogeneous_through, numbers_inside, pivots_after, sorted_chosen, through, through_end}
-use Rattle.minimal_betti.proofs.Stepping.{each_mapped}
+use Rattle.minimal_betti.proofs.Numbering.{numbered_off}
+use Rattle.minimal_betti.proofs.Reordering.{AreChosen, AreOff, IsChosen, IsOff, after_end, chosen_agree, chosen_end, chosen_graded, chosen_same, cleared_alike}
+use Rattle.minimal_betti.proofs.Reordering.{each_unby, grown, homogeneous_through, numbers_inside, off_choices, off_pivots, pivots_after, sorted_chosen}
+use Rattle.minimal_betti.proofs.Reordering.{AreDistinct, distinct_order, others_before, through, through_end}
+use Rattle.minimal_betti.proofs.Places.{none_leave, some_leave}
+use Rattle.minimal_betti.proofs.Splittings.{next_count}
+use Rattle.minimal_betti.proofs.Stepping.{each_mapped, no_step_none, passed_leads}
+use Rattle.minimal_betti.proofs.Turning.{AreTurned, free_place, is_there, same_places, turned_none}
 use Rattle.minimal_betti.proofs.Units.{first_unit, no_constant}
 use Rattle.minimal_betti.proofs.Zeros.{each_both, homogeneous_there}
 
@@ -46,10 +60,19 @@ cleared_end :
 cleared_end ring [] s v = refl
 cleared_end ring (t ∷ steps) s v = cleared_end ring steps s (cleared ring.modulus.value t.row t.inverse (sum_of (variables ring) t.column) v)
 
+-- the columns in their order by degree
 pub number_inside :
-    (degrees : List ℕ) (n : ℕ) (order : List ℕ) (k c : ℕ) → order ≡ by_degree degrees (numbers_from 0 n) → k < length order → c ≡ get_or order k c → c < n
-number_inside degrees n order k c e lt is =
-    Each_at (λ c. c < n) order k c (subst (Each (λ c. c < n)) (sym e) (each_by (λ c. c < n) degrees (numbers_from 0 n) (numbers_inside 0 n n (omega arith)))) lt is
+    (degrees : List ℕ) (n : ℕ) (order : List ℕ) (k c : ℕ) → AreByDegree degrees n order → k < length order → c ≡ get_or order k c → c < n
+number_inside degrees n order k c h lt is =
+    Each_at (λ c. c < n) order k c
+    (subst (Each (λ c. c < n)) (sym (order_is degrees n order h))
+    (each_by (λ c. c < n) degrees (numbers_from 0 n) (numbers_inside 0 n n (omega arith)))) lt is
+
+pub others_first :
+    (degrees : List ℕ) (n : ℕ) (order : List ℕ) (k c : ℕ) → AreByDegree degrees n order → k < length order → c ≡ get_or order k c
+    → Each (λ b. b ≡ c → ⊥) (take k order)
+others_first degrees n order k c h lt is =
+    others_before order k c (subst AreDistinct (sym (order_is degrees n order h)) (distinct_order degrees n)) lt is
 
 same_between :
     {n : ℕ} (p : ℕ) (G H : List (FormalSum n)) (x y : FormalSum n) → IsSame p x y → AreSameColumns p (G ++ x ∷ H) (G ++ y ∷ H)
@@ -75,19 +98,13 @@ finish_more ring steps rows met rest rest' m old new u h e none stands en =
     columns_trans p A (sums_of n old ++ x ∷ R) (sums_of n new ++ R) (subst (λ z. AreSameColumns p A (sums_of n old ++ z)) at h)
     (subst (λ z. AreSameColumns p (sums_of n old ++ x ∷ R) z) (sym eq) (same_between p (sums_of n old) R x (sum_of n u) (IsSame_sym stands)))
 
-pub pivots_some : (ring : Ring) (rows : List ℕ) (pivots : List (Pivot (variables ring))) → rows ≡ map (λ (s : Pivot (variables ring)). s.row) pivots → 0 < length rows → 0 < length pivots
-pivots_some ring rows pivots e lt = let a = length-map pivots (λ (s : Pivot (variables ring)). s.row) in let b = ap length e in omega (arith, a, b, lt)
-
-pub pivots_none : (ring : Ring) (rows : List ℕ) (pivots : List (Pivot (variables ring))) → rows ≡ map (λ (s : Pivot (variables ring)). s.row) pivots → rows ≡ [] → pivots ≡ []
-pivots_none ring rows [] e none = refl
-pivots_none ring rows (s ∷ pivots) e none = let q : suc (length (map (λ (t : Pivot (variables ring)). t.row) pivots)) ≡ 0 = ap length (sym e ∙ none) in absurd (omega (arith, q))
-
 -- where the column is kept, what is kept of it comes to what the steps leave of it
 abbrev pub IsKeptAt : (ring : Ring) → List (FormalSum (variables ring)) → List Step → List Met → ℕ → Type 0
 IsKeptAt ring F steps met c =
     choice_at met c ≡ None
     → ((get_or met c not_met).since ≤ length steps)
-    × IsSame ring.modulus.value (cleared_all ring (drop (get_or met c not_met).since steps) (sum_of (variables ring) (get_or met c not_met).column)) (cleared_all ring steps (column_of F c))
+    × IsSame ring.modulus.value (cleared_all ring (drop (get_or met c not_met).since steps) (sum_of (variables ring) (get_or met c not_met).column))
+    (cleared_all ring steps (column_of F c))
 
 -- after the first k columns of the order
 pub record AreMet (ring : Ring) (columns : List Terms) (order : List ℕ) (k : ℕ) (steps : List Step) (met : List Met) : Type 0 where
@@ -98,7 +115,8 @@ pub record AreMet (ring : Ring) (columns : List Terms) (order : List ℕ) (k : �
       (through ring.modulus.value (pivots_after ring.modulus.value (column_of (sums_of (variables ring) columns)) (choice_at met) [] (take k order)) v)
   pub rows_are :
       map (λ (s : Step). s.row) steps
-      ≡ map (λ (s : Pivot (variables ring)). s.row) (pivots_after ring.modulus.value (column_of (sums_of (variables ring) columns)) (choice_at met) [] (take k order))
+      ≡ map (λ (s : Pivot (variables ring)). s.row)
+      (pivots_after ring.modulus.value (column_of (sums_of (variables ring) columns)) (choice_at met) [] (take k order))
   pub kept : Each (IsKeptAt ring (sums_of (variables ring) columns) steps met) (take k order)
   pub over : Each (IsMetOver ring steps) met
   pub steps_over : Each (IsStepOver ring) steps
@@ -113,7 +131,8 @@ met_start ring columns order steps met es count none =
       alike = λ v. IsSame_refl ring.modulus.value v;
       rows_are = refl;
       kept = tt;
-      over = all_map _ _ met (λ m h. (subst (IsVectorOver ring (ring_comparison ring)) (sym h.0) (record { each = tt; descends = tt }), (let e = h.1 in omega (arith, e)))) none;
+      over = all_map _ _ met
+          (λ m h. (subst (IsVectorOver ring (ring_comparison ring)) (sym h.0) (record { each = tt; descends = tt }), (let e = h.1 in omega (arith, e)))) none;
       steps_over = tt;
       count = count;
     })
@@ -123,7 +142,8 @@ each_set P [] i x h p = tt
 each_set P (y ∷ xs) zero x h p = (p, h.1)
 each_set P (y ∷ xs) (suc i) x h p = (h.0, each_set P xs i x h.1 p)
 
-module _ (ring : Ring) (lawful : IsLawful (setting ring (variables ring) (ring_comparison ring (variables ring)) 0)) (columns : List Terms) (rows degrees : List ℕ)
+module _ (ring : Ring) (lawful : IsLawful (setting ring (variables ring) (ring_comparison ring (variables ring)) 0)) (columns : List Terms)
+    (rows degrees : List ℕ)
     (graded : AreHomogeneous ring.weights ring.modulus.value rows degrees (sums_of (variables ring) columns)) where
   pos : 0 < ring.modulus.value
   pos = let o : 1 < ring.modulus.value = lawful.domain.above_one in omega (arith, o)
@@ -134,14 +154,16 @@ module _ (ring : Ring) (lawful : IsLawful (setting ring (variables ring) (ring_c
   graded_at : (c : ℕ) → IsHomogeneous ring.weights ring.modulus.value rows (get_or degrees c 0) (column_of (sums_of (variables ring) columns) c)
   graded_at c = go (cases_lt c (length F))
     where
-      go : (c < length (sums_of (variables ring) columns)) ⊎ (length (sums_of (variables ring) columns) ≤ c) → IsHomogeneous ring.weights ring.modulus.value rows (get_or degrees c 0) (column_of (sums_of (variables ring) columns) c)
+      go : (c < length (sums_of (variables ring) columns)) ⊎ (length (sums_of (variables ring) columns) ≤ c)
+          → IsHomogeneous ring.weights ring.modulus.value rows (get_or degrees c 0) (column_of (sums_of (variables ring) columns) c)
       go (inl lt) = graded.each c lt
       go (inr le) = subst (IsHomogeneous ring.weights ring.modulus.value rows (get_or degrees c 0)) (sym (get_or_past F c [] le)) (record {
         rank = record { past = λ k l. IsCongruent_refl ring.modulus.value 0 };
         degrees = λ k nz. absurd (nz (IsCongruent_refl ring.modulus.value 0));
       })
 
-  module _ (order : List ℕ) (k : ℕ) (steps : List Step) (met : List Met) (h : AreMet ring columns order k steps met) (c : ℕ) (lt : k < length order) (is : c ≡ get_or order k c)
+  module _ (order : List ℕ) (k : ℕ) (steps : List Step) (met : List Met) (h : AreMet ring columns order k steps met) (c : ℕ) (lt : k < length order)
+      (is : c ≡ get_or order k c)
       (inside : c < length columns) (others : Each (λ b. b ≡ c → ⊥) (take k order)) (u : Terms) (vector : IsVectorOver ring (ring_comparison ring) u)
       (stands : StandsFor ring u (cleared_all ring steps (column_of (sums_of (variables ring) columns) c))) where
     abbrev T : List (Pivot (variables ring))
@@ -156,14 +178,16 @@ module _ (ring : Ring) (lawful : IsLawful (setting ring (variables ring) (ring_c
       get_or degrees c 0,
       homogeneous_there rows (get_or degrees c 0) _ _ (IsSame_sym u_is)
           (homogeneous_through ring.modulus.value pos ring.weights rows (get_or degrees c 0) T (column_of F c)
-          (chosen_graded ring.modulus.value pos ring.weights rows degrees (column_of F) graded_at (choice_at met) (take k order) [] tt h.chosen) (graded_at c)),
+          (chosen_graded ring.modulus.value pos ring.weights rows degrees (column_of F) graded_at (choice_at met) (take k order) [] tt h.chosen)
+          (graded_at c)),
     )
 
     pub free_here : IsFree u steps
     free_here a least =
         let p = ring.modulus.value in
         let f = first_unit ring lawful u vector graded_here a least in
-        let t = free_row p pos T (column_of F c) a.0 (chosen_apart p pos (column_of F) (choice_at met) [] (take k order) tt h.chosen) (constant_there p _ _ a.0 u_is f.0) in
+        let t = free_row p pos T (column_of F c) a.0 (chosen_apart p pos (column_of F) (choice_at met) [] (take k order) tt h.chosen)
+        (constant_there p _ _ a.0 u_is f.0) in
         each_unmapped (λ r. r ≡ a.0 → ⊥) (λ (s : Step). s.row) steps
         (subst (Each (λ r. r ≡ a.0 → ⊥)) (sym h.rows_are) (each_mapped (λ r. r ≡ a.0 → ⊥) (λ (s : Pivot (variables ring)). s.row) T t))
 
@@ -184,7 +208,8 @@ module _ (ring : Ring) (lawful : IsLawful (setting ring (variables ring) (ring_c
       agree : Each (λ b. choice_at met b ≡ choice_at (set met c x) b) (take k order)
       agree = all_map _ _ (take k order) (λ b ne. sym (ap (λ (z : Met). z.choice) (other_at b ne))) others
 
-      before : AreChosen ring.modulus.value (column_of (sums_of (variables ring) columns)) (choice_at (set met c x)) [] (take k order) × (T ≡ pivots_after ring.modulus.value (column_of (sums_of (variables ring) columns)) (choice_at (set met c x)) [] (take k order))
+      before : AreChosen ring.modulus.value (column_of (sums_of (variables ring) columns)) (choice_at (set met c x)) [] (take k order)
+          × (T ≡ pivots_after ring.modulus.value (column_of (sums_of (variables ring) columns)) (choice_at (set met c x)) [] (take k order))
       before = chosen_agree ring.modulus.value (column_of F) (choice_at met) (choice_at (set met c x)) [] (take k order) agree h.chosen
 
       chosen_more :
@@ -216,9 +241,20 @@ module _ (ring : Ring) (lawful : IsLawful (setting ring (variables ring) (ring_c
           rows_are = h.rows_are ∙ ap (map (λ (s : Pivot (variables ring)). s.row)) (sym (pivots_more x));
           kept = subst (Each (IsKeptAt ring F steps (set met c x))) (sym to_more)
               (all_append _ (take k order) (c ∷ [])
-              (each_both _ _ _ (take k order) (λ b ne q. subst (λ (m : Met). m.choice ≡ None → (m.since ≤ length steps) × IsSame p (cleared_all ring (drop m.since steps) (sum_of (variables ring) m.column)) (cleared_all ring steps (column_of F b))) (sym (other_at x b ne)) q) others h.kept) (
-                subst (λ (m : Met). m.choice ≡ None → (m.since ≤ length steps) × IsSame p (cleared_all ring (drop m.since steps) (sum_of (variables ring) m.column)) (cleared_all ring steps (column_of F c))) (sym (here_at x))
-                    (λ e. (omega arith, subst (λ z. IsSame p (cleared_all ring z (sum_of (variables ring) u)) (cleared_all ring steps (column_of F c))) (sym (drop_none steps (length steps) (omega arith))) stands)),
+              (each_both _ _ _ (take k order)
+              (λ b ne q. subst (λ (m : Met). m.choice ≡ None
+              → (m.since ≤ length steps)
+              × IsSame p (cleared_all ring (drop m.since steps) (sum_of (variables ring) m.column)) (cleared_all ring steps (column_of F b)))
+              (sym (other_at x b ne)) q) others h.kept) (
+                subst (λ (m : Met). m.choice ≡ None
+                    → (m.since ≤ length steps)
+                    × IsSame p (cleared_all ring (drop m.since steps) (sum_of (variables ring) m.column)) (cleared_all ring steps (column_of F c)))
+                    (sym (here_at x))
+                    (λ e. (
+                      omega arith,
+                      subst (λ z. IsSame p (cleared_all ring z (sum_of (variables ring) u)) (cleared_all ring steps (column_of F c)))
+                          (sym (drop_none steps (length steps) (omega arith))) stands,
+                    )),
                 tt,
               ));
           over = each_set _ met c x h.over (vector, omega arith);
@@ -226,7 +262,8 @@ module _ (ring : Ring) (lawful : IsLawful (setting ring (variables ring) (ring_c
           count = length-set met c x ∙ h.count;
         }
 
-    module _ (row inverse residue : ℕ) (least : IsLeastUnit u (Some (row, residue))) (invert : IsCongruent ring.modulus.value (inverse * residue) 1) (below : inverse < ring.modulus.value) where
+    module _ (row inverse residue : ℕ) (least : IsLeastUnit u (Some (row, residue))) (invert : IsCongruent ring.modulus.value (inverse * residue) 1)
+        (below : inverse < ring.modulus.value) where
       abbrev S : Step
       S = record { row = row; inverse = inverse; column = u }
 
@@ -241,11 +278,13 @@ module _ (ring : Ring) (lawful : IsLawful (setting ring (variables ring) (ring_c
 
       alike_more :
           (v : FormalSum (variables ring))
-          → IsSame ring.modulus.value (cleared_all ring (steps ++ S ∷ []) v) (through ring.modulus.value (grown ring.modulus.value (Some (row, inverse)) c (column_of (sums_of (variables ring) columns) c) T) v)
+          → IsSame ring.modulus.value (cleared_all ring (steps ++ S ∷ []) v)
+          (through ring.modulus.value (grown ring.modulus.value (Some (row, inverse)) c (column_of (sums_of (variables ring) columns) c) T) v)
       alike_more v =
           let p = ring.modulus.value in
           IsSame_trans (IsSame_of p _ _ (cleared_end ring steps S v))
-          (IsSame_trans (cleared_alike p pos row inverse (sum_of (variables ring) u) (through p T (column_of F c)) (cleared_all ring steps v) (through p T v) u_is (h.alike v))
+          (IsSame_trans (cleared_alike p pos row inverse (sum_of (variables ring) u) (through p T (column_of F c)) (cleared_all ring steps v)
+          (through p T v) u_is (h.alike v))
           (IsSame_of p _ _ (sym (through_end p pos T _ v))))
 
       -- what was kept before
@@ -254,16 +293,26 @@ module _ (ring : Ring) (lawful : IsLawful (setting ring (variables ring) (ring_c
           → IsKeptAt ring (sums_of (variables ring) columns) (steps ++ S ∷ []) (set met c M) b
       kept_before b ne q =
           let p = ring.modulus.value in
-          let more : (m : Met) → (m.choice ≡ None → (m.since ≤ length steps) × IsSame p (cleared_all ring (drop m.since steps) (sum_of (variables ring) m.column)) (cleared_all ring steps (column_of F b)))
-          → m.choice ≡ None → (m.since ≤ length (steps ++ S ∷ [])) × IsSame p (cleared_all ring (drop m.since (steps ++ S ∷ [])) (sum_of (variables ring) m.column)) (cleared_all ring (steps ++ S ∷ []) (column_of F b)) =
+          let more : (m : Met)
+          → (m.choice ≡ None → (m.since ≤ length steps)
+          × IsSame p (cleared_all ring (drop m.since steps) (sum_of (variables ring) m.column)) (cleared_all ring steps (column_of F b)))
+          → m.choice ≡ None → (m.since ≤ length (steps ++ S ∷ []))
+          × IsSame p (cleared_all ring (drop m.since (steps ++ S ∷ [])) (sum_of (variables ring) m.column))
+          (cleared_all ring (steps ++ S ∷ []) (column_of F b)) =
           λ m g e.
           let o = g e in (
             longer m.since steps o.0,
-            IsSame_trans (IsSame_of p _ _ (ap (λ z. cleared_all ring z (sum_of (variables ring) m.column)) (drop-append-le m.since steps (S ∷ []) o.0) ∙ cleared_end ring (drop m.since steps) S (sum_of (variables ring) m.column)))
-                (IsSame_trans (cleared_alike p pos row inverse (sum_of (variables ring) u) (sum_of (variables ring) u) _ _ (IsSame_refl p _) o.1) (IsSame_of p _ _ (sym (cleared_end ring steps S (column_of F b))))),
+            IsSame_trans (IsSame_of p _ _
+                (ap (λ z. cleared_all ring z (sum_of (variables ring) m.column)) (drop-append-le m.since steps (S ∷ []) o.0)
+                ∙ cleared_end ring (drop m.since steps) S (sum_of (variables ring) m.column)))
+                (IsSame_trans (cleared_alike p pos row inverse (sum_of (variables ring) u) (sum_of (variables ring) u) _ _ (IsSame_refl p _) o.1)
+                (IsSame_of p _ _ (sym (cleared_end ring steps S (column_of F b))))),
           )
           in
-          subst (λ (m : Met). m.choice ≡ None → (m.since ≤ length (steps ++ S ∷ [])) × IsSame p (cleared_all ring (drop m.since (steps ++ S ∷ [])) (sum_of (variables ring) m.column)) (cleared_all ring (steps ++ S ∷ []) (column_of F b)))
+          subst (λ (m : Met). m.choice ≡ None
+          → (m.since ≤ length (steps ++ S ∷ []))
+          × IsSame p (cleared_all ring (drop m.since (steps ++ S ∷ [])) (sum_of (variables ring) m.column))
+          (cleared_all ring (steps ++ S ∷ []) (column_of F b)))
           (sym (other_at M b ne)) (more (get_or met b not_met) q)
         where
           longer : (m : ℕ) (ts : List Step) → m ≤ length ts → m ≤ length (ts ++ S ∷ [])
@@ -304,7 +353,8 @@ module _ (ring : Ring) (lawful : IsLawful (setting ring (variables ring) (ring_c
         subst (λ z. AreMet ring columns order (k + 1) z met') (sym es) (subst (AreMet ring columns order (k + 1) steps) (sym em) (kept_more none))
     meet_more steps' met' (inr (row, inverse, residue, least, invert, below, es, em)) =
         subst (λ z. AreMet ring columns order (k + 1) z met') (sym es)
-        (subst (AreMet ring columns order (k + 1) (steps ++ record { row = row; inverse = inverse; column = u } ∷ [])) (sym em) (step_more row inverse residue least invert below))
+        (subst (AreMet ring columns order (k + 1) (steps ++ record { row = row; inverse = inverse; column = u } ∷ [])) (sym em)
+        (step_more row inverse residue least invert below))
 
   -- ---- the end
   module _ (k : ℕ) (steps : List Step) (met : List Met) (h : AreMet ring columns (by_degree degrees (numbers_from 0 (length columns))) k steps met)
@@ -323,9 +373,16 @@ module _ (ring : Ring) (lawful : IsLawful (setting ring (variables ring) (ring_c
         × ((v : FormalSum (variables ring)) → IsSame ring.modulus.value (cleared_all ring steps v) (through ring.modulus.value C v))
     sorted =
         let p = ring.modulus.value in
-        let q = sorted_chosen p pos ring.weights rows degrees (column_of F) graded_at (choice_at met) (numbers_from 0 (length columns)) [] tt (subst (AreChosen p (column_of F) (choice_at met) []) all h.chosen) in
-        subst (λ n. AreChosen p (column_of F) (choice_at met) [] (numbers_from 0 n) × ((v : FormalSum (variables ring)) → IsSame p (cleared_all ring steps v) (through p (pivots_after p (column_of F) (choice_at met) [] (numbers_from 0 n)) v)))
-        (sym h.count) (q.0, λ v. IsSame_trans (subst (λ z. IsSame p (cleared_all ring steps v) (through p (pivots_after p (column_of F) (choice_at met) [] z) v)) all (h.alike v)) (q.1 v))
+        let q = sorted_chosen p pos ring.weights rows degrees (column_of F) graded_at (choice_at met) (numbers_from 0 (length columns)) [] tt
+        (subst (AreChosen p (column_of F) (choice_at met) []) all h.chosen) in
+        subst (λ n. AreChosen p (column_of F) (choice_at met) [] (numbers_from 0 n)
+        × ((v : FormalSum (variables ring))
+        → IsSame p (cleared_all ring steps v) (through p (pivots_after p (column_of F) (choice_at met) [] (numbers_from 0 n)) v)))
+        (sym h.count) (
+          q.0,
+          λ v. IsSame_trans
+              (subst (λ z. IsSame p (cleared_all ring steps v) (through p (pivots_after p (column_of F) (choice_at met) [] z) v)) all (h.alike v)) (q.1 v),
+        )
 
     kept_all : Each (IsKeptAt ring (sums_of (variables ring) columns) steps met) (numbers_from 0 (length met))
     kept_all =
@@ -333,28 +390,92 @@ module _ (ring : Ring) (lawful : IsLawful (setting ring (variables ring) (ring_c
         (each_unby _ degrees (numbers_from 0 (length columns)) (subst (Each (IsKeptAt ring F steps met)) all h.kept))
 
     finished_is :
-        (out : List ℕ) (ms : List Met) (i : ℕ) → drop i met ≡ ms → Each (IsKeptAt ring (sums_of (variables ring) columns) steps met) (numbers_from i (length ms))
-        → AreSameColumns ring.modulus.value (map (left ring C out) (kept_of (column_of (sums_of (variables ring) columns)) i ms)) (finished_all ring steps out ms)
+        (out : List ℕ) (ms : List Met) (i : ℕ) → drop i met ≡ ms
+        → Each (IsKeptAt ring (sums_of (variables ring) columns) steps met) (numbers_from i (length ms))
+        → AreSameColumns ring.modulus.value (map (left ring C out) (kept_of (column_of (sums_of (variables ring) columns)) i ms))
+        (finished_all ring steps out ms)
     finished_is out [] i e kept = record { count = refl; each = λ j. IsSame_refl ring.modulus.value _ }
     finished_is out (m ∷ ms) i e kept =
         let p = ring.modulus.value in
         let at : get_or met i not_met ≡ m = head_of met ms i m not_met e in
-        go m.choice (subst (λ (z : Met). z.choice ≡ None → (z.since ≤ length steps) × IsSame p (cleared_all ring (drop z.since steps) (sum_of (variables ring) z.column)) (cleared_all ring steps (column_of F i))) at kept.0)
+        go m.choice (subst (λ (z : Met). z.choice ≡ None
+        → (z.since ≤ length steps)
+        × IsSame p (cleared_all ring (drop z.since steps) (sum_of (variables ring) z.column)) (cleared_all ring steps (column_of F i))) at kept.0)
         refl (finished_is out ms (i + 1) (tail met ms i m e) kept.1)
       where
         go :
             (ch : Option (ℕ × ℕ))
-            → (m.choice ≡ None → (m.since ≤ length steps) × IsSame ring.modulus.value (cleared_all ring (drop m.since steps) (sum_of (variables ring) m.column)) (cleared_all ring steps (column_of (sums_of (variables ring) columns) i)))
-            → m.choice ≡ ch → AreSameColumns ring.modulus.value (map (left ring C out) (kept_of (column_of (sums_of (variables ring) columns)) (i + 1) ms)) (finished_all ring steps out ms)
-            → AreSameColumns ring.modulus.value (map (left ring C out) (add_kept ch (column_of (sums_of (variables ring) columns) i) (kept_of (column_of (sums_of (variables ring) columns)) (i + 1) ms)))
+            → (m.choice ≡ None → (m.since ≤ length steps)
+            × IsSame ring.modulus.value (cleared_all ring (drop m.since steps) (sum_of (variables ring) m.column))
+            (cleared_all ring steps (column_of (sums_of (variables ring) columns) i)))
+            → m.choice ≡ ch → AreSameColumns ring.modulus.value (map (left ring C out) (kept_of (column_of (sums_of (variables ring) columns)) (i + 1) ms))
+            (finished_all ring steps out ms)
+            → AreSameColumns ring.modulus.value
+            (map (left ring C out)
+            (add_kept ch (column_of (sums_of (variables ring) columns) i) (kept_of (column_of (sums_of (variables ring) columns)) (i + 1) ms)))
             (add_kept ch (without_all out (cleared_all ring (drop m.since steps) (sum_of (variables ring) m.column))) (finished_all ring steps out ms))
         go (Some a) q e more = more
-        go None q e more = same_first ring.modulus.value _ _ _ _ (without_all_same pos out _ _ (IsSame_sym (IsSame_trans (q e).1 (sorted.1 (column_of F i))))) more
+        go None q e more = same_first ring.modulus.value _ _ _ _
+            (without_all_same pos out _ _ (IsSame_sym (IsSame_trans (q e).1 (sorted.1 (column_of F i))))) more
+
+    -- the rows of the pivots are those of the steps
+    off_steps : (q : ℕ) → Each (λ (s : Step). s.row ≡ q → ⊥) steps → AreOff q C
+    off_steps q off =
+        let p = ring.modulus.value in
+        let D = pivots_after p (column_of F) (choice_at met) [] (take k order) in
+        let pivots : AreOff q D =
+        each_unmapped (λ r. r ≡ q → ⊥) (λ (s : Pivot (variables ring)). s.row) D
+        (subst (Each (λ r. r ≡ q → ⊥)) h.rows_are (each_mapped (λ r. r ≡ q → ⊥) (λ (s : Step). s.row) steps off))
+        in
+        let choices = (off_choices p (column_of F) (choice_at met) q [] (take k order) pivots).1 in
+        off_pivots p (column_of F) (choice_at met) q [] (numbers_from 0 (length met)) tt
+        (subst (λ n. Each (λ c. IsOff q (choice_at met c)) (numbers_from 0 n)) (sym h.count)
+        (each_unby _ degrees (numbers_from 0 (length columns)) (subst (Each (λ c. IsOff q (choice_at met c))) all choices)))
+
+    off_pivots_all : (q : ℕ) → AreOff q C → Each (λ (s : Step). s.row ≡ q → ⊥) steps
+    off_pivots_all q off =
+        let p = ring.modulus.value in
+        let D = pivots_after p (column_of F) (choice_at met) [] (take k order) in
+        let choices = (off_choices p (column_of F) (choice_at met) q [] (numbers_from 0 (length met)) off).1 in
+        let pivots : AreOff q D =
+        off_pivots p (column_of F) (choice_at met) q [] (take k order) tt
+        (subst (Each (λ c. IsOff q (choice_at met c))) (sym all)
+        (each_by _ degrees (numbers_from 0 (length columns)) (subst (λ n. Each (λ c. IsOff q (choice_at met c)) (numbers_from 0 n)) h.count choices)))
+        in
+        each_unmapped (λ r. r ≡ q → ⊥) (λ (s : Step). s.row) steps
+        (subst (Each (λ r. r ≡ q → ⊥)) (sym h.rows_are) (each_mapped (λ r. r ≡ q → ⊥) (λ (s : Pivot (variables ring)). s.row) D pivots))
+
+    -- so those rows leave that have a number
+    module _ (numbers : List ℕ) (numbered : AreNumbered numbers 0 steps) (others : HaveNoOthers numbers steps) (few : length steps ≤ 18446744073709551615)
+        (out : List ℕ) (turned : AreTurned [] C out) where
+      out_stays : (q : ℕ) → get_or numbers q 18446744073709551615 ≡ 18446744073709551615 → place_after out q ≡ None → ⊥
+      out_stays q none gone =
+          let place = free_place C out q turned (off_steps q (numbered_off numbers 0 steps q numbered (omega (arith, few)) none)) in
+          true≢false (ap is_there (sym place.1 ∙ gone))
+
+      out_leaves : (q : ℕ) → (get_or numbers q 18446744073709551615 ≡ 18446744073709551615 → ⊥) → place_after out q ≡ None
+      out_leaves q some = go (place_after out q) refl
+        where
+          go : (place : Option ℕ) → place_after out q ≡ place → place ≡ None
+          go None e = refl
+          go (Some r) e =
+              let off : AreOff q C =
+              all_map _ _ C (λ (s : Pivot (variables ring)) none row. true≢false (ap is_there (sym e ∙ sym (ap (place_after out) row) ∙ none)))
+              (turned_none [] C out turned)
+              in
+              absurd (some (others q (off_pivots_all q off)))
+
+      rows_told : (leaving : Leaving) → LeaveNumbered numbers leaving → ArePlacesAfter out leaving
+      rows_told leaving l q =
+          l.turn q
+          ∙ same_places l.rows out (λ i z. out_leaves i (λ none. l.stay i none (l.turn i ∙ z)))
+          (λ i z. sym (l.turn i) ∙ l.leave i (λ none. out_stays i none z)) q
 
     pub pass_all :
-        (passed : Passed) → AreFinished ring steps passed.rows.items met passed.columns → passed.rows.items ≡ rows_in_turn [] met → passed.indices.items ≡ indices_in_turn 0 met
-        → IsPassed ring columns passed
-    pass_all passed f er ei =
+        (passed : Passed) (numbers : List ℕ) → AreNumbered numbers 0 steps → HaveNoOthers numbers steps → length steps ≤ 18446744073709551615
+        → LeaveNumbered numbers passed.rows → ((out : List ℕ) → ArePlacesAfter out passed.rows → AreFinished ring steps out met passed.columns)
+        → ArePlacesAfter (indices_in_turn 0 met) passed.indices → IsPassed ring columns passed
+    pass_all passed numbers numbered others few leave finish indices =
         let p = ring.modulus.value in
         let n = variables ring in
         let start : AreLeft ring F 0 [] [] [] [] = record {
@@ -369,19 +490,62 @@ module _ (ring : Ring) (lawful : IsLawful (setting ring (variables ring) (ring_c
         let ends = canonical ring pos F met met 0 [] [] [] [] refl size start sorted.0 in
         let K = kept_of (column_of F) 0 met in
         let at = ends.kept_all in
-        let out = passed.rows.items in
+        let turn = rows_told numbers numbered others few (rows_in_turn [] met) at.turned passed.rows leave in
+        let f = finish (rows_in_turn [] met) turn in
         let through_end' : AreSameColumns p (left_by_all ring ends.pivots F) (map (left ring C (rows_in_turn [] met)) K) =
-        subst (λ z. AreSameColumns p (left_by_all ring ends.pivots F) (map (left ring C (rows_in_turn [] met)) z)) (ap (λ z. K ++ z) (drop_none F (length F) (omega arith)) ∙ append-nil K) at.same
+        subst (λ z. AreSameColumns p (left_by_all ring ends.pivots F) (map (left ring C (rows_in_turn [] met)) z))
+        (ap (λ z. K ++ z) (drop_none F (length F) (omega arith)) ∙ append-nil K) at.same
         in
         let told = columns_trans p (map (left ring C (rows_in_turn [] met)) K) (finished_all ring steps (rows_in_turn [] met) met) (sums_of n passed.columns)
-        (finished_is (rows_in_turn [] met) met 0 refl kept_all) (subst (λ z. AreSameColumns p (finished_all ring steps z met) (sums_of n passed.columns)) er f.same) in
+        (finished_is (rows_in_turn [] met) met 0 refl kept_all) f.same in
         let same = columns_trans p (left_by_all ring ends.pivots F) (map (left ring C (rows_in_turn [] met)) K) (sums_of n passed.columns) through_end' told in
         record {
           pivots = ends.pivots;
           firsts = at.firsts;
           same = same;
           vectors = f.vectors;
-          none = λ c r q. no_constant_at p _ r (none_left ring pos F C (rows_in_turn [] met) K at.none c) (constant_there p _ _ r (IsSame_sym (told.each c)) q);
-          rows = er ∙ sym at.rows_are;
-          indices = ei ∙ sym ends.indices_are;
+          none = λ c r q. no_constant_at p _ r (none_left ring pos F C (rows_in_turn [] met) K at.none c)
+              (constant_there p _ _ r (IsSame_sym (told.each c)) q);
+          rows = subst (λ z. ArePlacesAfter z passed.rows) (sym at.rows_are) turn;
+          indices = subst (λ z. ArePlacesAfter z passed.indices) (sym ends.indices_are) indices;
         }
+
+-- ---- the maps after a pass
+module _ (ring : Ring) (current : Carried) (passed : Passed) (h : IsPassed ring current.columns passed) where
+  -- that had no step
+  pub passed_none : passed.rows.count ≡ 0 → HasNone ring.modulus.value (sums_of (variables ring) current.columns)
+  passed_none none =
+      no_step_none ring current.columns passed.columns h.pivots
+      (unmapped h.pivots (none_leave (map (λ (s : Pivot (variables ring)). s.row) h.pivots) passed.rows h.rows none)) h.same h.none
+    where
+      unmapped : (pivots : List (Pivot (variables ring))) → map (λ (s : Pivot (variables ring)). s.row) pivots ≡ [] → pivots ≡ []
+      unmapped [] e = refl
+      unmapped (s ∷ pivots) e =
+          let q : suc (length (map (λ (t : Pivot (variables ring)). t.row) pivots)) ≡ 0 = ap length e in absurd (omega (arith, q))
+
+  -- that had some, whose rows and columns left
+  module _ (some : 0 < passed.rows.count) (m : Carried) (columns : m.columns ≡ passed.columns)
+      (degrees : (indices : List ℕ) → ArePlacesAfter indices passed.indices → m.degrees.items ≡ all_removed indices current.degrees.items)
+      (rows rows' : List ℕ) (done done' rest rest' : List Carried)
+      (former : (out : List ℕ) → ArePlacesAfter out passed.rows → IsFormerLeft out rows rows' done done')
+      (next : (out : List ℕ) → ArePlacesAfter out passed.indices → IsNextLeft ring out rest rest') where
+    pub passed_some :
+        0 < ring.modulus.value → IsUnderway ring rows done (in_turn done current rest)
+        → LeadsTo ring.modulus.value (graded_maps ring rows (in_turn done current rest)) (graded_maps ring rows' (in_turn done' m rest'))
+        × IsUnderway ring rows' done' (in_turn done' m rest')
+    passed_some pos u =
+        let p = ring.modulus.value in
+        let n = variables ring in
+        let out = map (λ (s : Pivot (variables ring)). s.row) h.pivots in
+        let indices = map (λ (s : Pivot (variables ring)). s.index) h.pivots in
+        let leave = some_leave out passed.rows h.rows some in
+        let count = length-map h.pivots (λ (s : Pivot (variables ring)). s.row) in
+        passed_leads ring pos current m h.pivots (omega (arith, leave, count)) h.firsts
+        (subst (λ F. AreSameColumns p (left_by_all ring h.pivots (sums_of n current.columns)) (sums_of n F)) (sym columns) h.same)
+        (subst (AreVectorsOver ring (ring_comparison ring)) (sym columns) h.vectors) (degrees indices h.indices) rows rows' done done' rest rest'
+        (former out h.rows) (next indices h.indices) u
+
+    pub passed_rest : length rest' ≡ length rest
+    passed_rest =
+        let indices = map (λ (s : Pivot (variables ring)). s.index) h.pivots in
+        next_count ring indices rest rest' (next indices h.indices)

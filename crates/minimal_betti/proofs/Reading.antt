@@ -1,7 +1,8 @@
 -- What is read off a table
 use Rattle.std.specs.Int.Signed.{<ℤ-≤ℤ_trans, clash_ℤ, ≤ℤ_refl}
 use Rattle.std.specs.Prelude.{Contains}
-use Rattle.std.proofs.Common.{List, [], ap, arith, get_or, inl, inr, length, pos, refl, subst, suc, sym, take, ℕ, ℤ, ◌++◌, ◌+◌, ◌-ℤ◌, ◌<◌, ◌∙◌, ◌∷◌, ◌≡◌, ◌≤◌, ◌≤ℤ◌, ◌⊎◌}
+use Rattle.std.proofs.Common.{List, [], ap, arith, get_or, inl, inr, length, pos, refl, subst, suc, sym, take, ℕ, ℤ, ◌++◌, ◌+◌, ◌-ℤ◌, ◌<◌, ◌∙◌, ◌∷◌, ◌≡◌}
+use Rattle.std.proofs.Common.{◌≤◌, ◌≤ℤ◌, ◌⊎◌}
 use Rattle.std.proofs.lemmas.Int.{by_lt_z}
 use Rattle.std.proofs.lemmas.List.{get_or_default, take_more}
 use Rattle.formal_sums.specs.FormalSums.{Each}
@@ -37,21 +38,26 @@ read_more es e old new h s x = record {
   excesses = excesses_of x;
 }
   where
-    step_of : ((new.last_step ≡ old.last_step) × (e.step ≤ old.last_step)) ⊎ ((new.last_step ≡ e.step) × (old.last_step ≤ e.step)) → (f : Entry) × Contains (es ++ e ∷ []) f × (f.step ≡ new.last_step)
+    step_of : ((new.last_step ≡ old.last_step) × (e.step ≤ old.last_step)) ⊎ ((new.last_step ≡ e.step) × (old.last_step ≤ e.step))
+        → (f : Entry) × Contains (es ++ e ∷ []) f × (f.step ≡ new.last_step)
     step_of (inl a) = (h.of_step.0, contains_left es (e ∷ []) h.of_step.0 h.of_step.1, h.of_step.2 ∙ sym a.0)
     step_of (inr a) = (e, contains_end es e, sym a.0)
 
-    steps_of : ((new.last_step ≡ old.last_step) × (e.step ≤ old.last_step)) ⊎ ((new.last_step ≡ e.step) × (old.last_step ≤ e.step)) → Each (λ f. f.step ≤ new.last_step) (es ++ e ∷ [])
+    steps_of : ((new.last_step ≡ old.last_step) × (e.step ≤ old.last_step)) ⊎ ((new.last_step ≡ e.step) × (old.last_step ≤ e.step))
+        → Each (λ f. f.step ≤ new.last_step) (es ++ e ∷ [])
     steps_of (inl a) = let q = a.0 in let r = a.1 in all_append _ es (e ∷ []) (all_map _ _ es (λ f l. omega (arith, l, q)) h.steps) (omega (arith, q, r), tt)
     steps_of (inr a) = let q = a.0 in let r = a.1 in all_append _ es (e ∷ []) (all_map _ _ es (λ f l. omega (arith, l, q, r)) h.steps) (omega (arith, q), tt)
 
-    excess_at : ((new.regularity ≡ old.regularity) × (excess_of e ≤ℤ old.regularity)) ⊎ ((new.regularity ≡ excess_of e) × (old.regularity ≤ℤ excess_of e)) → (f : Entry) × Contains (es ++ e ∷ []) f × (excess_of f ≡ new.regularity)
+    excess_at : ((new.regularity ≡ old.regularity) × (excess_of e ≤ℤ old.regularity)) ⊎ ((new.regularity ≡ excess_of e) × (old.regularity ≤ℤ excess_of e))
+        → (f : Entry) × Contains (es ++ e ∷ []) f × (excess_of f ≡ new.regularity)
     excess_at (inl a) = (h.of_excess.0, contains_left es (e ∷ []) h.of_excess.0 h.of_excess.1, h.of_excess.2 ∙ sym a.0)
     excess_at (inr a) = (e, contains_end es e, sym a.0)
 
-    excesses_of : ((new.regularity ≡ old.regularity) × (excess_of e ≤ℤ old.regularity)) ⊎ ((new.regularity ≡ excess_of e) × (old.regularity ≤ℤ excess_of e)) → Each (λ f. excess_of f ≤ℤ new.regularity) (es ++ e ∷ [])
+    excesses_of : ((new.regularity ≡ old.regularity) × (excess_of e ≤ℤ old.regularity)) ⊎ ((new.regularity ≡ excess_of e) × (old.regularity ≤ℤ excess_of e))
+        → Each (λ f. excess_of f ≤ℤ new.regularity) (es ++ e ∷ [])
     excesses_of (inl a) = subst (λ z. Each (λ f. excess_of f ≤ℤ z) (es ++ e ∷ [])) (sym a.0) (all_append _ es (e ∷ []) h.excesses (a.1, tt))
-    excesses_of (inr a) = subst (λ z. Each (λ f. excess_of f ≤ℤ z) (es ++ e ∷ [])) (sym a.0) (all_append _ es (e ∷ []) (all_map _ _ es (λ f l. ≤ℤ_trans l a.1) h.excesses) (≤ℤ_refl (excess_of e), tt))
+    excesses_of (inr a) = subst (λ z. Each (λ f. excess_of f ≤ℤ z) (es ++ e ∷ [])) (sym a.0)
+        (all_append _ es (e ∷ []) (all_map _ _ es (λ f l. ≤ℤ_trans l a.1) h.excesses) (≤ℤ_refl (excess_of e), tt))
 
 pub read_next :
     (es : List Entry) (i : ℕ) (e : Entry) (old new : TableInvariants) → i < length es → e ≡ get_or es i e → AreRead (take i es) old
@@ -79,7 +85,8 @@ last_step_is counts es found t h = record {
   greatest = λ k d some. each_in (λ e. e.step ≤ found.last_step) es _ h.steps (t.complete k d some);
 }
 
-pub regularity_is : (counts : ℕ → ℕ → ℕ) (es : List Entry) (found : TableInvariants) → IsTable counts es → AreRead es found → IsRegularity counts found.regularity
+pub regularity_is : (counts : ℕ → ℕ → ℕ) (es : List Entry) (found : TableInvariants) → IsTable counts es → AreRead es found
+    → IsRegularity counts found.regularity
 regularity_is counts es found t h = record {
   step = h.of_excess.0.step;
   degree = h.of_excess.0.degree;

@@ -1,9 +1,8 @@
 -- Columns that are met by degree, and columns that are met in their order
-use Rattle.std.specs.List.{insert}
-use Rattle.std.specs.Prelude.{None, Option, Some, drop, nat_eq, nat_lt}
-use Rattle.std.proofs.Common.{Bool, List, [], ap, append-nil, arith, cond, eq-eqb, eqb-true, false, get_or, inl, inr, length, refl, subst, suc, sym, take, true, zero, ℕ, ◌*◌, ◌++◌, ◌+◌, ◌-◌, ◌<◌, ◌∙◌, ◌∷◌, ◌≡◌, ◌≤◌, ◌⊎◌}
+use Rattle.std.specs.Prelude.{None, Option, Some, nat_eq, nat_lt}
+use Rattle.std.proofs.Common.{Bool, List, [], ap, append-nil, arith, cond, eq-eqb, eqb-true, false, get_or, inl, inr, length, refl, subst, suc, sym, take}
+use Rattle.std.proofs.Common.{true, zero, ℕ, ◌*◌, ◌++◌, ◌+◌, ◌-◌, ◌<◌, ◌∙◌, ◌∷◌, ◌≡◌, ◌≤◌, ◌⊎◌}
 use Rattle.std.proofs.lemmas.Bool.Decides.{nat_tests}
-use Rattle.std.proofs.lemmas.List.{take_all}
 use Rattle.residues.proofs.Congruences.{IsCongruent_add, IsCongruent_multiply, IsCongruent_of, IsCongruent_refl, IsCongruent_sym, IsCongruent_trans}
 use Rattle.residues.specs.Residues.{IsCongruent}
 use Rattle.monomials.proofs.Monomials.{degree-times, degree-unit, degree_zero}
@@ -22,11 +21,12 @@ use Rattle.minimal_laws.specs.Gradings.{IsHomogeneous}
 use Rattle.minimal_laws.specs.Minimal.{IsConstantAt}
 use Rattle.betti_laws.proofs.Constants.{HasNoConstant}
 use Rattle.minimal_betti.specs.Passing.{Pivot}
-use Rattle.minimal_betti.specs.Sorting.{by_degree, numbers_from, put_by}
+use Rattle.minimal_betti.specs.Sorting.{numbers_from}
 use Rattle.minimal_betti.proofs.Applying.{cleared_by, product_by}
-use Rattle.minimal_betti.proofs.Columns.{drop_item, drop_none}
+use Rattle.minimal_betti.proofs.ByDegree.{by_degree, each_by, each_put, put_by}
 use Rattle.minimal_betti.proofs.Growing.{all_append}
 use Rattle.minimal_betti.proofs.Reaching.{constant_there}
+use Rattle.minimal_betti.proofs.Stepping.{each_left, each_right}
 use Rattle.minimal_betti.proofs.Zeros.{IsZeroAt, linear_of_product, product_nothing, row_degree}
 
 -- ---- columns met in turn
@@ -88,11 +88,13 @@ module _ {n : ℕ} (p : ℕ) (pos : 0 < p) where
 
   -- pivots that clear alike choose alike
   pub chosen_alike :
-      (F : ℕ → FormalSum n) (choice : ℕ → Option (ℕ × ℕ)) (pivots others : List (Pivot n)) (cs : List ℕ) → ClearAlike p pivots others → AreChosen p F choice pivots cs
+      (F : ℕ → FormalSum n) (choice : ℕ → Option (ℕ × ℕ)) (pivots others : List (Pivot n)) (cs : List ℕ) → ClearAlike p pivots others
+      → AreChosen p F choice pivots cs
       → AreChosen p F choice others cs × ClearAlike p (pivots_after p F choice pivots cs) (pivots_after p F choice others cs)
   chosen_alike F choice pivots others [] alike h = (tt, alike)
   chosen_alike F choice pivots others (c ∷ cs) alike h =
-      let more = chosen_alike F choice (grown p (choice c) c (F c) pivots) (grown p (choice c) c (F c) others) cs (grown_alike (choice c) c (F c) pivots others alike) h.1 in
+      let more = chosen_alike F choice (grown p (choice c) c (F c) pivots) (grown p (choice c) c (F c) others) cs
+      (grown_alike (choice c) c (F c) pivots others alike) h.1 in
       ((chosen_same (choice c) (through p pivots (F c)) (through p others (F c)) (alike (F c)) h.0, more.0), more.1)
 
   -- ---- two pivots, the first of which is zero in the row of the second
@@ -107,14 +109,16 @@ module _ {n : ℕ} (p : ℕ) (pos : 0 < p) where
       let entry : IsSame p (component q (C z)) (component q z) =
       IsSame_trans (linear_append (linear_component q) z (product A w))
       (IsSame_trans (IsSame_append (IsSame_refl p (component q z))
-      (IsSame_trans (linear_of_product p (linear_component q) refl A w) (IsSame_trans (linear_same_right A (component q w) [] none) (IsSame_of p _ _ (product_nothing p A)))))
+      (IsSame_trans (linear_of_product p (linear_component q) refl A w)
+      (IsSame_trans (linear_same_right A (component q w) [] none) (IsSame_of p _ _ (product_nothing p A)))))
       (IsSame_of p _ _ (append-nil (component q z))))
       in
       let left : IsSame p (C z ++ product B' (C x)) (C z ++ product B (C x)) =
       IsSame_append (IsSame_refl p (C z)) (linear_same pos (linear_product (C x)) (linear_same pos (linear_times ((p - 1) * t)) entry))
       in
       let right : IsSame p (C (z ++ product B x)) (C z ++ product B (C x)) =
-      IsSame_trans (linear_append (linear_cleared p r s w) z (product B x)) (IsSame_append (IsSame_refl p (C z)) (linear_of_product p (linear_cleared p r s w) refl B x))
+      IsSame_trans (linear_append (linear_cleared p r s w) z (product B x))
+      (IsSame_append (IsSame_refl p (C z)) (linear_of_product p (linear_cleared p r s w) refl B x))
       in
       IsSame_trans left (IsSame_sym right)
     where
@@ -134,26 +138,31 @@ module _ {n : ℕ} (p : ℕ) (pos : 0 < p) (ws rows : List ℕ) where
       homogeneous_cleared rows r s d w v h g (IsOfRank_append v (product a w) g.rank (rank_product p (length rows) a w h.rank))
 
   pub homogeneous_through :
-      (d : ℕ) (pivots : List (Pivot n)) (v : FormalSum n) → AreGradedPivots pivots → IsHomogeneous ws p rows d v → IsHomogeneous ws p rows d (through p pivots v)
+      (d : ℕ) (pivots : List (Pivot n)) (v : FormalSum n) → AreGradedPivots pivots → IsHomogeneous ws p rows d v
+      → IsHomogeneous ws p rows d (through p pivots v)
   homogeneous_through d [] v h g = g
-  homogeneous_through d (s ∷ pivots) v h g = homogeneous_through d pivots (cleared p s.row s.inverse s.column v) h.1 (homogeneous_once d s.row s.inverse s.column v h.0 g)
+  homogeneous_through d (s ∷ pivots) v h g = homogeneous_through d pivots (cleared p s.row s.inverse s.column v) h.1
+      (homogeneous_once d s.row s.inverse s.column v h.0 g)
 
   pub grown_graded :
       (choice : Option (ℕ × ℕ)) (c d : ℕ) (v : FormalSum n) (pivots : List (Pivot n)) → AreGradedPivots pivots → IsHomogeneous ws p rows d v
       → IsChosen p choice (through p pivots v) → AreGradedPivots (grown p choice c v pivots)
   grown_graded None c d v pivots h g k = h
-  grown_graded (Some a) c d v pivots h g k = all_append _ pivots (_ ∷ []) h (row_degree rows d a.0 (through p pivots v) (homogeneous_through d pivots v h g) k.0, tt)
+  grown_graded (Some a) c d v pivots h g k =
+      all_append _ pivots (_ ∷ []) h (row_degree rows d a.0 (through p pivots v) (homogeneous_through d pivots v h g) k.0, tt)
 
   -- a row of greater degree
   zero_below : (d r : ℕ) (w : FormalSum n) → IsHomogeneous ws p rows d w → d < get_or rows r 0 → IsZeroAt p r w
   zero_below d r w h lt = linear_agree pos (linear_component r) linear_zero w (λ x k. at x k (nat_eq k.0 r) refl)
     where
       at : (x k : Key n) (b : Bool) → nat_eq k.0 r ≡ b → IsCongruent p (cond b (indicator x (0, k.1)) 0) 0 ⊎ IsCongruent p (coefficient w k) 0
-      at x k true e = inr (zero_off h k (λ q. let z : get_or rows k.0 0 ≡ get_or rows r 0 = ap (λ i. get_or rows i 0) (eqb-true k.0 r e) in omega (arith, q, z, lt)))
+      at x k true e = inr (zero_off h k
+          (λ q. let z : get_or rows k.0 0 ≡ get_or rows r 0 = ap (λ i. get_or rows i 0) (eqb-true k.0 r e) in omega (arith, q, z, lt)))
       at x k false e = inl (IsCongruent_refl p 0)
 
   times_unit_right : (a b : Exponents n) → times a b ≡ unit n → b ≡ unit n
-  times_unit_right a b e = degree_zero b (let x : degree (times a b) ≡ degree (unit n) = ap degree e in let y = degree-times a b in let z = degree-unit n in omega arith)
+  times_unit_right a b e =
+      degree_zero b (let x : degree (times a b) ≡ degree (unit n) = ap degree e in let y = degree-times a b in let z = degree-unit n in omega arith)
 
   -- a multiple has no constant where the vector has none
   product_constant : (q : ℕ) (a w : FormalSum n) → IsCongruent p (coefficient w (q, unit n)) 0 → IsCongruent p (coefficient (product a w) (q, unit n)) 0
@@ -183,9 +192,11 @@ module _ {n : ℕ} (p : ℕ) (pos : 0 < p) (ws rows : List ℕ) where
           let none = zero_off hw (q, unit n) (λ z. omega (arith, z, at, lt, one)) in
           let a = scale ((p - 1) * s) (unit n) (component r u) in
           IsCongruent_trans (IsCongruent_of p _ _ (coefficient-append u (product a w) (q, unit n)))
-          (IsCongruent_trans (IsCongruent_add (IsCongruent_refl p (coefficient u (q, unit n))) (product_constant q a w none)) (IsCongruent_of p _ _ (omega arith)))
+          (IsCongruent_trans (IsCongruent_add (IsCongruent_refl p (coefficient u (q, unit n))) (product_constant q a w none))
+          (IsCongruent_of p _ _ (omega arith)))
       go false f =
-          let ne : (get_or rows q 0 + weighted_degree ws (unit n) ≡ e → ⊥) = λ z. (let t : nat_eq (get_or rows q 0) e ≡ true = eq-eqb (get_or rows q 0) e (omega (arith, z, one)) in absurd (cc)) in
+          let ne : (get_or rows q 0 + weighted_degree ws (unit n) ≡ e → ⊥) =
+          λ z. (let t : nat_eq (get_or rows q 0) e ≡ true = eq-eqb (get_or rows q 0) e (omega (arith, z, one)) in absurd (cc)) in
           IsCongruent_trans (zero_off (homogeneous_once e r s w u hw hu) (q, unit n) ne) (IsCongruent_sym (zero_off hu (q, unit n) ne))
 
   constant_by_degree : (e q : ℕ) (u : FormalSum n) → IsHomogeneous ws p rows e u → (IsCongruent p (coefficient u (q, unit n)) 0 → ⊥) → IsConstantAt p u q
@@ -198,18 +209,21 @@ module _ {n : ℕ} (p : ℕ) (pos : 0 < p) (ws rows : List ℕ) where
   }
 
   chosen_before :
-      (choice : Option (ℕ × ℕ)) (e r s : ℕ) (w u : FormalSum n) → IsHomogeneous ws p rows (get_or rows r 0) w → IsHomogeneous ws p rows e u → get_or rows r 0 < e
+      (choice : Option (ℕ × ℕ)) (e r s : ℕ) (w u : FormalSum n) → IsHomogeneous ws p rows (get_or rows r 0) w → IsHomogeneous ws p rows e u
+      → get_or rows r 0 < e
       → IsChosen p choice (cleared p r s w u) → IsChosen p choice u
   chosen_before None e r s w u hw hu lt h = record { by_row = λ i. IsCongruent_trans (IsCongruent_sym (constants_left e r s i w u hw hu lt)) (h.by_row i) }
   chosen_before (Some a) e r s w u hw hu lt h = (
     constant_by_degree e a.0 u hu (λ z. h.0.nonzero (IsCongruent_trans (constants_left e r s a.0 w u hw hu lt) z)),
-    (λ q l k. h.1 q l (constant_by_degree e q (cleared p r s w u) (homogeneous_once e r s w u hw hu) (λ z. k.nonzero (IsCongruent_trans (IsCongruent_sym (constants_left e r s q w u hw hu lt)) z)))),
+    (λ q l k. h.1 q l (constant_by_degree e q (cleared p r s w u) (homogeneous_once e r s w u hw hu)
+        (λ z. k.nonzero (IsCongruent_trans (IsCongruent_sym (constants_left e r s q w u hw hu lt)) z)))),
     IsCongruent_trans (IsCongruent_multiply (IsCongruent_refl p a.1) (IsCongruent_sym (constants_left e r s a.0 w u hw hu lt))) h.2,
   )
 
   -- ---- two columns in the other order
   -- column j, of less degree, before column i, or after it
-  module _ (F : ℕ → FormalSum n) (degrees : ℕ → ℕ) (graded : (c : ℕ) → IsHomogeneous ws p rows (degrees c) (F c)) (pivots : List (Pivot n)) (over : AreGradedPivots pivots)
+  module _ (F : ℕ → FormalSum n) (degrees : ℕ → ℕ) (graded : (c : ℕ) → IsHomogeneous ws p rows (degrees c) (F c)) (pivots : List (Pivot n))
+      (over : AreGradedPivots pivots)
       (i j : ℕ) (less : degrees j < degrees i) where
     abbrev X : FormalSum n
     X = through p pivots (F i)
@@ -232,7 +246,8 @@ module _ {n : ℕ} (p : ℕ) (pos : 0 < p) (ws rows : List ℕ) where
 
     y_kept : (r s : ℕ) → IsConstantAt p (through p pivots (F i)) r → IsSame p (cleared p r s X Y) Y
     y_kept r s k =
-        IsSame_trans (IsSame_append (IsSame_refl p Y) (linear_same pos (linear_product X) (linear_same pos (linear_times ((p - 1) * s)) (y_zero r k)))) (IsSame_of p _ _ (append-nil Y))
+        IsSame_trans (IsSame_append (IsSame_refl p Y) (linear_same pos (linear_product X) (linear_same pos (linear_times ((p - 1) * s)) (y_zero r k))))
+        (IsSame_of p _ _ (append-nil Y))
 
     pub swapped :
         (a b : Option (ℕ × ℕ)) → IsChosen p a (through p pivots (F j)) → IsChosen p b (through p (grown p a j (F j) pivots) (F i))
@@ -240,7 +255,11 @@ module _ {n : ℕ} (p : ℕ) (pos : 0 < p) (ws rows : List ℕ) where
         × ClearAlike p (grown p b i (F i) (grown p a j (F j) pivots)) (grown p a j (F j) (grown p b i (F i) pivots))
     swapped None None ha hb = ((hb, ha), λ z. IsSame_refl p _)
     swapped None (Some b) ha hb = (
-      (hb, chosen_same p pos None Y (through p (grown p (Some b) i (F i) pivots) (F j)) (IsSame_trans (IsSame_sym (y_kept b.0 b.1 hb.0)) (IsSame_of p _ _ (sym (through_end p pos pivots _ (F j))))) ha),
+      (
+        hb,
+        chosen_same p pos None Y (through p (grown p (Some b) i (F i) pivots) (F j))
+            (IsSame_trans (IsSame_sym (y_kept b.0 b.1 hb.0)) (IsSame_of p _ _ (sym (through_end p pos pivots _ (F j))))) ha,
+      ),
       λ z. IsSame_refl p _,
     )
     swapped (Some a) None ha hb =
@@ -285,19 +304,24 @@ module _ {n : ℕ} (p : ℕ) (pos : 0 < p) (ws rows degrees : List ℕ) (F : ℕ
           (t : Bool) → nat_lt (get_or degrees b 0) (get_or degrees c 0) ≡ t
           → (AreGradedPivots p pos ws rows (grown p (choice b) b (F b) pivots) → AreChosen p F choice (grown p (choice b) b (F b) pivots) (put_by degrees c cs)
           → AreChosen p F choice (grown p (choice b) b (F b) pivots) (c ∷ cs)
-          × ClearAlike p (pivots_after p F choice (grown p (choice b) b (F b) pivots) (put_by degrees c cs)) (pivots_after p F choice (grown p (choice b) b (F b) pivots) (c ∷ cs)))
+          × ClearAlike p (pivots_after p F choice (grown p (choice b) b (F b) pivots) (put_by degrees c cs))
+          (pivots_after p F choice (grown p (choice b) b (F b) pivots) (c ∷ cs)))
           → AreChosen p F choice pivots (cond t (b ∷ put_by degrees c cs) (c ∷ b ∷ cs))
-          → AreChosen p F choice pivots (c ∷ b ∷ cs) × ClearAlike p (pivots_after p F choice pivots (cond t (b ∷ put_by degrees c cs) (c ∷ b ∷ cs))) (pivots_after p F choice pivots (c ∷ b ∷ cs))
+          → AreChosen p F choice pivots (c ∷ b ∷ cs)
+          × ClearAlike p (pivots_after p F choice pivots (cond t (b ∷ put_by degrees c cs) (c ∷ b ∷ cs))) (pivots_after p F choice pivots (c ∷ b ∷ cs))
       go false e more k = (k, λ z. IsSame_refl p _)
       go true e more k =
           let B = grown p (choice b) b (F b) pivots in
           let inner = more (grown_graded p pos ws rows (choice b) b (get_or degrees b 0) (F b) pivots over (graded b) k.0) k.1 in
-          let swap = swapped p pos ws rows F (λ i. get_or degrees i 0) graded pivots over c b (less_of (get_or degrees b 0) (get_or degrees c 0) e) (choice b) (choice c) k.0 inner.0.0 in
-          let rest = chosen_alike p pos F choice (grown p (choice c) c (F c) B) (grown p (choice b) b (F b) (grown p (choice c) c (F c) pivots)) cs swap.1 inner.0.1 in
+          let swap = swapped p pos ws rows F (λ i. get_or degrees i 0) graded pivots over c b (less_of (get_or degrees b 0) (get_or degrees c 0) e)
+          (choice b) (choice c) k.0 inner.0.0 in
+          let rest = chosen_alike p pos F choice (grown p (choice c) c (F c) B)
+          (grown p (choice b) b (F b) (grown p (choice c) c (F c) pivots)) cs swap.1 inner.0.1 in
           ((swap.0.0, (swap.0.1, rest.0)), λ z. IsSame_trans (inner.1 z) (rest.1 z))
 
   pub chosen_graded :
-      (cs : List ℕ) (pivots : List (Pivot n)) → AreGradedPivots p pos ws rows pivots → AreChosen p F choice pivots cs → AreGradedPivots p pos ws rows (pivots_after p F choice pivots cs)
+      (cs : List ℕ) (pivots : List (Pivot n)) → AreGradedPivots p pos ws rows pivots → AreChosen p F choice pivots cs
+      → AreGradedPivots p pos ws rows (pivots_after p F choice pivots cs)
   chosen_graded [] pivots over h = over
   chosen_graded (c ∷ cs) pivots over h =
       chosen_graded cs (grown p (choice c) c (F c) pivots) (grown_graded p pos ws rows (choice c) c (get_or degrees c 0) (F c) pivots over (graded c) h.0) h.1
@@ -335,19 +359,39 @@ module _ {n : ℕ} (p : ℕ) (F : ℕ → FormalSum n) where
       let more = chosen_agree choice other (grown p (other b) b (F b) pivots) cs e.1 (subst (λ z. AreChosen p F choice z cs) g h.1) in
       ((subst (λ z. IsChosen p z (through p pivots (F b))) e.0 h.0, more.0), ap (λ z. pivots_after p F choice z cs) g ∙ more.1)
 
+-- ---- rows of no pivot
+-- the choice is not in row q
+abbrev pub IsOff : ℕ → Option (ℕ × ℕ) → Type 0
+IsOff q None = Unit {0}
+IsOff q (Some a) = a.0 ≡ q → ⊥
+
+abbrev pub AreOff : {n : ℕ} → ℕ → List (Pivot n) → Type 0
+AreOff q pivots = Each (λ s. s.row ≡ q → ⊥) pivots
+
+module _ {n : ℕ} (p : ℕ) (F : ℕ → FormalSum n) (choice : ℕ → Option (ℕ × ℕ)) (q : ℕ) where
+  off_grown : (ch : Option (ℕ × ℕ)) (c : ℕ) (v : FormalSum n) (pivots : List (Pivot n)) → AreOff q pivots → IsOff q ch → AreOff q (grown p ch c v pivots)
+  off_grown None c v pivots h k = h
+  off_grown (Some a) c v pivots h k = all_append _ pivots (_ ∷ []) h (k, tt)
+
+  off_both : (ch : Option (ℕ × ℕ)) (c : ℕ) (v : FormalSum n) (pivots : List (Pivot n)) → AreOff q (grown p ch c v pivots) → AreOff q pivots × IsOff q ch
+  off_both None c v pivots h = (h, tt)
+  off_both (Some a) c v pivots h =
+      let S : Pivot n = record { row = a.0; index = c; inverse = a.1; column = through p pivots v } in
+      (each_left (λ (s : Pivot n). s.row ≡ q → ⊥) pivots (S ∷ []) h, (each_right (λ (s : Pivot n). s.row ≡ q → ⊥) pivots (S ∷ []) h).0)
+
+  pub off_pivots : (pivots : List (Pivot n)) (cs : List ℕ) → AreOff q pivots → Each (λ c. IsOff q (choice c)) cs → AreOff q (pivots_after p F choice pivots cs)
+  off_pivots pivots [] h k = h
+  off_pivots pivots (c ∷ cs) h k = off_pivots (grown p (choice c) c (F c) pivots) cs (off_grown (choice c) c (F c) pivots h k.0) k.1
+
+  pub off_choices : (pivots : List (Pivot n)) (cs : List ℕ) → AreOff q (pivots_after p F choice pivots cs)
+      → AreOff q pivots × Each (λ c. IsOff q (choice c)) cs
+  off_choices pivots [] h = (h, tt)
+  off_choices pivots (c ∷ cs) h =
+      let more = off_choices (grown p (choice c) c (F c) pivots) cs h in
+      let one = off_both (choice c) c (F c) pivots more.0 in
+      (one.0, (one.1, more.1))
+
 -- ---- numbers by degree
-pub each_put : (P : ℕ → Type 0) (degrees : List ℕ) (c : ℕ) (cs : List ℕ) → P c → Each P cs → Each P (put_by degrees c cs)
-each_put P degrees c [] h g = (h, tt)
-each_put P degrees c (b ∷ cs) h g = go (nat_lt (get_or degrees b 0) (get_or degrees c 0)) (each_put P degrees c cs h g.1)
-  where
-    go : (t : Bool) → Each P (put_by degrees c cs) → Each P (cond t (b ∷ put_by degrees c cs) (c ∷ b ∷ cs))
-    go true m = (g.0, m)
-    go false m = (h, g)
-
-pub each_by : (P : ℕ → Type 0) (degrees cs : List ℕ) → Each P cs → Each P (by_degree degrees cs)
-each_by P degrees [] h = tt
-each_by P degrees (c ∷ cs) h = each_put P degrees c (by_degree degrees cs) h.0 (each_by P degrees cs h.1)
-
 each_unput : (P : ℕ → Type 0) (degrees : List ℕ) (c : ℕ) (cs : List ℕ) → Each P (put_by degrees c cs) → P c × Each P cs
 each_unput P degrees c [] h = (h.0, tt)
 each_unput P degrees c (b ∷ cs) h = go (nat_lt (get_or degrees b 0) (get_or degrees c 0)) (λ k. each_unput P degrees c cs k) h
@@ -401,28 +445,3 @@ others_before (b ∷ cs) (suc k) c h lt e = ((λ z. at cs k c h.0 (omega (arith,
     at [] k c h lt e z = omega (arith, lt)
     at (x ∷ xs) zero c h lt e z = h.0 (sym e ∙ z)
     at (x ∷ xs) (suc k) c h lt e z = at xs k c h.1 (omega (arith, lt)) e z
-
--- ---- a number put in place
-insert_is : {X : Type 0} (xs : List X) (i : ℕ) (x : X) → i ≤ length xs → insert xs i x ≡ take i xs ++ x ∷ drop i xs
-insert_is xs zero x le = refl
-insert_is [] (suc i) x le = absurd (omega (arith, le))
-insert_is (y ∷ xs) (suc i) x le = ap (λ z. y ∷ z) (insert_is xs i x (omega (arith, le)))
-
-not_less : (a b : ℕ) → b ≤ a → nat_lt a b ≡ false
-not_less a b le = grind (arith, nat_tests)
-
-pub put_here :
-    (degrees order : List ℕ) (i c b : ℕ) (all new : List ℕ) → i < length order → b ≡ get_or order i b → get_or degrees c 0 ≤ get_or degrees b 0
-    → take i order ++ put_by degrees c (drop i order) ≡ all → new ≡ insert order i c → new ≡ all
-put_here degrees order i c b all new lt is le h e =
-    let at : drop i order ≡ b ∷ drop (i + 1) order = drop_item order i b lt is in
-    let put : put_by degrees c (b ∷ drop (i + 1) order) ≡ c ∷ b ∷ drop (i + 1) order =
-    ap (λ t. cond t (b ∷ put_by degrees c (drop (i + 1) order)) (c ∷ b ∷ drop (i + 1) order)) (not_less (get_or degrees b 0) (get_or degrees c 0) le)
-    in
-    e ∙ insert_is order i c (omega (arith, lt)) ∙ ap (λ z. take i order ++ c ∷ z) at ∙ ap (λ z. take i order ++ z) (sym put)
-    ∙ sym (ap (λ z. take i order ++ put_by degrees c z) at) ∙ h
-
-pub put_end :
-    (degrees order : List ℕ) (i c : ℕ) (all new : List ℕ) → length order ≤ i → take i order ++ put_by degrees c (drop i order) ≡ all → new ≡ order ++ c ∷ [] → new ≡ all
-put_end degrees order i c all new le h e =
-    e ∙ ap (λ z. z ++ c ∷ []) (sym (take_all i order le)) ∙ sym (ap (λ z. take i order ++ put_by degrees c z) (drop_none order i le)) ∙ h

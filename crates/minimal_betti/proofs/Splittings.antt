@@ -1,6 +1,7 @@
 -- A split in the code is the split of the graded maps
 use Rattle.std.specs.Prelude.{drop}
-use Rattle.std.proofs.Common.{List, [], ap, ap₂, arith, get_or, inl, inr, length, map, refl, reverse, subst, subst₂, suc, sym, take, zero, ℕ, ◌++◌, ◌+◌, ◌<◌, ◌∙◌, ◌∷◌, ◌≡◌}
+use Rattle.std.proofs.Common.{List, [], ap, ap₂, arith, get_or, inl, inr, length, map, refl, reverse, subst, subst₂, suc, sym, take, zero, ℕ, ◌++◌, ◌+◌}
+use Rattle.std.proofs.Common.{◌<◌, ◌∙◌, ◌∷◌, ◌≡◌}
 use Rattle.std.proofs.lemmas.List.{append_assoc, length-map, map-append, reverse-append}
 use Rattle.residues.specs.Residues.{IsDomain}
 use Rattle.formal_sums.proofs.Sameness.{IsSame_of}
@@ -62,7 +63,8 @@ module _ (ring : Ring) (at : Constant) where
         → IsFirstConstant ring.modulus.value (map G (done ++ cur ∷ tail)) (length done) at.column at.row
     first_constant done none =
         subst₂ (λ ms k. IsFirstConstant ring.modulus.value ms k at.column at.row) (sym (here done)) (length-map done G)
-        (first_in ring.modulus.value (map G done) (G cur) (map G tail) at.column at.row (each_mapped (λ (D : GradedMap (variables ring)). HasNone ring.modulus.value D.columns) G done none)
+        (first_in ring.modulus.value (map G done) (G cur) (map G tail) at.column at.row
+        (each_mapped (λ (D : GradedMap (variables ring)). HasNone ring.modulus.value D.columns) G done none)
         (let l = first.inside in omega (arith, l, length-map cur.columns (λ v. sum_of (variables ring) v))) first.constant first.first_column first.first_row)
 
     columns_here : (done : List Carried) → first_columns (drop (length done) (map G (done ++ cur ∷ tail))) ≡ sums_of (variables ring) cur.columns
@@ -104,19 +106,24 @@ module _ (ring : Ring) (at : Constant) where
       tt,
     )
 
-    leaves : AreSameColumns ring.modulus.value (left_by_all ring (the_step ∷ []) (sums_of (variables ring) cur.columns)) (sums_of (variables ring) cur'.columns)
+    leaves : AreSameColumns ring.modulus.value (left_by_all ring (the_step ∷ []) (sums_of (variables ring) cur.columns))
+        (sums_of (variables ring) cur'.columns)
     leaves =
         let n = variables ring in
-        subst (λ w. AreSameColumns ring.modulus.value (map (λ v. without_row at.row (cleared ring.modulus.value at.row here.inverse w v)) (remove_at at.column (sums_of n cur.columns))) (sums_of n cur'.columns))
+        subst (λ w. AreSameColumns ring.modulus.value
+        (map (λ v. without_row at.row (cleared ring.modulus.value at.row here.inverse w v)) (remove_at at.column (sums_of n cur.columns)))
+        (sums_of n cur'.columns))
         (sums_at n cur.columns at.column) here.columns.same
 
-    module _ (pos : 0 < ring.modulus.value) (rows rows' : List ℕ) (done done' rest rest' : List Carried) (former : IsFormerLeft (at.row ∷ []) rows rows' done done')
+    module _ (pos : 0 < ring.modulus.value) (rows rows' : List ℕ) (done done' rest rest' : List Carried)
+        (former : IsFormerLeft (at.row ∷ []) rows rows' done done')
         (next : IsNextLeft ring (at.column ∷ []) rest rest') (u : IsUnderway ring rows done (in_turn done cur rest)) where
       pub step_leads : LeadsTo ring.modulus.value (graded_maps ring rows (in_turn done cur rest)) (graded_maps ring rows' (in_turn done' cur' rest'))
       step_leads = steps_lead ring pos cur cur' the_step [] is_first leaves here.columns.vectors here.degrees rows rows' done done' rest rest' former next u
 
       pub step_underway : IsUnderway ring rows' done' (in_turn done' cur' rest')
-      step_underway = steps_underway ring pos cur cur' the_step [] is_first leaves here.columns.vectors here.degrees rows rows' done done' rest rest' former next u
+      step_underway = steps_underway ring pos cur cur' the_step [] is_first leaves here.columns.vectors here.degrees rows rows' done done' rest rest' former
+          next u
 
     pub step_falls : length cur'.columns + 1 ≡ length cur.columns
     step_falls =
@@ -133,7 +140,8 @@ module _ (ring : Ring) (at : Constant) where
 module _ (ring : Ring) where
   each_graded :
       (rows : List ℕ) (F : List Terms) (ds : List ℕ)
-      → ((i : ℕ) → i < length (sums_of (variables ring) F) → IsHomogeneous ring.weights ring.modulus.value rows (get_or ds i 0) (get_or (sums_of (variables ring) F) i []))
+      → ((i : ℕ) → i < length (sums_of (variables ring) F)
+      → IsHomogeneous ring.weights ring.modulus.value rows (get_or ds i 0) (get_or (sums_of (variables ring) F) i []))
       → Each (IsGraded ring) F
   each_graded rows [] ds h = tt
   each_graded rows (v ∷ F) [] h = ((rows, 0, h 0 (omega arith)), each_graded rows F [] (λ i lt. h (suc i) (omega (arith, lt))))
@@ -147,11 +155,13 @@ module _ (ring : Ring) where
 
   pub graded_columns :
       (rows : List ℕ) (done : List Carried) (cur : Carried) (tail : List Carried)
-      → AreGraded ring.weights ring.modulus.value rows (map (graded_map (variables ring)) (done ++ cur ∷ tail)) → AreGradedColumns ring cur.degrees.items (sums_of (variables ring) cur.columns)
+      → AreGraded ring.weights ring.modulus.value rows (map (graded_map (variables ring)) (done ++ cur ∷ tail))
+      → AreGradedColumns ring cur.degrees.items (sums_of (variables ring) cur.columns)
   graded_columns rows [] cur tail h = (rows, h.0)
   graded_columns rows (m ∷ done) cur tail h = graded_columns m.degrees.items done cur tail h.1
 
-  pub ordered_here : (done : List Carried) (cur : Carried) (tail : List Carried) → AreOrdered ring (done ++ cur ∷ tail) → AreVectorsOver ring (ring_comparison ring) cur.columns
+  pub ordered_here : (done : List Carried) (cur : Carried) (tail : List Carried) → AreOrdered ring (done ++ cur ∷ tail)
+      → AreVectorsOver ring (ring_comparison ring) cur.columns
   ordered_here done cur tail h = (each_right (λ m. AreVectorsOver ring (ring_comparison ring) m.columns) done (cur ∷ tail) h).0
 
   pub ordered_rest : (done : List Carried) (cur : Carried) (rest : List Carried) → AreOrdered ring (done ++ cur ∷ reverse rest) → AreOrdered ring rest
@@ -165,23 +175,27 @@ module _ (ring : Ring) where
       → HasNone ring.modulus.value (sums_of (variables ring) cur.columns) → IsUnderway ring rows (done ++ cur ∷ []) ((done ++ cur ∷ []) ++ tail)
   done_more rows done cur tail u none = record {
     ordered = subst (AreOrdered ring) (sym (append_assoc done (cur ∷ []) tail)) u.ordered;
-    graded = subst (λ ms. AreGraded ring.weights ring.modulus.value rows (map (graded_map (variables ring)) ms)) (sym (append_assoc done (cur ∷ []) tail)) u.graded;
+    graded = subst (λ ms. AreGraded ring.weights ring.modulus.value rows (map (graded_map (variables ring)) ms))
+        (sym (append_assoc done (cur ∷ []) tail)) u.graded;
     none = all_append _ done (cur ∷ []) u.none (none, tt);
   }
 
   -- the next map is at hand
   pub leads_popped :
       (start : GradedMaps (variables ring)) (rows : List ℕ) (done rest rest' : List Carried) (cur : Carried) → rest ≡ rest' ++ cur ∷ []
-      → LeadsTo ring.modulus.value start (graded_maps ring rows (done ++ reverse rest)) → LeadsTo ring.modulus.value start (graded_maps ring rows (in_turn done cur rest'))
+      → LeadsTo ring.modulus.value start (graded_maps ring rows (done ++ reverse rest))
+      → LeadsTo ring.modulus.value start (graded_maps ring rows (in_turn done cur rest'))
   leads_popped start rows done rest rest' cur e =
       subst (λ z. LeadsTo ring.modulus.value start (graded_maps ring rows (done ++ z))) (ap reverse e ∙ reverse-append rest' (cur ∷ []))
 
   -- and put behind those that are done
   pub leads_pushed :
       (start : GradedMaps (variables ring)) (rows : List ℕ) (done done' rest : List Carried) (cur : Carried) → done' ≡ done ++ cur ∷ []
-      → LeadsTo ring.modulus.value start (graded_maps ring rows (in_turn done cur rest)) → LeadsTo ring.modulus.value start (graded_maps ring rows (done' ++ reverse rest))
+      → LeadsTo ring.modulus.value start (graded_maps ring rows (in_turn done cur rest))
+      → LeadsTo ring.modulus.value start (graded_maps ring rows (done' ++ reverse rest))
   leads_pushed start rows done done' rest cur e =
-      subst (λ z. LeadsTo ring.modulus.value start (graded_maps ring rows z)) (sym (ap (λ d. d ++ reverse rest) e ∙ append_assoc done (cur ∷ []) (reverse rest)))
+      subst (λ z. LeadsTo ring.modulus.value start (graded_maps ring rows z))
+      (sym (ap (λ d. d ++ reverse rest) e ∙ append_assoc done (cur ∷ []) (reverse rest)))
 
   -- a prefix of the maps
   pub graded_take :
@@ -205,4 +219,5 @@ module _ (ring : Ring) where
 
   pub next_count : (rows : List ℕ) (rest rest' : List Carried) → IsNextLeft ring rows rest rest' → length rest' ≡ length rest
   next_count rows rest rest' (inl h) = ap length h.1 ∙ sym (ap length h.0)
-  next_count rows rest rest' (inr (before, next, next', e, e', w, d)) = ap length e' ∙ length_end before next' ∙ sym (length_end before next) ∙ sym (ap length e)
+  next_count rows rest rest' (inr (before, next, next', e, e', w, d)) = ap length e' ∙ length_end before next' ∙ sym (length_end before next)
+      ∙ sym (ap length e)

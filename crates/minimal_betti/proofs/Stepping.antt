@@ -12,7 +12,8 @@ use Rattle.minimal_laws.proofs.OneCancellation.{same_maps_trans}
 use Rattle.minimal_laws.proofs.Rows.{skip}
 use Rattle.minimal_laws.proofs.SameMaps.{same_graded}
 use Rattle.minimal_laws.proofs.Searching.{same_maps_itself}
-use Rattle.minimal_laws.specs.Cancellation.{AreSameColumns, AreSameMaps, IsCancelled, IsFirstConstant, remove_at, split, split_map, step, without_row, without_rows}
+use Rattle.minimal_laws.specs.Cancellation.{AreSameColumns, AreSameMaps, IsCancelled, IsFirstConstant, remove_at, split, split_map, step, without_row}
+use Rattle.minimal_laws.specs.Cancellation.{without_rows}
 use Rattle.minimal_laws.specs.Gradings.{AreGraded, GradedMap, GradedMaps, first_columns}
 use Rattle.minimal_laws.specs.Minimal.{HasConstant, IsConstantAt}
 use Rattle.module_vectors.specs.Rings.{ring_comparison, variables}
@@ -108,11 +109,13 @@ module _ {n : ℕ} (p : ℕ) where
   same_maps_between (x ∷ xs) A B ys e h = (refl, record { count = refl; each = λ i. IsSame_refl p _ }, same_maps_between xs A B ys e h)
 
   -- ---- the first constant
-  to_here : (done : List (GradedMap n)) (M : GradedMap n) (tail : List (GradedMap n)) (c r : ℕ) → HasConstant p (done ++ M ∷ tail) (length done) c r → IsConstantAt p (get_or M.columns c []) r
+  to_here : (done : List (GradedMap n)) (M : GradedMap n) (tail : List (GradedMap n)) (c r : ℕ) → HasConstant p (done ++ M ∷ tail) (length done) c r
+      → IsConstantAt p (get_or M.columns c []) r
   to_here [] M tail c r h = h.1
   to_here (D ∷ done) M tail c r h = to_here done M tail c r h
 
-  from_here : (done : List (GradedMap n)) (M : GradedMap n) (tail : List (GradedMap n)) (c r : ℕ) → c < length M.columns → IsConstantAt p (get_or M.columns c []) r → HasConstant p (done ++ M ∷ tail) (length done) c r
+  from_here : (done : List (GradedMap n)) (M : GradedMap n) (tail : List (GradedMap n)) (c r : ℕ) → c < length M.columns
+      → IsConstantAt p (get_or M.columns c []) r → HasConstant p (done ++ M ∷ tail) (length done) c r
   from_here [] M tail c r lt h = (lt, h)
   from_here (D ∷ done) M tail c r lt h = from_here done M tail c r lt h
 
@@ -135,14 +138,16 @@ module _ {n : ℕ} (p : ℕ) where
     first_row = λ q less h. row q less (to_here done M tail c q h);
   }
 
-  pub columns_in : (done : List (GradedMap n)) (M : GradedMap n) (tail : List (GradedMap n)) → first_columns (drop (length done) (done ++ M ∷ tail)) ≡ M.columns
+  pub columns_in : (done : List (GradedMap n)) (M : GradedMap n) (tail : List (GradedMap n))
+      → first_columns (drop (length done) (done ++ M ∷ tail)) ≡ M.columns
   columns_in [] M tail = refl
   columns_in (D ∷ done) M tail = columns_in done M tail
 
   none_fewer : (r : ℕ) (M : GradedMap n) → HasNone p M.columns → HasNone p (remove_at r M.columns)
   none_fewer r M h c q k = h (skip r c) q (subst (λ v. IsConstantAt p v q) (get_or-remove_at r M.columns c []) k)
 
-  none_last : (r : ℕ) (M : GradedMap n) (done : List (GradedMap n)) → HasNone p M.columns → Each (λ D. HasNone p D.columns) done → Each (λ D. HasNone p D.columns) (lose_last r M done)
+  none_last : (r : ℕ) (M : GradedMap n) (done : List (GradedMap n)) → HasNone p M.columns → Each (λ D. HasNone p D.columns) done
+      → Each (λ D. HasNone p D.columns) (lose_last r M done)
   none_last r M [] h none = (none_fewer r M h, tt)
   none_last r M (L ∷ done) h none = (h, none_last r L done none.0 none.1)
 
@@ -150,7 +155,8 @@ module _ {n : ℕ} (p : ℕ) where
   none_lost r rows [] none = tt
   none_lost r rows (M ∷ done) none = none_last r M done none.0 none.1
 
-  none_all_lost : (rs rows : List ℕ) (done : List (GradedMap n)) → Each (λ D. HasNone p D.columns) done → Each (λ D. HasNone p D.columns) (lose_all rs rows done).1
+  none_all_lost : (rs rows : List ℕ) (done : List (GradedMap n)) → Each (λ D. HasNone p D.columns) done
+      → Each (λ D. HasNone p D.columns) (lose_all rs rows done).1
   none_all_lost [] rows done none = none
   none_all_lost (r ∷ rs) rows done none = none_all_lost rs (lose r rows done).0 (lose r rows done).1 (none_lost r rows done none)
 
@@ -189,46 +195,65 @@ module _ {n : ℕ} (p : ℕ) where
 module _ (ring : Ring) where
   -- what one list of maps leads to, graded as it is
   abbrev Becomes : GradedMaps (variables ring) → GradedMaps (variables ring) → Type 0
-  Becomes C E = LeadsTo ring.modulus.value C E × (AreGraded ring.weights ring.modulus.value C.positions C.maps → AreGraded ring.weights ring.modulus.value E.positions E.maps)
+  Becomes C E = LeadsTo ring.modulus.value C E
+      × (AreGraded ring.weights ring.modulus.value C.positions C.maps → AreGraded ring.weights ring.modulus.value E.positions E.maps)
 
   one_step :
-      0 < ring.modulus.value → (rows : List ℕ) (done : List (GradedMap (variables ring))) (M : GradedMap (variables ring)) (tail others : List (GradedMap (variables ring))) (s : Pivot (variables ring))
+      0 < ring.modulus.value
+      → (rows : List ℕ) (done : List (GradedMap (variables ring))) (M : GradedMap (variables ring)) (tail others : List (GradedMap (variables ring)))
+      (s : Pivot (variables ring))
       → Each (λ D. HasNone ring.modulus.value D.columns) done → IsFirstStep ring M.columns s
-      → AreSameMaps ring.modulus.value ((lose ring.modulus.value s.row rows done).1 ++ record { columns = left_by ring s M.columns; degrees = remove_at s.index M.degrees } ∷ without_rows s.index tail) others
+      → AreSameMaps ring.modulus.value
+      ((lose ring.modulus.value s.row rows done).1 ++ record { columns = left_by ring s M.columns; degrees = remove_at s.index M.degrees } ∷ without_rows
+      s.index tail) others
       → Becomes (record { positions = rows; maps = done ++ M ∷ tail }) (record { positions = (lose ring.modulus.value s.row rows done).0; maps = others })
   one_step pos rows done M tail others s none f same =
       let p = ring.modulus.value in
       let maps = done ++ M ∷ tail in
       let q = split_at p s.index s.row s.inverse rows done M tail in
       let lost = (lose p s.row rows done).1 in
-      let places : (split p (length done) s.row s.index s.inverse rows maps).0 ≡ (lose p s.row rows done).0 = ap (λ (z : List ℕ × List (GradedMap (variables ring))). z.0) q in
+      let places : (split p (length done) s.row s.index s.inverse rows maps).0 ≡ (lose p s.row rows done).0 =
+      ap (λ (z : List ℕ × List (GradedMap (variables ring))). z.0) q in
       let through : AreSameMaps p (split p (length done) s.row s.index s.inverse rows maps).1 others =
       subst (λ z. AreSameMaps p z others) (sym (ap (λ (z : List ℕ × List (GradedMap (variables ring))). z.1) q))
-      (same_maps_trans p _ _ others (same_maps_between p lost (split_map p s.row s.index s.inverse M) (record { columns = left_by ring s M.columns; degrees = remove_at s.index M.degrees }) (without_rows s.index tail) refl (split_columns_same ring pos s M.columns M.degrees f)) same)
+      (same_maps_trans p _ _ others
+      (same_maps_between p lost (split_map p s.row s.index s.inverse M)
+      (record { columns = left_by ring s M.columns; degrees = remove_at s.index M.degrees }) (without_rows s.index tail) refl
+      (split_columns_same ring pos s M.columns M.degrees f)) same)
       in
       let first = first_in p done M tail s.index s.row none f.inside f.constant f.first_column f.first_row in
-      let inverse = subst (λ F. IsCongruent p (s.inverse * coefficient (get_or F s.index []) (s.row, unit (variables ring))) 1) (sym (columns_in p done M tail)) f.inverse in (
+      let inverse = subst (λ F. IsCongruent p (s.inverse * coefficient (get_or F s.index []) (s.row, unit (variables ring))) 1)
+      (sym (columns_in p done M tail)) f.inverse in (
         record {
           cancelled = λ D more.
               step rows maps others D (length done) s.index s.row s.inverse first inverse through
               (subst (λ z. IsCancelled p (record { positions = z; maps = others }) D) (sym places) more);
           reached = λ E r.
-              let on : IsReached p (record { positions = (split p (length done) s.row s.index s.inverse rows maps).0; maps = others }) E = subst (λ z. IsReached p (record { positions = z; maps = others }) E) (sym places) r in
+              let on : IsReached p (record { positions = (split p (length done) s.row s.index s.inverse rows maps).0; maps = others }) E =
+              subst (λ z. IsReached p (record { positions = z; maps = others }) E) (sym places) r in
               (on.0, step rows maps others on.0 (length done) s.index s.row s.inverse first inverse through on.1, inr on.2);
         },
         λ graded.
             subst (λ z. AreGraded ring.weights p z others) places
-            (same_graded p pos ring.weights _ _ others through (split_graded p (length done) s.index s.row s.inverse ring.weights rows maps first.constant graded)),
+            (same_graded p pos ring.weights _ _ others through
+            (split_graded p (length done) s.index s.row s.inverse ring.weights rows maps first.constant graded)),
       )
 
   all_steps :
-      0 < ring.modulus.value → (s : Pivot (variables ring)) (steps : List (Pivot (variables ring))) (rows : List ℕ) (done : List (GradedMap (variables ring))) (M : GradedMap (variables ring)) (tail others : List (GradedMap (variables ring)))
+      0 < ring.modulus.value
+      → (s : Pivot (variables ring)) (steps : List (Pivot (variables ring))) (rows : List ℕ) (done : List (GradedMap (variables ring)))
+      (M : GradedMap (variables ring)) (tail others : List (GradedMap (variables ring)))
       → Each (λ D. HasNone ring.modulus.value D.columns) done → AreFirstSteps ring M.columns (s ∷ steps)
       → AreSameMaps ring.modulus.value
       ((lose_all ring.modulus.value (map (λ (t : Pivot (variables ring)). t.row) (s ∷ steps)) rows done).1
-      ++ record { columns = left_by_all ring (s ∷ steps) M.columns; degrees = all_removed (map (λ (t : Pivot (variables ring)). t.index) (s ∷ steps)) M.degrees }
+      ++ record {
+        columns = left_by_all ring (s ∷ steps) M.columns;
+        degrees =
+            all_removed (map (λ (t : Pivot (variables ring)). t.index) (s ∷ steps)) M.degrees;
+      }
       ∷ lower_all ring.modulus.value (map (λ (t : Pivot (variables ring)). t.index) (s ∷ steps)) tail) others
-      → Becomes (record { positions = rows; maps = done ++ M ∷ tail }) (record { positions = (lose_all ring.modulus.value (map (λ (t : Pivot (variables ring)). t.row) (s ∷ steps)) rows done).0; maps = others })
+      → Becomes (record { positions = rows; maps = done ++ M ∷ tail })
+      (record { positions = (lose_all ring.modulus.value (map (λ (t : Pivot (variables ring)). t.row) (s ∷ steps)) rows done).0; maps = others })
   all_steps pos s [] rows done M tail others none f same = one_step pos rows done M tail others s none f.0 same
   all_steps pos s (t ∷ steps) rows done M tail others none f same =
       let p = ring.modulus.value in
@@ -252,8 +277,10 @@ module _ (ring : Ring) where
   former_lost rs rows rows' done done' (inr (before, last, last', e, e', f, er)) =
       let p = ring.modulus.value in
       let n = variables ring in
-      let columns : sums_of n last'.columns ≡ all_removed rs (sums_of n last.columns) = ap (sums_of n) f.columns ∙ map-all_removed (λ v. sum_of n v) rs last.columns in
-      let at : G last' ≡ record { columns = all_removed rs (sums_of n last.columns); degrees = all_removed rs last.degrees.items } = ap₂ (λ y z. record { columns = y; degrees = z }) columns f.degrees in
+      let columns : sums_of n last'.columns ≡ all_removed rs (sums_of n last.columns) = ap (sums_of n) f.columns
+      ∙ map-all_removed (λ v. sum_of n v) rs last.columns in
+      let at : G last' ≡ record { columns = all_removed rs (sums_of n last.columns); degrees = all_removed rs last.degrees.items } =
+      ap₂ (λ y z. record { columns = y; degrees = z }) columns f.degrees in
       ap (lose_all p rs rows) (ap (map G) e ∙ map-append G before (last ∷ [])) ∙ lose_all_end p rs rows (map G before) (G last)
       ∙ ap₂ (λ y z. (y, map G before ++ z ∷ [])) (sym er) (sym at) ∙ ap (λ z. (rows', z)) (sym (ap (map G) e' ∙ map-append G before (last' ∷ [])))
 
@@ -277,8 +304,11 @@ module _ (ring : Ring) where
   former_ordered rs rows rows' done done' (inr (before, last, last', e, e', f, er)) o =
       let q : Each HasVectors (before ++ last ∷ []) = subst (Each HasVectors) e o in
       subst (Each HasVectors) (sym e')
-      (all_append HasVectors before (last' ∷ []) (each_left HasVectors before (last ∷ []) q)
-      (subst (λ F. AreVectorsOver ring (ring_comparison ring) F) (sym f.columns) (each_all_removed _ rs last.columns (each_right HasVectors before (last ∷ []) q).0), tt))
+      (all_append HasVectors before (last' ∷ []) (each_left HasVectors before (last ∷ []) q) (
+        subst (λ F. AreVectorsOver ring (ring_comparison ring) F) (sym f.columns)
+            (each_all_removed _ rs last.columns (each_right HasVectors before (last ∷ []) q).0),
+        tt,
+      ))
 
   next_ordered : (cs : List ℕ) (rest rest' : List Carried) → IsNextLeft ring cs rest rest' → AreOrdered ring (reverse rest) → AreOrdered ring (reverse rest')
   next_ordered cs rest rest' (inl (e, e')) o = subst (λ z. AreOrdered ring (reverse z)) (sym e') tt
@@ -287,15 +317,22 @@ module _ (ring : Ring) where
       (w.vectors, (subst (Each HasVectors) (ap reverse e ∙ reverse-append before (next ∷ [])) o).1)
 
   -- ---- the maps after the steps on the map at hand
-  module _ (pos : 0 < ring.modulus.value) (cur m : Carried) (s : Pivot (variables ring)) (steps : List (Pivot (variables ring))) (firsts : AreFirstSteps ring (sums_of (variables ring) cur.columns) (s ∷ steps))
+  module _ (pos : 0 < ring.modulus.value) (cur m : Carried) (s : Pivot (variables ring)) (steps : List (Pivot (variables ring)))
+      (firsts : AreFirstSteps ring (sums_of (variables ring) cur.columns) (s ∷ steps))
       (same : AreSameColumns ring.modulus.value (left_by_all ring (s ∷ steps) (sums_of (variables ring) cur.columns)) (sums_of (variables ring) m.columns))
-      (vectors : AreVectorsOver ring (ring_comparison ring) m.columns) (degrees : m.degrees.items ≡ all_removed (map (λ (t : Pivot (variables ring)). t.index) (s ∷ steps)) cur.degrees.items)
-      (rows rows' : List ℕ) (done done' rest rest' : List Carried) (former : IsFormerLeft (map (λ (t : Pivot (variables ring)). t.row) (s ∷ steps)) rows rows' done done')
-      (next : IsNextLeft ring (map (λ (t : Pivot (variables ring)). t.index) (s ∷ steps)) rest rest') (u : IsUnderway ring rows done (in_turn done cur rest)) where
-    in_maps : (ds : List Carried) (c : Carried) (rs : List Carried) → map (graded_map (variables ring)) (in_turn ds c rs) ≡ map (graded_map (variables ring)) ds ++ graded_map (variables ring) c ∷ map (graded_map (variables ring)) (reverse rs)
+      (vectors : AreVectorsOver ring (ring_comparison ring) m.columns)
+      (degrees : m.degrees.items ≡ all_removed (map (λ (t : Pivot (variables ring)). t.index) (s ∷ steps)) cur.degrees.items)
+      (rows rows' : List ℕ) (done done' rest rest' : List Carried)
+      (former : IsFormerLeft (map (λ (t : Pivot (variables ring)). t.row) (s ∷ steps)) rows rows' done done')
+      (next : IsNextLeft ring (map (λ (t : Pivot (variables ring)). t.index) (s ∷ steps)) rest rest')
+      (u : IsUnderway ring rows done (in_turn done cur rest)) where
+    in_maps : (ds : List Carried) (c : Carried) (rs : List Carried)
+        → map (graded_map (variables ring)) (in_turn ds c rs) ≡ map (graded_map (variables ring)) ds ++ graded_map (variables ring) c ∷ map
+        (graded_map (variables ring)) (reverse rs)
     in_maps ds c rs = map-append G ds (c ∷ reverse rs)
 
-    lost : lose_all ring.modulus.value (map (λ (t : Pivot (variables ring)). t.row) (s ∷ steps)) rows (map (graded_map (variables ring)) done) ≡ (rows', map (graded_map (variables ring)) done')
+    lost : lose_all ring.modulus.value (map (λ (t : Pivot (variables ring)). t.row) (s ∷ steps)) rows (map (graded_map (variables ring)) done) ≡
+        (rows', map (graded_map (variables ring)) done')
     lost = former_lost (map (λ (t : Pivot (variables ring)). t.row) (s ∷ steps)) rows rows' done done' former
 
     none_graded : Each (λ (D : GradedMap (variables ring)). HasNone ring.modulus.value D.columns) (map (graded_map (variables ring)) done)
@@ -304,15 +341,23 @@ module _ (ring : Ring) where
     all_same :
         AreSameMaps ring.modulus.value
         ((lose_all ring.modulus.value (map (λ (t : Pivot (variables ring)). t.row) (s ∷ steps)) rows (map (graded_map (variables ring)) done)).1
-        ++ record { columns = left_by_all ring (s ∷ steps) (sums_of (variables ring) cur.columns); degrees = all_removed (map (λ (t : Pivot (variables ring)). t.index) (s ∷ steps)) cur.degrees.items }
+        ++ record {
+          columns = left_by_all ring (s ∷ steps) (sums_of (variables ring) cur.columns);
+          degrees =
+              all_removed (map (λ (t : Pivot (variables ring)). t.index) (s ∷ steps)) cur.degrees.items;
+        }
         ∷ lower_all ring.modulus.value (map (λ (t : Pivot (variables ring)). t.index) (s ∷ steps)) (map (graded_map (variables ring)) (reverse rest)))
         (map (graded_map (variables ring)) (in_turn done' m rest'))
     all_same =
         let p = ring.modulus.value in
         let cs = map (λ (t : Pivot (variables ring)). t.index) (s ∷ steps) in
-        let A : GradedMap (variables ring) = record { columns = left_by_all ring (s ∷ steps) (sums_of (variables ring) cur.columns); degrees = all_removed cs cur.degrees.items } in
-        subst (λ z. AreSameMaps p ((lose_all p (map (λ (t : Pivot (variables ring)). t.row) (s ∷ steps)) rows (map G done)).1 ++ A ∷ lower_all p cs (map G (reverse rest))) z) (sym (in_maps done' m rest'))
-        (subst (λ (z : List ℕ × List (GradedMap (variables ring))). AreSameMaps p (z.1 ++ A ∷ lower_all p cs (map G (reverse rest))) (map G done' ++ G m ∷ map G (reverse rest'))) (sym lost)
+        let A : GradedMap (variables ring) =
+        record { columns = left_by_all ring (s ∷ steps) (sums_of (variables ring) cur.columns); degrees = all_removed cs cur.degrees.items } in
+        subst (λ z. AreSameMaps p
+        ((lose_all p (map (λ (t : Pivot (variables ring)). t.row) (s ∷ steps)) rows (map G done)).1 ++ A ∷ lower_all p cs (map G (reverse rest))) z)
+        (sym (in_maps done' m rest'))
+        (subst (λ (z : List ℕ × List (GradedMap (variables ring))). AreSameMaps p (z.1 ++ A ∷ lower_all p cs (map G (reverse rest)))
+        (map G done' ++ G m ∷ map G (reverse rest'))) (sym lost)
         (subst (λ z. AreSameMaps p (map G done' ++ A ∷ z) (map G done' ++ G m ∷ map G (reverse rest'))) (sym (next_lowered cs rest rest' next))
         (same_maps_between p (map G done') A (G m) (map G (reverse rest')) (sym degrees) same)))
 
@@ -321,7 +366,8 @@ module _ (ring : Ring) where
         let p = ring.modulus.value in
         let E = map G (in_turn done' m rest') in
         subst (λ z. Becomes (record { positions = rows; maps = z }) (record { positions = rows'; maps = E })) (sym (in_maps done cur rest))
-        (subst (λ z. Becomes (record { positions = rows; maps = map G done ++ G cur ∷ map G (reverse rest) }) (record { positions = z; maps = E })) (ap (λ (z : List ℕ × List (GradedMap (variables ring))). z.0) lost)
+        (subst (λ z. Becomes (record { positions = rows; maps = map G done ++ G cur ∷ map G (reverse rest) }) (record { positions = z; maps = E }))
+        (ap (λ (z : List ℕ × List (GradedMap (variables ring))). z.0) lost)
         (all_steps pos s steps rows (map G done) (G cur) (map G (reverse rest)) E none_graded firsts all_same))
 
     pub steps_lead : LeadsTo ring.modulus.value (graded_maps ring rows (in_turn done cur rest)) (graded_maps ring rows' (in_turn done' m rest'))
@@ -330,8 +376,12 @@ module _ (ring : Ring) where
     pub steps_underway : IsUnderway ring rows' done' (in_turn done' m rest')
     steps_underway = record {
       ordered = all_append HasVectors done' (m ∷ reverse rest')
-          (former_ordered (map (λ (t : Pivot (variables ring)). t.row) (s ∷ steps)) rows rows' done done' former (each_left HasVectors done (cur ∷ reverse rest) u.ordered))
-          (vectors, next_ordered (map (λ (t : Pivot (variables ring)). t.index) (s ∷ steps)) rest rest' next (each_right HasVectors done (cur ∷ reverse rest) u.ordered).1);
+          (former_ordered (map (λ (t : Pivot (variables ring)). t.row) (s ∷ steps)) rows rows' done done' former
+          (each_left HasVectors done (cur ∷ reverse rest) u.ordered)) (
+            vectors,
+            next_ordered (map (λ (t : Pivot (variables ring)). t.index) (s ∷ steps)) rest rest' next
+                (each_right HasVectors done (cur ∷ reverse rest) u.ordered).1,
+          );
       graded = become.1 u.graded;
       none = each_unmapped (λ (D : GradedMap (variables ring)). HasNone ring.modulus.value D.columns) G done'
           (subst (λ (z : List ℕ × List (GradedMap (variables ring))). Each (λ (D : GradedMap (variables ring)). HasNone ring.modulus.value D.columns) z.1) lost
@@ -340,9 +390,11 @@ module _ (ring : Ring) where
 
   -- as the pass gives them
   pub passed_leads :
-      0 < ring.modulus.value → (cur m : Carried) (steps : List (Pivot (variables ring))) → 0 < length steps → AreFirstSteps ring (sums_of (variables ring) cur.columns) steps
+      0 < ring.modulus.value → (cur m : Carried) (steps : List (Pivot (variables ring))) → 0 < length steps
+      → AreFirstSteps ring (sums_of (variables ring) cur.columns) steps
       → AreSameColumns ring.modulus.value (left_by_all ring steps (sums_of (variables ring) cur.columns)) (sums_of (variables ring) m.columns)
-      → AreVectorsOver ring (ring_comparison ring) m.columns → m.degrees.items ≡ all_removed (map (λ (t : Pivot (variables ring)). t.index) steps) cur.degrees.items
+      → AreVectorsOver ring (ring_comparison ring) m.columns
+      → m.degrees.items ≡ all_removed (map (λ (t : Pivot (variables ring)). t.index) steps) cur.degrees.items
       → (rows rows' : List ℕ) (done done' rest rest' : List Carried) → IsFormerLeft (map (λ (t : Pivot (variables ring)). t.row) steps) rows rows' done done'
       → IsNextLeft ring (map (λ (t : Pivot (variables ring)). t.index) steps) rest rest' → IsUnderway ring rows done (in_turn done cur rest)
       → LeadsTo ring.modulus.value (graded_maps ring rows (in_turn done cur rest)) (graded_maps ring rows' (in_turn done' m rest'))
@@ -355,7 +407,8 @@ module _ (ring : Ring) where
 
   -- a map without constants has no step
   pub no_step_none :
-      (cur columns : List (List (CodeKey × ℕ))) (steps : List (Pivot (variables ring))) → steps ≡ [] → AreSameColumns ring.modulus.value (left_by_all ring steps (sums_of (variables ring) cur)) (sums_of (variables ring) columns)
+      (cur columns : List (List (CodeKey × ℕ))) (steps : List (Pivot (variables ring))) → steps ≡ []
+      → AreSameColumns ring.modulus.value (left_by_all ring steps (sums_of (variables ring) cur)) (sums_of (variables ring) columns)
       → HasNone ring.modulus.value (sums_of (variables ring) columns) → HasNone ring.modulus.value (sums_of (variables ring) cur)
   no_step_none cur columns steps e same none =
       let n = variables ring in

@@ -1,6 +1,8 @@
 -- Steps whose rows keep their first numbers, as pivots in turn
 use Rattle.std.specs.Prelude.{None, Option, Some, nat_eq}
-use Rattle.std.proofs.Common.{Bool, List, [], ap, append-nil, arith, cond, eqb-true, false, refl, sym, true, true≢false, ℕ, ◌*◌, ◌++◌, ◌-◌, ◌<◌, ◌∙◌, ◌∷◌, ◌≡◌}
+use Rattle.std.proofs.Common.{Bool, List, [], ap, append-nil, arith, cond, eq-eqb, eqb-true, false, inl, inr, refl, subst, suc, sym, true, true≢false, zero}
+use Rattle.std.proofs.Common.{ℕ, ◌*◌, ◌++◌, ◌-◌, ◌<◌, ◌∙◌, ◌∷◌, ◌≡◌, ◌≤◌, ◌⊎◌}
+use Rattle.std.proofs.lemmas.Bool.{cases_lt, cases_order}
 use Rattle.std.proofs.lemmas.Bool.Decides.{nat_tests}
 use Rattle.std.proofs.lemmas.List.{append_assoc}
 use Rattle.residues.proofs.Congruences.{IsCongruent_of, IsCongruent_trans}
@@ -24,11 +26,16 @@ abbrev pub skip_all : List ℕ → ℕ → ℕ
 skip_all [] i = i
 skip_all (r ∷ rows) i = skip r (skip_all rows i)
 
-abbrev is_there : Option ℕ → Bool
+abbrev pub is_there : Option ℕ → Bool
 is_there None = false
 is_there (Some q) = true
 
-abbrev taken_out : Option ℕ → ℕ
+-- what is left to a place when these leave in turn
+abbrev pub then_after : Option ℕ → List ℕ → Option ℕ
+then_after None rows = None
+then_after (Some q) rows = place_after rows q
+
+abbrev pub taken_out : Option ℕ → ℕ
 taken_out None = 0
 taken_out (Some q) = q
 
@@ -62,7 +69,8 @@ AreTurned rows (s ∷ pivots) (r ∷ places) = (place_after rows s.row ≡ Some 
 
 -- a row of no pivot has a place after them
 place_left :
-    {n : ℕ} (rows : List ℕ) (pivots : List (Pivot n)) (places : List ℕ) (q : ℕ) → AreTurned rows pivots places → Each (λ (s : Pivot n). s.row ≡ skip_all rows q → ⊥) pivots
+    {n : ℕ} (rows : List ℕ) (pivots : List (Pivot n)) (places : List ℕ) (q : ℕ) → AreTurned rows pivots places
+    → Each (λ (s : Pivot n). s.row ≡ skip_all rows q → ⊥) pivots
     → place_after places q ≡ None → ⊥
 place_left rows [] [] q h other e = true≢false (ap is_there e)
 place_left rows [] (r ∷ places) q h other e = elim h [ ]
@@ -78,7 +86,8 @@ place_left {n} rows (s ∷ pivots) (r ∷ places) q h other e = go (nat_eq q r) 
         at : skip_all (rows ++ r ∷ []) (close r q) ≡ skip_all rows q
         at = skip_all_end rows r (close r q) ∙ ap (skip_all rows) (skip_close r q k)
 
-        renamed : (ts : List (Pivot n)) → Each (λ (t : Pivot n). t.row ≡ skip_all rows q → ⊥) ts → Each (λ (t : Pivot n). t.row ≡ skip_all (rows ++ r ∷ []) (close r q) → ⊥) ts
+        renamed : (ts : List (Pivot n)) → Each (λ (t : Pivot n). t.row ≡ skip_all rows q → ⊥) ts
+            → Each (λ (t : Pivot n). t.row ≡ skip_all (rows ++ r ∷ []) (close r q) → ⊥) ts
         renamed [] o = tt
         renamed (t ∷ ts) o = ((λ z. o.0 (z ∙ at)), renamed ts o.1)
 
@@ -92,7 +101,8 @@ free_place pivots places q h other = go (place_after places q) refl
     go (Some r) e = (r, e)
 
 pub turned_end :
-    {n : ℕ} (rows : List ℕ) (pivots : List (Pivot n)) (places : List ℕ) (s : Pivot n) (r : ℕ) → AreTurned rows pivots places → place_after (rows ++ places) s.row ≡ Some r
+    {n : ℕ} (rows : List ℕ) (pivots : List (Pivot n)) (places : List ℕ) (s : Pivot n) (r : ℕ) → AreTurned rows pivots places
+    → place_after (rows ++ places) s.row ≡ Some r
     → AreTurned rows (pivots ++ s ∷ []) (places ++ r ∷ [])
 turned_end rows [] [] s r h e = (ap (λ z. place_after z s.row) (sym (append-nil rows)) ∙ e, tt)
 turned_end rows [] (q ∷ places) s r h e = elim h [ ]
@@ -101,6 +111,92 @@ turned_end rows (t ∷ pivots) (q ∷ places) s r h e = (
   h.0,
   turned_end (rows ++ q ∷ []) pivots places s r h.1 (ap (λ z. place_after z s.row) (append_assoc rows (q ∷ []) places) ∙ e),
 )
+
+-- a row of a pivot has none
+pub place_append : (rows more : List ℕ) (q : ℕ) → place_after (rows ++ more) q ≡ then_after (place_after rows q) more
+place_append [] more q = refl
+place_append (c ∷ rows) more q = go (nat_eq q c) (place_append rows more (close c q))
+  where
+    go :
+        (b : Bool) → place_after (rows ++ more) (close c q) ≡ then_after (place_after rows (close c q)) more
+        → cond b None (place_after (rows ++ more) (close c q)) ≡ then_after (cond b None (place_after rows (close c q))) more
+    go true e = refl
+    go false e = e
+
+pub turned_none :
+    {n : ℕ} (rows : List ℕ) (pivots : List (Pivot n)) (places : List ℕ) → AreTurned rows pivots places
+    → Each (λ (s : Pivot n). place_after (rows ++ places) s.row ≡ None) pivots
+turned_none rows [] [] h = tt
+turned_none rows [] (r ∷ places) h = elim h [ ]
+turned_none rows (s ∷ pivots) [] h = elim h [ ]
+turned_none {n} rows (s ∷ pivots) (r ∷ places) h = (
+  place_append rows (r ∷ places) s.row ∙ ap (λ z. then_after z (r ∷ places)) h.0
+      ∙ ap (λ b. cond b None (place_after places (close r r))) (eq-eqb r r refl),
+  subst (λ z. Each (λ (t : Pivot n). place_after z t.row ≡ None) pivots) (append_assoc rows (r ∷ []) places)
+      (turned_none (rows ++ r ∷ []) pivots places h.1),
+)
+
+-- ---- lists by which the same rows leave
+skip_place : (rows : List ℕ) (r : ℕ) → place_after rows (skip_all rows r) ≡ Some r
+skip_place [] r = refl
+skip_place (c ∷ rows) r =
+    ap (λ b. cond b None (place_after rows (close c (skip c (skip_all rows r))))) (skip_other c (skip_all rows r))
+    ∙ ap (place_after rows) (close_skip c (skip_all rows r)) ∙ skip_place rows r
+  where
+    skip_other : (c i : ℕ) → nat_eq (skip c i) c ≡ false
+    skip_other c i = grind (arith, nat_tests)
+
+    close_skip : (c i : ℕ) → close c (skip c i) ≡ i
+    close_skip c i = grind (arith, nat_tests)
+
+pub skip_all_below : (rows : List ℕ) (i j : ℕ) → skip_all rows i < skip_all rows j → i < j
+skip_all_below rows i j lt = go (cases_order i j)
+  where
+    go : (i ≡ j) ⊎ ((i < j) ⊎ (j < i)) → i < j
+    go (inl e) = let q = ap (skip_all rows) e in absurd (omega (arith, q, lt))
+    go (inr (inl less)) = less
+    go (inr (inr more)) = let q = skip_all_less rows j i more in absurd (omega (arith, q, lt))
+
+-- all rows that leave by A leave by B
+abbrev LeaveAlso : List ℕ → List ℕ → Type 0
+LeaveAlso A B = (q : ℕ) → place_after A q ≡ None → place_after B q ≡ None
+
+-- so the row that comes to place r after B comes to one that is not less after A
+later : (A B : List ℕ) → LeaveAlso A B → (r : ℕ) → (s : ℕ) × (skip_all A s ≡ skip_all B r)
+later A B h r = go (place_after A (skip_all B r)) refl
+  where
+    go : (place : Option ℕ) → place_after A (skip_all B r) ≡ place → (s : ℕ) × (skip_all A s ≡ skip_all B r)
+    go None e = absurd (true≢false (ap is_there (sym (skip_place B r) ∙ h (skip_all B r) e)))
+    go (Some s) e = (s, place_skip A (skip_all B r) s e)
+
+not_earlier : (A B : List ℕ) → LeaveAlso A B → (r : ℕ) → (s : ℕ) × ((skip_all A s ≡ skip_all B r) × (r ≤ s))
+not_earlier A B h zero = let a = later A B h 0 in (a.0, (a.1, omega arith))
+not_earlier A B h (suc r) =
+    let a = not_earlier A B h r in
+    let b = later A B h (suc r) in
+    let lt = skip_all_less B r (suc r) (omega arith) in
+    let up = skip_all_below A a.0 b.0 (omega (arith, a.1.0, b.1, lt)) in
+    (b.0, (b.1, omega (arith, a.1.1, up)))
+
+skips_least : (A B : List ℕ) → LeaveAlso A B → (r : ℕ) → skip_all A r ≤ skip_all B r
+skips_least A B h r = let a = not_earlier A B h r in go a.0 a.1.0 a.1.1 (cases_lt r a.0)
+  where
+    go : (s : ℕ) → skip_all A s ≡ skip_all B r → r ≤ s → (r < s) ⊎ (s ≤ r) → skip_all A r ≤ skip_all B r
+    go s e le (inl lt) = let up = skip_all_less A r s lt in omega (arith, e, up)
+    go s e le (inr ge) = let k : r ≡ s = omega (arith, le, ge) in let q = ap (skip_all A) k in omega (arith, e, q)
+
+pub same_places :
+    (A B : List ℕ) → ((q : ℕ) → place_after A q ≡ None → place_after B q ≡ None)
+    → ((q : ℕ) → place_after B q ≡ None → place_after A q ≡ None) → (q : ℕ) → place_after A q ≡ place_after B q
+same_places A B h g q = go (place_after A q) refl
+  where
+    go : (place : Option ℕ) → place_after A q ≡ place → place ≡ place_after B q
+    go None e = sym (h q e)
+    go (Some r) e =
+        let a = skips_least A B h r in
+        let b = skips_least B A g r in
+        let k : skip_all B r ≡ skip_all A r = omega (arith, a, b) in
+        sym (ap (place_after B) (sym (k ∙ place_skip A q r e)) ∙ skip_place B r)
 
 -- ---- clearing and rows that leave
 at_left : (q r i : ℕ) → nat_eq i q ≡ false → nat_eq (close q i) r ≡ nat_eq i (skip q r)
@@ -173,9 +269,11 @@ module _ {n : ℕ} where
   coefficient_without : (q r : ℕ) (v : FormalSum n) (m : Exponents n) → coefficient (without_row q v) (r, m) ≡ coefficient v (skip q r, m)
   coefficient_without q r v m =
       let one : 0 < 1 = omega arith in
-      sym (coefficient_component one r (without_row q v) m) ∙ ap (λ z. coefficient z (0, m)) (component_without q r v) ∙ coefficient_component one (skip q r) v m
+      sym (coefficient_component one r (without_row q v) m) ∙ ap (λ z. coefficient z (0, m)) (component_without q r v)
+      ∙ coefficient_component one (skip q r) v m
 
-  pub coefficient_left : (rows : List ℕ) (r : ℕ) (v : FormalSum n) (m : Exponents n) → coefficient (without_all rows v) (r, m) ≡ coefficient v (skip_all rows r, m)
+  pub coefficient_left : (rows : List ℕ) (r : ℕ) (v : FormalSum n) (m : Exponents n)
+      → coefficient (without_all rows v) (r, m) ≡ coefficient v (skip_all rows r, m)
   coefficient_left [] r v m = refl
   coefficient_left (q ∷ rows) r v m = coefficient_left rows r (without_row q v) m ∙ coefficient_without q (skip_all rows r) v m
 
@@ -206,5 +304,6 @@ module _ (ring : Ring) where
       → applied ring (turned_pivot rows r i s) (without_all rows v) ≡ without_all (rows ++ r ∷ []) (cleared ring.modulus.value s.row s.inverse s.column v)
   applied_turned rows r i s v e =
       let p = ring.modulus.value in
-      ap (without_row r) (sym (without_all_cleared p rows r s.inverse s.column v) ∙ ap (λ q. without_all rows (cleared p q s.inverse s.column v)) (place_skip rows s.row r e))
+      ap (without_row r) (sym (without_all_cleared p rows r s.inverse s.column v)
+      ∙ ap (λ q. without_all rows (cleared p q s.inverse s.column v)) (place_skip rows s.row r e))
       ∙ sym (without_all_end rows r (cleared p s.row s.inverse s.column v))

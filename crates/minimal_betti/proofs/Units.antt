@@ -90,7 +90,8 @@ module _ (ring : Ring) (lawful : IsLawful (setting ring (variables ring) (ring_c
   pub term_coefficient : (t : CodeKey × ℕ) → Contains v t → coefficient (sum_of (variables ring) v) (key_of (variables ring) t.0) ≡ t.1
   term_coefficient t c = at v t c (coefficients (setting ring (variables ring) (ring_comparison ring (variables ring)) 0) lawful V vector.descends)
     where
-      at : (w : Terms) (t : CodeKey × ℕ) → Contains w t → Each (λ u. coefficient V u.0 ≡ u.1) (sum_of (variables ring) w) → coefficient V (key_of (variables ring) t.0) ≡ t.1
+      at : (w : Terms) (t : CodeKey × ℕ) → Contains w t → Each (λ u. coefficient V u.0 ≡ u.1) (sum_of (variables ring) w)
+          → coefficient V (key_of (variables ring) t.0) ≡ t.1
       at [] t (i, lt, e) h = absurd (omega (arith, lt))
       at (u ∷ w) t (zero, lt, e) h = subst (λ z. coefficient V (key_of (variables ring) z.0) ≡ z.1) e h.0
       at (u ∷ w) t (suc i, lt, e) h = at w t (i, omega (arith, lt), e) h.1
@@ -106,7 +107,8 @@ module _ (ring : Ring) (lawful : IsLawful (setting ring (variables ring) (ring_c
       at q (inl k) =
           let r = key_term (variables ring) v (q, unit (variables ring)) k in
           let w : IsTerm (variables ring) ring.weights ring.modulus.value r.0 = each_in _ v r.0 vector.each r.1 in
-          let one : r.0.0.monomial.degree ≡ 0 = w.weighed.degree ∙ ap (λ (k : Key (variables ring)). weighted_degree ring.weights k.1) r.2 ∙ weighted_degree-unit (variables ring) ring.weights in
+          let one : r.0.0.monomial.degree ≡ 0 = w.weighed.degree ∙ ap (λ (k : Key (variables ring)). weighted_degree ring.weights k.1) r.2
+          ∙ weighted_degree-unit (variables ring) ring.weights in
           absurd (each_in _ v r.0 h r.1 one)
 
   -- the residue of such a term
@@ -143,7 +145,8 @@ module _ (ring : Ring) (lawful : IsLawful (setting ring (variables ring) (ring_c
         → (coefficient (sum_of (variables ring) v) (r, unit (variables ring)) ≡ c) × (0 < c) × (c < ring.modulus.value)
     has_unit r c h =
         let t : IsTerm (variables ring) ring.weights ring.modulus.value h.term = each_in _ v h.term vector.each h.contains in (
-          ap (λ k. coefficient V (k, unit (variables ring))) (sym h.position_is) ∙ ap (coefficient V) (sym (unit_is h.term h.contains h.one)) ∙ term_coefficient h.term h.contains ∙ h.residue_is,
+          ap (λ k. coefficient V (k, unit (variables ring))) (sym h.position_is) ∙ ap (coefficient V) (sym (unit_is h.term h.contains h.one))
+              ∙ term_coefficient h.term h.contains ∙ h.residue_is,
           subst (λ z. 0 < z) h.residue_is t.nonzero,
           subst (λ z. z < ring.modulus.value) h.residue_is t.reduced,
         )
@@ -152,7 +155,8 @@ module _ (ring : Ring) (lawful : IsLawful (setting ring (variables ring) (ring_c
     unit_of_constant : (q : ℕ) → IsConstantAt ring.modulus.value V q → (t : CodeKey × ℕ) × Contains v t × (t.0.monomial.degree ≡ 0) × (t.0.position ≡ q)
     unit_of_constant q h = go (occurs V (q, unit (variables ring)))
       where
-        go : HasKey V (q, unit (variables ring)) ⊎ (coefficient V (q, unit (variables ring)) ≡ 0) → (t : CodeKey × ℕ) × Contains v t × (t.0.monomial.degree ≡ 0) × (t.0.position ≡ q)
+        go : HasKey V (q, unit (variables ring)) ⊎ (coefficient V (q, unit (variables ring)) ≡ 0)
+            → (t : CodeKey × ℕ) × Contains v t × (t.0.monomial.degree ≡ 0) × (t.0.position ≡ q)
         go (inr z) = absurd (h.nonzero (IsCongruent_of ring.modulus.value _ 0 z))
         go (inl k) =
             let r = key_term (variables ring) v (q, unit (variables ring)) k in
@@ -217,4 +221,5 @@ module _ (ring : Ring) (lawful : IsLawful (setting ring (variables ring) (ring_c
       go (inl a) = before b q a k
       go (inr a) =
           let e : b ≡ c = omega (arith, a, l) in
-          no_unit ring lawful v vector_here graded_here h q (subst (λ w. IsConstantAt ring.modulus.value w q) (ap (λ z. get_or (sums_of (variables ring) F) z []) e ∙ here) k)
+          no_unit ring lawful v vector_here graded_here h q
+          (subst (λ w. IsConstantAt ring.modulus.value w q) (ap (λ z. get_or (sums_of (variables ring) F) z []) e ∙ here) k)

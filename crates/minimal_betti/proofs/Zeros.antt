@@ -33,7 +33,8 @@ module _ {n : ℕ} (p : ℕ) where
   zero_cleared pos q r s w v hw hv =
       let a = scale ((p - 1) * s) (unit n) (component r v) in
       IsSame_trans (linear_append (linear_component q) v (product a w))
-      (IsSame_append hv (IsSame_trans (linear_of_product (linear_component q) refl a w) (IsSame_trans (product_by p pos a (component q w) [] hw) (IsSame_of p _ _ (product_nothing a)))))
+      (IsSame_append hv (IsSame_trans (linear_of_product (linear_component q) refl a w)
+      (IsSame_trans (product_by p pos a (component q w) [] hw) (IsSame_of p _ _ (product_nothing a)))))
 
   pub zero_coefficient : 0 < p → (r : ℕ) (v : FormalSum n) (m : Exponents n) → IsZeroAt r v → IsCongruent p (coefficient v (r, m)) 0
   zero_coefficient pos r v m z = IsCongruent_trans (IsCongruent_of p _ _ (sym (coefficient_component pos r v m))) (z.by_key (0, m))

@@ -12,10 +12,11 @@ use Rattle.module_vectors.specs.declared.key.Key.{Key as CodeKey}
 use Rattle.module_vectors.specs.declared.ring.Ring.{Ring}
 use Rattle.minimal_betti.specs.Carried.{HasNone}
 use Rattle.minimal_betti.specs.Constants.{IsLeastUnit}
-use Rattle.minimal_betti.specs.Placing.{place_after}
+use Rattle.minimal_betti.specs.Placing.{ArePlacesAfter, place_after, place_told}
 use Rattle.minimal_betti.specs.Splitting.{without_all}
 use Rattle.minimal_betti.specs.declared.one_pass.Met.{Met}
 use Rattle.minimal_betti.specs.declared.one_pass.Passed.{Passed}
+use Rattle.minimal_betti.specs.declared.placing.Leaving.{Leaving}
 use Rattle.minimal_betti.specs.declared.steps.Step.{Step}
 
 -- a constant that leaves columns, by its row and the number of its column, with its inverse and its column
@@ -66,6 +67,17 @@ cleared_all ring (s ∷ steps) v = cleared_all ring steps (cleared ring.modulus.
 abbrev pub AreNumbered : List ℕ → ℕ → List Step → Type 0
 AreNumbered numbers i [] = ⊤
 AreNumbered numbers i (s ∷ steps) = (get_or numbers s.row 18446744073709551615 ≡ i) × AreNumbered numbers (i + 1) steps
+
+-- a row of no step has no number
+abbrev pub HaveNoOthers : List ℕ → List Step → Type 0
+HaveNoOthers numbers steps = (q : ℕ) → Each (λ s. s.row ≡ q → ⊥) steps → get_or numbers q 18446744073709551615 ≡ 18446744073709551615
+
+-- those leave that have a number
+pub record LeaveNumbered (numbers : List ℕ) (leaving : Leaving) : Type 0 where
+  pub rows : List ℕ
+  pub turn : ArePlacesAfter rows leaving
+  pub leave : (q : ℕ) → (get_or numbers q 18446744073709551615 ≡ 18446744073709551615 → ⊥) → place_told leaving q ≡ None
+  pub stay : (q : ℕ) → get_or numbers q 18446744073709551615 ≡ 18446744073709551615 → place_told leaving q ≡ None → ⊥
 
 -- a step of a vector and a residue
 abbrev pub IsStepOver : Ring → Step → Type 0
@@ -132,5 +144,5 @@ pub record IsPassed (ring : Ring) (columns : List (List (CodeKey × ℕ))) (pass
   pub same : let n = variables ring in AreSameColumns ring.modulus.value (left_by_all ring pivots (sums_of n columns)) (sums_of n passed.columns)
   pub vectors : AreVectorsOver ring (ring_comparison ring) passed.columns
   pub none : HasNone ring.modulus.value (sums_of (variables ring) passed.columns)
-  pub rows : passed.rows.items ≡ map (λ s. s.row) pivots
-  pub indices : passed.indices.items ≡ map (λ s. s.index) pivots
+  pub rows : ArePlacesAfter (map (λ s. s.row) pivots) passed.rows
+  pub indices : ArePlacesAfter (map (λ s. s.index) pivots) passed.indices

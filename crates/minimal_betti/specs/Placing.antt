@@ -1,16 +1,33 @@
 -- Places of rows when others leave in turn
-use Rattle.std.specs.Prelude.{List, None, Option, Some, [], cond, nat_eq, nat_lt, ⊤, ℕ, ◌+◌, ◌-◌, ◌∷◌, ◌≡◌}
+use Rattle.std.specs.Prelude.{Bool, List, None, Option, Some, [], cond, get_or, length, nat_eq, nat_lt, ℕ, ◌+◌, ◌++◌, ◌-◌, ◌∷◌, ◌≡◌}
 use Rattle.module_vectors.specs.declared.key.Key.{Key as CodeKey}
+use Rattle.minimal_betti.specs.declared.placing.Leaving.{Leaving}
 
 -- what is left to row q when these leave in turn, or none where it is one of them
 abbrev pub place_after : List ℕ → ℕ → Option ℕ
 place_after [] q = Some q
 place_after (r ∷ rows) q = cond (nat_eq q r) None (place_after rows (cond (nat_lt q r) q (q - 1)))
 
--- the table has the places of its rows, of which this is the first
-abbrev pub ArePlaces : List ℕ → ℕ → List (Option ℕ) → Type 0
-ArePlaces rows q [] = ⊤
-ArePlaces rows q (place ∷ table) = (place ≡ place_after rows q) × ArePlaces rows (q + 1) table
+-- the place that is told for q: behind the table each number moves up by as many as leave
+abbrev pub place_told : Leaving → ℕ → Option ℕ
+place_told leaving q =
+    cond (nat_lt q (length leaving.places.items)) (get_or leaving.places.items q None) (Some (q - leaving.count))
+
+-- the places that are told are those that are left when these leave in turn
+abbrev pub ArePlacesAfter : List ℕ → Leaving → Type 0
+ArePlacesAfter rows leaving = (q : ℕ) → place_told leaving q ≡ place_after rows q
+
+-- the next number was put behind the table: it leaves, or it has its place
+abbrev pub IsPlacePut : Bool → Leaving → Leaving → Type 0
+IsPlacePut leaves old new =
+    let number = length old.places.items in
+    (new.places.items ≡ old.places.items ++ cond leaves None (Some (number - old.count)) ∷ [])
+    × (new.count ≡ cond leaves (old.count + 1) old.count)
+
+-- the item before the others, where it has a place, or they alone
+abbrev pub keep_at : {X : Type 0} → Option ℕ → X → List X → List X
+keep_at None x xs = xs
+keep_at (Some q) x xs = x ∷ xs
 
 -- the term at this place before the others, or they alone
 abbrev pub put_at : Option ℕ → CodeKey × ℕ → List (CodeKey × ℕ) → List (CodeKey × ℕ)

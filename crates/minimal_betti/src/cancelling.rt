@@ -9,14 +9,16 @@ ghost use Rattle.schreyer_resolution.specs.Resolved.{AreJoined, columns_of, degr
 ghost use Rattle.minimal_betti.specs.Carried.{AreCarried, AreOrdered, AreOwn, HasNone, LeadsTo, graded_map, graded_maps};
 ghost use Rattle.minimal_betti.specs.Graded.{AreMapsOver, IsGradedResolution, graded_of};
 ghost use Rattle.minimal_betti.specs.Minimising.{CancellationStops, IsCancellationOf};
+ghost use Rattle.minimal_betti.specs.Placing.{ArePlacesAfter};
 ghost use Rattle.minimal_betti.specs.Splitting.{IsFormerLeft, IsNextLeft, IsUnderway, all_removed, in_turn};
 ghost use Rattle.minimal_betti.specs.declared.carried.Carried.{Carried as CarriedMap};
 
 use crate::by_steps::cancelled_by_steps;
 use crate::carried::Carried;
 use crate::clearing::in_own_order;
-use crate::leaving::{drop_degrees, leave_former, leave_next};
+use crate::leaving::{leave_former, leave_next};
 use crate::one_pass::{Passed, pass};
+use crate::placing::kept_items;
 use module_vectors::{NoMemory, Ring, VectList, VectStop, WorkStop, lawful_setting};
 use schreyer_resolution::{Map, Resolution, column_degrees, joined_maps};
 use std::alloc::Global;
@@ -71,28 +73,22 @@ fn leave(
     passed: Passed,
     rest: &mut Vec<Carried>,
 ) -> Result<Carried, NoMemory>
-    requires { AreOrdered ring.now rest.old.items }
-    ensures former { OnOk result (IsFormerLeft passed.rows.items positions.old.items positions.new.items done.old.items done.new.items) }
-    ensures next { OnOk result (IsNextLeft ring.now passed.indices.items rest.old.items rest.new.items) }
+    requires indices { (indices : List ℕ) × ArePlacesAfter indices passed.indices }
+    requires ordered { AreOrdered ring.now rest.old.items }
+    ensures former { (rows : List ℕ) → ArePlacesAfter rows passed.rows
+        → OnOk result (IsFormerLeft rows positions.old.items positions.new.items done.old.items done.new.items) }
+    ensures next { (indices : List ℕ) → ArePlacesAfter indices passed.indices
+        → OnOk result (IsNextLeft ring.now indices rest.old.items rest.new.items) }
     ensures columns { IfOk result (λ m. m.columns ≡ passed.columns) }
-    ensures degrees { IfOk result (λ m. m.degrees.items ≡ all_removed passed.indices.items degrees.items) }
+    ensures degrees { (indices : List ℕ) → ArePlacesAfter indices passed.indices
+        → IfOk result (λ m. m.degrees.items ≡ all_removed indices degrees.items) }
 {
-    leave_former(positions, done, &passed.rows)?;
-    leave_next(alloc, ring, &passed.indices, degrees.len(), rest)?;
-    let mut left = degrees;
-    drop_degrees(&mut left, &passed.indices);
+    leave_former(alloc, &passed.rows, positions, done)?;
+    leave_next(alloc, ring, &passed.indices, rest)?;
     Ok(Carried {
+        degrees: kept_items(alloc, &passed.indices, degrees)?,
         columns: passed.columns,
-        degrees: left,
     })
-}
-
-// How many rows the map after these has.
-fn row_count(positions: &[u32], done: &[Carried]) -> usize {
-    match done.last() {
-        Some(former) => former.columns.len(),
-        None => positions.len(),
-    }
 }
 
 // The map at hand when its constants have left. Where a product's degree is too great, they leave by steps, which give the trail.
@@ -115,16 +111,9 @@ fn cancelled_map(
         (graded_maps ring.now positions.old.items (in_turn done.old.items current rest.old.items))) }
 {
     lawful_setting(ring);
-    let rows = row_count(positions, done);
-    match pass(
-        alloc,
-        ring,
-        rows,
-        &current.degrees,
-        current.columns.as_slice(),
-    ) {
+    match pass(alloc, ring, &current.degrees, current.columns.as_slice()) {
         Ok(passed) => {
-            if passed.rows.is_empty() {
+            if passed.rows.count == 0 {
                 return Ok(current);
             }
             Ok(leave(alloc, ring, positions, done, current.degrees, passed, rest)?)

@@ -1,13 +1,14 @@
 // Rows and columns leave the maps before and after the one at hand.
-ghost use Rattle.std.specs.Prelude.{◌≡◌, IfOk, OnOk};
+ghost use Rattle.std.specs.Prelude.{◌≡◌, List, ℕ, IfOk, OnOk};
 ghost use Rattle.minimal_laws.specs.Cancellation.{remove_at};
 ghost use Rattle.module_vectors.specs.Rings.{ring_comparison};
 ghost use Rattle.module_vectors.specs.Vectors.{AreVectorsOver};
 ghost use Rattle.minimal_betti.specs.Carried.{AreOrdered};
-ghost use Rattle.minimal_betti.specs.Splitting.{AreWithout, IsFormerLeft, IsNextLeft, all_removed};
+ghost use Rattle.minimal_betti.specs.Placing.{ArePlacesAfter};
+ghost use Rattle.minimal_betti.specs.Splitting.{AreWithout, IsFewer, IsFormerLeft, IsNextLeft};
 
 use crate::carried::Carried;
-use crate::placing::{placed_vector, places};
+use crate::placing::{Leaving, kept_items, placed_vector};
 use module_vectors::{NoMemory, Ring, Vect, VectList};
 use std::alloc::Global;
 use std::collections::VecDeque;
@@ -21,93 +22,69 @@ pub(crate) fn drop_degree(degrees: &mut Vec<u32>, at: u64)
     }
 }
 
-/// The degrees leave in turn.
-pub(crate) fn drop_degrees(degrees: &mut Vec<u32>, places: &[u64])
-    ensures { degrees.new.items ≡ all_removed places.now degrees.old.items }
-{
-    for at in places {
-        drop_degree(degrees, *at);
-    }
-}
-
-// The column leaves, where there is one.
-fn drop_column(columns: &mut Vec<Vect>, at: u64)
-    ensures { columns.new.items ≡ remove_at at columns.old.items }
-{
-    if at < columns.len() as u64 {
-        drop(columns.remove(at as usize));
-    }
-}
-
-// The columns leave in turn.
-fn drop_columns(columns: VectList, places: &[u64]) -> VectList
-    ensures { result ≡ all_removed places.now columns }
-{
-    let mut vectors = columns.into_vec();
-    for at in places {
-        drop_column(&mut vectors, *at);
-    }
-    VectList::from_vec(vectors)
-}
-
-// The columns without the rows in turn, with a table of places for the first `count` rows.
+// The columns without the rows that leave.
 fn columns_without(
     alloc: Global,
     ring: &Ring,
-    rows: &[u64],
-    count: usize,
+    leaving: &Leaving,
     columns: VectList,
 ) -> Result<VectList, NoMemory>
-    requires { AreVectorsOver ring.now (ring_comparison ring.now) columns }
-    ensures { IfOk result (AreWithout ring.now rows.now columns) }
+    requires leaving { (rows : List ℕ) × ArePlacesAfter rows leaving.now }
+    requires vectors { AreVectorsOver ring.now (ring_comparison ring.now) columns }
+    ensures { (rows : List ℕ) → ArePlacesAfter rows leaving.now → IfOk result (AreWithout ring.now rows columns) }
 {
-    let left = places(alloc, rows, count)?;
     let mut without = Vec::with_capacity(alloc, columns.len())?;
     let mut rest = VecDeque::from_vec(columns.into_vec());
     while let Some(v) = rest.pop_front() {
-        without.push(placed_vector(alloc, ring, &left, rows, v)?)?;
+        without.push(placed_vector(alloc, ring, leaving, v)?)?;
     }
     Ok(VectList::from_vec(without))
 }
 
-/// Columns of the last map of those that are done leave in turn, or where there is none positions. After an error the maps are
-/// lost.
+// The map without the columns that leave.
+fn fewer_columns(alloc: Global, leaving: &Leaving, map: Carried) -> Result<Carried, NoMemory>
+    ensures { (rows : List ℕ) → ArePlacesAfter rows leaving.now → IfOk result (IsFewer rows map) }
+{
+    Ok(Carried {
+        columns: VectList::from_vec(kept_items(alloc, leaving, map.columns.into_vec())?),
+        degrees: kept_items(alloc, leaving, map.degrees)?,
+    })
+}
+
+/// Columns of the last map of those that are done leave, or where there is none positions. After an error the maps are lost.
 pub(crate) fn leave_former(
+    alloc: Global,
+    leaving: &Leaving,
     positions: &mut Vec<u32>,
     done: &mut Vec<Carried>,
-    rows: &[u64],
 ) -> Result<(), NoMemory>
-    ensures { OnOk result (IsFormerLeft rows.now positions.old.items positions.new.items done.old.items done.new.items) }
+    ensures { (rows : List ℕ) → ArePlacesAfter rows leaving.now
+        → OnOk result (IsFormerLeft rows positions.old.items positions.new.items done.old.items done.new.items) }
 {
     match done.pop() {
-        Some(last) => {
-            let mut degrees = last.degrees;
-            drop_degrees(&mut degrees, rows);
-            done.push(Carried {
-                columns: drop_columns(last.columns, rows),
-                degrees,
-            })?;
+        Some(last) => done.push(fewer_columns(alloc, leaving, last)?)?,
+        None => {
+            let all = Vec::from_slice(alloc, positions)?;
+            *positions = kept_items(alloc, leaving, all)?;
         }
-        None => drop_degrees(positions, rows),
     }
     Ok(())
 }
 
-/// Rows of the next map, which stands last, leave in turn, where there is one. For the first `count` rows a table is made, so that
-/// the others are compared with each that leaves. After an error the maps are lost.
+/// Rows of the next map, which stands last, leave, where there is one. After an error the maps are lost.
 pub(crate) fn leave_next(
     alloc: Global,
     ring: &Ring,
-    rows: &[u64],
-    count: usize,
+    leaving: &Leaving,
     rest: &mut Vec<Carried>,
 ) -> Result<(), NoMemory>
-    requires { AreOrdered ring.now rest.old.items }
-    ensures { OnOk result (IsNextLeft ring.now rows.now rest.old.items rest.new.items) }
+    requires leaving { (rows : List ℕ) × ArePlacesAfter rows leaving.now }
+    requires ordered { AreOrdered ring.now rest.old.items }
+    ensures { (rows : List ℕ) → ArePlacesAfter rows leaving.now → OnOk result (IsNextLeft ring.now rows rest.old.items rest.new.items) }
 {
     if let Some(next) = rest.pop() {
         rest.push(Carried {
-            columns: columns_without(alloc, ring, rows, count, next.columns)?,
+            columns: columns_without(alloc, ring, leaving, next.columns)?,
             degrees: next.degrees,
         })?;
     }

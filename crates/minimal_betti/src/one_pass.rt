@@ -1,15 +1,16 @@
 // One pass over the columns of a map, by degree, after which they have no constants.
-ghost use Rattle.std.specs.Prelude.{◌≡◌, ◌<◌, [], IfOk, OnOk, get_or, length};
+ghost use Rattle.std.specs.Prelude.{◌≡◌, ◌<◌, [], List, ℕ, IfOk, OnOk, get_or, length};
 ghost use Rattle.formal_sums.specs.FormalSums.{Each};
 ghost use Rattle.module_vectors.specs.Rings.{ring_comparison, variables};
 ghost use Rattle.module_vectors.specs.Vectors.{AreVectorsOver, IsVectorOver, sums_of};
-ghost use Rattle.minimal_betti.specs.Passing.{AreFinished, AreGradedColumns, AreNumbered, IsFree, IsMetOver, IsPassed, IsSorted, IsStepOver};
-ghost use Rattle.minimal_betti.specs.Passing.{indices_in_turn as leaving_indices, rows_in_turn as leaving_rows};
+ghost use Rattle.minimal_betti.specs.Passing.{AreFinished, AreGradedColumns, AreNumbered, HaveNoOthers, IsFree, IsMetOver, IsPassed};
+ghost use Rattle.minimal_betti.specs.Passing.{IsSorted, IsStepOver, LeaveNumbered, indices_in_turn};
+ghost use Rattle.minimal_betti.specs.Placing.{ArePlacesAfter};
 
 use crate::constants::least_unit;
-use crate::placing::{place_after, placed_vector, places};
+use crate::placing::{Leaving, placed_vector, push_place};
 use crate::sorting::by_degree;
-use crate::steps::{Step, StepTable, clear_since, push_step};
+use crate::steps::{NONE, Step, StepTable, clear_since, push_step};
 use module_vectors::{NoMemory, Ring, Vect, VectList, VectStop, lawful_setting};
 use std::alloc::Global;
 use std::collections::VecDeque;
@@ -23,12 +24,12 @@ pub(crate) struct Met {
     pub choice: Option<(u64, u32)>,
 }
 
-/// The columns that are left, and the rows and the columns that leave, each by its number at its moment.
+/// The columns that are left, and the rows and the columns that leave.
 #[derive(Drop)]
 pub(crate) struct Passed {
     pub columns: VectList,
-    pub rows: Vec<u64>,
-    pub indices: Vec<u64>,
+    pub rows: Leaving,
+    pub indices: Leaving,
 }
 
 // Keeps the column with this number, or where it has a constant makes a step of its first one.
@@ -43,9 +44,11 @@ fn sort_column(
     requires vector { IsVectorOver ring.now (ring_comparison ring.now) column }
     requires inside { index < length met.old.items }
     requires numbered { AreNumbered table.old.numbers.items 0 table.old.steps.items }
+    requires others { HaveNoOthers table.old.numbers.items table.old.steps.items }
     requires free { IsFree column table.old.steps.items }
     ensures sorted { OnOk result (IsSorted ring.now index column table.old.steps.items table.new.steps.items met.old.items met.new.items) }
     ensures numbered { OnOk result (AreNumbered table.new.numbers.items 0 table.new.steps.items) }
+    ensures others { OnOk result (HaveNoOthers table.new.numbers.items table.new.steps.items) }
 {
     lawful_setting(ring);
     match least_unit(&column) {
@@ -93,58 +96,56 @@ fn not_met(alloc: Global, count: usize) -> Result<Vec<Met>, NoMemory>
     Ok(met)
 }
 
-// The rows that leave, each by its number at its moment.
-fn rows_in_turn(alloc: Global, met: &[Met]) -> Result<Vec<u64>, NoMemory>
-    ensures { IfOk result (λ rows. rows.items ≡ leaving_rows [] met.now) }
+// The rows that have the number of a step leave.
+fn leaving_rows(alloc: Global, numbers: &[u64]) -> Result<Leaving, NoMemory>
+    ensures { IfOk result (LeaveNumbered numbers.now) }
 {
-    let mut rows = Vec::new(alloc);
-    for m in met {
-        if let Some(choice) = m.choice {
-            if let Some(place) = place_after(&rows, choice.0) {
-                rows.push(place)?;
-            }
-        }
+    let mut leaving = Leaving {
+        places: Vec::with_capacity(alloc, numbers.len())?,
+        count: 0,
+    };
+    for number in numbers {
+        push_place(&mut leaving, *number != NONE)?;
     }
-    Ok(rows)
+    Ok(leaving)
 }
 
-// The columns that leave, each by its number at its moment.
-fn indices_in_turn(alloc: Global, met: &[Met]) -> Result<Vec<u64>, NoMemory>
-    ensures { IfOk result (λ indices. indices.items ≡ leaving_indices 0 met.now) }
+// The columns that have a choice leave.
+fn leaving_columns(alloc: Global, met: &[Met]) -> Result<Leaving, NoMemory>
+    ensures { IfOk result (ArePlacesAfter (indices_in_turn 0 met.now)) }
 {
-    let mut indices = Vec::new(alloc);
-    let mut kept: u64 = 0;
+    let mut leaving = Leaving {
+        places: Vec::with_capacity(alloc, met.len())?,
+        count: 0,
+    };
     for m in met {
-        match m.choice {
-            None => kept += 1,
-            Some(_) => indices.push(kept)?,
-        }
+        push_place(&mut leaving, m.choice.is_some())?;
     }
-    Ok(indices)
+    Ok(leaving)
 }
 
-// The kept columns after the steps that were made since, without the rows that leave, of which the map has `count` in all.
+// The kept columns after the steps that were made since, without the rows that leave.
 fn finish(
     alloc: Global,
     ring: &Ring,
     table: &StepTable,
-    rows: &[u64],
-    count: usize,
+    leaving: &Leaving,
     met: Vec<Met>,
 ) -> Result<VectList, VectStop>
+    requires leaving { (rows : List ℕ) × ArePlacesAfter rows leaving.now }
     requires steps { Each (IsStepOver ring.now) table.now.steps.items }
     requires numbered { AreNumbered table.now.numbers.items 0 table.now.steps.items }
     requires met { Each (IsMetOver ring.now table.now.steps.items) met.items }
-    ensures { IfOk result (AreFinished ring.now table.now.steps.items rows.now met.items) }
+    ensures { (rows : List ℕ) → ArePlacesAfter rows leaving.now
+        → IfOk result (AreFinished ring.now table.now.steps.items rows met.items) }
 {
     lawful_setting(ring);
-    let left = places(alloc, rows, count)?;
     let mut columns = Vec::with_capacity(alloc, met.len())?;
     let mut rest = VecDeque::from_vec(met);
     while let Some(next) = rest.pop_front() {
         match next.choice {
             None => match clear_since(alloc, ring, table, next.since, next.column) {
-                Ok(column) => columns.push(placed_vector(alloc, ring, &left, rows, column)?)?,
+                Ok(column) => columns.push(placed_vector(alloc, ring, leaving, column)?)?,
                 Err(stop) => return Err(stop),
             },
             Some(_) => {}
@@ -161,8 +162,7 @@ fn column_copy(alloc: Global, columns: &[Vect], number: usize) -> Result<Vect, N
     columns[number].try_copy(alloc)
 }
 
-/// What is left of a map's columns when their constants leave, each time the first one. The columns have these degrees; the map has
-/// `count` rows, and for so many a table is made.
+/// What is left of a map's columns when their constants leave, each time the first one. The columns have these degrees.
 ///
 /// The columns are met by degree, those of one degree in their order: the steps so far are applied to the column, and it is kept, or
 /// is the column of the next step. A step changes columns of its own degree and of greater ones alone, and the constants of columns of
@@ -172,7 +172,6 @@ fn column_copy(alloc: Global, columns: &[Vect], number: usize) -> Result<Vect, N
 pub(crate) fn pass(
     alloc: Global,
     ring: &Ring,
-    count: usize,
     degrees: &[u32],
     columns: &[Vect],
 ) -> Result<Passed, VectStop>
@@ -195,9 +194,9 @@ pub(crate) fn pass(
             Err(stop) => return Err(stop),
         }
     }
-    let rows = rows_in_turn(alloc, &met)?;
-    let indices = indices_in_turn(alloc, &met)?;
-    match finish(alloc, ring, &table, &rows, count, met) {
+    let rows = leaving_rows(alloc, &table.numbers)?;
+    let indices = leaving_columns(alloc, &met)?;
+    match finish(alloc, ring, &table, &rows, met) {
         Ok(columns) => Ok(Passed {
             columns,
             rows,

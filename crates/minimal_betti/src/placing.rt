@@ -1,13 +1,21 @@
 // Rows move up when others leave.
-ghost use Rattle.std.specs.Prelude.{◌≡◌, ◌++◌, ◌∷◌, ◌-◌, [], ℕ, IfOk, OnOk, cond, nat_lt};
+ghost use Rattle.std.specs.Prelude.{◌≡◌, ◌++◌, ◌∷◌, ◌-◌, ◌≤◌, [], List, ℕ, IfOk, OnOk, cond, length, nat_lt};
 ghost use Rattle.module_vectors.specs.Rings.{ring_comparison};
 ghost use Rattle.module_vectors.specs.Vectors.{IsVectorOver, sum_of};
-ghost use Rattle.minimal_betti.specs.Placing.{ArePlaces, place_after as left_place, placed};
-ghost use Rattle.minimal_betti.specs.Splitting.{without_all};
+ghost use Rattle.minimal_betti.specs.Placing.{ArePlacesAfter, IsPlacePut, keep_at, place_told, placed};
+ghost use Rattle.minimal_betti.specs.Splitting.{all_removed, without_all};
 
 use module_vectors::{Key, NoMemory, Ring, Vect};
 use std::alloc::Global;
 use std::collections::VecDeque;
+
+/// Rows, or columns, that leave: for each of the first numbers the place that is left to it, or none where it leaves, and how many
+/// leave. No number behind the table leaves.
+#[derive(Drop)]
+pub(crate) struct Leaving {
+    pub places: Vec<Option<u64>>,
+    pub count: u64,
+}
 
 /// The position that is left to one when the row leaves.
 pub(crate) fn lower_position(row: u64, position: u64) -> u64
@@ -19,57 +27,81 @@ pub(crate) fn lower_position(row: u64, position: u64) -> u64
     position.saturating_sub(1)
 }
 
-/// The place of the row when these leave in turn, or none where it is one of them.
-pub(crate) fn place_after(rows: &[u64], row: u64) -> Option<u64>
-    ensures { result ≡ left_place rows.now row }
+/// The next number behind the table leaves, or has its place.
+pub(crate) fn push_place(leaving: &mut Leaving, leaves: bool) -> Result<(), NoMemory>
+    requires { leaving.old.count ≤ length leaving.old.places.items }
+    ensures count { OnOk result (leaving.new.count ≤ length leaving.new.places.items) }
+    ensures put { OnOk result (IsPlacePut leaves leaving.old leaving.new) }
 {
-    let mut place = row;
-    for leaving in rows {
-        if place == *leaving {
-            return None;
-        }
-        place = lower_position(*leaving, place);
+    let number = leaving.places.len() as u64;
+    if leaves {
+        leaving.places.push(None)?;
+        leaving.count += 1;
+    } else {
+        leaving.places.push(Some(number - leaving.count))?;
     }
-    Some(place)
+    Ok(())
 }
 
-/// The places of the first rows, as many as `count` says, when these leave in turn.
-pub(crate) fn places(
+/// This row leaves, and no other.
+pub(crate) fn one_leaving(alloc: Global, row: u64) -> Result<Leaving, NoMemory>
+    ensures { IfOk result (ArePlacesAfter (row ∷ [])) }
+{
+    let mut leaving = Leaving {
+        places: Vec::new(alloc),
+        count: 0,
+    };
+    for _ in 0..row {
+        push_place(&mut leaving, false)?;
+    }
+    push_place(&mut leaving, true)?;
+    Ok(leaving)
+}
+
+/// The place that is left to the row, or none where it leaves.
+fn place_of(leaving: &Leaving, row: u64) -> Option<u64>
+    ensures { result ≡ place_told leaving.now row }
+{
+    if row < leaving.places.len() as u64 {
+        return leaving.places[row as usize];
+    }
+    Some(row.saturating_sub(leaving.count))
+}
+
+// Puts the item behind the others, where it has a place.
+fn put_item<T: Drop>(place: Option<u64>, item: T, kept: &mut Vec<T>) -> Result<(), NoMemory>
+    ensures { OnOk result (kept.new.items ≡ kept.old.items ++ keep_at place item []) }
+{
+    if place.is_some() {
+        kept.push(item)?;
+    }
+    Ok(())
+}
+
+/// The items that do not leave.
+pub(crate) fn kept_items<T: Drop>(
     alloc: Global,
-    rows: &[u64],
-    count: usize,
-) -> Result<Vec<Option<u64>>, NoMemory>
-    ensures { IfOk result (λ table. ArePlaces rows.now 0 table.items) }
+    leaving: &Leaving,
+    items: Vec<T>,
+) -> Result<Vec<T>, NoMemory>
+    ensures { (rows : List ℕ) → ArePlacesAfter rows leaving.now → IfOk result (λ kept. kept.items ≡ all_removed rows items.items) }
 {
-    let mut table = Vec::with_capacity(alloc, count)?;
-    for row in 0..count {
-        table.push(place_after(rows, row as u64))?;
+    let mut kept = Vec::with_capacity(alloc, items.len())?;
+    let mut rest = VecDeque::from_vec(items);
+    let mut number: u64 = 0;
+    while let Some(item) = rest.pop_front() {
+        put_item(place_of(leaving, number), item, &mut kept)?;
+        number += 1;
     }
-    Ok(table)
-}
-
-// The same place, from the table where it has the row.
-fn place_in(table: &[Option<u64>], rows: &[u64], row: u64) -> Option<u64>
-    requires { ArePlaces rows.now 0 table.now }
-    ensures { result ≡ left_place rows.now row }
-{
-    if row < table.len() as u64 {
-        return table[row as usize];
-    }
-    place_after(rows, row)
+    Ok(kept)
 }
 
 // Puts the term behind the others, where its row has a place.
-fn put(
-    table: &[Option<u64>],
-    rows: &[u64],
-    term: (Key, u32),
-    left: &mut Vec<(Key, u32)>,
-) -> Result<(), NoMemory>
-    requires { ArePlaces rows.now 0 table.now }
-    ensures { OnOk result (left.new.items ≡ left.old.items ++ placed rows.now (term ∷ [])) }
+fn put(leaving: &Leaving, term: (Key, u32), left: &mut Vec<(Key, u32)>) -> Result<(), NoMemory>
+    ensures { (rows : List ℕ) → ArePlacesAfter rows leaving.now
+        → OnOk result (left.new.items ≡ left.old.items ++ placed rows (term ∷ [])) }
 {
-    if let Some(position) = place_in(table, rows, term.0.position) {
+    if let Some(position) = place_of(leaving, term.0.position) {
         let key = Key {
             position,
             monomial: term.0.monomial,
@@ -79,23 +111,23 @@ fn put(
     Ok(())
 }
 
-/// The vector without the rows in turn; each of its terms is looked at once. The table has the places of the first rows.
+/// The vector without the rows that leave; each of its terms is looked at once.
 pub(crate) fn placed_vector(
     alloc: Global,
     ring: &Ring,
-    table: &[Option<u64>],
-    rows: &[u64],
+    leaving: &Leaving,
     v: Vect,
 ) -> Result<Vect, NoMemory>
-    requires places { ArePlaces rows.now 0 table.now }
+    requires leaving { (rows : List ℕ) × ArePlacesAfter rows leaving.now }
     requires vector { IsVectorOver ring.now (ring_comparison ring.now) v }
     ensures vector { IfOk result (IsVectorOver ring.now (ring_comparison ring.now)) }
-    ensures sum { (n : ℕ) → IfOk result (λ u. sum_of n u ≡ without_all rows.now (sum_of n v)) }
+    ensures sum { (n : ℕ) (rows : List ℕ) → ArePlacesAfter rows leaving.now
+        → IfOk result (λ u. sum_of n u ≡ without_all rows (sum_of n v)) }
 {
     let mut left = Vec::with_capacity(alloc, v.terms().len())?;
     let mut rest = VecDeque::from_vec(v.into_terms());
     while let Some(term) = rest.pop_front() {
-        put(table, rows, term, &mut left)?;
+        put(leaving, term, &mut left)?;
     }
     Ok(Vect::from_ordered(ring, left))
 }

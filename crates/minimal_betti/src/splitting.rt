@@ -11,6 +11,7 @@ use crate::carried::Carried;
 use crate::clearing::{cleared_vector, vector_without};
 use crate::constants::Constant;
 use crate::leaving::{drop_degree, leave_former, leave_next};
+use crate::placing::one_leaving;
 use crate::stopping::splitting_stop;
 use module_vectors::{Ring, Vect, VectList, WorkStop, lawful_setting};
 use std::alloc::Global;
@@ -145,7 +146,7 @@ pub(crate) fn cancel(
         Ok(split) => split,
         Err(stop) => return Err(stop),
     };
-    leave_next(alloc, ring, &[at.column as u64], 0, rest)?;
-    leave_former(positions, done, &[at.row])?;
+    leave_next(alloc, ring, &one_leaving(alloc, at.column as u64)?, rest)?;
+    leave_former(alloc, &one_leaving(alloc, at.row)?, positions, done)?;
     Ok(split)
 }

@@ -3,7 +3,7 @@ ghost use Rattle.std.specs.Prelude.{◌≡◌, ◌<◌, ◌≤◌, ◌⊎◌, �
 ghost use Rattle.formal_sums.specs.FormalSums.{Each};
 ghost use Rattle.module_vectors.specs.Rings.{ring_comparison, variables};
 ghost use Rattle.module_vectors.specs.Vectors.{IsVectorOver, StandsFor, sum_of};
-ghost use Rattle.minimal_betti.specs.Passing.{AreNumbered, IsStepOver, cleared_all};
+ghost use Rattle.minimal_betti.specs.Passing.{AreNumbered, HaveNoOthers, IsStepOver, cleared_all};
 
 use crate::clearing::cleared_vector;
 use module_vectors::{NoMemory, Ring, Vect, VectStop, lawful_setting};
@@ -114,8 +114,10 @@ fn number_row(numbers: &mut Vec<u64>, row: u64, number: u64) -> Result<(), NoMem
 /// Puts the step behind the others; they have other rows.
 pub(crate) fn push_step(table: &mut StepTable, step: Step) -> Result<(), NoMemory>
     requires numbered { AreNumbered table.old.numbers.items 0 table.old.steps.items }
+    requires others { HaveNoOthers table.old.numbers.items table.old.steps.items }
     requires other { Each (λ s. s.row ≡ step.row → ⊥) table.old.steps.items }
     ensures numbered { OnOk result (AreNumbered table.new.numbers.items 0 table.new.steps.items) }
+    ensures others { OnOk result (HaveNoOthers table.new.numbers.items table.new.steps.items) }
     ensures steps { OnOk result (table.new.steps.items ≡ table.old.steps.items ++ step ∷ []) }
 {
     let number = table.steps.len() as u64;

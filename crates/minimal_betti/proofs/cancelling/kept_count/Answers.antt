@@ -11,7 +11,8 @@ returns-then-not-is_empty c = λ n.
     let pos : 0 < k = omega arith in
     let m = get_or maps (k - 1) c.index-maps-kept.result in
     c.loop-kept.invariant.is n
-    ∙ kept_full n maps k m pos b (get_or_default maps (k - 1) c.index-maps-kept.result m (omega (arith, pos, b))) (some_columns m.columns c.if-not-is_empty.ensures)
+    ∙ kept_full n maps k m pos b (get_or_default maps (k - 1) c.index-maps-kept.result m (omega (arith, pos, b)))
+    (some_columns m.columns c.if-not-is_empty.ensures)
 
 pub loop-kept-preserved : goal.loop-kept-preserved
 loop-kept-preserved c =
@@ -23,5 +24,6 @@ loop-kept-preserved c =
     record {
       bound = omega (arith, b);
       is = λ n. c.loop-kept.invariant.is n
-          ∙ kept_less n maps k m pos b (get_or_default maps (k - 1) c.index-maps-kept.result m (omega (arith, pos, b))) (no_columns m.columns c.if-not-is_empty.ensures);
+          ∙ kept_less n maps k m pos b (get_or_default maps (k - 1) c.index-maps-kept.result m (omega (arith, pos, b)))
+          (no_columns m.columns c.if-not-is_empty.ensures);
     }

@@ -19,7 +19,10 @@ cancelled_maps-requires c =
     let above : 1 < ring.modulus.value = (c.lawful_setting.ensures 0).domain.above_one in
     let start = reverse c.in_ok-maps.maps.items in
     let carried = subst (λ z. AreCarried ring z start) c.deref-2.ensures.value c.in_ok-maps.ensures in
-    record { underway = start_underway ring (omega (arith, above)) c.args.resolution.now start c.in_ok-positions.positions.items c.requires carried (c.in_ok-positions.ensures.items ∙ c.deref.ensures.value) }
+    record {
+      underway = start_underway ring (omega (arith, above)) c.args.resolution.now start c.in_ok-positions.positions.items c.requires carried
+          (c.in_ok-positions.ensures.items ∙ c.deref.ensures.value);
+    }
 
 pub returns-in_ok-resolution_of-in-Ok-clause-cancelled : goal.returns-in_ok-resolution_of-in-Ok-clause-cancelled
 returns-in_ok-resolution_of-in-Ok-clause-cancelled c =
@@ -28,7 +31,8 @@ returns-in_ok-resolution_of-in-Ok-clause-cancelled c =
     let carried = subst (λ z. AreCarried ring z start) c.deref-2.ensures.value c.in_ok-maps.ensures in
     let rows = c.cancelled_maps.new.positions.items in
     let left = c.in-Ok.left.items in
-    let leads = subst (λ z. LeadsTo ring.modulus.value (graded_maps ring z start) (graded_maps ring rows left)) (c.in_ok-positions.ensures.items ∙ c.deref.ensures.value) c.in-Ok.ensures.leads in
+    let leads = subst (λ z. LeadsTo ring.modulus.value (graded_maps ring z start) (graded_maps ring rows left))
+    (c.in_ok-positions.ensures.items ∙ c.deref.ensures.value) c.in-Ok.ensures.leads in
     let x = c.in_ok-resolution_of-in-Ok.ensures.columns in
     cancellation_result ring (c.lawful_setting.ensures 0) c.args.resolution.now c.requires start carried rows left x.0 leads c.in-Ok.ensures.underway x.3 x.2
     c.in_ok-resolution_of-in-Ok.field-0 c.in_ok-resolution_of-in-Ok.ensures.positions x.1
@@ -40,7 +44,8 @@ returns-in_ok-resolution_of-in-Ok-clause-minimal c =
     let carried = subst (λ z. AreCarried ring z start) c.deref-2.ensures.value c.in_ok-maps.ensures in
     let rows = c.cancelled_maps.new.positions.items in
     let left = c.in-Ok.left.items in
-    let leads = subst (λ z. LeadsTo ring.modulus.value (graded_maps ring z start) (graded_maps ring rows left)) (c.in_ok-positions.ensures.items ∙ c.deref.ensures.value) c.in-Ok.ensures.leads in
+    let leads = subst (λ z. LeadsTo ring.modulus.value (graded_maps ring z start) (graded_maps ring rows left))
+    (c.in_ok-positions.ensures.items ∙ c.deref.ensures.value) c.in-Ok.ensures.leads in
     let x = c.in_ok-resolution_of-in-Ok.ensures.columns in
     minimal_result ring (c.lawful_setting.ensures 0) c.args.resolution.now c.requires start carried rows left x.0 leads c.in-Ok.ensures.underway x.3 x.2
     c.in_ok-resolution_of-in-Ok.field-0 c.in_ok-resolution_of-in-Ok.ensures.positions x.1
@@ -52,7 +57,8 @@ returns-in_ok-resolution_of-in-Ok-clause-presents c = λ places A h.
     let carried = subst (λ z. AreCarried ring z start) c.deref-2.ensures.value c.in_ok-maps.ensures in
     let rows = c.cancelled_maps.new.positions.items in
     let left = c.in-Ok.left.items in
-    let leads = subst (λ z. LeadsTo ring.modulus.value (graded_maps ring z start) (graded_maps ring rows left)) (c.in_ok-positions.ensures.items ∙ c.deref.ensures.value) c.in-Ok.ensures.leads in
+    let leads = subst (λ z. LeadsTo ring.modulus.value (graded_maps ring z start) (graded_maps ring rows left))
+    (c.in_ok-positions.ensures.items ∙ c.deref.ensures.value) c.in-Ok.ensures.leads in
     let x = c.in_ok-resolution_of-in-Ok.ensures.columns in
     presents_result ring (c.lawful_setting.ensures 0) c.args.resolution.now c.requires start carried rows left x.0 leads c.in-Ok.ensures.underway x.3 x.2
     c.in_ok-resolution_of-in-Ok.field-0 c.in_ok-resolution_of-in-Ok.ensures.positions x.1 places A h
@@ -64,7 +70,8 @@ returns-in_ok-resolution_of-in-Ok-clause-vectors c =
     let carried = subst (λ z. AreCarried ring z start) c.deref-2.ensures.value c.in_ok-maps.ensures in
     let rows = c.cancelled_maps.new.positions.items in
     let left = c.in-Ok.left.items in
-    let leads = subst (λ z. LeadsTo ring.modulus.value (graded_maps ring z start) (graded_maps ring rows left)) (c.in_ok-positions.ensures.items ∙ c.deref.ensures.value) c.in-Ok.ensures.leads in
+    let leads = subst (λ z. LeadsTo ring.modulus.value (graded_maps ring z start) (graded_maps ring rows left))
+    (c.in_ok-positions.ensures.items ∙ c.deref.ensures.value) c.in-Ok.ensures.leads in
     let x = c.in_ok-resolution_of-in-Ok.ensures.columns in
     vectors_result ring (c.lawful_setting.ensures 0) c.args.resolution.now c.requires start carried rows left x.0 leads c.in-Ok.ensures.underway x.3 x.2
     c.in_ok-resolution_of-in-Ok.field-0 c.in_ok-resolution_of-in-Ok.ensures.positions x.1

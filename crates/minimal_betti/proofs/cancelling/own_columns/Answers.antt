@@ -10,9 +10,12 @@ pub loop-v-preserved : goal.loop-v-preserved
 loop-v-preserved c =
     let ring = c.args.ring.now in
     record {
-      same = image_pushed ring (λ (v : FormalSum (variables ring)). v) c.as_slice-v-items.result.now c.loop-v.v-index c.v-item.result c.loop-v.own.items c.push.new.self.items c.in_ok-in_own_order.field-0
+      same = image_pushed ring
+          (λ (v : FormalSum (variables ring)). v) c.as_slice-v-items.result.now c.loop-v.v-index c.v-item.result c.loop-v.own.items c.push.new.self.items
+          c.in_ok-in_own_order.field-0
           (omega arith) c.v-item.is c.loop-v.invariant.same c.in_ok-in_own_order.ensures.sum c.in_ok-push.ensures.items;
-      vectors = vectors_pushed ring c.loop-v.own.items c.push.new.self.items c.in_ok-in_own_order.field-0 c.loop-v.invariant.vectors c.in_ok-in_own_order.ensures.vector c.in_ok-push.ensures.items;
+      vectors = vectors_pushed ring c.loop-v.own.items c.push.new.self.items c.in_ok-in_own_order.field-0 c.loop-v.invariant.vectors
+          c.in_ok-in_own_order.ensures.vector c.in_ok-push.ensures.items;
     }
 
 pub returns : goal.returns

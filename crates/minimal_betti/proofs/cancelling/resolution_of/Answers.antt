@@ -22,4 +22,5 @@ joined_maps-requires-clause-positions c =
     let k = c.kept_count-count.result in
     subst₂ (λ r z. HavePositions r z) (ap length (sym c.deref-2.ensures.value)) (sym c.in_ok-columns.ensures)
     (subst (λ ms. HavePositions (length rows) (map (λ m. m.columns) ms)) (sym c.truncate.ensures.items)
-    (positions_are ring (c.lawful_setting.ensures 0) rows (take k c.args.maps.items) (ordered_take ring k c.args.maps.items c.requires.ordered) (graded_take ring rows k c.args.maps.items c.requires.graded)))
+    (positions_are ring (c.lawful_setting.ensures 0) rows (take k c.args.maps.items) (ordered_take ring k c.args.maps.items c.requires.ordered)
+    (graded_take ring rows k c.args.maps.items c.requires.graded)))

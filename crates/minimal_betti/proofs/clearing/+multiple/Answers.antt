@@ -5,10 +5,22 @@ use Rattle.minimal_betti.proofs.Clearings.{multiple_halves}
 use Rattle.minimal_betti.proofs.clearing.+multiple.Goals as goal
 
 pub multiple-requires : goal.multiple-requires
-multiple-requires t c = (search rules, (c.requires.inverse, (c.requires.column, subst (AreTermsOver c.args.ring.now) (sym c.split_at.ensures.front) (Each_take _ _ c.args.terms.now c.requires.terms))))
+multiple-requires t c = (
+  search rules,
+  (
+    c.requires.inverse,
+    (c.requires.column, subst (AreTermsOver c.args.ring.now) (sym c.split_at.ensures.front) (Each_take _ _ c.args.terms.now c.requires.terms)),
+  ),
+)
 
 pub multiple-requires-2 : goal.multiple-requires-2
-multiple-requires-2 t c = (search rules, (c.requires.inverse, (c.requires.column, subst (AreTermsOver c.args.ring.now) (sym c.split_at.ensures.back) (Each_drop _ _ c.args.terms.now c.requires.terms))))
+multiple-requires-2 t c = (
+  search rules,
+  (
+    c.requires.inverse,
+    (c.requires.column, subst (AreTermsOver c.args.ring.now) (sym c.split_at.ensures.back) (Each_drop _ _ c.args.terms.now c.requires.terms)),
+  ),
+)
 
 pub returns-clause-sum : goal.returns-clause-sum
 returns-clause-sum t c =

@@ -11,4 +11,5 @@ loop-term-preserved c =
 
 pub returns : goal.returns
 returns c =
-    subst (λ v. IsLeastUnit v c.loop-term.least) (take_all c.loop-term.term-index c.terms-term-items.result.now (omega arith) ∙ c.terms-term-items.ensures) c.loop-term.invariant
+    subst (λ v. IsLeastUnit v c.loop-term.least)
+    (take_all c.loop-term.term-index c.terms-term-items.result.now (omega arith) ∙ c.terms-term-items.ensures) c.loop-term.invariant

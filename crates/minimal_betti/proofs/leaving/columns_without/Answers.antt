@@ -9,9 +9,10 @@ loop-v-init c =
     let ring = c.args.ring.now in
     let all = c.from_vec-rest.ensures.items ∙ c.into_vec.ensures in
     record {
-      same = columns_start (variables ring) c.args.rows.now c.args.columns c.in_ok-without.without.items c.from_vec-rest.result.items c.in_ok-without.ensures.items all;
+      same = λ rows h. columns_start (variables ring) rows c.args.columns c.in_ok-without.without.items c.from_vec-rest.result.items
+          c.in_ok-without.ensures.items all;
       vectors = subst (AreVectorsOver ring (ring_comparison ring)) (sym c.in_ok-without.ensures.items) tt;
-      left = subst (AreVectorsOver ring (ring_comparison ring)) (sym all) c.requires;
+      left = subst (AreVectorsOver ring (ring_comparison ring)) (sym all) c.requires.vectors;
     }
 
 pub placed_vector-requires-clause-vector : goal.placed_vector-requires-clause-vector
@@ -24,14 +25,18 @@ loop-v-preserved c =
     let ring = c.args.ring.now in
     let rest = subst (AreVectorsOver ring (ring_comparison ring)) c.in-Some.ensures.items c.loop-v.invariant.left in
     record {
-      same = columns_more (variables ring) c.args.rows.now c.args.columns c.loop-v.without.items c.push.new.self.items c.loop-v.rest.items c.pop_front.new.self.items c.in-Some.v c.in_ok-placed_vector.field-0
-          c.loop-v.invariant.same c.in-Some.ensures.items (c.in_ok-placed_vector.ensures.sum (variables ring)) c.in_ok-push.ensures.items;
-      vectors = vectors_pushed ring c.loop-v.without.items c.push.new.self.items c.in_ok-placed_vector.field-0 c.loop-v.invariant.vectors c.in_ok-placed_vector.ensures.vector c.in_ok-push.ensures.items;
+      same = λ rows h.
+          columns_more (variables ring) rows c.args.columns c.loop-v.without.items c.push.new.self.items c.loop-v.rest.items c.pop_front.new.self.items
+          c.in-Some.v c.in_ok-placed_vector.field-0 (c.loop-v.invariant.same rows h) c.in-Some.ensures.items
+          (c.in_ok-placed_vector.ensures.sum (variables ring) rows h) c.in_ok-push.ensures.items;
+      vectors = vectors_pushed ring c.loop-v.without.items c.push.new.self.items c.in_ok-placed_vector.field-0 c.loop-v.invariant.vectors
+          c.in_ok-placed_vector.ensures.vector c.in_ok-push.ensures.items;
       left = rest.1;
     }
 
 pub returns : goal.returns
-returns c =
+returns c = λ rows h.
     let ring = c.args.ring.now in
     let none : c.loop-v.rest.items ≡ [] = search rules in
-    columns_done ring c.args.rows.now c.args.columns c.loop-v.without.items c.loop-v.rest.items c.from_vec.result none c.from_vec.ensures c.loop-v.invariant.vectors c.loop-v.invariant.same
+    columns_done ring rows c.args.columns c.loop-v.without.items c.loop-v.rest.items c.from_vec.result none c.from_vec.ensures c.loop-v.invariant.vectors
+    (c.loop-v.invariant.same rows h)

@@ -1,13 +1,17 @@
-use Rattle.std.proofs.Common.{map, ◌++◌, ◌≡◌}
+use Rattle.std.proofs.Common.{List, map, ℕ, ◌++◌, ◌≡◌}
 use Rattle.std.specs.VecDeque.{deque_len}
 use Rattle.module_vectors.specs.Rings.{ring_comparison, variables}
 use Rattle.module_vectors.specs.Vectors.{AreVectorsOver, sums_of}
+use Rattle.minimal_betti.specs.Placing.{ArePlacesAfter}
 use Rattle.minimal_betti.specs.Splitting.{without_all}
 use Rattle.minimal_betti.proofs.leaving.columns_without.Given as goal
 
 abbrev pub invariant-loop-v : goal.invariant-loop-v
 invariant-loop-v l = record {
-  same : sums_of (variables l.ring) l.without.items ++ map (λ w. without_all l.rows w) (sums_of (variables l.ring) l.rest.items) ≡ map (λ w. without_all l.rows w) (sums_of (variables l.ring) l.fn.columns);
+  same :
+      (rows : List ℕ) → ArePlacesAfter rows l.leaving
+      → sums_of (variables l.ring) l.without.items ++ map (λ w. without_all rows w) (sums_of (variables l.ring) l.rest.items)
+      ≡ map (λ w. without_all rows w) (sums_of (variables l.ring) l.fn.columns);
   vectors : AreVectorsOver l.ring (ring_comparison l.ring) l.without.items;
   left : AreVectorsOver l.ring (ring_comparison l.ring) l.rest.items;
 }

@@ -15,12 +15,16 @@ loop-next-preserved-in_ok-push-in-Ok c =
     let p = ring.modulus.value in
     let above : 1 < p = (c.lawful_setting.ensures 0).domain.above_one in
     let steps = c.args.table.now.steps.items in
-    let rows = c.args.rows.now in
     let left = subst (Each (IsMetOver ring steps)) c.in-Some.ensures.items c.loop-next.invariant.left in
-    let stands = IsSame_trans (IsSame_of p _ _ (c.in_ok-placed_vector-in-Ok.ensures.sum n)) (without_all_same (omega (arith, above)) rows _ _ c.in-Ok.ensures.sum) in
     record {
-      same = finish_more ring steps rows c.args.met.items c.loop-next.rest.items c.pop_front.new.self.items c.in-Some.next c.loop-next.columns.items c.push.new.self.items c.in_ok-placed_vector-in-Ok.field-0
-          c.loop-next.invariant.same c.in-Some.ensures.items c.in-None.is stands c.in_ok-push-in-Ok.ensures.items;
-      vectors = vectors_pushed ring c.loop-next.columns.items c.push.new.self.items c.in_ok-placed_vector-in-Ok.field-0 c.loop-next.invariant.vectors c.in_ok-placed_vector-in-Ok.ensures.vector c.in_ok-push-in-Ok.ensures.items;
+      same = λ rows h.
+          let stands = IsSame_trans (IsSame_of p _ _ (c.in_ok-placed_vector-in-Ok.ensures.sum n rows h))
+          (without_all_same (omega (arith, above)) rows _ _ c.in-Ok.ensures.sum)
+          in
+          finish_more ring steps rows c.args.met.items c.loop-next.rest.items c.pop_front.new.self.items c.in-Some.next c.loop-next.columns.items
+          c.push.new.self.items c.in_ok-placed_vector-in-Ok.field-0 (c.loop-next.invariant.same rows h) c.in-Some.ensures.items c.in-None.is stands
+          c.in_ok-push-in-Ok.ensures.items;
+      vectors = vectors_pushed ring c.loop-next.columns.items c.push.new.self.items c.in_ok-placed_vector-in-Ok.field-0 c.loop-next.invariant.vectors
+          c.in_ok-placed_vector-in-Ok.ensures.vector c.in_ok-push-in-Ok.ensures.items;
       left = left.1;
     }

@@ -1,4 +1,4 @@
-use Rattle.minimal_betti.specs.Passing.{AreNumbered}
+use Rattle.minimal_betti.specs.Passing.{AreNumbered, HaveNoOthers}
 use Rattle.minimal_betti.proofs.Passes.{AreMet}
 use Rattle.minimal_betti.proofs.one_pass.pass.Given as goal
 
@@ -6,4 +6,5 @@ abbrev pub invariant-loop-k : goal.invariant-loop-k
 invariant-loop-k l = record {
   met : AreMet l.ring l.columns l.order.items l.k l.table.steps.items l.met.items;
   numbered : AreNumbered l.table.numbers.items 0 l.table.steps.items;
+  others : HaveNoOthers l.table.numbers.items l.table.steps.items;
 }

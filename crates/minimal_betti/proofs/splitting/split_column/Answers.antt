@@ -14,9 +14,11 @@ pub splitting_stop-requires-clause-stop : goal.splitting_stop-requires-clause-st
 splitting_stop-requires-clause-stop c =
     let columns = c.args.columns.now in
     let x = c.index-as_slice-at.result in
-    let at = c.index-as_slice-at.is ∙ ap (λ l. get_or l c.args.at.column x) c.as_slice.ensures ∙ get_or_default columns c.args.at.column x [] c.requires.inside in
+    let at = c.index-as_slice-at.is ∙ ap (λ l. get_or l c.args.at.column x) c.as_slice.ensures
+    ∙ get_or_default columns c.args.at.column x [] c.requires.inside in
     let y = c.index-as_slice-i.result in
-    let other = c.in_ok-v.ensures ∙ c.index-as_slice-i.is ∙ ap (λ l. get_or l c.args.i y) c.as_slice-2.ensures ∙ get_or_default columns c.args.i y [] c.requires.index in
+    let other = c.in_ok-v.ensures ∙ c.index-as_slice-i.is ∙ ap (λ l. get_or l c.args.i y) c.as_slice-2.ensures
+    ∙ get_or_default columns c.args.i y [] c.requires.index in
     subst₂ (λ w v. ClearingStops c.args.at.row w v c.in-Err.stop) at other c.in-Err.ensures.stop
 
 pub returns-in-Ok-clause-sum : goal.returns-in-Ok-clause-sum
@@ -27,9 +29,11 @@ returns-in-Ok-clause-sum c =
     let above : 1 < p = (c.lawful_setting.ensures 0).domain.above_one in
     let x = c.index-as_slice-at.result in
     let columns = c.args.columns.now in
-    let at = c.index-as_slice-at.is ∙ ap (λ l. get_or l c.args.at.column x) c.as_slice.ensures ∙ get_or_default columns c.args.at.column x [] c.requires.inside in
+    let at = c.index-as_slice-at.is ∙ ap (λ l. get_or l c.args.at.column x) c.as_slice.ensures
+    ∙ get_or_default columns c.args.at.column x [] c.requires.inside in
     let w = ap (sum_of n) at ∙ sym (sums_at n columns c.args.at.column) in
     let y = c.index-as_slice-i.result in
-    let other = c.in_ok-v.ensures ∙ c.index-as_slice-i.is ∙ ap (λ l. get_or l c.args.i y) c.as_slice-2.ensures ∙ get_or_default columns c.args.i y [] c.requires.index in
+    let other = c.in_ok-v.ensures ∙ c.index-as_slice-i.is ∙ ap (λ l. get_or l c.args.i y) c.as_slice-2.ensures
+    ∙ get_or_default columns c.args.i y [] c.requires.index in
     let h = subst₂ (λ z v. StandsFor ring c.in-Ok.cleared (cleared p c.args.at.row c.args.inverse z (sum_of n v))) w other c.in-Ok.ensures.sum in
     IsSame_trans (IsSame_of p _ _ (c.vector_without.ensures.sum n)) (linear_same (omega (arith, above)) (linear_without_row c.args.at.row) h)

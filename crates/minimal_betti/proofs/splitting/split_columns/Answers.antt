@@ -7,8 +7,10 @@ loop-i-init c = split_start c.args.ring.now c.args.inverse c.args.at c.args.colu
 
 pub loop-i-preserved : goal.loop-i-preserved
 loop-i-preserved c =
-    split_more c.args.ring.now c.args.inverse c.args.at c.args.columns.now c.loop-i.i c.loop-i.others.items c.push_other.new.others.items (omega arith) c.loop-i.invariant c.in-Ok.ensures.put
+    split_more c.args.ring.now c.args.inverse c.args.at c.args.columns.now c.loop-i.i c.loop-i.others.items c.push_other.new.others.items
+    (omega arith) c.loop-i.invariant c.in-Ok.ensures.put
 
 pub returns-clause-split : goal.returns-clause-split
 returns-clause-split c =
-    split_all c.args.ring.now c.args.inverse c.args.at c.args.columns.now c.loop-i.i c.loop-i.others.items c.from_vec.result (omega arith) c.from_vec.ensures c.loop-i.invariant
+    split_all c.args.ring.now c.args.inverse c.args.at c.args.columns.now c.loop-i.i c.loop-i.others.items c.from_vec.result
+    (omega arith) c.from_vec.ensures c.loop-i.invariant

@@ -16,7 +16,8 @@ returns-then-next-len-clause-sum c =
     subst (λ ns. Each (λ t. from ≤ get_or ns t.0.position 18446744073709551615 → next ≤ get_or ns t.0.position 18446744073709551615) c.loop-alloc.out)
     c.deref.ensures.value c.next_step-next.ensures.least
     in
-    next_none ring numbers c.args.table.now.steps.items from next c.loop-alloc.out _ c.requires.numbered c.next_step-next.ensures.from least c.loop-alloc.invariant.sum (omega arith)
+    next_none ring numbers c.args.table.now.steps.items from next c.loop-alloc.out _ c.requires.numbered c.next_step-next.ensures.from least
+    c.loop-alloc.invariant.sum (omega arith)
 
 pub loop-alloc-preserved : goal.loop-alloc-preserved
 loop-alloc-preserved c =

@@ -1,6 +1,6 @@
 use Rattle.std.proofs.Common.{arith, length, subst, sym, ◌+◌, ◌∙◌, ◌≡◌}
-use Rattle.minimal_betti.specs.Passing.{AreNumbered}
-use Rattle.minimal_betti.proofs.Numbering.{numbered_end}
+use Rattle.minimal_betti.specs.Passing.{AreNumbered, HaveNoOthers}
+use Rattle.minimal_betti.proofs.Numbering.{numbered_end, others_end}
 use Rattle.minimal_betti.proofs.steps.push_step.Goals as goal
 
 pub returns-clause-numbered : goal.returns-clause-numbered
@@ -10,3 +10,9 @@ returns-clause-numbered c =
     subst (AreNumbered c.number_row.new.numbers.items 0) (sym c.in_ok-push.ensures.items)
     (numbered_end c.args.table.now.numbers.items c.number_row.new.numbers.items 0 steps c.args.step c.requires.numbered c.requires.other
     (λ q ne. c.in_ok-number_row.ensures.others q ne) (c.in_ok-number_row.ensures.here ∙ number))
+
+pub returns-clause-others : goal.returns-clause-others
+returns-clause-others c =
+    subst (HaveNoOthers c.number_row.new.numbers.items) (sym c.in_ok-push.ensures.items)
+    (others_end c.args.table.now.numbers.items c.number_row.new.numbers.items c.args.table.now.steps.items c.args.step c.requires.others
+    (λ q ne. c.in_ok-number_row.ensures.others q ne))

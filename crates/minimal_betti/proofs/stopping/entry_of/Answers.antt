@@ -8,7 +8,8 @@ use Rattle.minimal_betti.proofs.stopping.entry_of.Goals as goal
 
 pub loop-term-preserved : goal.loop-term-preserved
 loop-term-preserved c =
-    row_more c.args.row c.terms-term-items.result.now c.loop-term.terms.items c.push_in_row.new.terms.items c.loop-term.term-index c.term-item.result (omega arith) c.term-item.is
+    row_more c.args.row c.terms-term-items.result.now c.loop-term.terms.items c.push_in_row.new.terms.items c.loop-term.term-index c.term-item.result
+    (omega arith) c.term-item.is
     c.loop-term.invariant c.in_ok-push_in_row.ensures
 
 pub from_ordered-requires : goal.from_ordered-requires

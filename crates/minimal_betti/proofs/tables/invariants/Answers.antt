@@ -13,7 +13,8 @@ loop-entry-preserved c =
     let parts = c.in_ok-first.ensures.cases in
     let lt : i < length rest = omega arith in
     let more = parts.1 in
-    read_next entries (i + 1) e c.loop-entry.found c.with_entry-found.result (omega (arith, lt, more)) (later_entry entries rest c.in_ok-first.first.now i _ parts.0 lt)
+    read_next entries (i + 1) e c.loop-entry.found c.with_entry-found.result (omega (arith, lt, more))
+    (later_entry entries rest c.in_ok-first.first.now i _ parts.0 lt)
     c.loop-entry.invariant c.with_entry-found.ensures.last_step c.with_entry-found.ensures.regularity
 
 pub returns-clause-last_step : goal.returns-clause-last_step

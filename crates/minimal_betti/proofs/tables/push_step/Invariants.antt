@@ -6,7 +6,8 @@ use Rattle.minimal_betti.proofs.tables.push_step.Given as goal
 abbrev pub invariant-loop-step : goal.invariant-loop-step
 invariant-loop-step l = record {
   bound : l.from ≤ 4294967296;
-  table : (counts : ℕ → ℕ → ℕ) → ((d : ℕ) → counts l.step d ≡ occurrences d l.degrees) → IsTableTo counts l.fn.entries.items l.step 0 → IsTableTo counts l.entries.items l.step l.from;
+  table : (counts : ℕ → ℕ → ℕ) → ((d : ℕ) → counts l.step d ≡ occurrences d l.degrees) → IsTableTo counts l.fn.entries.items l.step 0
+      → IsTableTo counts l.entries.items l.step l.from;
 }
 
 abbrev pub decreases-loop-step : goal.decreases-loop-step

@@ -20,7 +20,8 @@ loop-k-init c =
 pub column_degrees-requires : goal.column_degrees-requires
 column_degrees-requires c =
     let ring = c.args.ring.now in
-    columns_at (AreWeighed (variables ring) ring.weights) (λ m. m.columns) c.args.resolution.now.maps.items c.loop-k.k c.index-map.result.now c.requires.weighed (omega arith) c.index-map.ensures
+    columns_at (AreWeighed (variables ring) ring.weights)
+    (λ m. m.columns) c.args.resolution.now.maps.items c.loop-k.k c.index-map.result.now c.requires.weighed (omega arith) c.index-map.ensures
 
 pub loop-k-preserved : goal.loop-k-preserved
 loop-k-preserved c =
@@ -34,10 +35,12 @@ loop-k-preserved c =
     let s = c.in_ok-step_above.field-0 in
     let es : s ≡ k + 1 = c.in_ok-step_above.ensures in
     let next : k + 1 ≡ suc k = omega arith in
-    let degrees = ap (λ z. degrees_of ring z m.columns) (sym c.deref-in-loop-k.ensures.value) ∙ sym c.in_ok-degrees.ensures ∙ sym c.deref-in-loop-k-2.ensures.value in
+    let degrees = ap (λ z. degrees_of ring z m.columns) (sym c.deref-in-loop-k.ensures.value) ∙ sym c.in_ok-degrees.ensures
+    ∙ sym c.deref-in-loop-k-2.ensures.value in
     subst (λ z. IsTableTo counts c.push_step-in-loop-k.new.entries.items (z + 1) 0) es
     (c.in_ok-push_step-2.ensures counts
-    (λ d. ap (λ z. counts z d) (es ∙ next) ∙ step_joined ring r.positions.items r.maps.items k d m c.requires.joined lt c.index-map.ensures ∙ ap (occurrences d) degrees)
+    (λ d. ap (λ z. counts z d) (es ∙ next) ∙ step_joined ring r.positions.items r.maps.items k d m c.requires.joined lt c.index-map.ensures
+    ∙ ap (occurrences d) degrees)
     (subst (λ z. IsTableTo counts c.loop-k.entries.items z 0) (sym es) c.loop-k.invariant))
 
 pub returns-clause-counts : goal.returns-clause-counts

@@ -1,9 +1,0 @@
-use Rattle.std.proofs.Common.{arith, ◌∙◌}
-use Rattle.minimal_betti.proofs.Columns.{removed_is, removed_past}
-use Rattle.minimal_betti.proofs.leaving.drop_column.Goals as goal
-
-pub returns-then-at-len : goal.returns-then-at-len
-returns-then-at-len c = c.remove.ensures.items ∙ removed_is c.args.columns.now.items c.args.at (omega arith)
-
-pub returns-else-at-len : goal.returns-else-at-len
-returns-else-at-len c = removed_past c.args.columns.now.items c.args.at (omega arith)

@@ -1,6 +1,0 @@
-use Rattle.std.proofs.Common.{drop, ◌≡◌}
-use Rattle.minimal_betti.specs.Splitting.{all_removed}
-use Rattle.minimal_betti.proofs.leaving.drop_columns.Given as goal
-
-abbrev pub invariant-loop-at : goal.invariant-loop-at
-invariant-loop-at l = all_removed (drop l.at-index l.places) l.vectors.items ≡ all_removed l.places l.fn.columns
