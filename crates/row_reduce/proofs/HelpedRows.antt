@@ -23,7 +23,7 @@ use Rattle.row_reduce.specs.LostRows.{AreClaimed, IsLost, IsReplaced, numbers}
 use Rattle.row_reduce.specs.Passes.{AreAsTold, AreHelped, Follows, IsGone, IsLeftOf, IsPass, IsRest, IsTold, Names, leads_of, named, places, rows_left}
 use Rattle.row_reduce.specs.Pivots.{ArePivots, lead_column, no_row, row_at}
 use Rattle.row_reduce.specs.Underway.{AreCombined, AreIdle, IsSpanned}
-use Rattle.row_reduce.specs.declared.helping.Lost.{Lost}
+use Rattle.row_reduce.specs.declared.lefts.Lost.{Lost}
 use Rattle.row_reduce.specs.declared.lefts.Left.{Left}
 
 -- the row has its column
@@ -40,16 +40,16 @@ IsInside p rows words own m = IsSpanned p (named rows words ++ own) (row_at rows
 
 -- ---- rows in the span of rows
 -- what rows of the span span
-spanned_through : (p : ℕ) (A B : List RowShown) (r : RowShown) → Each (IsSpanned p B) A → IsSpanned p A r → IsSpanned p B r
+pub spanned_through : (p : ℕ) (A B : List RowShown) (r : RowShown) → Each (IsSpanned p B) A → IsSpanned p A r → IsSpanned p B r
 spanned_through p A B r h s n key = span_through key B A (row_sum key r.entries) (λ i lt. Each_member (IsSpanned p B) A i no_row h lt n key) (s n key)
 
-spanned_left : (p : ℕ) (A B : List RowShown) (r : RowShown) → IsSpanned p A r → IsSpanned p (A ++ B) r
+pub spanned_left : (p : ℕ) (A B : List RowShown) (r : RowShown) → IsSpanned p A r → IsSpanned p (A ++ B) r
 spanned_left p A B r s n key = span_left key A B (row_sum key r.entries) (s n key)
 
 spanned_right : (p : ℕ) (A B : List RowShown) (r : RowShown) → IsSpanned p B r → IsSpanned p (A ++ B) r
 spanned_right p A B r s n key = span_right key A B (row_sum key r.entries) (s n key)
 
-spanned_rows : (p : ℕ) (A : List RowShown) → Each (IsSpanned p A) A
+pub spanned_rows : (p : ℕ) (A : List RowShown) → Each (IsSpanned p A) A
 spanned_rows p [] = tt
 spanned_rows p (a ∷ A) = (
   (λ n key. span_at key (a ∷ A) 0 (omega arith)),
@@ -57,7 +57,7 @@ spanned_rows p (a ∷ A) = (
 )
 
 -- with more rows left
-spanned_more : (p : ℕ) (A B C : List RowShown) (r : RowShown) → IsSpanned p (A ++ B) r → IsSpanned p (A ++ (B ++ C)) r
+pub spanned_more : (p : ℕ) (A B C : List RowShown) (r : RowShown) → IsSpanned p (A ++ B) r → IsSpanned p (A ++ (B ++ C)) r
 spanned_more p A B C r s = subst (λ X. IsSpanned p X r) (append_assoc A B C) (spanned_left p (A ++ B) C r s)
 
 spanned_before : (p : ℕ) (A B C : List RowShown) (r : RowShown) → IsSpanned p (A ++ C) r → IsSpanned p (A ++ (B ++ C)) r
@@ -109,17 +109,17 @@ told_now rows leads old new answer number k known lt is names after =
 lost_stays : (rows : List RowShown) (old new : List Told) (l : Lost) → Follows old new → IsLost rows old l → IsLost rows new l
 lost_stays rows old new l f h = record { known = h.known; other = h.other; held = told_stays rows old new (lead_column rows l.number) l.winner f h.held }
 
-all_lost_stay :
+pub all_lost_stay :
     (rows : List RowShown) (old new : List Told) (lost : List Lost) → Follows old new → Each (IsLost rows old) lost
     → Each (IsLost rows new) lost
 all_lost_stay rows old new lost f h = Each_map (IsLost rows old) (IsLost rows new) lost (λ l. lost_stays rows old new l f) h
 
-told_after : (words : List (Option ℕ)) (told more : List Told) → AreAsTold words (told ++ more) → AreAsTold words more
+pub told_after : (words : List (Option ℕ)) (told more : List Told) → AreAsTold words (told ++ more) → AreAsTold words more
 told_after words [] more a = a
 told_after words (e ∷ told) more a =
     told_after words told more (All-tail (λ (x : Told). (k : ℕ) → x.after ≡ k + 1 → Names words x.column k) e (told ++ more) a)
 
-item_taken : {X : Type 0} (xs : List X) (i : ℕ) (d : X) → i < length xs → take (i + 1) xs ≡ take i xs ++ get_or xs i d ∷ []
+pub item_taken : {X : Type 0} (xs : List X) (i : ℕ) (d : X) → i < length xs → take (i + 1) xs ≡ take i xs ++ get_or xs i d ∷ []
 item_taken xs i d lt = take_item xs i (get_or xs i d) lt (get_or_default xs i d (get_or xs i d) lt)
 
 put_between : (xs ys : List ℕ) (m : ℕ) → IsPermutation (m ∷ (xs ++ ys)) ((xs ++ m ∷ []) ++ ys)
@@ -211,7 +211,7 @@ dealt_below bound mine others last same h =
 
 -- ---- helped rows
 -- an exchange of the second and the third part
-exchanged : (a b c d : List ℕ) → IsPermutation ((a ++ b) ++ (c ++ d)) ((a ++ c) ++ (b ++ d))
+pub exchanged : (a b c d : List ℕ) → IsPermutation ((a ++ b) ++ (c ++ d)) ((a ++ c) ++ (b ++ d))
 exchanged a b c d =
     subst₂ IsPermutation (inner a b c d) (inner a c b d)
     (IsPermutation-append_right a ((b ++ c) ++ d) ((c ++ b) ++ d) (IsPermutation-append_left d (b ++ c) (c ++ b) (IsPermutation-append_comm b c)))
@@ -237,7 +237,7 @@ module _ (p columns inputs : ℕ) (rows : List RowShown) where
   }
 
   -- more is told
-  helped_known :
+  pub helped_known :
       (mine : List ℕ) (old new : List Told) (left : List Left) → ((words : List (Option ℕ)) → AreAsTold words new → AreAsTold words old)
       → AreHelped p columns inputs rows mine old left → AreHelped p columns inputs rows mine new left
   helped_known mine old new left before h = record {
@@ -251,7 +251,7 @@ module _ (p columns inputs : ℕ) (rows : List RowShown) where
     combined = h.combined;
   }
 
-  helped_later :
+  pub helped_later :
       (mine : List ℕ) (old new : List Told) (left : List Left) → Follows old new
       → AreHelped p columns inputs rows mine old left → AreHelped p columns inputs rows mine new left
   helped_later mine old new left f h = helped_known mine old new left (λ words a. told_before words old new f a) h
@@ -377,7 +377,7 @@ module _ (p columns inputs : ℕ) (rows : List RowShown) where
           rest.outside
 
   -- one more row that was replaced
-  helped_more :
+  pub helped_more :
       (mine : List ℕ) (old told : List Told) (left left' : List Left) (l : Lost)
       → AreHelped p columns inputs rows mine old left → Follows old told → IsLost rows old l → IsReplaced p columns inputs rows told l left left'
       → AreHelped p columns inputs rows (mine ++ l.number ∷ []) told left'

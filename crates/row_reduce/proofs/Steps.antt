@@ -91,7 +91,7 @@ pivot_first p column columns inputs number rows own good lt lead =
 
 -- ---- what the steps keep
 -- v stands for what is left and the numbers
-record IsReducedWith (p : ℕ) (rows own : List RowShown) (told : List Told) (row : RowShown) (v : (n : ℕ) → (ℕ → Key n) → FormalSum n) (taken : List Entry) : Type 0 where
+pub record IsReducedWith (p : ℕ) (rows own : List RowShown) (told : List Told) (row : RowShown) (v : (n : ℕ) → (ℕ → Key n) → FormalSum n) (taken : List Entry) : Type 0 where
   pub inside :
       (words : List (Option ℕ)) → AreAsTold words told → (n : ℕ) (key : ℕ → Key n)
       → IsReducedTo p (row_vectors key (named rows words ++ own)) (row_sum key row.entries) (v n key)
@@ -102,7 +102,7 @@ record IsReducedWith (p : ℕ) (rows own : List RowShown) (told : List Told) (ro
       → IsSame p (combination F (sources_sum (source_key n) (rows ++ own) row taken)) (v n key)
 
 -- the row itself
-reduced_start : (p : ℕ) (rows own : List RowShown) (told : List Told) (row : RowShown) → IsReducedWith p rows own told row (λ n key. row_sum key row.entries) []
+pub reduced_start : (p : ℕ) (rows own : List RowShown) (told : List Told) (row : RowShown) → IsReducedWith p rows own told row (λ n key. row_sum key row.entries) []
 reduced_start p rows own told row = record {
   inside = λ words a n key. whole n key (row_vectors key (named rows words ++ own));
   outside = λ n key. whole n key (row_vectors key (rows ++ own));
@@ -117,7 +117,7 @@ reduced_start p rows own told row = record {
     }
 
 -- a pivot's multiple was added
-reduced_pivot :
+pub reduced_pivot :
     (p column number factor residue : ℕ) (rows own : List RowShown) (old new : List Told) (row : RowShown)
     (v v' : (n : ℕ) → (ℕ → Key n) → FormalSum n) (taken taken' : List Entry)
     → 0 < p → Follows old new → IsPivotFor p rows own new column number → IsCongruent p (factor + residue) 0 → taken' ≡ taken ++ (number, factor) ∷ []
@@ -167,7 +167,7 @@ reduced_added p column number factor residue rows own old new row left left' num
     subst (λ es. IsReducedSoFar p rows own new row es numbers' taken') (sym e) record { above = h.above; inside = r.inside; outside = r.outside; combined = r.combined }
 
 -- the row's tail and a multiple of its pivot's are the row and that multiple, where the first entries cancel
-start_vector :
+pub start_vector :
     {n p : ℕ} (key : ℕ → Key n) (c columns factor : ℕ) (es fs tail tail' : List Entry) (zeros numbers numbers' : List ℕ)
     → es ≡ (c, 1) ∷ tail → fs ≡ (c, 1) ∷ tail' → zeros ≡ replicate columns 0
     → AddsMultiple p 1 tail zeros numbers → AddsMultiple p factor tail' numbers numbers' → IsCongruent p (factor + 1) 0

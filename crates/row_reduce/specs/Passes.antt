@@ -1,6 +1,6 @@
 -- Passes: helpers claim the lead columns of rows, and replace each row that did not win its column by what pivots leave of it
 -- (Faugère 1999, section 2; the claims are those of `pivot_table`)
-use Rattle.std.specs.Prelude.{All, List, None, Option, Some, [], length, map, slice_get, ℕ, ◌+◌, ◌++◌, ◌-◌, ◌<◌, ◌∷◌, ◌≡◌}
+use Rattle.std.specs.Prelude.{All, List, None, Option, Some, [], length, map, slice_get, ℕ, ◌+◌, ◌++◌, ◌<◌, ◌∷◌, ◌≡◌}
 use Rattle.std.specs.List.Sorted.{IsPermutation}
 use Rattle.formal_sums.specs.FormalSums.{Each, FormalSum, Key}
 use Rattle.pivot_table.specs.Law.{LeadsFit}

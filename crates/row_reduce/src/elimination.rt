@@ -172,7 +172,6 @@ fn pass_over<R: Threads + Sync>(
         &state.held,
         &state.pending,
         shared_by,
-        shared_by,
     )?;
     Ok(passed)
 }
@@ -268,8 +267,9 @@ fn reduce_rows<R: Threads + Sync>(
 /// the input rows that it is; the least lead comes first.
 ///
 /// The rows of a pass are shared and read only. Of n helpers number h has the rows h, h + n, and so on, those with fewer entries
-/// first. It claims the first column of each of its rows, by one exchange, and passes the gate at `RowClaimed`. A row whose
-/// column another row has is reduced by that row and by each other pivot that the helper can read: at each column the row that
+/// first. It claims the first column of each of its rows, by one exchange, and passes the gate at `RowClaimed`. Once all have
+/// claimed, the rows whose columns other rows have are dealt in the same way anew. A helper claims for each of these once more,
+/// and reduces it by the row that has its column and by each other pivot that the helper can read: at each column the row that
 /// has it by then, or else one that the helper left itself. What is left has a lower lead, so the passes end. `NoMemory` is the
 /// only error; the matrix is gone then.
 pub fn echelon<R: Threads + Sync>(

@@ -1,27 +1,28 @@
 // What one helper does in a pass.
-ghost use Rattle.std.specs.Prelude.{◌≡◌, ◌<◌, ◌+◌, ◌++◌, ◌∷◌, [], length, slice_set, IfOk, MatchOption, OnOk};
+ghost use Rattle.std.specs.Prelude.{◌≡◌, ◌<◌, ◌≤◌, ◌+◌, ◌++◌, ◌∷◌, [], length, slice_set, IfOk, MatchOption, OnOk};
 ghost use Rattle.formal_sums.specs.FormalSums.{Each};
 ghost use Rattle.pivot_table.specs.Law.{IsSeatOf, told};
-ghost use Rattle.row_matrix.specs.Rows.{first_column};
-ghost use Rattle.row_reduce.specs.LostRows.{AreClaimed, IsLost, IsReplaced, numbers};
+ghost use Rattle.row_matrix.specs.Rows.{IsRow, first_column};
+ghost use Rattle.row_reduce.specs.LostRows.{AreClaimed, IsLost, IsReplaced, IsRestKept, numbers};
 ghost use Rattle.row_reduce.specs.Passes.{AreHelped, AreReady, Follows, IsTold, leads_of, rows_left};
 ghost use Rattle.row_reduce.specs.Pivots.{ArePivots, lead_column};
+ghost use Rattle.row_reduce.specs.Room.{HasIdleRoom};
+ghost use Rattle.row_reduce.specs.Together.{AreReplaced, AreRests};
 ghost use Rattle.row_reduce.specs.Underway.{AreIdle};
 
-use crate::lefts::Left;
+use crate::eights::EIGHT;
+use crate::lefts::{Left, Lost};
 use crate::reduction::{Own, Shared, Work, reduce_row};
+use crate::together::{Together, reduce_together, room_for_eight};
 use module_vectors::NoMemory;
 use pivot_table::{Claim, ClaimSeat};
 use row_matrix::Row;
 use std::alloc::Global;
+use std::collections::VecDeque;
 use worker_gate::{Gate, Point, SharedGate};
 
-// A row that did not win its column, and the row that has it.
-#[derive(Clone, Copy)]
-struct Lost {
-    number: u64,
-    winner: u64,
-}
+// Fewer rows than these are reduced one after another.
+const FEW: usize = 3;
 
 // Claims the first column of the row, and passes the gate. The answer is the row that lost, where another has its column.
 fn claim_row(
@@ -78,6 +79,26 @@ fn claim_rows(
     Ok(lost)
 }
 
+/// One helper claims the first column of each of these rows. The answer are those that another row has.
+pub(crate) fn claim(
+    alloc: Global,
+    shared: Shared<'_>,
+    gate: &SharedGate,
+    helper: u32,
+    seat: ClaimSeat,
+    mine: &[u64],
+) -> (Result<Vec<Lost>, NoMemory>, ClaimSeat)
+    requires known { shared.claims.now.rows.leads.items ≡ leads_of shared.rows.now }
+    requires seat { IsSeatOf shared.claims.now.table.shared.table_id shared.claims.now.rows.leads.items seat }
+    requires mine { Each (λ m. m < length shared.rows.now) mine.now }
+    ensures seat { IsSeatOf shared.entry.claims.now.table.shared.table_id shared.entry.claims.now.rows.leads.items result.1 }
+    ensures claimed { IfOk result.0 (λ lost. AreClaimed shared.entry.rows.now mine.now (told result.1) lost.items) }
+{
+    let mut seat = seat;
+    let lost = claim_rows(alloc, shared, gate, helper, &mut seat, mine);
+    (lost, seat)
+}
+
 // Keeps what is left of the row with this number, as the pivot of its first column.
 fn keep_left(own: &mut Own, number: u64, row: Row) -> Result<(), NoMemory>
     requires some { 0 < length row.entries }
@@ -91,7 +112,7 @@ fn keep_left(own: &mut Own, number: u64, row: Row) -> Result<(), NoMemory>
     Ok(())
 }
 
-// Reduces a row, and keeps what is left of it.
+// Reduces a row alone, and keeps what is left of it.
 fn replace_row(
     alloc: Global,
     shared: Shared<'_>,
@@ -115,7 +136,7 @@ fn replace_row(
         (told seat.new) lost.now own.old.left.items own.new.left.items) }
 {
     let row = &shared.rows[lost.number as usize];
-    let rest = reduce_row(alloc, shared, seat, own, work, row, lost.winner)?;
+    let rest = reduce_row(alloc, shared, seat, own, work, row, lost.winner as usize)?;
     match rest {
         None => Ok(()),
         Some(row) => {
@@ -123,6 +144,164 @@ fn replace_row(
             Ok(())
         }
     }
+}
+
+// Reduces rows one after another, and keeps what is left of each.
+fn replace_each(
+    alloc: Global,
+    shared: Shared<'_>,
+    seat: &mut ClaimSeat,
+    own: &mut Own,
+    work: &mut Work,
+    lost: &[Lost],
+) -> Result<(), NoMemory>
+    requires ready { AreReady shared.modulus.now.value (length own.old.pivots.items) shared.inputs shared.rows.now
+        shared.claims.now.rows.leads.items shared.claims.now.rows.held.items }
+    requires own { ArePivots shared.modulus.now.value (length own.old.pivots.items) shared.inputs (rows_left own.old.left.items) own.old.pivots.items }
+    requires idle { AreIdle (length own.old.pivots.items) work.old.numbers.items }
+    requires seat { IsSeatOf shared.claims.now.table.shared.table_id shared.claims.now.rows.leads.items seat.old }
+    requires lost { Each (IsLost shared.rows.now (told seat.old)) lost.now }
+    ensures seat { IsSeatOf shared.entry.claims.now.table.shared.table_id shared.entry.claims.now.rows.leads.items seat.new }
+    ensures follows { Follows (told seat.old) (told seat.new) }
+    ensures idle { OnOk result (AreIdle (length own.old.pivots.items) work.new.numbers.items) }
+    ensures own { OnOk result (ArePivots shared.entry.modulus.now.value (length own.old.pivots.items) shared.entry.inputs
+        (rows_left own.new.left.items) own.new.pivots.items) }
+    ensures replaced { OnOk result (AreReplaced shared.entry.modulus.now.value (length own.old.pivots.items) shared.entry.inputs shared.entry.rows.now
+        (told seat.new) lost.now own.old.left.items own.new.left.items) }
+{
+    for one in lost {
+        replace_row(alloc, shared, seat, own, work, one)?;
+    }
+    Ok(())
+}
+
+// Keeps what is left of the row with this number. Where a row that was left meanwhile has its column, it is reduced once more.
+fn keep_rest(
+    alloc: Global,
+    shared: Shared<'_>,
+    seat: &mut ClaimSeat,
+    own: &mut Own,
+    work: &mut Work,
+    number: u64,
+    rest: Row,
+) -> Result<(), NoMemory>
+    requires ready { AreReady shared.modulus.now.value (length own.old.pivots.items) shared.inputs shared.rows.now
+        shared.claims.now.rows.leads.items shared.claims.now.rows.held.items }
+    requires own { ArePivots shared.modulus.now.value (length own.old.pivots.items) shared.inputs (rows_left own.old.left.items) own.old.pivots.items }
+    requires idle { AreIdle (length own.old.pivots.items) work.old.numbers.items }
+    requires seat { IsSeatOf shared.claims.now.table.shared.table_id shared.claims.now.rows.leads.items seat.old }
+    requires rest { IsRow shared.modulus.now.value (length own.old.pivots.items) shared.inputs rest }
+    ensures seat { IsSeatOf shared.entry.claims.now.table.shared.table_id shared.entry.claims.now.rows.leads.items seat.new }
+    ensures follows { Follows (told seat.old) (told seat.new) }
+    ensures idle { OnOk result (AreIdle (length own.old.pivots.items) work.new.numbers.items) }
+    ensures own { OnOk result (ArePivots shared.entry.modulus.now.value (length own.old.pivots.items) shared.entry.inputs
+        (rows_left own.new.left.items) own.new.pivots.items) }
+    ensures kept { OnOk result (IsRestKept shared.entry.modulus.now.value (length own.old.pivots.items) shared.entry.inputs shared.entry.rows.now
+        (told seat.new) number rest own.old.left.items own.new.left.items) }
+{
+    let place = own.pivots[rest.entries()[0].0 as usize];
+    if place == 0 {
+        keep_left(own, number, rest)?;
+        return Ok(());
+    }
+    let pivot = shared.rows.len() + place - 1;
+    match reduce_row(alloc, shared, seat, own, work, &rest, pivot)? {
+        None => Ok(()),
+        Some(row) => {
+            keep_left(own, number, row)?;
+            Ok(())
+        }
+    }
+}
+
+// Keeps what is left of each of these rows.
+fn keep_rests(
+    alloc: Global,
+    shared: Shared<'_>,
+    seat: &mut ClaimSeat,
+    own: &mut Own,
+    work: &mut Work,
+    lost: &[Lost],
+    rests: Vec<Option<Row>>,
+) -> Result<(), NoMemory>
+    requires ready { AreReady shared.modulus.now.value (length own.old.pivots.items) shared.inputs shared.rows.now
+        shared.claims.now.rows.leads.items shared.claims.now.rows.held.items }
+    requires own { ArePivots shared.modulus.now.value (length own.old.pivots.items) shared.inputs (rows_left own.old.left.items) own.old.pivots.items }
+    requires idle { AreIdle (length own.old.pivots.items) work.old.numbers.items }
+    requires seat { IsSeatOf shared.claims.now.table.shared.table_id shared.claims.now.rows.leads.items seat.old }
+    requires rests { AreRests shared.modulus.now.value (length own.old.pivots.items) shared.inputs shared.rows.now
+        (rows_left own.old.left.items) (told seat.old) lost.now rests.items }
+    ensures seat { IsSeatOf shared.entry.claims.now.table.shared.table_id shared.entry.claims.now.rows.leads.items seat.new }
+    ensures follows { Follows (told seat.old) (told seat.new) }
+    ensures idle { OnOk result (AreIdle (length own.old.pivots.items) work.new.numbers.items) }
+    ensures own { OnOk result (ArePivots shared.entry.modulus.now.value (length own.old.pivots.items) shared.entry.inputs
+        (rows_left own.new.left.items) own.new.pivots.items) }
+    ensures replaced { OnOk result (AreReplaced shared.entry.modulus.now.value (length own.old.pivots.items) shared.entry.inputs shared.entry.rows.now
+        (told seat.new) lost.now own.old.left.items own.new.left.items) }
+{
+    let mut left = VecDeque::from_vec(rests);
+    for one in lost {
+        match left.pop_front() {
+            Some(Some(rest)) => keep_rest(alloc, shared, seat, own, work, one.number, rest)?,
+            Some(None) => {}
+            None => {}
+        }
+    }
+    Ok(())
+}
+
+// Room for reductions, of one row or of eight.
+#[derive(Drop)]
+struct Room {
+    work: Work,
+    together: Together,
+}
+
+// Room for rows of so many columns.
+fn room_for(alloc: Global, columns: usize) -> Result<Room, NoMemory>
+    ensures { IfOk result (HasIdleRoom columns) }
+{
+    let work = Work {
+        left: Vec::new(alloc),
+        numbers: vec![in alloc; 0; columns]?,
+        limit: 0,
+        taken: Vec::new(alloc),
+    };
+    let together = room_for_eight(alloc, columns)?;
+    Ok(Room { work, together })
+}
+
+// Reduces up to eight rows, together where that is faster, and keeps what is left of each.
+fn replace_eight(
+    alloc: Global,
+    shared: Shared<'_>,
+    seat: &mut ClaimSeat,
+    own: &mut Own,
+    room: &mut Room,
+    lost: &[Lost],
+) -> Result<(), NoMemory>
+    requires few { length lost.now ≤ 8 }
+    requires ready { AreReady shared.modulus.now.value (length own.old.pivots.items) shared.inputs shared.rows.now
+        shared.claims.now.rows.leads.items shared.claims.now.rows.held.items }
+    requires own { ArePivots shared.modulus.now.value (length own.old.pivots.items) shared.inputs (rows_left own.old.left.items) own.old.pivots.items }
+    requires idle { HasIdleRoom (length own.old.pivots.items) room.old }
+    requires seat { IsSeatOf shared.claims.now.table.shared.table_id shared.claims.now.rows.leads.items seat.old }
+    requires lost { Each (IsLost shared.rows.now (told seat.old)) lost.now }
+    ensures seat { IsSeatOf shared.entry.claims.now.table.shared.table_id shared.entry.claims.now.rows.leads.items seat.new }
+    ensures follows { Follows (told seat.old) (told seat.new) }
+    ensures idle { OnOk result (HasIdleRoom (length own.old.pivots.items) room.new) }
+    ensures own { OnOk result (ArePivots shared.entry.modulus.now.value (length own.old.pivots.items) shared.entry.inputs
+        (rows_left own.new.left.items) own.new.pivots.items) }
+    ensures replaced { OnOk result (AreReplaced shared.entry.modulus.now.value (length own.old.pivots.items) shared.entry.inputs shared.entry.rows.now
+        (told seat.new) lost.now own.old.left.items own.new.left.items) }
+{
+    if lost.len() < FEW {
+        replace_each(alloc, shared, seat, own, &mut room.work, lost)?;
+        return Ok(());
+    }
+    let rests = reduce_together(alloc, shared, seat, own, &mut room.together, lost)?;
+    keep_rests(alloc, shared, seat, own, &mut room.work, lost, rests)?;
+    Ok(())
 }
 
 // What pivots leave of rows that did not win their columns.
@@ -149,14 +328,12 @@ fn replace_rows(
         left: Vec::new(alloc),
         pivots: vec![in alloc; 0; columns]?,
     };
-    let mut work = Work {
-        left: Vec::new(alloc),
-        numbers: vec![in alloc; 0; columns]?,
-        limit: 0,
-        taken: Vec::new(alloc),
-    };
-    for one in lost {
-        replace_row(alloc, shared, seat, &mut own, &mut work, one)?;
+    let mut room = room_for(alloc, columns)?;
+    let mut from = 0;
+    while from < lost.len() {
+        let to = lost.len().min(from + EIGHT);
+        replace_eight(alloc, shared, seat, &mut own, &mut room, &lost[from..to])?;
+        from = to;
     }
     Ok(own.left)
 }

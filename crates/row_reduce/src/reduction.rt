@@ -6,7 +6,7 @@ ghost use Rattle.pivot_table.specs.Law.{IsSeatOf, told};
 ghost use Rattle.pivot_table.specs.declared.law.Entry.{Entry as Told};
 ghost use Rattle.row_matrix.specs.Rows.{AreEntries, IsRow, RowShown, first_column, row_sum};
 ghost use Rattle.row_reduce.specs.Dense.{AddsMultiple, AreWithin, HasRoom, IsDense, dense_sum};
-ghost use Rattle.row_reduce.specs.Passes.{AreReady, Follows, IsGone, IsRest, IsTold, rows_left};
+ghost use Rattle.row_reduce.specs.Passes.{AreReady, Follows, IsGone, IsRest, rows_left};
 ghost use Rattle.row_reduce.specs.Pivots.{ArePivots, lead_column, row_at};
 ghost use Rattle.row_reduce.specs.Reductions.{IsPivotFor, IsReducedSoFar};
 ghost use Rattle.row_reduce.specs.Underway.{AreIdle, IsLeftRow, IsUnderway, rescaled, sources_sum};
@@ -46,8 +46,8 @@ pub(crate) struct Work {
     pub(crate) taken: Vec<(usize, u32)>,
 }
 
-// The row with this number: the pass's rows come first, then the helper's own.
-fn row_numbered<'a>(rows: &'a [Row], left: &'a [Left], number: usize) -> &'a Row
+/// The row with this number: the pass's rows come first, then the helper's own.
+pub(crate) fn row_numbered<'a>(rows: &'a [Row], left: &'a [Left], number: usize) -> &'a Row
     requires { number < length rows.now + length left.now }
     ensures { result.now ≡ row_at (rows.now ++ rows_left left.now) number }
 {
@@ -58,8 +58,8 @@ fn row_numbered<'a>(rows: &'a [Row], left: &'a [Left], number: usize) -> &'a Row
     }
 }
 
-// The number of the column's pivot: the row that its word names at a look, or the helper's own.
-fn pivot_of(shared: Shared<'_>, seat: &mut ClaimSeat, own: &Own, c: u32) -> Option<usize>
+/// The number of the column's pivot: the row that its word names at a look, or the helper's own.
+pub(crate) fn pivot_of(shared: Shared<'_>, seat: &mut ClaimSeat, own: &Own, c: u32) -> Option<usize>
     requires at { c < length own.now.pivots.items }
     requires ready { AreReady shared.modulus.now.value (length own.now.pivots.items) shared.inputs shared.rows.now
         shared.claims.now.rows.leads.items shared.claims.now.rows.held.items }
@@ -171,23 +171,24 @@ fn clear_column(
     }
 }
 
-// The row with a number for each column, where its first column is cleared by the row that has it.
+// The row with a number for each column, where its first column is cleared by this pivot.
 fn start_work(
     shared: Shared<'_>,
     own: &Own,
     work: &mut Work,
     row: &Row,
-    winner: usize,
+    pivot: usize,
 ) -> Result<(), NoMemory>
     requires rows { Each (IsRow shared.modulus.now.value (length work.old.numbers.items) shared.inputs) (shared.rows.now ++ rows_left own.now.left.items) }
     requires idle { AreIdle (length work.old.numbers.items) work.old.numbers.items }
     requires row { IsRow shared.modulus.now.value (length work.old.numbers.items) shared.inputs row.now }
-    requires known { winner < length shared.rows.now }
-    requires lead { lead_column shared.rows.now winner ≡ first_column row.now.entries }
+    requires known { pivot < length (shared.rows.now ++ rows_left own.now.left.items) }
+    requires lead { lead_column (shared.rows.now ++ rows_left own.now.left.items) pivot ≡ first_column row.now.entries }
     ensures underway { (pivots : List ℕ) → OnOk result (IsUnderway shared.entry.modulus.now.value work.new.limit (first_column row.now.entries + 1)
         (length work.old.numbers.items) (length (shared.entry.rows.now ++ rows_left own.now.left.items)) pivots
         work.new.left.items work.new.numbers.items work.new.taken.items) }
-    ensures reduced { (told : List Told) → IsTold shared.entry.rows.now told (first_column row.now.entries) winner
+    ensures reduced { (told : List Told)
+        → IsPivotFor shared.entry.modulus.now.value shared.entry.rows.now (rows_left own.now.left.items) told (first_column row.now.entries) pivot
         → OnOk result (IsReducedSoFar shared.entry.modulus.now.value shared.entry.rows.now (rows_left own.now.left.items) told row.now
         work.new.left.items work.new.numbers.items work.new.taken.items) }
 {
@@ -196,7 +197,7 @@ fn start_work(
     work.left.clear();
     work.taken.clear();
     work.limit = add_tail(modulus, row, 1, &mut work.numbers, first_limit(modulus));
-    add_pivot(shared, own, work, winner, modulus.neg(1))?;
+    add_pivot(shared, own, work, pivot, modulus.neg(1))?;
     Ok(())
 }
 
@@ -224,7 +225,7 @@ fn clear_columns(
     own: &Own,
     work: &mut Work,
     row: &Row,
-    winner: usize,
+    pivot: usize,
     columns: u32,
 ) -> Result<(), NoMemory>
     requires columns { columns ≡ length own.now.pivots.items }
@@ -234,7 +235,7 @@ fn clear_columns(
     requires idle { AreIdle (length own.now.pivots.items) work.old.numbers.items }
     requires seat { IsSeatOf shared.claims.now.table.shared.table_id shared.claims.now.rows.leads.items seat.old }
     requires row { IsRow shared.modulus.now.value (length own.now.pivots.items) shared.inputs row.now }
-    requires winner { IsTold shared.rows.now (told seat.old) (first_column row.now.entries) winner }
+    requires pivot { IsPivotFor shared.modulus.now.value shared.rows.now (rows_left own.now.left.items) (told seat.old) (first_column row.now.entries) pivot }
     ensures seat { IsSeatOf shared.entry.claims.now.table.shared.table_id shared.entry.claims.now.rows.leads.items seat.new }
     ensures follows { Follows (told seat.old) (told seat.new) }
     ensures underway { OnOk result (IsUnderway shared.entry.modulus.now.value work.new.limit (length own.now.pivots.items) (length own.now.pivots.items)
@@ -242,7 +243,7 @@ fn clear_columns(
     ensures reduced { OnOk result (IsReducedSoFar shared.entry.modulus.now.value shared.entry.rows.now (rows_left own.now.left.items) (told seat.new) row.now
         work.new.left.items work.new.numbers.items work.new.taken.items) }
 {
-    start_work(shared, own, work, row, winner)?;
+    start_work(shared, own, work, row, pivot)?;
     let mut c = next_column(work.numbers.as_slice(), row.entries()[0].0 + 1, columns);
     while c < columns {
         clear_column(shared, seat, own, work, c)?;
@@ -340,40 +341,41 @@ fn compose_sources(
     Ok(sources)
 }
 
-// The row that is left, monic, or none where nothing is left.
-fn left_row(
+/// The row whose multiple is left of a row to which these rows were added, monic, or none where nothing is left.
+pub(crate) fn left_row(
     alloc: Global,
     shared: Shared<'_>,
     own: &Own,
     row: &Row,
-    work: &Work,
+    left: &[(u32, u32)],
+    taken: &[(usize, u32)],
 ) -> Result<Option<Row>, NoMemory>
-    requires entries { AreEntries shared.modulus.now.value 0 (length work.now.numbers.items) work.now.left.items }
+    requires entries { AreEntries shared.modulus.now.value 0 (length own.now.pivots.items) left.now }
     requires rows { Each (λ r. AreEntries shared.modulus.now.value 0 shared.inputs r.sources) (shared.rows.now ++ rows_left own.now.left.items) }
     requires row { AreEntries shared.modulus.now.value 0 shared.inputs row.now.sources }
-    requires taken { AreWithin shared.modulus.now.value (length (shared.rows.now ++ rows_left own.now.left.items)) work.now.taken.items }
-    ensures { IfOk result (λ r. MatchOption r (work.now.left.items ≡ [])
-        (IsLeftRow shared.entry.modulus.now.value (length work.now.numbers.items) shared.entry.inputs (shared.entry.rows.now ++ rows_left own.now.left.items)
-        row.now work.now.left.items work.now.taken.items)) }
+    requires taken { AreWithin shared.modulus.now.value (length (shared.rows.now ++ rows_left own.now.left.items)) taken.now }
+    ensures { IfOk result (λ r. MatchOption r (left.now ≡ [])
+        (IsLeftRow shared.entry.modulus.now.value (length own.now.pivots.items) shared.entry.inputs (shared.entry.rows.now ++ rows_left own.now.left.items)
+        row.now left.now taken.now)) }
 {
     let modulus = shared.modulus;
     modulus.domain();
-    if work.left.len() == 0 {
+    if left.is_empty() {
         return Ok(None);
     }
-    match modulus.invert(work.left[0].1) {
+    match modulus.invert(left[0].1) {
         None => unreachable!(),
         Some(inverse) => {
-            let entries = rescaled_entries(alloc, modulus, inverse, &work.left)?;
-            let numbers = compose_sources(alloc, shared, own, row, &work.taken)?;
+            let entries = rescaled_entries(alloc, modulus, inverse, left)?;
+            let numbers = compose_sources(alloc, shared, own, row, taken)?;
             let sources = collect_entries(alloc, modulus, inverse, &numbers)?;
             Ok(Some(Row::new(entries, sources)))
         }
     }
 }
 
-/// What the pivots leave of a row whose column another row has, monic, or none where it is in their span. At each column its
-/// pivot is the row that its word names at a look, or else the helper's own; the first column's is the winner of the claim.
+/// What the pivots leave of a row whose column has this pivot, monic, or none where it is in their span. At each column its pivot is
+/// the row that its word names at a look, or else the helper's own.
 pub(crate) fn reduce_row(
     alloc: Global,
     shared: Shared<'_>,
@@ -381,7 +383,7 @@ pub(crate) fn reduce_row(
     own: &Own,
     work: &mut Work,
     row: &Row,
-    winner: u64,
+    pivot: usize,
 ) -> Result<Option<Row>, NoMemory>
     requires ready { AreReady shared.modulus.now.value (length own.now.pivots.items) shared.inputs shared.rows.now
         shared.claims.now.rows.leads.items shared.claims.now.rows.held.items }
@@ -389,7 +391,7 @@ pub(crate) fn reduce_row(
     requires idle { AreIdle (length own.now.pivots.items) work.old.numbers.items }
     requires seat { IsSeatOf shared.claims.now.table.shared.table_id shared.claims.now.rows.leads.items seat.old }
     requires row { IsRow shared.modulus.now.value (length own.now.pivots.items) shared.inputs row.now }
-    requires winner { IsTold shared.rows.now (told seat.old) (first_column row.now.entries) winner }
+    requires pivot { IsPivotFor shared.modulus.now.value shared.rows.now (rows_left own.now.left.items) (told seat.old) (first_column row.now.entries) pivot }
     ensures seat { IsSeatOf shared.entry.claims.now.table.shared.table_id shared.entry.claims.now.rows.leads.items seat.new }
     ensures follows { Follows (told seat.old) (told seat.new) }
     ensures idle { OnOk result (AreIdle (length own.now.pivots.items) work.new.numbers.items) }
@@ -400,8 +402,8 @@ pub(crate) fn reduce_row(
 {
     shared.modulus.domain();
     let columns = kept_number(own.pivots.as_slice().len())?;
-    clear_columns(shared, seat, own, work, row, winner as usize, columns)?;
-    let left = left_row(alloc, shared, own, row, work)?;
+    clear_columns(shared, seat, own, work, row, pivot, columns)?;
+    let left = left_row(alloc, shared, own, row, &work.left, &work.taken)?;
     match left {
         None => Ok(None),
         Some(rest) => Ok(Some(rest)),

@@ -5,28 +5,6 @@ use Rattle.pivot_table.specs.Law.{told}
 use Rattle.row_reduce.proofs.HelpedRows.{dealt_below, dealt_read, helped_permuted}
 use Rattle.row_reduce.proofs.helpers.+fn-help_all-join+arg3+help_all.Goals as goal
 
-pub help_all-ours-requires-clause-mine : goal.help_all-ours-requires-clause-mine
-help_all-ours-requires-clause-mine g t c κs within =
-    (dealt_below (length c.args.shared.rows.now) c.args.mine.now c.as_slice-others.result.now c.as_slice-late.result.now
-    (dealt_read c.as_slice-others.ensures.value c.as_slice-late.ensures.value c.in-Ok.ensures) c.requires.mine).0
-
-pub help-theirs-requires-clause-mine : goal.help-theirs-requires-clause-mine
-help-theirs-requires-clause-mine g t c =
-    (dealt_below (length c.args.shared.rows.now) c.args.mine.now c.as_slice-others.result.now c.as_slice-late.result.now
-    (dealt_read c.as_slice-others.ensures.value c.as_slice-late.ensures.value c.in-Ok.ensures) c.requires.mine).1
-
-pub returns-then-threads-last-clause-helped : goal.returns-then-threads-last-clause-helped
-returns-then-threads-last-clause-helped g t c =
-    let p = c.args.shared.modulus.now.value in
-    let inputs = c.args.shared.inputs in
-    let rows = c.args.shared.rows.now in
-    let others = c.as_slice-others.result.now in
-    let late = c.as_slice-late.result.now in
-    let same : IsPermutation c.args.mine.now (others ++ late) = dealt_read c.as_slice-others.ensures.value c.as_slice-late.ensures.value c.in-Ok.ensures in
-    IfOk-weaker c.unite.result.0 _ _
-    (λ left h. helped_permuted p c.args.columns inputs rows c.args.mine.now (others ++ late) (told c.unite.result.1) left.items same h)
-    (c.unite.ensures.helped p c.args.columns inputs rows others late c.help_all-ours.ensures.helped c.help-theirs.ensures.helped)
-
 pub join-theirs-requires-after_bounds : goal.join-theirs-requires-after_bounds
 join-theirs-requires-after_bounds g t c κs within =
     let new = c.split-other.ensures.new in
@@ -46,6 +24,6 @@ returns-clause-helped g t c =
     let others = c.as_slice-others.result.now in
     let late = c.as_slice-late.result.now in
     let same : IsPermutation c.args.mine.now (others ++ late) = dealt_read c.as_slice-others.ensures.value c.as_slice-late.ensures.value c.in-Ok.ensures in
-    IfOk-weaker c.unite-2.result.0 _ _
-    (λ left h. helped_permuted p c.args.columns inputs rows c.args.mine.now (others ++ late) (told c.unite-2.result.1) left.items same h)
-    (c.unite-2.ensures.helped p c.args.columns inputs rows others late (search rules) (search rules))
+    IfOk-weaker c.unite.result.0 _ _
+    (λ left h. helped_permuted p c.args.columns inputs rows c.args.mine.now (others ++ late) (told c.unite.result.1) left.items same h)
+    (c.unite.ensures.helped p c.args.columns inputs rows others late (search rules) (search rules))

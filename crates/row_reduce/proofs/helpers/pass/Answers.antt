@@ -13,9 +13,12 @@ pub returns : goal.returns
 returns g c =
     let p = c.args.modulus.now.value in
     let columns = length c.args.held.now in
+    let inputs = c.args.inputs in
     let rows = c.args.rows.now in
-    let all = told c.help_all-left.result.1 in
-    passed p columns c.args.inputs rows c.args.leads.now c.in-Ok.made.0.rows.leads.items c.args.pending.now
-    c.args.held.now c.in-Ok.made.0.rows.held.items c.close-words.result.items all c.in_ok-left.left.items c.requires.ready.known c.in-Ok.ensures.rows.0 c.in-Ok.ensures.rows.1
-    (subst (λ r. IfOk r (λ left. AreHelped p columns c.args.inputs rows c.args.pending.now all left.items)) c.in_ok-left.was c.help_all-left.ensures.helped)
+    let pending = c.args.pending.now in
+    let made = c.in-Ok.made.0.rows in
+    let all = told c.help_in_turns-left.result.1 in
+    passed p columns inputs rows c.args.leads.now made.leads.items pending c.args.held.now made.held.items c.close-words.result.items
+    all c.in_ok-left.left.items c.requires.ready.known c.in-Ok.ensures.rows.0 c.in-Ok.ensures.rows.1
+    (subst (λ r. IfOk r (λ left. AreHelped p columns inputs rows pending all left.items)) c.in_ok-left.was c.help_in_turns-left.ensures.helped)
     c.close-words.ensures

@@ -1,75 +1,68 @@
-use Rattle.std.proofs.Common.{arith, get_or, length, subst, sym, ◌<◌}
+use Rattle.std.proofs.Common.{arith, subst, ◌≤◌}
 use Rattle.pivot_table.specs.Law.{told}
-use Rattle.row_reduce.proofs.HelpedRows.{helped_next, helped_none, idle_start, lost_at, pivots_start}
+use Rattle.row_reduce.proofs.HelpedRows.{all_lost_stay, helped_none, pivots_start}
+use Rattle.row_reduce.proofs.Lowered.{Each_range, helped_eight}
 use Rattle.row_reduce.proofs.Naming.{follows_same, follows_trans}
-use Rattle.row_reduce.specs.Passes.{AreReady, rows_left}
-use Rattle.row_reduce.specs.LostRows.{IsReplaced}
+use Rattle.row_reduce.specs.LostRows.{IsLost}
+use Rattle.row_reduce.specs.Passes.{rows_left}
 use Rattle.row_reduce.specs.Pivots.{ArePivots}
-use Rattle.row_reduce.specs.Underway.{AreIdle}
-use Rattle.row_reduce.specs.declared.helping.Lost.{Lost}
+use Rattle.row_reduce.specs.Room.{HasIdleRoom}
+use Rattle.row_reduce.specs.Together.{AreReplaced}
+use Rattle.std.specs.List.{slice_range}
 use Rattle.row_reduce.proofs.helping.replace_rows.Goals as goal
 
-pub loop-one-init : goal.loop-one-init
-loop-one-init c =
+pub loop-from-init : goal.loop-from-init
+loop-from-init c =
     let p = c.args.shared.modulus.now.value in
     let inputs = c.args.shared.inputs in
     let zeros = c.in_ok-vec.ensures.items_if_clones_equal (λ y e. e) in
     let own = pivots_start p c.args.columns inputs c.args.shared.rows.now c.new-2.result.items c.in_ok-vec.field-0.items c.new-2.ensures.items zeros in
     record {
+      within = omega arith;
       seat = c.requires.seat;
       follows = follows_same (told c.args.seat.now);
       wide = own.count;
       own = own;
-      idle = idle_start c.args.columns c.in_ok-vec-2.field-0.items (c.in_ok-vec-2.ensures.items_if_clones_equal (λ y e. e));
+      idle = c.in_ok-room.ensures;
       helped = helped_none p c.args.columns inputs c.args.shared.rows.now (told c.args.seat.now) c.new-2.result.items c.new-2.ensures.items;
     }
 
-pub replace_row-requires-clause-ready : goal.replace_row-requires-clause-ready
-replace_row-requires-clause-ready c =
-    let shared = c.args.shared in
-    subst (λ m. AreReady shared.modulus.now.value m shared.inputs shared.rows.now shared.claims.now.rows.leads.items shared.claims.now.rows.held.items)
-    (sym c.loop-one.invariant.wide) c.requires.ready
-
-pub replace_row-requires-clause-own : goal.replace_row-requires-clause-own
-replace_row-requires-clause-own c =
-    let own = c.loop-one.own in
-    subst (λ m. ArePivots c.args.shared.modulus.now.value m c.args.shared.inputs (rows_left own.left.items) own.pivots.items)
-    (sym c.loop-one.invariant.wide) c.loop-one.invariant.own
-
-pub replace_row-requires-clause-idle : goal.replace_row-requires-clause-idle
-replace_row-requires-clause-idle c = subst (λ m. AreIdle m c.loop-one.work.numbers.items) (sym c.loop-one.invariant.wide) c.loop-one.invariant.idle
-
-pub replace_row-requires-clause-lost : goal.replace_row-requires-clause-lost
-replace_row-requires-clause-lost c =
+pub replace_eight-requires-clause-lost : goal.replace_eight-requires-clause-lost
+replace_eight-requires-clause-lost c =
+    let rows = c.args.shared.rows.now in
+    let old = told c.args.seat.now in
+    let new = told c.loop-from.seat in
     let lost = c.args.lost.now in
-    let i = c.loop-one.one-index in
-    let lt : i < length lost = omega (arith, c.loop-one-test.true) in
-    lost_at c.args.shared.rows.now (told c.args.seat.now) (told c.loop-one.seat) lost i (record { number = 0; winner = 0 })
-    c.loop-one.invariant.follows c.requires.lost lt
+    Each_range (IsLost rows new) lost c.loop-from.from c.min-to.result
+    (all_lost_stay rows old new lost c.loop-from.invariant.follows c.requires.lost)
 
-pub loop-one-preserved : goal.loop-one-preserved
-loop-one-preserved c =
+pub loop-from-preserved : goal.loop-from-preserved
+loop-from-preserved c =
     let p = c.args.shared.modulus.now.value in
     let columns = c.args.columns in
     let inputs = c.args.shared.inputs in
     let rows = c.args.shared.rows.now in
     let lost = c.args.lost.now in
-    let i = c.loop-one.one-index in
-    let d : Lost = record { number = 0; winner = 0 } in
-    let v = c.loop-one.invariant in
-    let done = c.in_ok-replace_row.ensures in
-    let lt : i < length lost = omega (arith, c.loop-one-test.true) in
-    let new = c.replace_row.new in
+    let from = c.loop-from.from in
+    let to = c.min-to.result in
+    let v = c.loop-from.invariant in
+    let done = c.in_ok-replace_eight.ensures in
+    let new = c.replace_eight.new in
+    let first = told c.args.seat.now in
+    let old = told c.loop-from.seat in
+    let now = told new.seat in
+    let le : from ≤ to = search (arith) in
     let own : ArePivots p columns inputs (rows_left new.own.left.items) new.own.pivots.items =
     subst (λ m. ArePivots p m inputs (rows_left new.own.left.items) new.own.pivots.items) v.wide done.own in
     record {
-      seat = c.replace_row.ensures.seat;
-      follows = follows_trans (told c.args.seat.now) (told c.loop-one.seat) (told new.seat) v.follows c.replace_row.ensures.follows;
+      within = search (arith);
+      seat = c.replace_eight.ensures.seat;
+      follows = follows_trans first old now v.follows c.replace_eight.ensures.follows;
       wide = own.count;
       own = own;
-      idle = subst (λ m. AreIdle m new.work.numbers.items) v.wide done.idle;
+      idle = subst (λ m. HasIdleRoom m new.room) v.wide done.idle;
       helped =
-          helped_next p columns inputs rows lost (told c.args.seat.now) (told c.loop-one.seat) (told new.seat) c.loop-one.own.left.items
-          new.own.left.items i d lt c.requires.lost v.follows c.replace_row.ensures.follows v.helped
-          (subst (λ m. IsReplaced p m inputs rows (told new.seat) (get_or lost i d) c.loop-one.own.left.items new.own.left.items) v.wide done.replaced);
+          helped_eight p columns inputs rows lost first old now c.loop-from.own.left.items new.own.left.items from to le c.requires.lost
+          v.follows c.replace_eight.ensures.follows v.helped
+          (subst (λ m. AreReplaced p m inputs rows now (slice_range lost from to) c.loop-from.own.left.items new.own.left.items) v.wide done.replaced);
     }

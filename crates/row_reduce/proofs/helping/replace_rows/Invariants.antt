@@ -1,17 +1,21 @@
-use Rattle.std.proofs.Common.{length, take, ◌≡◌}
+use Rattle.std.proofs.Common.{length, take, ◌-◌, ◌≡◌, ◌≤◌}
 use Rattle.pivot_table.specs.Law.{IsSeatOf, told}
 use Rattle.row_reduce.specs.LostRows.{numbers}
 use Rattle.row_reduce.specs.Passes.{AreHelped, Follows, rows_left}
 use Rattle.row_reduce.specs.Pivots.{ArePivots}
-use Rattle.row_reduce.specs.Underway.{AreIdle}
+use Rattle.row_reduce.specs.Room.{HasIdleRoom}
 use Rattle.row_reduce.proofs.helping.replace_rows.Given as goal
 
-abbrev pub invariant-loop-one : goal.invariant-loop-one
-invariant-loop-one l = record {
+abbrev pub invariant-loop-from : goal.invariant-loop-from
+invariant-loop-from l = record {
+  within : l.from ≤ length l.lost;
   seat : IsSeatOf l.shared.claims.now.table.shared.table_id l.shared.claims.now.rows.leads.items l.seat;
   follows : Follows (told l.fn.seat) (told l.seat);
   wide : length l.own.pivots.items ≡ l.columns;
   own : ArePivots l.shared.modulus.now.value l.columns l.shared.inputs (rows_left l.own.left.items) l.own.pivots.items;
-  idle : AreIdle l.columns l.work.numbers.items;
-  helped : AreHelped l.shared.modulus.now.value l.columns l.shared.inputs l.shared.rows.now (numbers (take l.one-index l.lost)) (told l.seat) l.own.left.items;
+  idle : HasIdleRoom l.columns l.room;
+  helped : AreHelped l.shared.modulus.now.value l.columns l.shared.inputs l.shared.rows.now (numbers (take l.from l.lost)) (told l.seat) l.own.left.items;
 }
+
+abbrev pub decreases-loop-from : goal.decreases-loop-from
+decreases-loop-from l = length l.lost - l.from

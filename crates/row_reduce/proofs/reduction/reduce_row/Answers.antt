@@ -1,4 +1,4 @@
-use Rattle.std.proofs.Common.{arith, length, subst, sym, ◌++◌, ◌<◌}
+use Rattle.std.proofs.Common.{arith, length, subst, subst₂, sym, ◌++◌, ◌<◌, ◌∙◌}
 use Rattle.formal_sums.proofs.Combining.{Each_map}
 use Rattle.formal_sums.proofs.WeightedSums.{Each_append}
 use Rattle.pivot_table.specs.Law.{told}
@@ -11,16 +11,16 @@ use Rattle.row_reduce.proofs.reduction.reduce_row.Goals as goal
 
 pub left_row-requires-clause-entries : goal.left_row-requires-clause-entries
 left_row-requires-clause-entries c =
-    let u = c.in_ok-clear_columns.ensures.underway in
-    let w = c.clear_columns.new.work in
-    subst (λ m. AreEntries c.args.shared.modulus.now.value 0 m w.left.items) (sym u.numbered) u.entries
+    subst (AreEntries c.args.shared.modulus.now.value 0 (length c.args.own.now.pivots.items)) (sym c.deref.ensures.value)
+    c.in_ok-clear_columns.ensures.underway.entries
 
 pub left_row-requires-clause-rows : goal.left_row-requires-clause-rows
 left_row-requires-clause-rows c =
     let p = c.args.shared.modulus.now.value in
     let columns = length c.args.own.now.pivots.items in
     let own = rows_left c.args.own.now.left.items in
-    Each_map (IsRow p columns c.args.shared.inputs) (λ (r : RowShown). AreEntries p 0 c.args.shared.inputs r.sources) (c.args.shared.rows.now ++ own) (λ r h. h.sources)
+    Each_map (IsRow p columns c.args.shared.inputs) (λ (r : RowShown). AreEntries p 0 c.args.shared.inputs r.sources) (c.args.shared.rows.now ++ own)
+    (λ r h. h.sources)
     (Each_append (IsRow p columns c.args.shared.inputs) c.args.shared.rows.now own c.requires.ready.monic c.requires.own.monic)
 
 pub returns-in-None-clause-idle : goal.returns-in-None-clause-idle
@@ -36,8 +36,9 @@ returns-in-None-clause-rest c =
     let own = rows_left c.args.own.now.left.items in
     let pivots = c.args.own.now.pivots.items in
     let e = c.in_ok-clear_columns.ensures in
-    gone_row p w.limit (length pivots) c.args.shared.inputs (length (c.args.shared.rows.now ++ own)) (omega (arith, one)) c.args.shared.rows.now own (told c.clear_columns.new.seat) pivots c.args.row.now w.left.items w.numbers.items w.taken.items
-    e.underway e.reduced (rw c.in-None.is at c.in_ok-left.ensures)
+    gone_row p w.limit (length pivots) c.args.shared.inputs (length (c.args.shared.rows.now ++ own)) (omega (arith, one)) c.args.shared.rows.now own
+    (told c.clear_columns.new.seat) pivots c.args.row.now w.left.items w.numbers.items w.taken.items
+    e.underway e.reduced (sym c.deref.ensures.value ∙ rw c.in-None.is at c.in_ok-left.ensures)
 
 pub returns-in-Some-clause-idle : goal.returns-in-Some-clause-idle
 returns-in-Some-clause-idle c =
@@ -52,6 +53,8 @@ returns-in-Some-clause-rest c =
     let own = rows_left c.args.own.now.left.items in
     let pivots = c.args.own.now.pivots.items in
     let e = c.in_ok-clear_columns.ensures in
-    rest_row p w.limit (length pivots) c.args.shared.inputs (length (c.args.shared.rows.now ++ own)) (omega (arith, one)) c.args.shared.rows.now own (told c.clear_columns.new.seat) pivots c.args.row.now w.left.items w.numbers.items w.taken.items
+    rest_row p w.limit (length pivots) c.args.shared.inputs (length (c.args.shared.rows.now ++ own)) (omega (arith, one)) c.args.shared.rows.now own
+    (told c.clear_columns.new.seat) pivots c.args.row.now w.left.items w.numbers.items w.taken.items
     e.underway e.reduced c.in-Some.rest c.requires.own
-    (subst (λ m. IsLeftRow p m c.args.shared.inputs (c.args.shared.rows.now ++ own) c.args.row.now w.left.items w.taken.items c.in-Some.rest) e.underway.numbered (rw c.in-Some.is at c.in_ok-left.ensures))
+    (subst₂ (λ left taken. IsLeftRow p (length pivots) c.args.shared.inputs (c.args.shared.rows.now ++ own) c.args.row.now left taken c.in-Some.rest)
+    c.deref.ensures.value c.deref-2.ensures.value (rw c.in-Some.is at c.in_ok-left.ensures))
