@@ -20,8 +20,24 @@ use worker_gate::{Gate, Point, SharedGate};
 const PAIRS: u64 = 512;
 
 // From so many pairs on a job is long. A worker keeps its turn to take while its job is long, and the others wait for its rows,
-// since jobs of one degree that are out together find the same ones.
+// since jobs of one degree that are out together find the same ones. Where the last long job of the degree gave no rows, the
+// others are likely to give none, and nobody waits.
 const LONG: usize = 8;
+
+/// The degree of the last long job that was handed in, and whether it gave rows.
+#[derive(Clone, Copy)]
+pub(crate) struct LastJob {
+    pub(crate) degree: u128,
+    pub(crate) gave_rows: bool,
+}
+
+// The degree of the job's pairs.
+fn degree_of(job: &Job) -> u128 {
+    match job.pairs().first() {
+        Some(pair) => pair.lcm.monomial.degree(),
+        None => 0,
+    }
+}
 
 // The reason of a stop.
 fn reason_for(stop: WorkStop) -> StopReason
@@ -62,7 +78,7 @@ fn ask_to_end<R: Wait>(rt: &R, lock: &BasisLock, seat: &mut BasisSeat) -> bool
     }
 }
 
-// Solves a job with helpers and hands it in, or gives up. Is the worker done?
+// Solves a job with helpers and hands it in, or gives up. Is the worker done, and did the job give rows?
 fn do_job<R: Threads + Wait + Sync>(
     rt: &R,
     alloc: Global,
@@ -71,37 +87,42 @@ fn do_job<R: Threads + Wait + Sync>(
     gate: &SharedGate,
     seat: &mut BasisSeat,
     job: Job,
-) -> bool
+) -> (bool, bool)
     requires idle { IsIdle lock.now.table.shared.table_id (base lock.now.table.shared.key.value) seat.old.place }
     requires job { HasJob (base lock.now.table.shared.key.value) seat.old.place.me.0 job }
     requires helpers { 0 < helpers }
     ensures idle { IsIdle lock.now.table.shared.table_id (base lock.now.table.shared.key.value) seat.new.place }
-    ensures ends { RoundEnds (base lock.now.table.shared.key.value) seat.old.place.me.0 seat.new.place.me.0 result }
+    ensures ends { RoundEnds (base lock.now.table.shared.key.value) seat.old.place.me.0 seat.new.place.me.0 result.0 }
 {
     gate.pass(seat.worker, Point::JobTaken);
     match solve(rt, alloc, job, helpers, gate) {
-        Ok(outcome) => match hand_in(rt, alloc, lock, seat, outcome) {
-            Ok(()) => false,
-            Err((stop, _outcome)) => {
-                give_up(rt, lock, seat, stop);
-                true
+        Ok(outcome) => {
+            let gave_rows = !outcome.rows().is_empty();
+            match hand_in(rt, alloc, lock, seat, outcome) {
+                Ok(()) => (false, gave_rows),
+                Err((stop, _outcome)) => {
+                    give_up(rt, lock, seat, stop);
+                    (true, false)
+                }
             }
-        },
+        }
         Err((stop, _job)) => {
             give_up(rt, lock, seat, stop);
-            true
+            (true, false)
         }
     }
 }
 
-// Solves a job and hands it in, or gives up, and keeps the turn meanwhile where the job is long. Is the worker done?
+// Solves a job and hands it in, or gives up. The turn is kept meanwhile where the job is long, unless the last long job of its degree
+// gave no rows. Is the worker done?
 fn do_job_in_turn<R: Threads + Wait + Sync>(
     rt: &R,
     alloc: Global,
     lock: &BasisLock,
     helpers: u32,
     gate: &SharedGate,
-    turn: MutexGuard<'_, ()>,
+    turns: &Mutex<LastJob>,
+    mut turn: MutexGuard<'_, LastJob>,
     seat: &mut BasisSeat,
     job: Job,
 ) -> bool
@@ -111,11 +132,18 @@ fn do_job_in_turn<R: Threads + Wait + Sync>(
     ensures idle { IsIdle lock.now.table.shared.table_id (base lock.now.table.shared.key.value) seat.new.place }
     ensures ends { RoundEnds (base lock.now.table.shared.key.value) seat.old.place.me.0 seat.new.place.me.0 result }
 {
-    if job.pairs().len() < LONG {
+    let degree = degree_of(&job);
+    let last = *turn;
+    if job.pairs().len() < LONG || (last.degree == degree && !last.gave_rows) {
         drop(turn);
-        return do_job(rt, alloc, lock, helpers, gate, seat, job);
+        let (done, gave_rows) = do_job(rt, alloc, lock, helpers, gate, seat, job);
+        if gave_rows && !last.gave_rows {
+            *turns.lock(rt) = LastJob { degree, gave_rows };
+        }
+        return done;
     }
-    let done = do_job(rt, alloc, lock, helpers, gate, seat, job);
+    let (done, gave_rows) = do_job(rt, alloc, lock, helpers, gate, seat, job);
+    *turn = LastJob { degree, gave_rows };
     drop(turn);
     done
 }
@@ -127,7 +155,7 @@ fn do_round<R: Threads + Wait + Sync>(
     lock: &BasisLock,
     helpers: u32,
     gate: &SharedGate,
-    turns: &Mutex<()>,
+    turns: &Mutex<LastJob>,
     seat: &mut BasisSeat,
 ) -> bool
     requires idle { IsIdle lock.now.table.shared.table_id (base lock.now.table.shared.key.value) seat.old.place }
@@ -138,7 +166,9 @@ fn do_round<R: Threads + Wait + Sync>(
 {
     let turn = turns.lock(rt);
     match take_job(rt, alloc, lock, seat, PAIRS) {
-        Ok(Taken::Job(job)) => do_job_in_turn(rt, alloc, lock, helpers, gate, turn, seat, job),
+        Ok(Taken::Job(job)) => do_job_in_turn(
+            rt, alloc, lock, helpers, gate, turns, turn, seat, job,
+        ),
         Ok(Taken::Empty) => {
             drop(turn);
             ask_to_end(rt, lock, seat)
@@ -162,7 +192,7 @@ pub(crate) fn work<R: Threads + Wait + Sync>(
     lock: &BasisLock,
     helpers: u32,
     gate: &SharedGate,
-    turns: &Mutex<()>,
+    turns: &Mutex<LastJob>,
     seat: BasisSeat,
 ) -> BasisSeat
     requires idle { IsIdle lock.now.table.shared.table_id (base lock.now.table.shared.key.value) seat.place }
