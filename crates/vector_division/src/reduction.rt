@@ -141,7 +141,7 @@ fn has_reduced_lead<F: Frame, L: Vectors>(
 }
 
 /// Takes products of the list's vectors away from `v` until its lead is divisible by no lead of the list: each time of the first
-/// vector of the list whose lead divides that of what is left. It stops as `reduce` does.
+/// vector of the list whose lead divides that of what is left, which no clause says. It stops as `reduce` does.
 pub fn reduce_lead<F: Frame, L: Vectors>(
     alloc: Global,
     frame: &F,

@@ -47,11 +47,15 @@ loop-run-preserved g c =
     record {
       runs = (Each_split P new run (subst (Each P) whole c.loop-run.invariant.runs)).0;
       vector = c.in_ok-sum.ensures.vector;
-      sum = adding_more n ring.weights p compare domain order c.loop-run.runs.items new run c.loop-run.sum c.in_ok-sum.sum _ whole c.in_ok-sum.ensures.sum c.loop-run.invariant.sum;
+      sum = adding_more n ring.weights p compare domain order c.loop-run.runs.items new run c.loop-run.sum c.in_ok-sum.sum _ whole
+          c.in_ok-sum.ensures.sum c.loop-run.invariant.sum;
       below = λ k b.
           let h = c.loop-run.invariant.below k b in
-          let s = Each_split (λ r. IsOver compare k (sum_of n r)) new run (subst (AreBelow n compare k) whole h.0) in
-          (s.0, merged_below n ring.weights p compare domain order k c.in_ok-sum.sum run c.loop-run.sum c.in_ok-sum.ensures.vector c.in_ok-sum.ensures.sum s.1 h.1);
+          let s = Each_split (λ r. IsOver compare k (sum_of n r)) new run (subst (AreBelow n compare k) whole h.0) in (
+            s.0,
+            merged_below n ring.weights p compare domain order k c.in_ok-sum.sum run c.loop-run.sum
+                c.in_ok-sum.ensures.vector c.in_ok-sum.ensures.sum s.1 h.1,
+          );
     }
 
 pub returns-clause-below : goal.returns-clause-below

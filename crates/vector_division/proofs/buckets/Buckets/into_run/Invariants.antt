@@ -13,7 +13,8 @@ invariant-loop-run g l =
       runs : AreVectorsOver ring (g.F.Frame.compare l.frame) l.runs.items;
       vector : IsVectorOver ring (g.F.Frame.compare l.frame) l.sum;
       sum : IsSame ring.modulus.value (total n l.runs.items ++ sum_of n l.sum) (total n l.fn.self);
-      below : (k : Key n) → AreBelow n (g.F.Frame.compare l.frame n) k l.fn.self → AreBelow n (g.F.Frame.compare l.frame n) k l.runs.items × IsOver (g.F.Frame.compare l.frame n) k (sum_of n l.sum);
+      below : (k : Key n) → AreBelow n (g.F.Frame.compare l.frame n) k l.fn.self
+          → AreBelow n (g.F.Frame.compare l.frame n) k l.runs.items × IsOver (g.F.Frame.compare l.frame n) k (sum_of n l.sum);
     }
 
 abbrev pub decreases-loop-run : goal.decreases-loop-run
