@@ -59,13 +59,13 @@ digits_room a xs lt le h =
     let top : (a + 1) * 31 ^ length xs ≤ 16 * 31 ^ 12 = mul-le-mul {n₁ = a + 1} {m₁ = 31 ^ length xs} {n₂ = 16} {m₂ = 31 ^ 12} (omega (arith, lt)) power in
     omega (arith, below, top)
 
--- keys with the same hash at one position, with up to 12 exponents below 31, have the same exponents
-pub digits_tell :
-    (a : ℕ) (xs ys : List ℕ) → a < 16 → length xs ≤ 12 → length xs ≡ length ys → Each (λ x. x < 31) xs → Each (λ y. y < 31) ys
-    → fold hash_step a xs ≡ fold hash_step a ys → xs ≡ ys
-digits_tell a xs ys lt le e h k s =
-    (digits_exact a a xs ys e h k
-    (sym (digits_hash a xs (digits_room a xs lt le h)) ∙ s ∙ digits_hash a ys (digits_room a ys lt (omega (arith, le, e)) k))).1
+-- two numbers below 16, each before up to 12 digits, are the same, and so are the digits, where the hashes are
+pub digits_same :
+    (a b : ℕ) (xs ys : List ℕ) → a < 16 → b < 16 → length xs ≤ 12 → length xs ≡ length ys
+    → Each (λ x. x < 31) xs → Each (λ y. y < 31) ys → fold hash_step a xs ≡ fold hash_step b ys → (a ≡ b) × (xs ≡ ys)
+digits_same a b xs ys lt lt' le e h k s =
+    digits_exact a b xs ys e h k
+    (sym (digits_hash a xs (digits_room a xs lt le h)) ∙ s ∙ digits_hash b ys (digits_room b ys lt' (omega (arith, le, e)) k))
 
 -- exponents of a degree below 31 are digits
 pub digits_few : (d : ℕ) (xs : List ℕ) → ((k : ℕ) → get_or xs k 0 ≤ d) → d < 31 → Each (λ x. x < 31) xs

@@ -1,5 +1,5 @@
 -- Rows over columns that descend
-use Rattle.std.proofs.Common.{Equal, Greater, Less, List, Ordering, [], ap, ap₂, arith, inl, inr, length, refl, subst, sym, ℕ, ◌+◌, ◌<◌, ◌∙◌, ◌∷◌, ◌≡◌, ◌≤◌}
+use Rattle.std.proofs.Common.{Equal, Greater, Less, List, Ordering, [], ap, ap₂, arith, drop, get_or, inl, inr, length, refl, set, subst, suc, sym, take, zero, ℕ, ◌+◌, ◌++◌, ◌<◌, ◌∙◌, ◌∷◌, ◌≡◌, ◌≤◌}
 use Rattle.std.proofs.lemmas.Bool.{cases_eq, cases_lt}
 use Rattle.formal_sums.specs.FormalSums.{Each, FormalSum, Key}
 use Rattle.orders.proofs.KeyOrdering.{equal_itself, less_of_greater}
@@ -71,3 +71,12 @@ module _ (n p r : ℕ) (compare : Key n → Key n → Ordering) (order : IsKeyOr
 pub residue_of : {n : ℕ} (key : ℕ → Key n) (es : List Entry) → head_coefficient (row_sum key es) ≡ first_residue es
 residue_of key [] = refl
 residue_of key (e ∷ es) = refl
+
+-- one entry more has the place of its number
+pub place_step :
+    (places : List ℕ) (es : List Entry) (k : ℕ) → k < length es
+    → (let xs = placed_entries places (take k es) ++ drop k es in let e = get_or xs k (0, 0) in set xs k (get_or places e.0 0, e.1))
+    ≡ placed_entries places (take (suc k) es) ++ drop (suc k) es
+place_step places [] k lt = absurd (omega arith)
+place_step places (e ∷ es) zero lt = refl
+place_step places (e ∷ es) (suc k) lt = ap (λ ys. (get_or places e.0 0, e.1) ∷ ys) (place_step places es k (omega arith))

@@ -3,8 +3,9 @@ ghost use Rattle.std.specs.Prelude.{◌≡◌, ◌<◌, ◌≤◌, ◌+◌, ◌+
 ghost use Rattle.std.specs.Vec.{vec_len, vec_capacity};
 ghost use Rattle.monomial_orders.specs.Monomials.{StopsAbove};
 ghost use Rattle.row_matrix.specs.Hashes.{AreApart, Lacks, IsChained, IsTable, IsNumbered, bucket_of, factor_hash, hash_of, hash_step, no_key, key_product, sums};
+ghost use Rattle.row_matrix.specs.Told.{AreTold, AreToldWith, IsToldKey};
 
-use crate::kept_number;
+use crate::{TermHashes, kept_number};
 use module_vectors::{Key, NoMemory};
 use monomial_orders::{Mono, MonoStop};
 use std::alloc::Global;
@@ -80,6 +81,17 @@ fn is_told(position: u64, degree: u128, n: usize) -> bool
     false
 }
 
+// Is it one of the keys that their hashes tell, among those in at most 12 variables?
+fn is_told_key(key: &Key) -> bool
+    ensures { IsTrue result → IsToldKey key.now }
+{
+    key.monomial.bounds();
+    if key.position < POSITIONS {
+        return key.monomial.degree() < u128::from(DIGIT);
+    }
+    false
+}
+
 // Is the first one, which has the hash of the product of the monomial and the other key, that product?
 fn is_product(product: &Key, t: &Mono, key: &Key) -> bool
     requires variables { length t.now.exponents ≡ length key.now.monomial.exponents }
@@ -129,18 +141,21 @@ pub struct KeyTable {
     earlier: Vec<u32>,
     // for each bucket 1 and the number of its last key, or 0
     last: Vec<u32>,
+    // whether all are keys that their hashes tell
+    told: bool,
 }
 
 impl Model for KeyTable {
-    ghost use Rattle.std.specs.Prelude.{List};
+    ghost use Rattle.std.specs.Prelude.{List, true, ◌≡◌};
     ghost use Rattle.module_vectors.specs.declared.key.Key.{Key};
     ghost use Rattle.row_matrix.specs.Hashes.{IsTable};
+    ghost use Rattle.row_matrix.specs.Told.{AreTold};
 
     ghost Value = { List Key };
 
     ghost view = { λ t. t.keys.items };
 
-    ghost invariant = { λ t. IsTable t.keys.items t.hashes.items t.earlier.items t.last.items };
+    ghost invariant = { λ t. IsTable t.keys.items t.hashes.items t.earlier.items t.last.items × (t.told ≡ true → AreTold t.keys.items) };
 }
 
 // Chains the keys, whose hashes these are, in fresh buckets, all empty.
@@ -183,6 +198,24 @@ fn find(
             if is_product(&keys[i], t, key) {
                 return Some(i);
             }
+        }
+        cursor = earlier[i];
+    }
+    None
+}
+
+// The number of a key with this hash, if there is one.
+fn find_hash(hashes: &[u64], earlier: &[u32], last: &[u32], hash: u64) -> Option<usize>
+    requires some { 0 < length last.now }
+    requires chained { IsChained (length last.now) (length hashes.now) hashes.now earlier.now last.now }
+    requires lengths { length earlier.now ≡ length hashes.now }
+    ensures { IfSome result (λ i. (i < length hashes.now) × (get_or hashes.now i 0 ≡ hash)) }
+{
+    let mut cursor = last[bucket(last.len(), hash)];
+    while cursor > 0 {
+        let i = cursor as usize - 1;
+        if hashes[i] == hash {
+            return Some(i);
         }
         cursor = earlier[i];
     }
@@ -248,6 +281,7 @@ impl KeyTable {
             hashes: Vec::new(alloc),
             earlier: Vec::new(alloc),
             last: vec![in alloc; 0; FIRST_BUCKETS]?,
+            told: true,
         })
     }
 
@@ -289,6 +323,7 @@ impl KeyTable {
             &mut self.last,
         )?;
         let i = self.keys.len();
+        let told = self.told && is_told_key(&key);
         append(
             &mut self.keys,
             &mut self.hashes,
@@ -297,7 +332,31 @@ impl KeyTable {
             hash,
             key,
         )?;
+        self.told = told;
         Ok(i)
+    }
+
+    /// Do hashes tell all these keys and the products of the monomial with keys that have these hashes? Then a key with a
+    /// product's hash is the product.
+    pub(crate) fn tells(&self, t: &Mono, hashes: &TermHashes) -> bool
+        ensures { IsTrue result → AreToldWith self.now t.now hashes.now }
+    {
+        t.bounds();
+        if self.told {
+            return is_told(
+                hashes.position(),
+                t.degree() + hashes.degree(),
+                t.variables(),
+            );
+        }
+        false
+    }
+
+    /// The number of a key with this hash, if there is one.
+    pub(crate) fn number_with_hash(&self, hash: u64) -> Option<usize>
+        ensures { IfSome result (λ i. (i < length self.now) × (hash_of (get_or self.now i no_key) ≡ hash)) }
+    {
+        find_hash(&self.hashes, &self.earlier, &self.last, hash)
     }
 
     /// The number of the product of the monomial and the key, which is made and put at the end only where it has none

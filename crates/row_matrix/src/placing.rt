@@ -13,30 +13,23 @@ use std::alloc::Global;
 use std::collections::VecDeque;
 
 // The entries with the places of their numbers.
-fn place_entries(
-    alloc: Global,
-    places: &[u32],
-    entries: &[(u32, u32)],
-) -> Result<Vec<(u32, u32)>, NoMemory>
-    requires { Each (λ e. e.0 < length places.now) entries.now }
-    ensures { IfOk result (λ es. es.items ≡ placed_entries places.now entries.now) }
+fn place_entries(places: &[u32], entries: &mut [(u32, u32)])
+    requires { Each (λ e. e.0 < length places.now) entries.old }
+    ensures { entries.new ≡ placed_entries places.now entries.old }
 {
-    let mut out = Vec::with_capacity(alloc, entries.len())?;
-    for entry in entries {
-        out.push_reserved((places[entry.0 as usize], entry.1));
+    for k in 0..entries.len() {
+        entries[k].0 = places[entries[k].0 as usize];
     }
-    Ok(out)
 }
 
 // The row with the places of its numbers.
-fn place_row(alloc: Global, places: &[u32], row: Row) -> Result<Row, NoMemory>
+fn place_row(places: &[u32], row: Row) -> Row
     requires { Each (λ e. e.0 < length places.now) row.entries }
-    ensures entries { IfOk result (λ r. r.entries ≡ placed_entries places.now row.entries) }
-    ensures sources { IfOk result (λ r. r.sources ≡ row.sources) }
+    ensures { result ≡ placed_row places.now row }
 {
-    let (entries, sources) = row.into_parts();
-    let placed = place_entries(alloc, places, &entries)?;
-    Ok(Row::new(placed, sources))
+    let (mut entries, sources) = row.into_parts();
+    place_entries(places, &mut entries);
+    Row::new(entries, sources)
 }
 
 // The rows with the places of their numbers.
@@ -47,7 +40,7 @@ fn place_rows(alloc: Global, places: &[u32], rows: Vec<Row>) -> Result<Vec<Row>,
     let mut out = Vec::with_capacity(alloc, rows.len())?;
     let mut rest = VecDeque::from_vec(rows);
     while let Some(row) = rest.pop_front() {
-        out.push_reserved(place_row(alloc, places, row)?);
+        out.push_reserved(place_row(places, row));
     }
     Ok(out)
 }

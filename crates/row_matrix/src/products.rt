@@ -1,17 +1,19 @@
 // Products of monomials and vectors as rows.
-ghost use Rattle.std.specs.Prelude.{◌≡◌, ◌<◌, ◌≤◌, ◌+◌, ◌++◌, List, [], ◌∷◌, ℕ, length, get_or, IfOk, IfErr, OnOk};
+ghost use Rattle.std.specs.Prelude.{◌≡◌, ◌<◌, ◌≤◌, ◌+◌, ◌++◌, List, [], ◌∷◌, ℕ, length, get_or, true, IfOk, IfErr, OnOk};
 ghost use Rattle.monomials.specs.Exponents.{exponents_of};
 ghost use Rattle.formal_sums.specs.FormalSums.{Each, scale};
 ghost use Rattle.module_vectors.specs.Stops.{Fits};
 ghost use Rattle.module_vectors.specs.Vectors.{HasVariables, sum_of};
 ghost use Rattle.monomial_orders.specs.Kept.{IsWeighed};
-ghost use Rattle.row_matrix.specs.Hashes.{term_hashes};
+ghost use Rattle.monomial_orders.specs.Monomials.{StopsAbove};
+ghost use Rattle.row_matrix.specs.Hashes.{IsNumbered, factor_hash, hash_of, key_product};
+ghost use Rattle.row_matrix.specs.Told.{AreHashesOf, TellsProduct};
 ghost use Rattle.row_matrix.specs.Naming.{AreNamed, IsGrown};
 ghost use Rattle.row_matrix.specs.Rows.{AreKeys};
 ghost use Rattle.row_matrix.specs.Products.{ProductStops};
 ghost use Rattle.row_matrix.specs.declared.products.ProductStop.TheVariants.{Memory};
 
-use crate::{KeyTable, hash_of_factor, kept_number};
+use crate::{KeyTable, TermHashes, hash_of_factor, kept_number};
 use module_vectors::{Key, NoMemory};
 use monomial_orders::{Mono, MonoStop};
 use std::alloc::{AllocError, Global};
@@ -40,17 +42,44 @@ impl From<NoMemory> for ProductStop {
     }
 }
 
-/// The product t v as a row: the number of each key and its residue. `hashes` are those of v's keys (`hash_of_key`).
-/// Keys that have no number yet are put into the table, after an error too.
+// The number of the product of the monomial and the key: where hashes tell it, that of the key with its hash.
+fn number_of(
+    alloc: Global,
+    keys: &mut KeyTable,
+    told: bool,
+    t: &Mono,
+    added: u64,
+    key: &Key,
+    hash: u64,
+) -> Result<usize, MonoStop>
+    requires told { told ≡ true → TellsProduct keys.old t.now key.now }
+    requires variables { length t.now.exponents ≡ length key.now.monomial.exponents }
+    requires added { added ≡ factor_hash t.now }
+    requires hash { hash ≡ hash_of key.now }
+    ensures ok { IfOk result (IsNumbered keys.old keys.new (key_product t.now key.now)) }
+    ensures small { OnOk result (t.now.degree + key.now.monomial.degree ≤ 65535) }
+    ensures stop { IfErr result (StopsAbove (t.now.degree + key.now.monomial.degree)) }
+{
+    if told {
+        if let Some(number) = keys.number_with_hash(hash.wrapping_add(added)) {
+            return Ok(number);
+        }
+    }
+    keys.number_of_product(alloc, t, added, key, hash)
+}
+
+/// The product t v as a row: the number of each key and its residue. `hashes` are those of v's keys. Keys that have no
+/// number yet are put into the table, after an error too.
 pub fn product_row(
     alloc: Global,
     keys: &mut KeyTable,
     t: &Mono,
     v: &[(Key, u32)],
-    hashes: &[u64],
+    hashes: &TermHashes,
 ) -> Result<Vec<(u32, u32)>, ProductStop>
-    requires variables { Each (HasVariables (length t.now.exponents)) v.now }
-    requires hashes { hashes.now ≡ term_hashes v.now }
+    requires weighed { let n = length t.now.exponents in (ws : List ℕ) × IsWeighed n ws t.now
+        × Each (λ u. IsWeighed n ws u.0.monomial) v.now × AreKeys n ws keys.old }
+    requires hashes { AreHashesOf hashes.now v.now }
     ensures named { let n = length t.now.exponents in
         IfOk result (λ entries. AreNamed n keys.new entries.items (scale 1 (exponents_of n t.now.exponents) (sum_of n v.now))) }
     ensures grown { IfOk result (λ entries. IsGrown keys.old keys.new entries.items) }
@@ -60,9 +89,11 @@ pub fn product_row(
     ensures stop { IfErr result (ProductStops t.now v.now) }
 {
     let added = hash_of_factor(t);
+    let told = keys.tells(t, hashes);
+    let hashes = hashes.hashes();
     let mut entries = Vec::with_capacity(alloc, v.len())?;
     for (i, term) in v.iter().enumerate() {
-        match keys.number_of_product(alloc, t, added, &term.0, hashes[i]) {
+        match number_of(alloc, keys, told, t, added, &term.0, hashes[i]) {
             Ok(number) => entries.push_reserved((kept_number(number)?, term.1)),
             Err(MonoStop::Memory) => return Err(ProductStop::Memory),
             Err(MonoStop::Degree) => return Err(ProductStop::Degree(i)),

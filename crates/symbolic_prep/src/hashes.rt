@@ -1,30 +1,18 @@
 // The hashes of the members' keys.
 ghost use Rattle.std.specs.Prelude.{◌≡◌, ◌<◌, [], IfOk, OnOk, get_or, length};
-ghost use Rattle.row_matrix.specs.Hashes.{term_hashes};
 ghost use Rattle.symbolic_prep.specs.Hashed.{AreHashed, IsHashedAt};
 
-use module_vectors::{Key, NoMemory, Vectors};
-use row_matrix::hash_of_key;
+use module_vectors::{NoMemory, Vectors};
+use row_matrix::TermHashes;
 use std::alloc::Global;
 
-// The hashes of the keys of these terms.
-fn hashes_of(alloc: Global, terms: &[(Key, u32)]) -> Result<Vec<u64>, NoMemory>
-    ensures { IfOk result (λ hashes. hashes.items ≡ term_hashes terms.now) }
-{
-    let mut hashes = Vec::with_capacity(alloc, terms.len())?;
-    for term in terms {
-        hashes.push_reserved(hash_of_key(&term.0));
-    }
-    Ok(hashes)
-}
-
 /// For each member no hashes yet.
-pub(crate) fn no_hashes<L: Vectors>(alloc: Global, members: &L) -> Result<Vec<Vec<u64>>, NoMemory>
+pub(crate) fn no_hashes<L: Vectors>(alloc: Global, members: &L) -> Result<Vec<TermHashes>, NoMemory>
     ensures { IfOk result (λ hashes. AreHashed (L.listed members.now) hashes.items) }
 {
     let mut hashes = Vec::with_capacity(alloc, members.count())?;
     for _ in 0..members.count() {
-        hashes.push_reserved(Vec::new(alloc));
+        hashes.push_reserved(TermHashes::new(alloc));
     }
     Ok(hashes)
 }
@@ -33,7 +21,7 @@ pub(crate) fn no_hashes<L: Vectors>(alloc: Global, members: &L) -> Result<Vec<Ve
 pub(crate) fn keep_hashes<L: Vectors>(
     alloc: Global,
     members: &L,
-    hashes: &mut Vec<Vec<u64>>,
+    hashes: &mut Vec<TermHashes>,
     member: usize,
 ) -> Result<(), NoMemory>
     requires within { member < length (L.listed members.now) }
@@ -46,6 +34,6 @@ pub(crate) fn keep_hashes<L: Vectors>(
     if made.len() == terms.len() {
         return Ok(());
     }
-    hashes[member] = hashes_of(alloc, terms)?;
+    hashes[member] = TermHashes::of(alloc, terms)?;
     Ok(())
 }

@@ -14,7 +14,7 @@ use crate::hashes::keep_hashes;
 use crate::stop::PlanStop;
 use module_vectors::{Key, NoMemory, Ring, Vectors};
 use monomial_orders::Mono;
-use row_matrix::{KeyTable, ProductStop, Row, kept_number, product_row};
+use row_matrix::{KeyTable, ProductStop, Row, TermHashes, kept_number, product_row};
 use std::alloc::Global;
 
 /// Rows over the numbers of their keys, the products that they are, for each key whether a row has it as its lead, and the
@@ -25,7 +25,7 @@ pub(crate) struct Plan {
     pub(crate) rows: Vec<Row>,
     pub(crate) products: Vec<(u64, Mono)>,
     pub(crate) led: Vec<bool>,
-    pub(crate) hashes: Vec<Vec<u64>>,
+    pub(crate) hashes: Vec<TermHashes>,
 }
 
 // Marks a key as the lead of a row; there are so many keys now.

@@ -19,7 +19,7 @@ use crate::stop::{GreatProduct, PlanStop, PrepareStop};
 use module_vectors::{NoMemory, Ring, Vectors};
 use monomial_orders::Mono;
 use pair_criteria::Pair;
-use row_matrix::{KeyTable, Matrix, place_matrix};
+use row_matrix::{KeyTable, Matrix, TermHashes, place_matrix};
 use std::alloc::Global;
 
 /// The matrix of a job, and the product (k, t) of member k and monomial t that each of its rows is.
@@ -30,7 +30,7 @@ pub struct Prepared {
 }
 
 // No rows, with these hashes.
-fn start_plan(alloc: Global, hashes: Vec<Vec<u64>>) -> Result<Plan, NoMemory>
+fn start_plan(alloc: Global, hashes: Vec<TermHashes>) -> Result<Plan, NoMemory>
     ensures hashes { IfOk result (λ plan. plan.hashes.items ≡ hashes.items) }
     ensures plan { (n : ℕ) (ws : List ℕ) (list : List (List (KeyValue × ℕ)))
         → IfOk result (λ plan. IsPlan n ws list plan.keys plan.rows.items plan.products.items plan.led.items) }

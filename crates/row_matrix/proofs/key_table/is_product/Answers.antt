@@ -1,7 +1,7 @@
 use Rattle.std.proofs.Common.{ap, arith, false, length, refl, sym, true, ◌+◌, ◌<◌, ◌∙◌, ◌≡◌, ◌≤◌}
 use Rattle.std.specs.Prelude.{fold}
 use Rattle.module_vectors.specs.declared.key.Key.{Key}
-use Rattle.row_matrix.proofs.Digits.{digits_few, digits_tell, sums_few}
+use Rattle.row_matrix.proofs.Digits.{digits_few, digits_same, sums_few}
 use Rattle.row_matrix.proofs.KeyProducts.{length_sums, product_exact}
 use Rattle.row_matrix.specs.Hashes.{hash_step, sums}
 use Rattle.row_matrix.proofs.key_table.is_product.Goals as goal
@@ -32,8 +32,8 @@ returns-then-is_told c =
     omega (arith, c.if-variables-n.false, c.variables.ensures, c.variables-n.ensures, length_sums t.exponents key.monomial.exponents c.requires.variables) in
     let few : length xs ≤ 12 = omega (arith, told.2, c.if-variables-n.false, c.variables.ensures) in
     let exponents : xs ≡ ys =
-    digits_tell key.position xs ys told.0 few same
+    (digits_same key.position key.position xs ys told.0 told.0 few same
     (digits_few product.monomial.degree xs c.bounds.ensures.held (omega (arith, degree, low)))
     (sums_few t.degree key.monomial.degree t.exponents key.monomial.exponents c.bounds-2.ensures.held c.bounds-3.ensures.held low)
-    (ap (λ p. fold hash_step p xs) (sym place) ∙ c.requires.hash) in
+    (ap (λ p. fold hash_step p xs) (sym place) ∙ c.requires.hash)).1 in
     (λ _. product_exact t key product place degree exponents, λ _. refl)

@@ -1,8 +1,7 @@
-use Rattle.std.proofs.Common.{[], arith, subst, sym, ℕ, ◌∷◌, ◌≡◌}
-use Rattle.std.specs.Global.{Global}
-use Rattle.std.specs.Prelude.{Vec}
+use Rattle.std.proofs.Common.{[], arith, subst, sym, ◌∷◌, ◌≡◌}
 use Rattle.formal_sums.proofs.WeightedSums.{Each_append}
 use Rattle.formal_sums.specs.FormalSums.{Each}
+use Rattle.row_matrix.specs.Told.{HashesShown}
 use Rattle.symbolic_prep.proofs.Hashing.{hashed_none}
 use Rattle.symbolic_prep.proofs.hashes.no_hashes.Goals as goal
 
@@ -10,8 +9,8 @@ pub loop-preserved : goal.loop-preserved
 loop-preserved g c = record {
   count = omega arith;
   room = omega arith;
-  none = subst (Each (λ (h : Vec ℕ Global). h.items ≡ [])) (sym c.push_reserved.ensures.items)
-      (Each_append _ c.loop.hashes.items (c.new.result ∷ []) c.loop.invariant.none (c.new.ensures.items, tt));
+  none = subst (Each (λ (h : HashesShown). h.hashes ≡ [])) (sym c.push_reserved.ensures.items)
+      (Each_append _ c.loop.hashes.items (c.new.result ∷ []) c.loop.invariant.none (c.new.ensures, tt));
 }
 
 pub returns : goal.returns

@@ -1,10 +1,11 @@
-use Rattle.std.proofs.Common.{ap, get_or, length, subst, sym, ◌∙◌, ◌≡◌, []}
+use Rattle.std.proofs.Common.{List, ap, get_or, length, subst, sym, ℕ, ◌∙◌, ◌≡◌, []}
 use Rattle.formal_sums.specs.FormalSums.{Each}
 use Rattle.monomial_orders.specs.Kept.{IsWeighed}
 use Rattle.module_vectors.specs.Rings.{variables}
 use Rattle.module_vectors.specs.Trails.{KeptProduct}
 use Rattle.symbolic_prep.proofs.Planning.{entries_some, has_variables, keys_product, lead_known, more_planned, named_product, terms_weighed}
-use Rattle.row_matrix.specs.Hashes.{term_hashes}
+use Rattle.row_matrix.specs.Rows.{AreKeys}
+use Rattle.row_matrix.specs.Told.{AreHashesOf}
 use Rattle.symbolic_prep.specs.Plans.{IsMorePlanned}
 use Rattle.symbolic_prep.specs.Traces.{ProductEnds}
 use Rattle.symbolic_prep.proofs.plan.add_product.Goals as goal
@@ -13,16 +14,23 @@ pub product_row-requires-clause-hashes : goal.product_row-requires-clause-hashes
 product_row-requires-clause-hashes g c =
     let list = g.L.Vectors.listed c.args.members.now in
     let vector : c.terms-terms.result.now ≡ get_or list c.args.member [] = c.terms-terms.ensures ∙ c.at.ensures in
-    c.deref.ensures.value ∙ c.in_ok-keep_hashes.ensures.made.there c.index-hashes.result.now c.index-hashes.ensures ∙ ap term_hashes (sym vector)
+    subst (AreHashesOf c.index-hashes.result.now) (sym vector) (c.in_ok-keep_hashes.ensures.made.there c.index-hashes.result.now c.index-hashes.ensures)
 
-pub product_row-requires-clause-variables : goal.product_row-requires-clause-variables
-product_row-requires-clause-variables g c =
+pub product_row-requires-clause-weighed : goal.product_row-requires-clause-weighed
+product_row-requires-clause-weighed g c =
     let ring = c.args._ring.now in
     let n = variables ring in
     let list = g.L.Vectors.listed c.args.members.now in
     let vector : c.terms-terms.result.now ≡ get_or list c.args.member [] = c.terms-terms.ensures ∙ c.at.ensures in
-    has_variables n ring.weights c.terms-terms.result.now c.args.t c.requires.product.weighed
-    (subst (Each (λ u. IsWeighed n ring.weights u.0.monomial)) (sym vector) (terms_weighed n ring.weights list c.args.member c.requires.weighed c.requires.product.member))
+    let weighed : IsWeighed n ring.weights c.args.t = c.requires.product.weighed in
+    subst (λ k. (ws : List ℕ) × IsWeighed k ws c.args.t × Each (λ u. IsWeighed k ws u.0.monomial) c.terms-terms.result.now
+    × AreKeys k ws c.args.plan.now.keys) (sym weighed.variables) (
+      ring.weights,
+      weighed,
+      subst (Each (λ u. IsWeighed n ring.weights u.0.monomial)) (sym vector)
+          (terms_weighed n ring.weights list c.args.member c.requires.weighed c.requires.product.member),
+      c.requires.plan.monomials,
+    )
 
 pub put_row-requires-clause-some : goal.put_row-requires-clause-some
 put_row-requires-clause-some g c =
