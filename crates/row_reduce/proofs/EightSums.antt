@@ -213,14 +213,11 @@ zero_at j q = get_or-replicate 8 j 0 0 q
 -- a column more where all eight numbers are 0
 pub zeros_more :
     (from c : ℕ) (numbers : List (List ℕ))
-    → c < length numbers → false ≡ not (pointwise eqb (get_or numbers c []) (replicate 8 0))
+    → c < length numbers → ((j : ℕ) → j < 8 → get_or (get_or numbers c []) j 0 ≡ 0)
     → ((j i : ℕ) → j < 8 → from ≤ i → i < c → get_or (lane j numbers) i 0 ≡ 0)
     → (j i : ℕ) → j < 8 → from ≤ i → i < c + 1 → get_or (lane j numbers) i 0 ≡ 0
-zeros_more from c numbers lt same zeros j i q low below = go (cases_eq i c)
+zeros_more from c numbers lt all zeros j i q low below = go (cases_eq i c)
   where
     go : (i ≡ c) ⊎ (i ≡ c → ⊥) → get_or (lane j numbers) i 0 ≡ 0
-    go (inl e) =
-        let zero : get_or numbers c [] ≡ replicate 8 0 =
-        (slice_eq-Decides Decides-eqb (get_or numbers c []) (replicate 8 0) _ refl).0 (not-false _ (sym same)) in
-        rw (e, lane_at j c numbers lt, zero) (zero_at j q)
+    go (inl e) = rw (e, lane_at j c numbers lt) (all j q)
     go (inr n) = zeros j i q low (omega arith)

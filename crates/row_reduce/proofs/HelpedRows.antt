@@ -1,7 +1,7 @@
 -- Rows that helpers claim, and what they leave of those that lost their columns
-use Rattle.std.proofs.Common.{List, Option, [], ap, append-nil, append_assoc, arith, get_or, inl, inr, length, set, slice_index, subst, sym, refl, replicate, suc, subst₂, take, zero, ℕ, ◌+◌, ◌++◌, ◌-◌, ◌<◌, ◌∙◌, ◌∷◌, ◌≡◌}
+use Rattle.std.proofs.Common.{List, Option, [], ap, append-nil, append_assoc, arith, get_or, inl, inr, length, set, slice_index, subst, sym, refl, replicate, subst₂, take, ℕ, ◌+◌, ◌++◌, ◌-◌, ◌<◌, ◌∙◌, ◌∷◌, ◌≡◌}
 use Rattle.std.proofs.lemmas.Bool.{cases_lt}
-use Rattle.std.proofs.lemmas.List.{get_or-map, get_or_default, length-map, length-replicate, map-append}
+use Rattle.std.proofs.lemmas.List.{get_or-map, get_or_default, length-map, map-append}
 use Rattle.std.proofs.lemmas.List.Elements.{All-tail}
 use Rattle.std.proofs.lemmas.List.Sorted.{IsPermutation-append, IsPermutation-append_comm, IsPermutation-append_left, IsPermutation-append_right, IsPermutation-middle, IsPermutation-push_more, IsPermutation-refl, IsPermutation-sym, IsPermutation-trans}
 use Rattle.std.specs.List.Sorted.{IsPermutation}
@@ -20,9 +20,10 @@ use Rattle.row_reduce.proofs.Echelons.{pivots_more, pivots_none}
 use Rattle.row_reduce.proofs.Entries.{first_below}
 use Rattle.row_reduce.proofs.Naming.{named_span, span_at, span_left, span_right, span_through, told_before, told_last, told_stays}
 use Rattle.row_reduce.specs.LostRows.{AreClaimed, IsLost, IsReplaced, numbers}
-use Rattle.row_reduce.specs.Passes.{AreAsTold, AreHelped, Follows, IsGone, IsLeftOf, IsPass, IsRest, IsTold, Names, leads_of, named, places, rows_left}
+use Rattle.row_reduce.specs.Passes.{AreAsTold, AreHelped, Follows, IsGone, IsLeftOf, IsPass, IsRest, IsRestFrom, IsTold, Names}
+use Rattle.row_reduce.specs.Passes.{leads_of, named, places, rows_left}
 use Rattle.row_reduce.specs.Pivots.{ArePivots, lead_column, no_row, row_at}
-use Rattle.row_reduce.specs.Underway.{AreCombined, AreIdle, IsSpanned}
+use Rattle.row_reduce.specs.Underway.{AreCombined, IsSpanned}
 use Rattle.row_reduce.specs.declared.lefts.Lost.{Lost}
 use Rattle.row_reduce.specs.declared.lefts.Left.{Left}
 
@@ -131,14 +132,6 @@ pub lost_at :
     (rows : List RowShown) (old new : List Told) (lost : List Lost) (i : ℕ) (d : Lost)
     → Follows old new → Each (IsLost rows old) lost → i < length lost → IsLost rows new (get_or lost i d)
 lost_at rows old new lost i d f h lt = lost_stays rows old new (get_or lost i d) f (Each_member (IsLost rows old) lost i d h lt)
-
--- a number for each column, all 0
-pub idle_start : (columns : ℕ) (zeros : List ℕ) → zeros ≡ replicate columns 0 → AreIdle columns zeros
-idle_start columns zeros e = (ap length e ∙ length-replicate columns 0, subst (Each {X = ℕ} (λ a. a ≡ 0)) (sym e) (idle columns))
-  where
-    idle : (m : ℕ) → Each {X = ℕ} (λ a. a ≡ 0) (replicate m 0)
-    idle zero = tt
-    idle (suc m) = (refl, idle m)
 
 -- ---- claimed rows
 -- one more row, which has its column
@@ -342,7 +335,7 @@ module _ (p columns inputs : ℕ) (rows : List RowShown) where
         (IsPermutation-append_left (l.number ∷ []) mine (places left ++ h.gone) h.split) swapped);
     replaced = λ words a.
         Each_append (IsLeftOf rows words) left (new ∷ []) (h.replaced words a)
-        (record { winner = l.winner; other = lost.other; lost = lost.held.named words a; lower = rest.lower }, tt);
+        (record { winner = l.winner; other = lost.other; lost = lost.held.named words a; lower = omega (arith, rest.lower) }, tt);
     claimed = λ words a. Each_append (HasColumn rows words) mine (l.number ∷ []) (h.claimed words a) ((l.winner, lost.held.named words a), tt);
     inside = λ words a.
         subst (λ X. Each (IsInside p rows words X) (mine ++ l.number ∷ [])) (sym shown)
@@ -419,12 +412,12 @@ module _ (p columns inputs : ℕ) (rows : List RowShown) where
 
   -- what is left of a row is the pivot of its first column
   pub pivots_left :
-      (left left' : List Left) (told : List Told) (l : Lost) {row : RowShown} (r : RowShown) (pivots pivots' : List ℕ)
-      → ArePivots p columns inputs (rows_left left) pivots → IsRest p columns inputs rows (rows_left left) told row r
-      → left' ≡ left ++ record { number = l.number; row = r } ∷ [] → pivots' ≡ set pivots (first_column r.entries) (length left + 1)
+      (left left' : List Left) (told : List Told) (number : ℕ) {column : ℕ} {row : RowShown} (r : RowShown) (pivots pivots' : List ℕ)
+      → ArePivots p columns inputs (rows_left left) pivots → IsRestFrom p columns inputs column rows (rows_left left) told row r
+      → left' ≡ left ++ record { number = number; row = r } ∷ [] → pivots' ≡ set pivots (first_column r.entries) (length left + 1)
       → ArePivots p columns inputs (rows_left left') pivots'
-  pivots_left left left' told l {row} r pivots pivots' h rest e is =
-      subst₂ (ArePivots p columns inputs) (sym (map-append (λ (x : Left). x.row) left (record { number = l.number; row = r } ∷ [])) ∙ ap rows_left (sym e))
+  pivots_left left left' told number {column} {row} r pivots pivots' h rest e is =
+      subst₂ (ArePivots p columns inputs) (sym (map-append (λ (x : Left). x.row) left (record { number = number; row = r } ∷ [])) ∙ ap rows_left (sym e))
       (ap (λ n. set pivots (first_column r.entries) (n + 1)) (length-map left (λ (x : Left). x.row)) ∙ sym is)
       (pivots_more p columns inputs (rows_left left) pivots r h rest.good free within)
     where

@@ -1,47 +1,28 @@
 -- Rows that come one after another behind a helper's own ones
-use Rattle.std.proofs.Common.{List, None, Option, Some, [], ap, append-nil, append_assoc, arith, drop, get_or, inl, inr, length, refl, replicate}
+use Rattle.std.proofs.Common.{List, None, Option, Some, [], ap, append-nil, append_assoc, arith, drop, get_or, inl, inr, length, refl}
 use Rattle.std.proofs.Common.{set, slice_range, subst, subst₂, suc, sym, take, take-add, false, ℕ, ◌+◌, ◌++◌, ◌-◌, ◌<◌, ◌==◌, ◌∙◌, ◌∷◌, ◌≡◌, ◌≤◌}
 use Rattle.std.proofs.lemmas.Bool.{true≢false}
-use Rattle.std.proofs.lemmas.List.{drop_more, get_or_default, length-map, map-append, take-append-drop}
-use Rattle.residues.specs.Residues.{IsCongruent}
+use Rattle.std.proofs.lemmas.List.{drop_more, length-map, map-append, take-append-drop}
 use Rattle.formal_sums.proofs.Combining.{Each_map}
 use Rattle.formal_sums.proofs.WeightedSums.{Each_append}
 use Rattle.formal_sums.specs.FormalSums.{Each}
 use Rattle.pivot_table.specs.declared.law.Entry.{Entry as Told}
-use Rattle.row_matrix.specs.Rows.{Entry, IsRow, RowShown, first_column, first_residue, row_sum}
+use Rattle.row_matrix.specs.Rows.{Entry, IsRow, RowShown, first_column, first_residue}
 use Rattle.row_reduce.proofs.Adding.{Each_back, Each_front}
 use Rattle.row_reduce.proofs.Echelons.{pivots_more}
 use Rattle.row_reduce.proofs.Entries.{first_below}
 use Rattle.row_reduce.proofs.HelpedRows.{all_lost_stay, helped_later, helped_more, item_taken, spanned_left, spanned_more, spanned_rows, spanned_through}
 use Rattle.row_reduce.proofs.Naming.{follows_same, told_before}
-use Rattle.row_reduce.proofs.Reducing.{first_column_read, span_last}
-use Rattle.row_reduce.proofs.Steps.{reduced_pivot, reduced_start, start_vector}
-use Rattle.row_reduce.specs.Dense.{AddsMultiple, dense_sum}
+use Rattle.row_reduce.proofs.Reducing.{span_last}
+use Rattle.row_reduce.proofs.Steps.{least_above}
 use Rattle.row_reduce.specs.LostRows.{IsLost, IsLowered, IsReplaced, IsRestKept, numbers}
-use Rattle.row_reduce.specs.Passes.{AreHelped, Follows, IsGone, IsRest, named, rows_left}
+use Rattle.row_reduce.specs.Passes.{AreHelped, Follows, IsGone, IsRest, IsRestFrom, named, rows_left}
 use Rattle.row_reduce.specs.Pivots.{ArePivots, lead_column, row_at}
-use Rattle.row_reduce.specs.Reductions.{IsPivotFor, IsReducedSoFar}
+use Rattle.row_reduce.specs.Reductions.{least_left}
 use Rattle.row_reduce.specs.Together.{AreReplaced, AreRests, IsRestOf}
 use Rattle.row_reduce.specs.Underway.{AreCombined, IsSpanned}
 use Rattle.row_reduce.specs.declared.lefts.Left.{Left}
 use Rattle.row_reduce.specs.declared.lefts.Lost.{Lost}
-
--- the row's first column is cleared by its pivot
-pub first_cleared :
-    (p c columns number factor : ℕ) (rows own : List RowShown) (told : List Told) (row : RowShown) (tail' : List Entry)
-    (zeros numbers numbers' : List ℕ) (left taken : List Entry)
-    → 0 < p → IsPivotFor p rows own told c number → row.entries ≡ (c, 1) ∷ drop 1 row.entries → (row_at (rows ++ own) number).entries ≡ (c, 1) ∷ tail'
-    → zeros ≡ replicate columns 0 → AddsMultiple p 1 (drop 1 row.entries) zeros numbers → AddsMultiple p factor tail' numbers numbers'
-    → IsCongruent p (factor + 1) 0 → left ≡ [] → taken ≡ (number, factor) ∷ []
-    → IsReducedSoFar p rows own told row left numbers' taken
-first_cleared p c columns number factor rows own told row tail' zeros numbers numbers' left taken pos is e e' z a a' cancels none one =
-    let tail = drop 1 row.entries in
-    let r = reduced_pivot p c number factor 1 rows own told told row (λ n key. row_sum key row.entries) (λ n key. dense_sum key 0 numbers') [] taken
-    pos (follows_same told) is cancels one
-    (λ n key. start_vector key c columns factor row.entries (row_at (rows ++ own) number).entries tail tail' zeros numbers numbers' e e' z a a' cancels)
-    (reduced_start p rows own told row) in
-    subst (λ es. IsReducedSoFar p rows own told row es numbers' taken) (sym none)
-    record { above = tt; inside = r.inside; outside = r.outside; combined = r.combined }
 
 -- ---- parts of a list
 pub taken_range : {X : Type 0} (xs : List X) (from to : ℕ) → from ≤ to → take from xs ++ slice_range xs from to ≡ take to xs
@@ -129,11 +110,12 @@ module _ (p columns inputs : ℕ) (rows : List RowShown) where
   }
 
   pub lowered_of_rest :
-      (own : List RowShown) (told : List Told) (row r : RowShown) → IsRest p columns inputs rows own told row r
+      (own : List RowShown) (told : List Told) (row r : RowShown) (pivot : Option ℕ)
+      → IsRestFrom p columns inputs (least_left row.entries pivot) rows own told row r
       → IsLowered p columns inputs rows own told row r
-  lowered_of_rest own told row r h = record {
+  lowered_of_rest own told row r pivot h = record {
     good = h.good;
-    lower = omega (arith, h.lower);
+    lower = omega (arith, least_above row.entries pivot, h.lower);
     apart = h.apart;
     combined = h.combined;
     inside = h.inside;
@@ -329,11 +311,3 @@ some_entries (x ∷ xs) e = omega arith
 pub first_residue_read : (es : List Entry) → (get_or es 0 (0, 0)).1 ≡ first_residue es
 first_residue_read [] = refl
 first_residue_read (y ∷ es) = refl
-
--- the place of the pivot of a row's first column
-pub place_read :
-    (pivots : List ℕ) (place : ℕ) (shown es : List Entry) → shown ≡ es → first_column es < length pivots
-    → place ≡ get_or pivots (get_or shown 0 (0, 0)).0 place → place ≡ get_or pivots (first_column es) 0
-place_read pivots place shown es e lt is =
-    let at : (get_or shown 0 (0, 0)).0 ≡ first_column es = first_column_read shown ∙ ap first_column e in
-    is ∙ ap (λ c. get_or pivots c place) at ∙ get_or_default pivots (first_column es) place 0 lt

@@ -14,7 +14,7 @@ use Rattle.row_reduce.proofs.EightSums.{length_lane}
 use Rattle.row_reduce.proofs.Entries.{entries_from}
 use Rattle.row_reduce.proofs.Lanes.{IsTakenOut, lane_left_push, lane_taken_push, put_none, put_some, zero_set}
 use Rattle.row_reduce.proofs.Reducing.{idle_zeros, zeros_at}
-use Rattle.row_reduce.proofs.Steps.{gone_row, pivot_entries, reduced_added, reduced_first, reduced_kept, rest_row}
+use Rattle.row_reduce.proofs.Steps.{first_cleared, gone_row, pivot_entries, pivot_told, reduced_added, reduced_kept, rest_row}
 use Rattle.row_reduce.specs.Dense.{AddsMultiple, HasRoom, IsDense}
 use Rattle.row_reduce.specs.Eights.{AreDense, lane}
 use Rattle.row_reduce.specs.LostRows.{IsLost}
@@ -79,7 +79,9 @@ way_same p limit limit' c columns rows own pivots told left left' numbers number
     (subst (λ es. IsOnItsWay p limit c columns rows own pivots told es numbers' taken' j l) (sym el)
     (subst (λ ts. IsOnItsWay p limit c columns rows own pivots told left numbers' ts j l) (sym et) record {
       under = subst (λ xs. IsUnderway p limit c columns (length (rows ++ own)) pivots (lane_left j left) xs (taken_of p l j taken)) (sym en) h.under;
-      reduced = subst (λ xs. IsReducedSoFar p rows own told (row_at rows l.number) (lane_left j left) xs (taken_of p l j taken)) (sym en) h.reduced;
+      reduced =
+          subst (λ xs. IsReducedSoFar p (lead_column rows l.number + 1) rows own told (row_at rows l.number) (lane_left j left) xs (taken_of p l j taken))
+          (sym en) h.reduced;
       behind = λ i le. ap (λ xs. get_or xs i 0) en ∙ h.behind i le;
     }))
 
@@ -120,9 +122,9 @@ module _ (p limit c columns : ℕ) (rows own : List RowShown) (pivots : List ℕ
         subst₂ (λ es xs. IsUnderway p limit (c + 1) columns (length (rows ++ own)) pivots es xs (taken_of p l j taken)) (sym el) (sym en)
         (underway_none p limit c columns (length (rows ++ own)) pivots (lane_left j left) (lane j numbers) (taken_of p l j taken) h.under inside);
     reduced =
-        subst₂ (λ es xs. IsReducedSoFar p rows own told' (row_at rows l.number) es xs (taken_of p l j taken)) (sym el) (sym en)
-        (reduced_kept p rows own told told' (row_at rows l.number) (lane_left j left) (lane_left j left) (lane j numbers) (set (lane j numbers) c 0)
-        (taken_of p l j taken) follows h.reduced.above
+        subst₂ (λ es xs. IsReducedSoFar p (lead_column rows l.number + 1) rows own told' (row_at rows l.number) es xs (taken_of p l j taken)) (sym el) (sym en)
+        (reduced_kept p (lead_column rows l.number + 1) rows own told told' (row_at rows l.number) (lane_left j left) (lane_left j left)
+        (lane j numbers) (set (lane j numbers) c 0) (taken_of p l j taken) follows h.reduced.above
         (λ n key. none_left p pos key c r (lane j numbers) inside is (lane_left j left) z) h.reduced);
     behind = λ i le. ap (λ xs. get_or xs i 0) en ∙ zero_set (lane j numbers) c i inside (h.behind i le);
   }
@@ -138,10 +140,11 @@ module _ (p limit c columns : ℕ) (rows own : List RowShown) (pivots : List ℕ
         (underway_left p limit c columns (length (rows ++ own)) pivots (lane_left j left) (lane j numbers) (taken_of p l j taken) h.under inside
         r (lane_left j left') (omega (arith, some)) small none el);
     reduced =
-        subst₂ (λ es xs. IsReducedSoFar p rows own told' (row_at rows l.number) es xs (taken_of p l j taken)) (sym el) (sym en)
-        (reduced_kept p rows own told told' (row_at rows l.number) (lane_left j left) (lane_left j left ++ (c, r) ∷ []) (lane j numbers)
-        (set (lane j numbers) c 0) (taken_of p l j taken) follows
-        (Each_append (λ (e : Entry). lead_column rows l.number < e.0) (lane_left j left) ((c, r) ∷ []) h.reduced.above (above some, tt))
+        subst₂ (λ es xs. IsReducedSoFar p (lead_column rows l.number + 1) rows own told' (row_at rows l.number) es xs (taken_of p l j taken)) (sym el) (sym en)
+        (reduced_kept p (lead_column rows l.number + 1) rows own told told' (row_at rows l.number) (lane_left j left) (lane_left j left ++ (c, r) ∷ [])
+        (lane j numbers) (set (lane j numbers) c 0) (taken_of p l j taken) follows
+        (Each_append (λ (e : Entry). lead_column rows l.number + 1 ≤ e.0) (lane_left j left) ((c, r) ∷ []) h.reduced.above
+        ((let lt = above some in omega (arith, lt)), tt))
         (λ n key. one_left p pos key c r (lane j numbers) inside is (lane_left j left)) h.reduced);
     behind = λ i le. ap (λ xs. get_or xs i 0) en ∙ zero_set (lane j numbers) c i inside (h.behind i le);
   }
@@ -183,7 +186,7 @@ module _ (p limit c columns : ℕ) (rows own : List RowShown) (pivots : List ℕ
       record {
         under = under;
         reduced =
-            reduced_added p c number f r rows own told told' (row_at rows l.number) (lane_left j left) (lane_left j left)
+            reduced_added p (lead_column rows l.number + 1) c number f r rows own told told' (row_at rows l.number) (lane_left j left) (lane_left j left)
             (lane j numbers) (lane j numbers') T T' pos follows pivot cancels refl grown
             (λ n key. pivot_added p pos key c r (lane j numbers) inside is (lane_left j left) (row_at (rows ++ own) number).entries tail f (lane j numbers')
             g.entries cancels (adds.sum n key)) h.reduced;
@@ -226,9 +229,9 @@ way_start p limit columns inputs rows own pivots known left zeros between number
         free = tt;
       };
       reduced =
-          reduced_first p c columns l.winner (p - 1) rows own known (row_at rows l.number) (drop 1 (row_at rows l.winner).entries)
+          first_cleared p c columns l.winner (p - 1) rows own known (row_at rows l.number) (drop 1 (row_at rows l.winner).entries)
           (lane j zeros) (lane j between) (lane j numbers) [] ((l.winner, p - 1) ∷ [])
-          pos lost.held g.entries first zero a a' cancels refl refl;
+          pos (pivot_told p c l.winner rows own known lost.held) g.entries first zero a a' cancels refl refl;
       behind = λ i le.
           let lt : i < c + 1 = omega (arith, le) in
           a'.before i (entries_from p (c + 1) columns i (drop 1 (row_at rows l.winner).entries) g'.tail lt)
@@ -296,10 +299,10 @@ pub way_rest :
     → IsOnItsWay p limit columns columns rows own pivots known left numbers taken j l
     → IsRestOf p columns inputs rows own known (row_at rows l.number) rest
 way_rest p limit columns inputs rows own pivots known left numbers taken j l None pos h e w =
-    gone_row p limit columns inputs (length (rows ++ own)) pos rows own known pivots (row_at rows l.number)
+    gone_row p (lead_column rows l.number + 1) limit columns inputs (length (rows ++ own)) pos rows own known pivots (row_at rows l.number)
     (lane_left j left) (lane j numbers) (taken_of p l j taken) w.under w.reduced e
 way_rest p limit columns inputs rows own pivots known left numbers taken j l (Some r) pos h e w =
-    rest_row p limit columns inputs (length (rows ++ own)) pos rows own known pivots (row_at rows l.number)
+    rest_row p (lead_column rows l.number + 1) limit columns inputs (length (rows ++ own)) pos rows own known pivots (row_at rows l.number)
     (lane_left j left) (lane j numbers) (taken_of p l j taken) w.under w.reduced r h e
 
 -- in the code's words

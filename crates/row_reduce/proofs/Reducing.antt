@@ -17,7 +17,7 @@ use Rattle.row_laws.specs.Rows.{IsInSpan}
 use Rattle.row_matrix.specs.Rows.{AreEntries, Entry, RowShown, first_column, first_residue, row_sum, source_key}
 use Rattle.module_vectors.proofs.Scaling.{take_item}
 use Rattle.row_reduce.proofs.Clearing.{sources_push}
-use Rattle.row_reduce.proofs.Entries.{entries_from}
+use Rattle.row_reduce.proofs.Entries.{entries_from, entries_push}
 use Rattle.row_reduce.proofs.Naming.{span_left}
 use Rattle.row_reduce.specs.Dense.{AddsMultiple, AreWithin, HasRoom, IsDense, dense_sum}
 use Rattle.row_reduce.specs.Pivots.{row_at, row_vectors}
@@ -183,6 +183,22 @@ start_underway p limit c columns count number factor pivots tail tail' zeros num
   free = subst (Each (λ x. get_or pivots x.0 0 ≡ 0)) (sym e) tt;
 }
 
+-- the row behind its first entry, which stays
+pub stays_underway :
+    (p limit c columns count : ℕ) (pivots : List ℕ) (tail : List Entry) (zeros numbers : List ℕ) (left taken : List Entry)
+    → 1 < p → AreEntries p (c + 1) columns tail → zeros ≡ replicate columns 0 → AddsMultiple p 1 tail zeros numbers
+    → get_or pivots c 0 ≡ 0 → left ≡ (c, 1) ∷ [] → taken ≡ [] → HasRoom p limit → IsDense limit numbers
+    → IsUnderway p limit (c + 1) columns count pivots left numbers taken
+stays_underway p limit c columns count pivots tail zeros numbers left taken one es z a none e e' room below = record {
+  numbered = a.count ∙ ap length z ∙ length-replicate columns 0;
+  room = room;
+  small = below;
+  known = subst (AreWithin p count) (sym e') tt;
+  cleared = λ j lt. a.before j (entries_from p (c + 1) columns j tail es lt) ∙ ap (λ xs. get_or xs j 0) z ∙ zeros_at columns j;
+  entries = subst (AreEntries p 0 (c + 1)) (sym e) (entries_push p 0 c 1 [] (let w : 0 ≤ c = omega arith in w) (omega arith) one);
+  free = subst (Each (λ x. get_or pivots x.0 0 ≡ 0)) (sym e) (none, tt);
+}
+
 -- ---- the end
 -- numbers that are all 0
 dense_none :
@@ -283,10 +299,6 @@ done_combined {n} p pos F key columns inputs all row left taken numbers r cleare
     (IsSame_trans (IsSame_scale pos l.factor (unit n) a) (IsSame_sym (l.entries n key))))
 
 -- the first entry
-pub first_read : (es : List Entry) (x : Entry) → 0 < length es → x ≡ get_or es 0 x → x.1 ≡ first_residue es
-first_read [] x lt e = absurd (omega arith)
-first_read (y ∷ es) x lt e = ap (λ (z : Entry). z.1) e
-
 pub first_column_read : (es : List Entry) → (get_or es 0 (0, 0)).0 ≡ first_column es
 first_column_read [] = refl
 first_column_read (y ∷ es) = refl

@@ -1,10 +1,10 @@
 -- The steps of a row's reduction in a pass
-use Rattle.std.proofs.Common.{List, Option, [], ap, append-nil, arith, drop, get_or, length, refl, replicate, subst, sym, ℕ, ◌*◌, ◌+◌, ◌++◌, ◌-◌, ◌<◌, ◌∙◌, ◌∷◌, ◌≡◌}
+use Rattle.std.proofs.Common.{List, None, Option, Some, [], ap, append-nil, arith, drop, get_or, length, refl, replicate, subst, subst₂, sym, ℕ, ◌*◌, ◌+◌, ◌++◌, ◌-◌, ◌<◌, ◌∙◌, ◌∷◌, ◌≡◌, ◌≤◌}
 use Rattle.std.proofs.lemmas.List.{get_or-append-add, get_or-map, get_or_append_left, get_or_default, length-append, length-map}
 use Rattle.residues.proofs.Congruences.{IsCongruent_add, IsCongruent_multiply, IsCongruent_of, IsCongruent_refl, IsCongruent_sym, IsCongruent_trans}
 use Rattle.residues.specs.Residues.{IsCongruent}
 use Rattle.monomials.specs.Exponents.{unit}
-use Rattle.formal_sums.proofs.Sameness.{IsSame_of, IsSame_refl, IsSame_sym, IsSame_trans, coefficient-scale_unit}
+use Rattle.formal_sums.proofs.Sameness.{IsSame_append, IsSame_of, IsSame_refl, IsSame_sym, IsSame_trans, coefficient-scale_unit}
 use Rattle.formal_sums.proofs.WeightedSums.{Each_append, coefficient-append}
 use Rattle.formal_sums.specs.Combinations.{combination}
 use Rattle.formal_sums.specs.FormalSums.{Each, FormalSum, IsSame, Key, coefficient, indicator, scale}
@@ -14,12 +14,12 @@ use Rattle.pivot_table.specs.declared.law.Entry.{Entry as Told}
 use Rattle.row_laws.specs.Rows.{IsInSpan}
 use Rattle.row_matrix.specs.Rows.{Entry, IsRow, RowShown, first_column, row_sum, source_key}
 use Rattle.row_reduce.proofs.Clearing.{IsPivot, combined_more, pivot_row, reduced_more, reduced_same}
-use Rattle.row_reduce.proofs.Naming.{named_span, span_at, span_left, span_right, told_before, told_last}
+use Rattle.row_reduce.proofs.Naming.{follows_same, named_span, span_at, span_left, span_right, told_before, told_last}
 use Rattle.row_reduce.proofs.Reducing.{done_combined, done_inside, done_nothing, done_outside, start_sum}
 use Rattle.row_reduce.specs.Dense.{AddsMultiple, dense_sum}
-use Rattle.row_reduce.specs.Passes.{AreAsTold, AreReady, Follows, IsGone, IsRest, IsTold, named}
+use Rattle.row_reduce.specs.Passes.{AreAsTold, AreReady, Follows, IsGone, IsRestFrom, IsTold, named}
 use Rattle.row_reduce.specs.Pivots.{ArePivots, lead_column, no_row, row_at, row_vectors}
-use Rattle.row_reduce.specs.Reductions.{IsPivotFor, IsReducedSoFar}
+use Rattle.row_reduce.specs.Reductions.{IsPivotFor, IsReducedSoFar, least_left}
 use Rattle.row_reduce.specs.Underway.{AreCombined, IsLeftRow, IsReducedTo, IsUnderway, sources_sum}
 
 -- ---- the pivot of a column
@@ -80,15 +80,6 @@ pub pivot_entries :
 pivot_entries p column columns inputs number rows own told good more h =
     pivot_row p column columns inputs (rows ++ own) number (Each_append (IsRow p columns inputs) rows own good more) h.known h.lead
 
--- so do those of a row of the pass
-pub pivot_first :
-    (p column columns inputs number : ℕ) (rows own : List RowShown)
-    → Each (IsRow p columns inputs) (rows ++ own) → number < length rows → lead_column rows number ≡ column
-    → IsPivot p column columns inputs (rows ++ own) (row_at (rows ++ own) number)
-pivot_first p column columns inputs number rows own good lt lead =
-    pivot_row p column columns inputs (rows ++ own) number good (omega (arith, length-append rows own, lt))
-    (ap (λ (r : RowShown). first_column r.entries) (get_or_append_left rows own no_row number lt) ∙ lead)
-
 -- ---- what the steps keep
 -- v stands for what is left and the numbers
 pub record IsReducedWith (p : ℕ) (rows own : List RowShown) (told : List Told) (row : RowShown) (v : (n : ℕ) → (ℕ → Key n) → FormalSum n) (taken : List Entry) : Type 0 where
@@ -136,17 +127,18 @@ reduced_pivot p column number factor residue rows own old new row v v' taken tak
     P = row_at (rows ++ own) number
 
 so_far :
-    (p : ℕ) (rows own : List RowShown) (told : List Told) (row : RowShown) (left : List Entry) (numbers : List ℕ) (taken : List Entry)
-    → IsReducedSoFar p rows own told row left numbers taken → IsReducedWith p rows own told row (λ n key. row_sum key left ++ dense_sum key 0 numbers) taken
-so_far p rows own told row left numbers taken h = record { inside = h.inside; outside = h.outside; combined = h.combined }
+    (p column : ℕ) (rows own : List RowShown) (told : List Told) (row : RowShown) (left : List Entry) (numbers : List ℕ) (taken : List Entry)
+    → IsReducedSoFar p column rows own told row left numbers taken
+    → IsReducedWith p rows own told row (λ n key. row_sum key left ++ dense_sum key 0 numbers) taken
+so_far p column rows own told row left numbers taken h = record { inside = h.inside; outside = h.outside; combined = h.combined }
 
 -- the same is left
 pub reduced_kept :
-    (p : ℕ) (rows own : List RowShown) (old new : List Told) (row : RowShown) (left left' : List Entry) (numbers numbers' : List ℕ) (taken : List Entry)
-    → Follows old new → Each (λ e. first_column row.entries < e.0) left'
+    (p low : ℕ) (rows own : List RowShown) (old new : List Told) (row : RowShown) (left left' : List Entry) (numbers numbers' : List ℕ) (taken : List Entry)
+    → Follows old new → Each (λ e. low ≤ e.0) left'
     → ((n : ℕ) (key : ℕ → Key n) → IsSame p (row_sum key left' ++ dense_sum key 0 numbers') (row_sum key left ++ dense_sum key 0 numbers))
-    → IsReducedSoFar p rows own old row left numbers taken → IsReducedSoFar p rows own new row left' numbers' taken
-reduced_kept p rows own old new row left left' numbers numbers' taken f above same h = record {
+    → IsReducedSoFar p low rows own old row left numbers taken → IsReducedSoFar p low rows own new row left' numbers' taken
+reduced_kept p low rows own old new row left left' numbers numbers' taken f above same h = record {
   above = above;
   inside = λ words a n key. reduced_same p (row_vectors key (named rows words ++ own)) (row_sum key row.entries) (row_sum key left ++ dense_sum key 0 numbers) (row_sum key left' ++ dense_sum key 0 numbers') (same n key) (h.inside words (told_before words old new f a) n key);
   outside = λ n key. reduced_same p (row_vectors key (rows ++ own)) (row_sum key row.entries) (row_sum key left ++ dense_sum key 0 numbers) (row_sum key left' ++ dense_sum key 0 numbers') (same n key) (h.outside n key);
@@ -155,16 +147,17 @@ reduced_kept p rows own old new row left left' numbers numbers' taken f above sa
 
 -- a pivot is added
 pub reduced_added :
-    (p column number factor residue : ℕ) (rows own : List RowShown) (old new : List Told) (row : RowShown)
+    (p low column number factor residue : ℕ) (rows own : List RowShown) (old new : List Told) (row : RowShown)
     (left left' : List Entry) (numbers numbers' : List ℕ) (taken taken' : List Entry)
     → 0 < p → Follows old new → IsPivotFor p rows own new column number → IsCongruent p (factor + residue) 0
     → left' ≡ left → taken' ≡ taken ++ (number, factor) ∷ []
     → ((n : ℕ) (key : ℕ → Key n)
     → IsSame p (row_sum key left ++ dense_sum key 0 numbers') ((row_sum key left ++ dense_sum key 0 numbers) ++ scale factor (unit n) (row_sum key (row_at (rows ++ own) number).entries)))
-    → IsReducedSoFar p rows own old row left numbers taken → IsReducedSoFar p rows own new row left' numbers' taken'
-reduced_added p column number factor residue rows own old new row left left' numbers numbers' taken taken' pos f pivot cancels e more added h =
-    let r = reduced_pivot p column number factor residue rows own old new row (λ n key. row_sum key left ++ dense_sum key 0 numbers) (λ n key. row_sum key left ++ dense_sum key 0 numbers') taken taken' pos f pivot cancels more added (so_far p rows own old row left numbers taken h) in
-    subst (λ es. IsReducedSoFar p rows own new row es numbers' taken') (sym e) record { above = h.above; inside = r.inside; outside = r.outside; combined = r.combined }
+    → IsReducedSoFar p low rows own old row left numbers taken → IsReducedSoFar p low rows own new row left' numbers' taken'
+reduced_added p low column number factor residue rows own old new row left left' numbers numbers' taken taken' pos f pivot cancels e more added h =
+    let r = reduced_pivot p column number factor residue rows own old new row (λ n key. row_sum key left ++ dense_sum key 0 numbers) (λ n key. row_sum key left ++ dense_sum key 0 numbers') taken taken' pos f pivot cancels more added (so_far p low rows own old row left numbers taken h) in
+    subst (λ es. IsReducedSoFar p low rows own new row es numbers' taken') (sym e)
+    record { above = h.above; inside = r.inside; outside = r.outside; combined = r.combined }
 
 -- the row's tail and a multiple of its pivot's are the row and that multiple, where the first entries cancel
 pub start_vector :
@@ -191,46 +184,87 @@ start_vector {n} {p} key c columns factor es fs tail tail' zeros numbers numbers
       (IsCongruent_of p (t + factor * u + (factor + 1) * w) _ (omega arith ∙ sym whole)))));
 }
 
--- the row's first column is cleared
-pub reduced_first :
+-- the row's first column is cleared by its pivot
+pub first_cleared :
     (p c columns number factor : ℕ) (rows own : List RowShown) (told : List Told) (row : RowShown) (tail' : List Entry)
     (zeros numbers numbers' : List ℕ) (left taken : List Entry)
-    → 0 < p → IsTold rows told c number → row.entries ≡ (c, 1) ∷ drop 1 row.entries → (row_at (rows ++ own) number).entries ≡ (c, 1) ∷ tail'
+    → 0 < p → IsPivotFor p rows own told c number → row.entries ≡ (c, 1) ∷ drop 1 row.entries → (row_at (rows ++ own) number).entries ≡ (c, 1) ∷ tail'
     → zeros ≡ replicate columns 0 → AddsMultiple p 1 (drop 1 row.entries) zeros numbers → AddsMultiple p factor tail' numbers numbers'
     → IsCongruent p (factor + 1) 0 → left ≡ [] → taken ≡ (number, factor) ∷ []
-    → IsReducedSoFar p rows own told row left numbers' taken
-reduced_first p c columns number factor rows own told row tail' zeros numbers numbers' left taken pos is e e' z a a' cancels none one =
-    let r = reduced_pivot p c number factor 1 rows own told told row (λ n key. row_sum key row.entries) (λ n key. dense_sum key 0 numbers') [] taken pos ([], sym (append-nil told)) (pivot_told p c number rows own told is) cancels one
-    (λ n key. start_vector key c columns factor row.entries (row_at (rows ++ own) number).entries (drop 1 row.entries) tail' zeros numbers numbers' e e' z a a' cancels) (reduced_start p rows own told row) in
-    subst (λ es. IsReducedSoFar p rows own told row es numbers' taken) (sym none) record { above = tt; inside = r.inside; outside = r.outside; combined = r.combined }
+    → IsReducedSoFar p (c + 1) rows own told row left numbers' taken
+first_cleared p c columns number factor rows own told row tail' zeros numbers numbers' left taken pos is e e' z a a' cancels none one =
+    let tail = drop 1 row.entries in
+    let r = reduced_pivot p c number factor 1 rows own told told row (λ n key. row_sum key row.entries) (λ n key. dense_sum key 0 numbers') [] taken
+    pos (follows_same told) is cancels one
+    (λ n key. start_vector key c columns factor row.entries (row_at (rows ++ own) number).entries tail tail' zeros numbers numbers' e e' z a a' cancels)
+    (reduced_start p rows own told row) in
+    subst (λ es. IsReducedSoFar p (c + 1) rows own told row es numbers' taken) (sym none)
+    record { above = tt; inside = r.inside; outside = r.outside; combined = r.combined }
+
+-- its first entry stays
+pub first_stays :
+    (p c columns : ℕ) (rows own : List RowShown) (told : List Told) (row : RowShown) (zeros numbers : List ℕ) (left taken : List Entry)
+    → row.entries ≡ (c, 1) ∷ drop 1 row.entries → zeros ≡ replicate columns 0 → AddsMultiple p 1 (drop 1 row.entries) zeros numbers
+    → left ≡ (c, 1) ∷ [] → taken ≡ []
+    → IsReducedSoFar p c rows own told row left numbers taken
+first_stays p c columns rows own told row zeros numbers left taken e z a one none =
+    let r = reduced_start p rows own told row in
+    subst₂ (λ es ts. IsReducedSoFar p c rows own told row es numbers ts) (sym one) (sym none) record {
+      above = (let le : c ≤ c = omega arith in le, tt);
+      inside = λ words t n key. reduced_same p (row_vectors key (named rows words ++ own)) (row_sum key row.entries) (row_sum key row.entries)
+          (row_sum key first ++ dense_sum key 0 numbers) (same n key) (r.inside words t n key);
+      outside = λ n key. reduced_same p (row_vectors key (rows ++ own)) (row_sum key row.entries) (row_sum key row.entries)
+          (row_sum key first ++ dense_sum key 0 numbers) (same n key) (r.outside n key);
+      combined = λ n F key from whole. IsSame_trans (r.combined n F key from whole) (IsSame_sym (same n key));
+    }
+  where
+    first : List Entry
+    first = (c, 1) ∷ []
+
+    same : (n : ℕ) (key : ℕ → Key n) → IsSame p (row_sum key ((c, 1) ∷ []) ++ dense_sum key 0 numbers) (row_sum key row.entries)
+    same n key =
+        IsSame_trans (IsSame_append (IsSame_refl p (row_sum key ((c, 1) ∷ []))) (start_sum key columns (drop 1 row.entries) zeros numbers z a))
+        (IsSame_of p _ _ (ap (row_sum key) (sym e)))
+
+-- ---- where something can be left
+pub least_above : (es : List Entry) (pivot : Option ℕ) → first_column es ≤ least_left es pivot
+least_above es None = omega arith
+least_above es (Some pivot) = omega arith
+
+pub least_below : (es : List Entry) (pivot : Option ℕ) → least_left es pivot ≤ first_column es + 1
+least_below es None = omega arith
+least_below es (Some pivot) = omega arith
+
+-- where no column has an own pivot, the first one has none either
+pub first_free : (pivots : List ℕ) (es : List Entry) → 0 < length es → Each (λ e. get_or pivots e.0 0 ≡ 0) es → get_or pivots (first_column es) 0 ≡ 0
+first_free pivots [] s h = absurd (omega arith)
+first_free pivots (e ∷ es) s h = h.0
 
 -- ---- the end
-module _ (p limit columns inputs count : ℕ) (pos : 0 < p) (rows own : List RowShown) (told : List Told) (pivots : List ℕ) (row : RowShown)
+module _ (p low limit columns inputs count : ℕ) (pos : 0 < p) (rows own : List RowShown) (told : List Told) (pivots : List ℕ) (row : RowShown)
     (left : List Entry) (numbers : List ℕ) (taken : List Entry)
-    (underway : IsUnderway p limit columns columns count pivots left numbers taken) (reduced : IsReducedSoFar p rows own told row left numbers taken) where
+    (underway : IsUnderway p limit columns columns count pivots left numbers taken) (reduced : IsReducedSoFar p low rows own told row left numbers taken) where
   cleared : (j : ℕ) → j < length numbers → get_or numbers j 0 ≡ 0
   cleared j lt = underway.cleared j (omega (arith, lt, underway.numbered))
 
   pub gone_row : left ≡ [] → IsGone p rows own told row
   gone_row e = λ words a. done_nothing p pos (named rows words ++ own) row left numbers cleared (reduced.inside words a) e
 
-  pub rest_row : (r : RowShown) → ArePivots p columns inputs own pivots → IsLeftRow p columns inputs (rows ++ own) row left taken r → IsRest p columns inputs rows own told row r
+  pub rest_row :
+      (r : RowShown) → ArePivots p columns inputs own pivots → IsLeftRow p columns inputs (rows ++ own) row left taken r
+      → IsRestFrom p columns inputs low rows own told row r
   rest_row r h l = record {
     good = l.good;
-    lower = subst (λ c. first_column row.entries < c) (sym l.first) (above left l.some reduced.above);
+    lower = subst (λ c. low ≤ c) (sym l.first) (above left l.some reduced.above);
     apart = λ k lt e.
         let a : get_or pivots (lead_column own k) 0 ≡ k + 1 = h.all k lt in
-        let b : get_or pivots (lead_column own k) 0 ≡ 0 = ap (λ c. get_or pivots c 0) (e ∙ l.first) ∙ free left l.some underway.free in
+        let b : get_or pivots (lead_column own k) 0 ≡ 0 = ap (λ c. get_or pivots c 0) (e ∙ l.first) ∙ first_free pivots left l.some underway.free in
         omega (arith, a, b);
     combined = λ n F key from one. (done_combined p pos F key columns inputs (rows ++ own) row left taken numbers r cleared l (reduced.combined n F key from one.0), tt);
     inside = λ words a. done_inside p pos (named rows words ++ own) row left numbers cleared (reduced.inside words a) columns inputs (rows ++ own) taken r l;
     outside = done_outside p pos (rows ++ own) row left numbers cleared reduced.outside columns inputs (rows ++ own) taken r l;
   }
     where
-      above : (es : List Entry) → 0 < length es → Each (λ e. first_column row.entries < e.0) es → first_column row.entries < first_column es
+      above : (es : List Entry) → 0 < length es → Each (λ e. low ≤ e.0) es → low ≤ first_column es
       above [] s h = absurd (omega arith)
       above (e ∷ es) s h = h.0
-
-      free : (es : List Entry) → 0 < length es → Each (λ x. get_or pivots x.0 0 ≡ 0) es → get_or pivots (first_column es) 0 ≡ 0
-      free [] s h = absurd (omega arith)
-      free (x ∷ es) s h = h.0

@@ -1,12 +1,11 @@
 -- What one helper of a pass does with its rows: each has its column, or another row has it and then it is gone or replaced
-use Rattle.std.specs.Prelude.{List, Option, [], length, map, ℕ, ◌++◌, ◌<◌, ◌∷◌, ◌≡◌, ◌≤◌, ◌⊎◌}
+use Rattle.std.specs.Prelude.{List, [], length, map, ℕ, ◌++◌, ◌<◌, ◌∷◌, ◌≡◌, ◌⊎◌}
 use Rattle.std.specs.List.Sorted.{IsPermutation}
-use Rattle.formal_sums.specs.FormalSums.{Each, FormalSum, Key}
+use Rattle.formal_sums.specs.FormalSums.{Each}
 use Rattle.pivot_table.specs.declared.law.Entry.{Entry as Told}
-use Rattle.row_matrix.specs.Rows.{IsRow, RowShown, first_column}
-use Rattle.row_reduce.specs.Passes.{AreAsTold, IsGone, IsRest, IsTold, named, rows_left}
+use Rattle.row_matrix.specs.Rows.{RowShown, first_column}
+use Rattle.row_reduce.specs.Passes.{IsGone, IsRest, IsRestFrom, IsTold, rows_left}
 use Rattle.row_reduce.specs.Pivots.{lead_column, row_at}
-use Rattle.row_reduce.specs.Underway.{AreCombined, IsSpanned}
 use Rattle.row_reduce.specs.declared.lefts.Left.{Left}
 use Rattle.row_reduce.specs.declared.lefts.Lost.{Lost}
 
@@ -34,16 +33,9 @@ IsReplaced p columns inputs rows told l old new =
     ⊎ ((r : RowShown) × (new ≡ old ++ record { number = l.number; row = r } ∷ [])
     × IsRest p columns inputs rows (rows_left old) told (row_at rows l.number) r)
 
--- r stands for the row and has no higher lead, which is no own row's: with the rows told and the own ones it spans the row
-pub record IsLowered (p columns inputs : ℕ) (rows own : List RowShown) (told : List Told) (row r : RowShown) : Type 0 where
-  pub good : IsRow p columns inputs r
-  pub lower : first_column row.entries ≤ first_column r.entries
-  pub apart : (k : ℕ) → k < length own → lead_column own k ≡ first_column r.entries → ⊥
-  pub combined :
-      (n : ℕ) (F : List (FormalSum n)) (key : ℕ → Key n)
-      → AreCombined p F key (rows ++ own) → AreCombined p F key (row ∷ []) → AreCombined p F key (r ∷ [])
-  pub inside : (words : List (Option ℕ)) → AreAsTold words told → IsSpanned p ((named rows words ++ own) ++ r ∷ []) row
-  pub outside : IsSpanned p ((rows ++ own) ++ row ∷ []) r
+-- r is left of the row, with no higher lead
+abbrev pub IsLowered : (p columns inputs : ℕ) → List RowShown → List RowShown → List Told → RowShown → RowShown → Type 0
+IsLowered p columns inputs rows own told row r = IsRestFrom p columns inputs (first_column row.entries) rows own told row r
 
 -- new is old where the row is gone, and else old and what stands for it, in the place of the row with this number
 abbrev pub IsRestKept : (p columns inputs : ℕ) → List RowShown → List Told → ℕ → RowShown → List Left → List Left → Type 0

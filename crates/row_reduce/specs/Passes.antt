@@ -1,6 +1,6 @@
 -- Passes: helpers claim the lead columns of rows, and replace each row that did not win its column by what pivots leave of it
 -- (Faugère 1999, section 2; the claims are those of `pivot_table`)
-use Rattle.std.specs.Prelude.{All, List, None, Option, Some, [], length, map, slice_get, ℕ, ◌+◌, ◌++◌, ◌<◌, ◌∷◌, ◌≡◌}
+use Rattle.std.specs.Prelude.{All, List, None, Option, Some, [], length, map, slice_get, ℕ, ◌+◌, ◌++◌, ◌<◌, ◌∷◌, ◌≡◌, ◌≤◌}
 use Rattle.std.specs.List.Sorted.{IsPermutation}
 use Rattle.formal_sums.specs.FormalSums.{Each, FormalSum, Key}
 use Rattle.pivot_table.specs.Law.{LeadsFit}
@@ -36,16 +36,21 @@ Follows old new = (more : List Told) × (new ≡ old ++ more)
 abbrev pub IsGone : ℕ → List RowShown → List RowShown → List Told → RowShown → Type 0
 IsGone p rows own told row = (words : List (Option ℕ)) → AreAsTold words told → IsSpanned p (named rows words ++ own) row
 
--- r is left of the row: its lead is lower and no own row's, and with the rows that were told and the helper's own ones it spans the row
-pub record IsRest (p columns inputs : ℕ) (rows own : List RowShown) (told : List Told) (row r : RowShown) : Type 0 where
+-- r is left of the row from this column on: its lead is no own row's, and with the rows that were told and the helper's own ones it spans
+-- the row
+pub record IsRestFrom (p columns inputs column : ℕ) (rows own : List RowShown) (told : List Told) (row r : RowShown) : Type 0 where
   pub good : IsRow p columns inputs r
-  pub lower : first_column row.entries < first_column r.entries
+  pub lower : column ≤ first_column r.entries
   pub apart : (k : ℕ) → k < length own → lead_column own k ≡ first_column r.entries → ⊥
   pub combined :
       (n : ℕ) (F : List (FormalSum n)) (key : ℕ → Key n)
       → AreCombined p F key (rows ++ own) → AreCombined p F key (row ∷ []) → AreCombined p F key (r ∷ [])
   pub inside : (words : List (Option ℕ)) → AreAsTold words told → IsSpanned p ((named rows words ++ own) ++ r ∷ []) row
   pub outside : IsSpanned p ((rows ++ own) ++ row ∷ []) r
+
+-- r is left of the row, with a lower lead
+abbrev pub IsRest : (p columns inputs : ℕ) → List RowShown → List RowShown → List Told → RowShown → RowShown → Type 0
+IsRest p columns inputs rows own told row r = IsRestFrom p columns inputs (first_column row.entries + 1) rows own told row r
 
 -- the numbers of the rows in whose places these stand, and these rows
 abbrev pub places : List Left → List ℕ

@@ -39,7 +39,8 @@ pub record IsOnItsWay
   pub under :
       IsUnderway p limit c columns (length (rows ++ own)) pivots (lane_left j left) (lane j numbers) ((l.winner, p - 1) ∷ lane_taken j taken)
   pub reduced :
-      IsReducedSoFar p rows own told (row_at rows l.number) (lane_left j left) (lane j numbers) ((l.winner, p - 1) ∷ lane_taken j taken)
+      IsReducedSoFar p (lead_column rows l.number + 1) rows own told (row_at rows l.number) (lane_left j left) (lane j numbers)
+      ((l.winner, p - 1) ∷ lane_taken j taken)
   pub behind : (i : ℕ) → i ≤ lead_column rows l.number → get_or (lane j numbers) i 0 ≡ 0
 
 -- these rows, from row j on

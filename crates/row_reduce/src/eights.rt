@@ -1,6 +1,6 @@
 // Numbers for the columns of eight rows that are reduced together. They stand side by side at each column, so that an entry of
 // a pivot is read once and multiplied for all by vectors of the processor.
-ghost use Rattle.std.specs.Prelude.{◌≡◌, ◌<◌, ◌≤◌, ◌+◌, ◌*◌, ◌%◌, ◌^◌, ℕ, get_or, length, set};
+ghost use Rattle.std.specs.Prelude.{◌≡◌, ◌<◌, ◌≤◌, ◌+◌, ◌*◌, ◌%◌, ◌^◌, ℕ, IsTrue, get_or, length, set};
 ghost use Rattle.residues.specs.Residues.{IsCongruent};
 ghost use Rattle.row_matrix.specs.Rows.{AreEntries};
 ghost use Rattle.row_reduce.specs.Dense.{AddsMultiple, AreWithin, HasRoom};
@@ -171,6 +171,18 @@ pub(crate) fn negate_all(modulus: &Modulus, residues: &[u32; 8]) -> [u32; 8]
     factors
 }
 
+// Are all eight numbers 0?
+fn are_zero(numbers: &[u64; 8]) -> bool
+    ensures { IsTrue result → (j : ℕ) → j < 8 → get_or numbers.now j 0 ≡ 0 }
+{
+    for j in 0..EIGHT {
+        if numbers[j] != 0 {
+            return false;
+        }
+    }
+    true
+}
+
 /// The first column from this one on where one of the numbers is not 0, or the count of the columns.
 pub(crate) fn next_column_of_all(numbers: &[[u64; 8]], from: u32, columns: u32) -> u32
     requires columns { columns ≡ length numbers.now }
@@ -180,7 +192,7 @@ pub(crate) fn next_column_of_all(numbers: &[[u64; 8]], from: u32, columns: u32) 
     ensures zeros { (j i : ℕ) → j < 8 → from ≤ i → i < result → get_or (lane j numbers.now) i 0 ≡ 0 }
 {
     for c in from..columns {
-        if numbers[c as usize] != [0; 8] {
+        if !are_zero(&numbers[c as usize]) {
             return c;
         }
     }

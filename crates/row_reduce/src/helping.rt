@@ -1,5 +1,5 @@
 // What one helper does in a pass.
-ghost use Rattle.std.specs.Prelude.{◌≡◌, ◌<◌, ◌≤◌, ◌+◌, ◌++◌, ◌∷◌, [], length, slice_set, IfOk, MatchOption, OnOk};
+ghost use Rattle.std.specs.Prelude.{◌≡◌, ◌<◌, ◌≤◌, ◌+◌, ◌++◌, ◌∷◌, [], false, get_or, length, slice_set, IfOk, MatchOption, OnOk};
 ghost use Rattle.formal_sums.specs.FormalSums.{Each};
 ghost use Rattle.pivot_table.specs.Law.{IsSeatOf, told};
 ghost use Rattle.row_matrix.specs.Rows.{IsRow, first_column};
@@ -12,7 +12,7 @@ ghost use Rattle.row_reduce.specs.Underway.{AreIdle};
 
 use crate::eights::EIGHT;
 use crate::lefts::{Left, Lost};
-use crate::reduction::{Own, Shared, Work, reduce_row};
+use crate::reduction::{Own, Shared, Work, own_pivot, reduce_row};
 use crate::together::{Together, reduce_together, room_for_eight};
 use module_vectors::NoMemory;
 use pivot_table::{Claim, ClaimSeat};
@@ -136,7 +136,15 @@ fn replace_row(
         (told seat.new) lost.now own.old.left.items own.new.left.items) }
 {
     let row = &shared.rows[lost.number as usize];
-    let rest = reduce_row(alloc, shared, seat, own, work, row, lost.winner as usize)?;
+    let rest = reduce_row(
+        alloc,
+        shared,
+        seat,
+        own,
+        work,
+        row,
+        Some(lost.winner as usize),
+    )?;
     match rest {
         None => Ok(()),
         Some(row) => {
@@ -175,7 +183,20 @@ fn replace_each(
     Ok(())
 }
 
-// Keeps what is left of the row with this number. Where a row that was left meanwhile has its column, it is reduced once more.
+// Has one of the columns of the row an own pivot?
+fn meets_own(own: &Own, row: &Row) -> bool
+    requires { Each (λ e. e.0 < length own.now.pivots.items) row.now.entries }
+    ensures { result ≡ false → Each (λ e. get_or own.now.pivots.items e.0 0 ≡ 0) row.now.entries }
+{
+    for entry in row.entries() {
+        if own.pivots[entry.0 as usize] != 0 {
+            return true;
+        }
+    }
+    false
+}
+
+// Keeps what is left of the row with this number. Where rows that were left meanwhile are pivots of columns of it, it is reduced once more.
 fn keep_rest(
     alloc: Global,
     shared: Shared<'_>,
@@ -199,12 +220,11 @@ fn keep_rest(
     ensures kept { OnOk result (IsRestKept shared.entry.modulus.now.value (length own.old.pivots.items) shared.entry.inputs shared.entry.rows.now
         (told seat.new) number rest own.old.left.items own.new.left.items) }
 {
-    let place = own.pivots[rest.entries()[0].0 as usize];
-    if place == 0 {
+    if !meets_own(own, &rest) {
         keep_left(own, number, rest)?;
         return Ok(());
     }
-    let pivot = shared.rows.len() + place - 1;
+    let pivot = own_pivot(shared, own, rest.entries()[0].0);
     match reduce_row(alloc, shared, seat, own, work, &rest, pivot)? {
         None => Ok(()),
         Some(row) => {

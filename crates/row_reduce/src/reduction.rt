@@ -6,9 +6,9 @@ ghost use Rattle.pivot_table.specs.Law.{IsSeatOf, told};
 ghost use Rattle.pivot_table.specs.declared.law.Entry.{Entry as Told};
 ghost use Rattle.row_matrix.specs.Rows.{AreEntries, IsRow, RowShown, first_column, row_sum};
 ghost use Rattle.row_reduce.specs.Dense.{AddsMultiple, AreWithin, HasRoom, IsDense, dense_sum};
-ghost use Rattle.row_reduce.specs.Passes.{AreReady, Follows, IsGone, IsRest, rows_left};
-ghost use Rattle.row_reduce.specs.Pivots.{ArePivots, lead_column, row_at};
-ghost use Rattle.row_reduce.specs.Reductions.{IsPivotFor, IsReducedSoFar};
+ghost use Rattle.row_reduce.specs.Passes.{AreReady, Follows, IsGone, IsRestFrom, rows_left};
+ghost use Rattle.row_reduce.specs.Pivots.{ArePivots, row_at};
+ghost use Rattle.row_reduce.specs.Reductions.{HasPivot, IsReducedSoFar, least_left};
 ghost use Rattle.row_reduce.specs.Underway.{AreIdle, IsLeftRow, IsUnderway, rescaled, sources_sum};
 
 use crate::accumulating::{add_multiple, first_limit};
@@ -58,6 +58,20 @@ pub(crate) fn row_numbered<'a>(rows: &'a [Row], left: &'a [Left], number: usize)
     }
 }
 
+/// The number of the helper's own pivot of the column.
+pub(crate) fn own_pivot(shared: Shared<'_>, own: &Own, c: u32) -> Option<usize>
+    requires at { c < length own.now.pivots.items }
+    requires own { ArePivots shared.modulus.now.value (length own.now.pivots.items) shared.inputs (rows_left own.now.left.items) own.now.pivots.items }
+    ensures { (told : List Told)
+        → HasPivot shared.entry.modulus.now.value shared.entry.rows.now (rows_left own.now.left.items) own.now.pivots.items told c result }
+{
+    let number = own.pivots[c as usize];
+    if number == 0 {
+        return None;
+    }
+    Some(shared.rows.len() + number - 1)
+}
+
 /// The number of the column's pivot: the row that its word names at a look, or the helper's own.
 pub(crate) fn pivot_of(shared: Shared<'_>, seat: &mut ClaimSeat, own: &Own, c: u32) -> Option<usize>
     requires at { c < length own.now.pivots.items }
@@ -67,17 +81,13 @@ pub(crate) fn pivot_of(shared: Shared<'_>, seat: &mut ClaimSeat, own: &Own, c: u
     requires seat { IsSeatOf shared.claims.now.table.shared.table_id shared.claims.now.rows.leads.items seat.old }
     ensures seat { IsSeatOf shared.entry.claims.now.table.shared.table_id shared.entry.claims.now.rows.leads.items seat.new }
     ensures follows { Follows (told seat.old) (told seat.new) }
-    ensures pivot { MatchOption result (get_or own.now.pivots.items c 0 ≡ 0)
-        (IsPivotFor shared.entry.modulus.now.value shared.entry.rows.now (rows_left own.now.left.items) (told seat.new) c) }
+    ensures pivot { HasPivot shared.entry.modulus.now.value shared.entry.rows.now (rows_left own.now.left.items) own.now.pivots.items
+        (told seat.new) c result }
 {
     if let Some(row) = shared.claims.look(seat, u64::from(c)) {
         return Some(row as usize);
     }
-    let number = own.pivots[c as usize];
-    if number == 0 {
-        return None;
-    }
-    Some(shared.rows.len() + number - 1)
+    own_pivot(shared, own, c)
 }
 
 // Adds what is behind the first entry of a row, `factor` times.
@@ -146,10 +156,10 @@ fn clear_column(
     ensures follows { Follows (told seat.old) (told seat.new) }
     ensures underway { OnOk result (IsUnderway shared.entry.modulus.now.value work.new.limit (c + 1) (length own.now.pivots.items)
         (length (shared.entry.rows.now ++ rows_left own.now.left.items)) own.now.pivots.items work.new.left.items work.new.numbers.items work.new.taken.items) }
-    ensures reduced { (row : RowShown) → first_column row.entries < c
-        → IsReducedSoFar shared.entry.modulus.now.value shared.entry.rows.now (rows_left own.now.left.items) (told seat.old) row
+    ensures reduced { (from : ℕ) (row : RowShown) → from ≤ c
+        → IsReducedSoFar shared.entry.modulus.now.value from shared.entry.rows.now (rows_left own.now.left.items) (told seat.old) row
         work.old.left.items work.old.numbers.items work.old.taken.items
-        → OnOk result (IsReducedSoFar shared.entry.modulus.now.value shared.entry.rows.now (rows_left own.now.left.items) (told seat.new) row
+        → OnOk result (IsReducedSoFar shared.entry.modulus.now.value from shared.entry.rows.now (rows_left own.now.left.items) (told seat.new) row
         work.new.left.items work.new.numbers.items work.new.taken.items) }
 {
     let modulus = shared.modulus;
@@ -171,34 +181,43 @@ fn clear_column(
     }
 }
 
-// The row with a number for each column, where its first column is cleared by this pivot.
+// The row with a number for each column, where its first column is cleared by this pivot. Without one the first entry stays.
 fn start_work(
     shared: Shared<'_>,
     own: &Own,
     work: &mut Work,
     row: &Row,
-    pivot: usize,
+    pivot: Option<usize>,
 ) -> Result<(), NoMemory>
     requires rows { Each (IsRow shared.modulus.now.value (length work.old.numbers.items) shared.inputs) (shared.rows.now ++ rows_left own.now.left.items) }
     requires idle { AreIdle (length work.old.numbers.items) work.old.numbers.items }
     requires row { IsRow shared.modulus.now.value (length work.old.numbers.items) shared.inputs row.now }
-    requires known { pivot < length (shared.rows.now ++ rows_left own.now.left.items) }
-    requires lead { lead_column (shared.rows.now ++ rows_left own.now.left.items) pivot ≡ first_column row.now.entries }
-    ensures underway { (pivots : List ℕ) → OnOk result (IsUnderway shared.entry.modulus.now.value work.new.limit (first_column row.now.entries + 1)
-        (length work.old.numbers.items) (length (shared.entry.rows.now ++ rows_left own.now.left.items)) pivots
+    requires pivot { (told : List Told) × HasPivot shared.modulus.now.value shared.rows.now (rows_left own.now.left.items) own.now.pivots.items
+        told (first_column row.now.entries) pivot }
+    ensures underway { OnOk result (IsUnderway shared.entry.modulus.now.value work.new.limit (first_column row.now.entries + 1)
+        (length work.old.numbers.items) (length (shared.entry.rows.now ++ rows_left own.now.left.items)) own.now.pivots.items
         work.new.left.items work.new.numbers.items work.new.taken.items) }
     ensures reduced { (told : List Told)
-        → IsPivotFor shared.entry.modulus.now.value shared.entry.rows.now (rows_left own.now.left.items) told (first_column row.now.entries) pivot
-        → OnOk result (IsReducedSoFar shared.entry.modulus.now.value shared.entry.rows.now (rows_left own.now.left.items) told row.now
-        work.new.left.items work.new.numbers.items work.new.taken.items) }
+        → HasPivot shared.entry.modulus.now.value shared.entry.rows.now (rows_left own.now.left.items) own.now.pivots.items
+        told (first_column row.now.entries) pivot
+        → OnOk result (IsReducedSoFar shared.entry.modulus.now.value (least_left row.now.entries pivot) shared.entry.rows.now
+        (rows_left own.now.left.items) told row.now work.new.left.items work.new.numbers.items work.new.taken.items) }
 {
     let modulus = shared.modulus;
     modulus.domain();
     work.left.clear();
     work.taken.clear();
     work.limit = add_tail(modulus, row, 1, &mut work.numbers, first_limit(modulus));
-    add_pivot(shared, own, work, pivot, modulus.neg(1))?;
-    Ok(())
+    match pivot {
+        None => {
+            work.left.push((row.entries()[0].0, 1))?;
+            Ok(())
+        }
+        Some(pivot) => {
+            add_pivot(shared, own, work, pivot, modulus.neg(1))?;
+            Ok(())
+        }
+    }
 }
 
 // The first column from this one on whose number is not 0, or the count of the columns.
@@ -218,14 +237,14 @@ fn next_column(numbers: &[u64], from: u32, columns: u32) -> u32
     columns
 }
 
-// The row with all columns cleared from its first one on; most have nothing.
+// The row with all columns cleared from its first one on, or behind it where that has no pivot; most have nothing.
 fn clear_columns(
     shared: Shared<'_>,
     seat: &mut ClaimSeat,
     own: &Own,
     work: &mut Work,
     row: &Row,
-    pivot: usize,
+    pivot: Option<usize>,
     columns: u32,
 ) -> Result<(), NoMemory>
     requires columns { columns ≡ length own.now.pivots.items }
@@ -235,13 +254,14 @@ fn clear_columns(
     requires idle { AreIdle (length own.now.pivots.items) work.old.numbers.items }
     requires seat { IsSeatOf shared.claims.now.table.shared.table_id shared.claims.now.rows.leads.items seat.old }
     requires row { IsRow shared.modulus.now.value (length own.now.pivots.items) shared.inputs row.now }
-    requires pivot { IsPivotFor shared.modulus.now.value shared.rows.now (rows_left own.now.left.items) (told seat.old) (first_column row.now.entries) pivot }
+    requires pivot { HasPivot shared.modulus.now.value shared.rows.now (rows_left own.now.left.items) own.now.pivots.items
+        (told seat.old) (first_column row.now.entries) pivot }
     ensures seat { IsSeatOf shared.entry.claims.now.table.shared.table_id shared.entry.claims.now.rows.leads.items seat.new }
     ensures follows { Follows (told seat.old) (told seat.new) }
     ensures underway { OnOk result (IsUnderway shared.entry.modulus.now.value work.new.limit (length own.now.pivots.items) (length own.now.pivots.items)
         (length (shared.entry.rows.now ++ rows_left own.now.left.items)) own.now.pivots.items work.new.left.items work.new.numbers.items work.new.taken.items) }
-    ensures reduced { OnOk result (IsReducedSoFar shared.entry.modulus.now.value shared.entry.rows.now (rows_left own.now.left.items) (told seat.new) row.now
-        work.new.left.items work.new.numbers.items work.new.taken.items) }
+    ensures reduced { OnOk result (IsReducedSoFar shared.entry.modulus.now.value (least_left row.now.entries pivot) shared.entry.rows.now
+        (rows_left own.now.left.items) (told seat.new) row.now work.new.left.items work.new.numbers.items work.new.taken.items) }
 {
     start_work(shared, own, work, row, pivot)?;
     let mut c = next_column(work.numbers.as_slice(), row.entries()[0].0 + 1, columns);
@@ -250,6 +270,17 @@ fn clear_columns(
         c = next_column(work.numbers.as_slice(), c + 1, columns);
     }
     Ok(())
+}
+
+// The residue of a number. Most are 0, and cost no division.
+fn residue_of(modulus: &Modulus, number: u64) -> u32
+    ensures { result ≡ number % modulus.now.value }
+{
+    modulus.domain();
+    if number == 0 {
+        return 0;
+    }
+    (number % u64::from(modulus.value())) as u32
 }
 
 // The entries of `factor` times these numbers.
@@ -268,7 +299,7 @@ fn collect_entries(
     let mut entries = Vec::new(alloc);
     let count = kept_number(numbers.len())?;
     for i in 0..count {
-        let residue = (numbers[i as usize] % u64::from(modulus.value())) as u32;
+        let residue = residue_of(modulus, numbers[i as usize]);
         let product = modulus.mul(factor, residue);
         if product != 0 {
             entries.push((i, product))?;
@@ -374,8 +405,8 @@ pub(crate) fn left_row(
     }
 }
 
-/// What the pivots leave of a row whose column has this pivot, monic, or none where it is in their span. At each column its pivot is
-/// the row that its word names at a look, or else the helper's own.
+/// What the pivots leave of a row, monic, or none where it is in their span. Its first column has this pivot; without one the first
+/// entry stays. At each column behind it the pivot is the row that the column's word names at a look, or else the helper's own.
 pub(crate) fn reduce_row(
     alloc: Global,
     shared: Shared<'_>,
@@ -383,7 +414,7 @@ pub(crate) fn reduce_row(
     own: &Own,
     work: &mut Work,
     row: &Row,
-    pivot: usize,
+    pivot: Option<usize>,
 ) -> Result<Option<Row>, NoMemory>
     requires ready { AreReady shared.modulus.now.value (length own.now.pivots.items) shared.inputs shared.rows.now
         shared.claims.now.rows.leads.items shared.claims.now.rows.held.items }
@@ -391,14 +422,15 @@ pub(crate) fn reduce_row(
     requires idle { AreIdle (length own.now.pivots.items) work.old.numbers.items }
     requires seat { IsSeatOf shared.claims.now.table.shared.table_id shared.claims.now.rows.leads.items seat.old }
     requires row { IsRow shared.modulus.now.value (length own.now.pivots.items) shared.inputs row.now }
-    requires pivot { IsPivotFor shared.modulus.now.value shared.rows.now (rows_left own.now.left.items) (told seat.old) (first_column row.now.entries) pivot }
+    requires pivot { HasPivot shared.modulus.now.value shared.rows.now (rows_left own.now.left.items) own.now.pivots.items
+        (told seat.old) (first_column row.now.entries) pivot }
     ensures seat { IsSeatOf shared.entry.claims.now.table.shared.table_id shared.entry.claims.now.rows.leads.items seat.new }
     ensures follows { Follows (told seat.old) (told seat.new) }
     ensures idle { OnOk result (AreIdle (length own.now.pivots.items) work.new.numbers.items) }
     ensures rest { IfOk result (λ r. MatchOption r
         (IsGone shared.entry.modulus.now.value shared.entry.rows.now (rows_left own.now.left.items) (told seat.new) row.now)
-        (IsRest shared.entry.modulus.now.value (length own.now.pivots.items) shared.entry.inputs shared.entry.rows.now (rows_left own.now.left.items)
-        (told seat.new) row.now)) }
+        (IsRestFrom shared.entry.modulus.now.value (length own.now.pivots.items) shared.entry.inputs (least_left row.now.entries pivot)
+        shared.entry.rows.now (rows_left own.now.left.items) (told seat.new) row.now)) }
 {
     shared.modulus.domain();
     let columns = kept_number(own.pivots.as_slice().len())?;

@@ -4,4 +4,4 @@ use Rattle.row_reduce.proofs.eights.next_column_of_all.Goals as goal
 
 pub loop-c-preserved : goal.loop-c-preserved
 loop-c-preserved c =
-    zeros_more c.args.from c.loop-c.c c.args.numbers.now (omega arith) c.if-ne.ensures c.loop-c.invariant
+    zeros_more c.args.from c.loop-c.c c.args.numbers.now (omega arith) (c.are_zero.ensures c.if-not-are_zero.false) c.loop-c.invariant

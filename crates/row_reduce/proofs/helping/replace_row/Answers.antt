@@ -21,7 +21,7 @@ returns-in_ok-keep_left-in-Some-clause-own c =
     let own = c.args.own.now in
     let new = c.keep_left.new.own in
     pivots_left c.args.shared.modulus.now.value (length own.pivots.items) c.args.shared.inputs c.args.shared.rows.now
-    own.left.items new.left.items (told c.reduce_row.new.seat) c.args.lost.now c.in-Some.row own.pivots.items new.pivots.items
+    own.left.items new.left.items (told c.reduce_row.new.seat) c.args.lost.now.number c.in-Some.row own.pivots.items new.pivots.items
     c.requires.own rest c.in_ok-keep_left-in-Some.ensures.left c.in_ok-keep_left-in-Some.ensures.pivots
 
 pub reduce_row-requires-clause-pivot : goal.reduce_row-requires-clause-pivot

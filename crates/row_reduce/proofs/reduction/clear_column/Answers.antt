@@ -1,8 +1,8 @@
-use Rattle.std.proofs.Common.{[], arith, drop, get_or, length, mod-lt, set, subst, sym, ◌%◌, ◌+◌, ◌++◌, ◌<◌, ◌∙◌, ◌∷◌, ◌≡◌}
+use Rattle.std.proofs.Common.{[], arith, drop, get_or, length, mod-lt, set, subst, sym, ◌%◌, ◌+◌, ◌++◌, ◌<◌, ◌∙◌, ◌∷◌, ◌≡◌, ◌≤◌}
 use Rattle.residues.specs.Residues.{IsCongruent}
 use Rattle.formal_sums.proofs.WeightedSums.{Each_append}
 use Rattle.pivot_table.specs.Law.{told}
-use Rattle.row_matrix.specs.Rows.{Entry, first_column}
+use Rattle.row_matrix.specs.Rows.{Entry}
 use Rattle.row_reduce.proofs.Clearing.{factor_cancels, none_left, one_left, pivot_added, residue_is, underway_left, underway_none, underway_pivot}
 use Rattle.row_reduce.proofs.Naming.{follows_same}
 use Rattle.row_reduce.proofs.Steps.{pivot_entries, reduced_added, reduced_kept}
@@ -19,13 +19,13 @@ returns-then-residue-eq0-clause-underway c =
     underway_none c.args.shared.modulus.now.value w.limit c.args.c (length pivots) (length (c.args.shared.rows.now ++ rows_left c.args.own.now.left.items)) pivots w.left.items w.numbers.items w.taken.items c.requires.underway lt
 
 pub returns-then-residue-eq0-clause-reduced : goal.returns-then-residue-eq0-clause-reduced
-returns-then-residue-eq0-clause-reduced c = λ row above h.
+returns-then-residue-eq0-clause-reduced c = λ from row above h.
     let p = c.args.shared.modulus.now.value in
     let one : 1 < p = c.domain.ensures.above_one in
     let w = c.args.work.now in
     let lt : c.args.c < length w.numbers.items = omega (arith, c.requires.at, c.requires.underway.numbered) in
     let is = residue_is p c.from.result c.args.c c.index.result.now w.numbers.items c.index.ensures lt (c.from.ensures ∙ c.value.ensures) in
-    reduced_kept p c.args.shared.rows.now (rows_left c.args.own.now.left.items) (told c.args.seat.now) (told c.args.seat.now) row w.left.items w.left.items w.numbers.items (set w.numbers.items c.args.c 0) w.taken.items (follows_same (told c.args.seat.now)) h.above
+    reduced_kept p from c.args.shared.rows.now (rows_left c.args.own.now.left.items) (told c.args.seat.now) (told c.args.seat.now) row w.left.items w.left.items w.numbers.items (set w.numbers.items c.args.c 0) w.taken.items (follows_same (told c.args.seat.now)) h.above
     (λ n key. none_left p (omega (arith, one)) key c.args.c (c.index.result.now % c.from.result) w.numbers.items lt is w.left.items c.if-residue-eq0.true) h
 
 pub returns-in_ok-push-in-None-clause-underway : goal.returns-in_ok-push-in-None-clause-underway
@@ -44,7 +44,7 @@ returns-in_ok-push-in-None-clause-underway c =
     r c.push.new.self.items (omega (arith, ne)) small none c.in_ok-push-in-None.ensures.items
 
 pub returns-in_ok-push-in-None-clause-reduced : goal.returns-in_ok-push-in-None-clause-reduced
-returns-in_ok-push-in-None-clause-reduced c = λ row above h.
+returns-in_ok-push-in-None-clause-reduced c = λ from row above h.
     let p = c.args.shared.modulus.now.value in
     let one : 1 < p = c.domain.ensures.above_one in
     let w = c.args.work.now in
@@ -52,8 +52,8 @@ returns-in_ok-push-in-None-clause-reduced c = λ row above h.
     let r = c.index.result.now % c.from.result in
     let is = residue_is p c.from.result c.args.c c.index.result.now w.numbers.items c.index.ensures lt (c.from.ensures ∙ c.value.ensures) in
     let left' = w.left.items ++ (c.args.c, r) ∷ [] in
-    rw c.in_ok-push-in-None.ensures.items (reduced_kept p c.args.shared.rows.now (rows_left c.args.own.now.left.items) (told c.args.seat.now) (told c.pivot_of.new.seat) row w.left.items left' w.numbers.items (set w.numbers.items c.args.c 0) w.taken.items c.pivot_of.ensures.follows
-    (Each_append (λ (e : Entry). first_column row.entries < e.0) w.left.items ((c.args.c, r) ∷ []) h.above (above, tt))
+    rw c.in_ok-push-in-None.ensures.items (reduced_kept p from c.args.shared.rows.now (rows_left c.args.own.now.left.items) (told c.args.seat.now) (told c.pivot_of.new.seat) row w.left.items left' w.numbers.items (set w.numbers.items c.args.c 0) w.taken.items c.pivot_of.ensures.follows
+    (Each_append (λ (e : Entry). from ≤ e.0) w.left.items ((c.args.c, r) ∷ []) h.above (above, tt))
     (λ n key. one_left p (omega (arith, one)) key c.args.c r w.numbers.items lt is w.left.items) h)
 
 pub returns-in_ok-add_pivot-in-Some-clause-underway : goal.returns-in_ok-add_pivot-in-Some-clause-underway
@@ -74,7 +74,7 @@ returns-in_ok-add_pivot-in-Some-clause-underway c =
     g.tail e.adds pivot.known c.neg.ensures.small c.in_ok-add_pivot-in-Some.ensures.taken e.room e.small)
 
 pub returns-in_ok-add_pivot-in-Some-clause-reduced : goal.returns-in_ok-add_pivot-in-Some-clause-reduced
-returns-in_ok-add_pivot-in-Some-clause-reduced c = λ row above h.
+returns-in_ok-add_pivot-in-Some-clause-reduced c = λ from row above h.
     let p = c.args.shared.modulus.now.value in
     let one : 1 < p = c.domain.ensures.above_one in
     let w = c.args.work.now in
@@ -92,6 +92,6 @@ returns-in_ok-add_pivot-in-Some-clause-reduced c = λ row above h.
     let f = c.neg.result in
     let cancels = subst (λ x. IsCongruent p (x + r) 0) (sym c.neg.ensures.value) (factor_cancels p r small) in
     let P = row_at rows c.in-Some.pivot in
-    reduced_added p c.args.c c.in-Some.pivot f r c.args.shared.rows.now own (told c.args.seat.now) (told c.pivot_of.new.seat) row w.left.items new.left.items w.numbers.items new.numbers.items w.taken.items new.taken.items
+    reduced_added p from c.args.c c.in-Some.pivot f r c.args.shared.rows.now own (told c.args.seat.now) (told c.pivot_of.new.seat) row w.left.items new.left.items w.numbers.items new.numbers.items w.taken.items new.taken.items
     (omega (arith, one)) c.pivot_of.ensures.follows pivot cancels c.add_pivot.ensures.left c.in_ok-add_pivot-in-Some.ensures.taken
     (λ n key. pivot_added p (omega (arith, one)) key c.args.c r w.numbers.items lt is w.left.items P.entries (drop 1 P.entries) f new.numbers.items g.entries cancels (c.add_pivot.ensures.adds.sum n key)) h

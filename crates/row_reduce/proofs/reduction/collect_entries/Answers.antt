@@ -18,7 +18,7 @@ loop-i-preserved c =
     let kept : c.in_ok-count.count ≡ length numbers = c.in_ok-count.ensures in
     let lt : i < length numbers = omega (arith, c.loop-i-test.true, kept) in
     let is : IsCongruent p c.mul-product.result (f * get_or numbers i 0) =
-    product_is p f (get_or numbers i 0) (get_or numbers i 0 % c.from.result) c.mul-product.result c.mul-product.ensures.value (ap (λ q. get_or numbers i 0 % q) (c.from.ensures ∙ c.value.ensures)) in
+    product_is p f (get_or numbers i 0) c.residue_of-residue.result c.mul-product.result c.mul-product.ensures.value c.residue_of-residue.ensures in
     elim c.if-product-ne0.branch [
       | then-product-ne0+in_ok-push w ↦ (
           let e : c.if-product-ne0.entries.items ≡ c.loop-i.entries.items ++ (i, c.mul-product.result) ∷ [] = ap (λ v. v.items) w.entries-is ∙ w.in_ok-push.ensures.items in

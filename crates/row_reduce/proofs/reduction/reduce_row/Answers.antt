@@ -6,6 +6,7 @@ use Rattle.row_matrix.specs.Rows.{AreEntries, IsRow, RowShown}
 use Rattle.row_reduce.proofs.Reducing.{zeros_idle}
 use Rattle.row_reduce.proofs.Steps.{gone_row, rest_row}
 use Rattle.row_reduce.specs.Passes.{rows_left}
+use Rattle.row_reduce.specs.Reductions.{least_left}
 use Rattle.row_reduce.specs.Underway.{IsLeftRow}
 use Rattle.row_reduce.proofs.reduction.reduce_row.Goals as goal
 
@@ -36,7 +37,8 @@ returns-in-None-clause-rest c =
     let own = rows_left c.args.own.now.left.items in
     let pivots = c.args.own.now.pivots.items in
     let e = c.in_ok-clear_columns.ensures in
-    gone_row p w.limit (length pivots) c.args.shared.inputs (length (c.args.shared.rows.now ++ own)) (omega (arith, one)) c.args.shared.rows.now own
+    gone_row p (least_left c.args.row.now.entries c.args.pivot) w.limit (length pivots) c.args.shared.inputs
+    (length (c.args.shared.rows.now ++ own)) (omega (arith, one)) c.args.shared.rows.now own
     (told c.clear_columns.new.seat) pivots c.args.row.now w.left.items w.numbers.items w.taken.items
     e.underway e.reduced (sym c.deref.ensures.value ∙ rw c.in-None.is at c.in_ok-left.ensures)
 
@@ -53,7 +55,8 @@ returns-in-Some-clause-rest c =
     let own = rows_left c.args.own.now.left.items in
     let pivots = c.args.own.now.pivots.items in
     let e = c.in_ok-clear_columns.ensures in
-    rest_row p w.limit (length pivots) c.args.shared.inputs (length (c.args.shared.rows.now ++ own)) (omega (arith, one)) c.args.shared.rows.now own
+    rest_row p (least_left c.args.row.now.entries c.args.pivot) w.limit (length pivots) c.args.shared.inputs
+    (length (c.args.shared.rows.now ++ own)) (omega (arith, one)) c.args.shared.rows.now own
     (told c.clear_columns.new.seat) pivots c.args.row.now w.left.items w.numbers.items w.taken.items
     e.underway e.reduced c.in-Some.rest c.requires.own
     (subst₂ (λ left taken. IsLeftRow p (length pivots) c.args.shared.inputs (c.args.shared.rows.now ++ own) c.args.row.now left taken c.in-Some.rest)
