@@ -91,7 +91,7 @@ pub(crate) fn make_rows(
     requires rows { Each (IsRow ring.now.modulus.value (length columns.now) (length products.now)) rows.now }
     ensures { IfOk result (λ made. AreMadeRows ring.now columns.now products.now rows.now made.items) }
 {
-    let ranks = ranks_of(alloc, ring, products)?;
+    let ranks = ranks_of(alloc, ring, products, rows)?;
     let mut made = Vec::new(alloc);
     for row in rows {
         let next = make_row(alloc, ring, columns, products, &ranks, row)?;
