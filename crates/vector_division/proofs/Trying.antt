@@ -1,5 +1,5 @@
 -- The divisors that a division tries
-use Rattle.std.proofs.Common.{Contains, List, [], arith, cond, false, get_or, inl, inr, length, refl, subst, suc, sym, true, zero, ℕ, Bool, ◌+◌, ◌-◌, ◌<◌, ◌∙◌, ◌∷◌, ◌≡◌, ◌≤◌, ◌⊎◌}
+use Rattle.std.proofs.Common.{Contains, List, [], arith, cond, false, get_or, inl, inr, length, refl, subst, sym, true, ℕ, Bool, ◌+◌, ◌-◌, ◌<◌, ◌∙◌, ◌≡◌, ◌≤◌, ◌⊎◌}
 use Rattle.std.proofs.lemmas.Bool.{cases_lt}
 use Rattle.std.proofs.lemmas.List.{get_or_default}
 use Rattle.formal_sums.specs.FormalSums.{Key}
@@ -12,15 +12,16 @@ use Rattle.module_vectors.specs.Trails.{lead_at}
 use Rattle.module_vectors.specs.Vectors.{sum_of, sums_of}
 use Rattle.module_vectors.specs.declared.key.Key.{Key as CodeKey}
 use Rattle.vector_division.specs.Divisions.{IsUncovered}
-use Rattle.vector_division.specs.Divisors.{AreBy, AreDivisors, AreEnough, AreTriedTo, IsDividedAt, IsOf}
+use Rattle.vector_division.specs.Divisors.{AreBy, AreDivisors, AreEnough, AreLeast, AreTriedTo, IsDividedAt, IsOf}
 use Rattle.vector_division.specs.Marks.{IsMarkOf}
 use Rattle.vector_division.specs.Progress.{AreTried}
 use Rattle.vector_division.specs.declared.divisors.Divisor.{Divisor}
+use Rattle.vector_division.proofs.LeastDegrees.{at_place}
 use Rattle.vector_division.proofs.Members.{uncovered}
 
 -- the default of a read
 abbrev pub no_divisor : Divisor
-no_divisor = record { index = 0; mark = record { position = 0; variables = 0 } }
+no_divisor = record { index = 0; mark = record { position = 0; variables = 0 }; least = 0 }
 
 -- where none of them divides the key, no lead of the list does
 pub none_divides :
@@ -50,14 +51,8 @@ tried_more n list k divisors i next tried lt e fails m d below at = go (cases_lt
         let one : d ≡ next = here ∙ get_or_default divisors i d next lt ∙ sym e in
         subst (λ z. 0 < length (get_or list z.index []) → KeyDivides (head_key (sum_of n (get_or list z.index []))) k → ⊥) (sym one) fails
 
--- some element stands at each place
-at_place : {X : Type 0} (xs : List X) (m : ℕ) → m < length xs → (x : X) × (x ≡ get_or xs m x)
-at_place [] m lt = absurd (omega arith)
-at_place (x ∷ xs) zero lt = (x, refl)
-at_place (x ∷ xs) (suc m) lt = at_place xs m (omega arith)
-
 module _ (f : ℕ → ℕ) (total : ℕ) (list : List (List (CodeKey × ℕ))) (divisors : List Divisor) (by : AreBy f total list divisors)
-    (within : (m : ℕ) → m < total → f m < length list) where
+    (within : (m : ℕ) → m < total → f m < length list) (least : AreLeast list divisors) where
   each_of : (k : ℕ) (d : Divisor) → k < length divisors → d ≡ get_or divisors k d → IsOf list d
   each_of k d lt e =
       let l : k < total = subst (λ c. k < c) by.count lt in
@@ -85,6 +80,7 @@ module _ (f : ℕ → ℕ) (total : ℕ) (list : List (List (CodeKey × ℕ))) (
       → AreDivisors n list divisors
   are_divisors n enough = record {
     each = each_of;
+    least = least;
     enough = λ j lt some. go j (enough j lt some);
   }
     where
@@ -103,8 +99,9 @@ turned from_last count k = cond from_last (count - 1 - k) k
 -- all vectors, from either end
 pub all_are_divisors :
     (list : List (List (CodeKey × ℕ))) (divisors : List Divisor) (from_last : Bool) (n : ℕ)
-    → AreBy (turned from_last (length list)) (length list) list divisors → AreDivisors n list divisors
-all_are_divisors list divisors from_last n by = are_divisors (turned from_last (length list)) (length list) list divisors by (inside from_last) n (enough from_last)
+    → AreBy (turned from_last (length list)) (length list) list divisors → AreLeast list divisors → AreDivisors n list divisors
+all_are_divisors list divisors from_last n by least =
+    are_divisors (turned from_last (length list)) (length list) list divisors by (inside from_last) least n (enough from_last)
   where
     inside : (b : Bool) (m : ℕ) → m < length list → turned b (length list) m < length list
     inside true m lt = omega arith
@@ -122,9 +119,9 @@ all_are_divisors list divisors from_last n by = are_divisors (turned from_last (
 pub enough_are_divisors :
     (list : List (List (CodeKey × ℕ))) (divisors : List Divisor) (indices : List ℕ) (n : ℕ)
     → AreBy (λ m. get_or indices m 0) (length indices) list divisors → ((m : ℕ) → m < length indices → get_or indices m 0 < length list)
-    → AreEnough n list indices → AreDivisors n list divisors
-enough_are_divisors list divisors indices n by inside enough =
-    are_divisors (λ m. get_or indices m 0) (length indices) list divisors by inside n (λ j lt some. go j (enough j lt some))
+    → AreLeast list divisors → AreEnough n list indices → AreDivisors n list divisors
+enough_are_divisors list divisors indices n by inside least enough =
+    are_divisors (λ m. get_or indices m 0) (length indices) list divisors by inside least n (λ j lt some. go j (enough j lt some))
   where
     go :
         (j : ℕ) → (i : ℕ) × Contains indices i × IsDividedAt n list j i

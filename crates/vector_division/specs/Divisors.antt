@@ -1,6 +1,6 @@
 -- The vectors of a list that a division tries as divisors
-use Rattle.std.specs.Prelude.{Contains, List, [], get_or, length, ℕ, ◌<◌, ◌≡◌}
-use Rattle.formal_sums.specs.FormalSums.{Key}
+use Rattle.std.specs.Prelude.{Contains, List, [], get_or, length, ⊤, ℕ, ◌<◌, ◌∷◌, ◌≡◌, ◌≤◌}
+use Rattle.formal_sums.specs.FormalSums.{Each, Key}
 use Rattle.orders.specs.KeyOrders.{KeyDivides}
 use Rattle.bases.specs.Leads.{head_key}
 use Rattle.module_vectors.specs.Trails.{lead_at}
@@ -8,6 +8,7 @@ use Rattle.module_vectors.specs.Vectors.{sum_of}
 use Rattle.module_vectors.specs.declared.key.Key.{Key as CodeKey}
 use Rattle.vector_division.specs.Marks.{IsMarkOf}
 use Rattle.vector_division.specs.declared.divisors.Divisor.{Divisor}
+use Rattle.vector_division.specs.declared.marks.Mark.{Mark}
 
 -- vector i has a lead, which divides that of vector j
 pub record IsDividedAt (n : ℕ) (list : List (List (CodeKey × ℕ))) (j i : ℕ) : Type 0 where
@@ -24,9 +25,24 @@ pub record IsOf (list : List (List (CodeKey × ℕ))) (d : Divisor) : Type 0 whe
   pub within : d.index < length list
   pub mark : IsMarkOf (get_or list d.index []) d.mark
 
--- vectors of the list with their marks, and the lead of each vector of the list is divisible by that of one of them
+-- the index of a divisor, with its mark
+abbrev pub indexed : Divisor → ℕ × Mark
+indexed d = (d.index, d.mark)
+
+-- v is zero, or its lead has no degree below this one
+abbrev pub IsNoHigher : ℕ → List (CodeKey × ℕ) → Type 0
+IsNoHigher least [] = ⊤
+IsNoHigher least (t ∷ v) = least ≤ t.0.monomial.degree
+
+-- each divisor keeps a degree that no lead of it and of those behind it is below
+abbrev pub AreLeast : List (List (CodeKey × ℕ)) → List Divisor → Type 0
+AreLeast list [] = ⊤
+AreLeast list (d ∷ divisors) = Each (λ e. IsNoHigher d.least (get_or list e.index [])) (d ∷ divisors) × AreLeast list divisors
+
+-- vectors of the list with their marks and least degrees, and the lead of each vector of the list is divisible by that of one of them
 pub record AreDivisors (n : ℕ) (list : List (List (CodeKey × ℕ))) (divisors : List Divisor) : Type 0 where
   pub each : (k : ℕ) (d : Divisor) → k < length divisors → d ≡ get_or divisors k d → IsOf list d
+  pub least : AreLeast list divisors
   pub enough :
       (j : ℕ) → j < length list → 0 < length (get_or list j []) → (d : Divisor) × Contains divisors d × IsDividedAt n list j d.index
 
