@@ -6,6 +6,8 @@ use Rattle.interreduce.proofs.Earlier.{by_earlier}
 use Rattle.interreduce.proofs.Gathering.{one_more}
 use Rattle.interreduce.proofs.Reducing.{each_index}
 use Rattle.interreduce.proofs.turns.reduced_by_earlier.Goals as goal
+use Rattle.module_vectors.specs.Rings.{variables}
+use Rattle.vector_division.specs.Divisors.{AreDivisors}
 
 pub reduced_by-requires-clause-list : goal.reduced_by-requires-clause-list
 reduced_by-requires-clause-list g c =
@@ -31,3 +33,8 @@ loop-index-preserved g c =
           subst (λ vs. IsReducedMember ring compare list (get_or kept k 0) (get_or vs k [])) (sym pushed)
           (one_more ring compare list (λ j. get_or kept j 0) earlier i c.in-Ok.member c.loop-index.invariant.count c.loop-index.invariant.each next k l);
     }
+
+pub reduced_by-requires-clause-divisors : goal.reduced_by-requires-clause-divisors
+reduced_by-requires-clause-divisors g c =
+    let n = variables (g.F.Frame.over c.args.frame.now) in
+    subst (AreDivisors n c.loop-index.reduced) (sym c.deref.ensures.value) (c.in_ok-divisors.ensures n)

@@ -2,6 +2,8 @@ use Rattle.module_vectors.specs.Rings.{variables}
 use Rattle.vector_division.specs.Reductions.{cofactors_of}
 use Rattle.syzygy_engine.proofs.LeftOver.{cofactor_rank}
 use Rattle.syzygy_engine.proofs.lifting.rest_after.Goals as goal
+use Rattle.std.proofs.Common.{subst, sym}
+use Rattle.vector_division.specs.Divisors.{AreDivisors}
 
 pub returns-in-Ok-clause-sum : goal.returns-in-Ok-clause-sum
 returns-in-Ok-clause-sum c =
@@ -15,3 +17,8 @@ returns-in-Ok-clause-rest c = rw c.rest_of.ensures c.in-Ok.ensures.rest
 
 pub returns-in-Ok-clause-reduced : goal.returns-in-Ok-clause-reduced
 returns-in-Ok-clause-reduced c = rw c.rest_of.ensures c.in-Ok.ensures.reduced
+
+pub reduce_by-requires-clause-divisors : goal.reduce_by-requires-clause-divisors
+reduce_by-requires-clause-divisors c =
+    let n = variables c.args.ring.now in
+    subst (AreDivisors n c.args.list.now) (sym c.deref.ensures.value) (c.in_ok-divisors.ensures n)
