@@ -5,7 +5,7 @@ use Rattle.interreduce.proofs.Choosing.{needed_are_enough}
 use Rattle.interreduce.proofs.interreduction.reduced_by_list.Goals as goal
 
 pub reduced_side_by_side-requires-clause-divisors : goal.reduced_side_by_side-requires-clause-divisors
-reduced_side_by_side-requires-clause-divisors g c =
+reduced_side_by_side-requires-clause-divisors g c κs within =
     let n = variables (g.F.Frame.over c.args.frame.now) in
     let list = g.L.Vectors.listed c.args.list.now in
     subst (AreDivisors n list) (sym c.deref.ensures.value)
