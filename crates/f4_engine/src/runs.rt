@@ -8,7 +8,7 @@ ghost use Rattle.groebner_iface.specs.Runs.{IsReducedBasisOf};
 ghost use Rattle.run_endings.specs.Stops.{IsRunBy, OfState, RunStops, shared_on};
 ghost use Rattle.f4_engine.specs.Runs.{EndsAs, IsFinished, IsLeft, IsNew, IsWorkedByAll};
 
-use crate::work::LastJob;
+use crate::work::Turn;
 use crate::workers::work_all;
 use basis_core::{BasisState, StopReason};
 use module_vectors::{KeptTrail, Ring, VectList, WorkStop};
@@ -62,9 +62,10 @@ fn let_work<R: Threads + Wait + Sync>(
     let threads = threads_for(&state);
     match Lock::new(alloc, state) {
         Ok((lock, seat)) => {
-            let turns = Mutex::new(LastJob {
+            let turns = Mutex::new(Turn {
                 degree: 0,
                 gave_rows: true,
+                workers: threads,
             });
             let seat = work_all(
                 rt, alloc, &lock, helpers, gate, &turns, seat, workers, threads,

@@ -24,11 +24,13 @@ const PAIRS: u64 = 512;
 // others are likely to give none, and nobody waits.
 const LONG: usize = 8;
 
-/// The degree of the last long job that was handed in, and whether it gave rows.
+/// What a worker knows that has the turn to take: the degree of the last long job that was handed in, whether it gave rows, and how
+/// many workers there are side by side.
 #[derive(Clone, Copy)]
-pub(crate) struct LastJob {
+pub(crate) struct Turn {
     pub(crate) degree: u128,
     pub(crate) gave_rows: bool,
+    pub(crate) workers: u32,
 }
 
 // The degree of the job's pairs.
@@ -37,6 +39,17 @@ fn degree_of(job: &Job) -> u128 {
         Some(pair) => pair.lcm.monomial.degree(),
         None => 0,
     }
+}
+
+// The helpers of so many workers; those of one under a held gate, where helpers wait for one another.
+fn helpers_of_all(gate: &SharedGate, helpers: u32, workers: u32) -> u32
+    requires { 0 < helpers }
+    ensures { 0 < result }
+{
+    if gate.is_open() {
+        return helpers.saturating_mul(workers).max(helpers);
+    }
+    helpers
 }
 
 // The reason of a stop.
@@ -114,15 +127,15 @@ fn do_job<R: Threads + Wait + Sync>(
 }
 
 // Solves a job and hands it in, or gives up. The turn is kept meanwhile where the job is long, unless the last long job of its degree
-// gave no rows. Is the worker done?
+// gave no rows; since the other workers wait then, the job has the helpers of all. Is the worker done?
 fn do_job_in_turn<R: Threads + Wait + Sync>(
     rt: &R,
     alloc: Global,
     lock: &BasisLock,
     helpers: u32,
     gate: &SharedGate,
-    turns: &Mutex<LastJob>,
-    mut turn: MutexGuard<'_, LastJob>,
+    turns: &Mutex<Turn>,
+    mut turn: MutexGuard<'_, Turn>,
     seat: &mut BasisSeat,
     job: Job,
 ) -> bool
@@ -138,12 +151,21 @@ fn do_job_in_turn<R: Threads + Wait + Sync>(
         drop(turn);
         let (done, gave_rows) = do_job(rt, alloc, lock, helpers, gate, seat, job);
         if gave_rows && !last.gave_rows {
-            *turns.lock(rt) = LastJob { degree, gave_rows };
+            *turns.lock(rt) = Turn {
+                degree,
+                gave_rows,
+                workers: last.workers,
+            };
         }
         return done;
     }
-    let (done, gave_rows) = do_job(rt, alloc, lock, helpers, gate, seat, job);
-    *turn = LastJob { degree, gave_rows };
+    let all = helpers_of_all(gate, helpers, last.workers);
+    let (done, gave_rows) = do_job(rt, alloc, lock, all, gate, seat, job);
+    *turn = Turn {
+        degree,
+        gave_rows,
+        workers: last.workers,
+    };
     drop(turn);
     done
 }
@@ -155,7 +177,7 @@ fn do_round<R: Threads + Wait + Sync>(
     lock: &BasisLock,
     helpers: u32,
     gate: &SharedGate,
-    turns: &Mutex<LastJob>,
+    turns: &Mutex<Turn>,
     seat: &mut BasisSeat,
 ) -> bool
     requires idle { IsIdle lock.now.table.shared.table_id (base lock.now.table.shared.key.value) seat.old.place }
@@ -192,7 +214,7 @@ pub(crate) fn work<R: Threads + Wait + Sync>(
     lock: &BasisLock,
     helpers: u32,
     gate: &SharedGate,
-    turns: &Mutex<LastJob>,
+    turns: &Mutex<Turn>,
     seat: BasisSeat,
 ) -> BasisSeat
     requires idle { IsIdle lock.now.table.shared.table_id (base lock.now.table.shared.key.value) seat.place }

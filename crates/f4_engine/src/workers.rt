@@ -5,7 +5,7 @@ ghost use Rattle.ruled_lock.specs.Plays.{IsIdle};
 ghost use Rattle.basis_core.specs.Logs.{base};
 ghost use Rattle.f4_engine.specs.Workers.{AllDone, HasDone, IsFresh, IsReady};
 
-use crate::work::{LastJob, work};
+use crate::work::{Turn, work};
 use basis_lock::{BasisLock, BasisSeat};
 use std::alloc::Global;
 use std::sync::{Mutex, Wait};
@@ -46,7 +46,7 @@ fn work_alone<R: Threads + Wait + Sync>(
     lock: &BasisLock,
     helpers: u32,
     gate: &SharedGate,
-    turns: &Mutex<LastJob>,
+    turns: &Mutex<Turn>,
     seat: BasisSeat,
     n: u32,
 ) -> BasisSeat
@@ -67,7 +67,7 @@ fn work_late<R: Threads + Wait + Sync>(
     lock: &BasisLock,
     helpers: u32,
     gate: &SharedGate,
-    turns: &Mutex<LastJob>,
+    turns: &Mutex<Turn>,
     seat: BasisSeat,
     other: BasisSeat,
     n: u32,
@@ -94,7 +94,7 @@ pub(crate) fn work_all<R: Threads + Wait + Sync>(
     lock: &BasisLock,
     helpers: u32,
     gate: &SharedGate,
-    turns: &Mutex<LastJob>,
+    turns: &Mutex<Turn>,
     mut seat: BasisSeat,
     n: u32,
     threads: u32,

@@ -74,10 +74,9 @@ fn solve_matrix<R: Threads + Sync>(
 /// products of which it is a combination (Faugère 1999, section 2). Where a product of the matrix has a degree above
 /// 65,535, the job is solved by plain division, which may need no such product.
 ///
-/// So many helpers, one at least, bring the matrix into echelon form together: each claims the lead columns of its share of the
-/// rows and passes the gate with its own number at `RowClaimed`; then the rows whose column another row has are dealt among them
-/// anew, and reduced. The first works in the caller's thread, others in threads of their own, as many as there is work for.
-/// Division is by the caller alone.
+/// So many helpers, one at least, bring the matrix into echelon form together: in each pass each claims the lead columns of its share
+/// of the rows, passes the gate with its own number at `RowClaimed`, and reduces the rows whose column another row has. The first
+/// works in the caller's thread, others in threads of their own, as many as there is work for. Division is by the caller alone.
 ///
 /// `Degree` comes with a trail of the job to a product of degree above 65,535, `Memory` where there is none; both
 /// give the job back.

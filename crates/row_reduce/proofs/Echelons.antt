@@ -1,10 +1,11 @@
 -- Pivots of rows, rows between two passes, and the echelon form that they are at the end
-use Rattle.std.proofs.Common.{Contains, List, None, Option, Some, [], ap, append-nil, arith, eqb, false, get_or, drop, get_or-set_other, get_or-set_same, inl, inr, length, map, refl, replicate, reverse, set, subst, subst₂, suc, take, sym, true, zero, ℕ, ◌+◌, ◌++◌, ◌-◌, ◌<◌, ◌∙◌, ◌∷◌, ◌≡◌, ◌≤◌}
+use Rattle.std.proofs.Common.{Contains, List, None, Option, Some, [], ap, append-nil, append_assoc, arith, eqb, false, get_or, drop, get_or-set_other, get_or-set_same, inl, inr, length, map, refl, replicate, reverse, set, subst, subst₂, suc, take, sym, true, zero, ℕ, ◌+◌, ◌++◌, ◌-◌, ◌<◌, ◌∙◌, ◌∷◌, ◌≡◌, ◌≤◌, ◌⊎◌}
 use Rattle.std.proofs.lemmas.Bool.Decides.{Decides-eqb}
 use Rattle.std.proofs.lemmas.Bool.{cases_eq, eq-eqb, eqb-true, ne_eqb}
 use Rattle.std.proofs.lemmas.List.{get_or-map, get_or-reverse, get_or_append_left, get_or_default, get_or_push, length-append, length-map, length-replicate, length-reverse, length-set, length_push, map-append, map-id, reverse-append}
+use Rattle.std.proofs.lemmas.List.Elements.{Contains-append_cases, Contains-append_right}
 use Rattle.std.proofs.lemmas.List.FromFn.{get_or-map-range_with_len, get_or-range_with_len, length-map-range_with_len, length-range_with_len, map-range_with_len_more}
-use Rattle.std.proofs.lemmas.List.Sorted.{Contains-permutation, IsPermutation-reverse, IsPermutation-sym, length_permutation, sum_by-IsPermutation}
+use Rattle.std.proofs.lemmas.List.Sorted.{Contains-permutation, IsPermutation-append_comm, IsPermutation-append_left, IsPermutation-append_right, IsPermutation-reverse, IsPermutation-sym, IsPermutation-trans, length_permutation, sum_by-IsPermutation}
 use Rattle.std.proofs.lemmas.List.Sums.{sum_by-append, sum_by-cons}
 use Rattle.std.proofs.lemmas.Option.{slice_get-get_or}
 use Rattle.std.proofs.Math.Seq.{drop-cons}
@@ -12,6 +13,7 @@ use Rattle.std.proofs.lemmas.Map.Keys.{IsDistinct-IsPermutation}
 use Rattle.std.proofs.lemmas.Map.Made.{IsDistinct-from_AllPairs}
 use Rattle.std.proofs.lemmas.Map.Views.{Contains-from_any}
 use Rattle.std.proofs.lemmas.Map.Steps.{length-le_from_distinct_below}
+use Rattle.std.specs.List.Sorted.{IsPermutation}
 use Rattle.std.specs.List.{AllByRecursion, IsDistinct, list_any, range_with_len}
 use Rattle.formal_sums.proofs.WeightedSums.{Each_append}
 use Rattle.formal_sums.specs.FormalSums.{Each, Key}
@@ -25,7 +27,7 @@ use Rattle.row_reduce.proofs.Adding.{Each_back, Each_front, Each_set}
 use Rattle.row_reduce.proofs.Entries.{first_below, monic_entries}
 use Rattle.row_reduce.proofs.Orders.{vector_at}
 use Rattle.row_reduce.proofs.Reducing.{zeros_at}
-use Rattle.row_reduce.specs.Echelons.{AreBetween, AreFrom, IsEchelonOf, with_left, columns_behind}
+use Rattle.row_reduce.specs.Echelons.{AreBetween, AreFrom, IsEchelonOf, IsPassOverSome, with_left, columns_behind}
 use Rattle.row_reduce.specs.Passes.{IsLeftOf, IsPass, Names, leads_of, named, places, rows_left}
 use Rattle.row_reduce.specs.Pivots.{ArePivots, lead_column, no_row, row_at, row_vectors}
 use Rattle.row_reduce.specs.Underway.{IsSpanned}
@@ -262,6 +264,15 @@ lead_below p columns inputs rows good k lt =
     let g = row_of (IsRow p columns inputs) rows k good lt in
     first_below p columns (row_at rows k).entries g.entries g.monic
 
+-- the leads that are known are columns
+pub leads_columns :
+    (p columns inputs : ℕ) (rows : List RowShown) (leads : List ℕ) (held : List (Option ℕ)) (pending : List ℕ)
+    → AreBetween p columns inputs rows leads held pending → Each (λ c. c < columns) leads
+leads_columns p columns inputs rows leads held pending h =
+    subst (Each (λ c. c < columns)) (sym h.ready.known)
+    (each_map (λ c. c < columns) (λ (r : RowShown). first_column r.entries) rows
+    (each_more (IsRow p columns inputs) (λ (r : RowShown). first_column r.entries < columns) (λ r good. first_below p columns r.entries good.entries good.monic) rows h.ready.monic))
+
 -- a pending row has a column
 pub columns_some :
     (p columns inputs : ℕ) (rows : List RowShown) (leads : List ℕ) (held : List (Option ℕ)) (pending : List ℕ)
@@ -269,11 +280,61 @@ pub columns_some :
 columns_some p columns inputs rows leads held [] h pos = absurd (omega arith)
 columns_some p columns inputs rows leads held (k ∷ ks) h pos = let lt = lead_below p columns inputs rows h.ready.monic k h.known.0 in omega arith
 
--- ---- a pass
+-- of two parts of a list without repetition
+distinct_parts : (xs ys : List ℕ) → IsDistinct eqb (xs ++ ys) → Each (λ y. Each (λ x. x ≡ y → ⊥) xs) ys
+unfolding IsDistinct
+distinct_parts [] ys h = each_from (λ y. Each {X = ℕ} (λ x. x ≡ y → ⊥) []) 0 ys (λ i lt. tt)
+distinct_parts (x ∷ xs) ys h =
+    each_both (λ y. x ≡ y → ⊥) (λ y. Each (λ z. z ≡ y → ⊥) xs) ys (others xs h.0) (distinct_parts xs ys h.1)
+  where
+    behind : (zs : List ℕ) → AllByRecursion (λ y. eqb x y ≡ false) zs → Each (λ y. x ≡ y → ⊥) zs
+    behind [] g = tt
+    behind (z ∷ zs) g = ((λ e. (let t = eq-eqb x z e in let f : true ≡ false = sym t ∙ g.0 in cc)), behind zs g.1)
+
+    others : (zs : List ℕ) → AllByRecursion (λ y. eqb x y ≡ false) (zs ++ ys) → Each (λ y. x ≡ y → ⊥) ys
+    others [] g = behind ys g
+    others (z ∷ zs) g = others zs g.1
+
+map_same : (f g : ℕ → RowShown) (ks : List ℕ) → Each (λ k. f k ≡ g k) ks → map f ks ≡ map g ks
+map_same f g [] h = refl
+map_same f g (k ∷ ks) h = ap (λ r. r ∷ map f ks) h.0 ∙ ap (λ rs. g k ∷ rs) (map_same f g ks h.1)
+
+behind_same :
+    (columns : ℕ) (rows others : List RowShown) (ks : List ℕ) → Each (λ k. row_at others k ≡ row_at rows k) ks
+    → columns_behind columns others ks ≡ columns_behind columns rows ks
+behind_same columns rows others [] h = refl
+behind_same columns rows others (k ∷ ks) h =
+    sum_by-cons (λ m. columns - lead_column others m) k ks
+    ∙ ap (λ (r : RowShown). (columns - first_column r.entries) + columns_behind columns others ks) h.0
+    ∙ ap (λ b. (columns - lead_column rows k) + b) (behind_same columns rows others ks h.1)
+    ∙ sym (sum_by-cons (λ m. columns - lead_column rows m) k ks)
+
+-- the last two of three parts in turn
+turned_parts : (a b c : List ℕ) → IsPermutation ((a ++ b) ++ c) ((a ++ c) ++ b)
+turned_parts a b c =
+    subst₂ IsPermutation (sym (append_assoc a b c)) (sym (append_assoc a c b)) (IsPermutation-append_right a (b ++ c) (c ++ b) (IsPermutation-append_comm b c))
+
+-- ---- a pass over some of the rows
 module _ (p columns inputs : ℕ) (rows : List RowShown) (leads : List ℕ) (held : List (Option ℕ)) (pending : List ℕ) (words : List (Option ℕ)) (left : List Left)
-    (h : AreBetween p columns inputs rows leads held pending) (pass : IsPass p columns inputs rows held pending words left) where
+    (later : List ℕ)
+    (h : AreBetween p columns inputs rows leads held pending) (some : IsPassOverSome p columns inputs rows held pending words left later) where
+  abbrev now : List ℕ
+  now = some.now
+
+  abbrev pass : IsPass p columns inputs rows held some.now words left
+  pass = some.pass
+
+  abbrev new : List RowShown
+  new = with_left rows left
+
+  known : Each (λ k. k < length rows) (now ++ later)
+  known = Each_permutation (λ k. k < length rows) pending (now ++ later) some.parts h.known
+
+  known_later : Each (λ k. k < length rows) later
+  known_later = Each_back (λ k. k < length rows) now later known
+
   all_known : Each (λ k. k < length rows) (places left ++ pass.gone)
-  all_known = Each_permutation (λ k. k < length rows) pending (places left ++ pass.gone) pass.split h.known
+  all_known = Each_permutation (λ k. k < length rows) now (places left ++ pass.gone) pass.split (Each_front (λ k. k < length rows) now later known)
 
   pub places_known : Each (λ k. k < length rows) (places left)
   places_known = Each_front (λ k. k < length rows) (places left) pass.gone all_known
@@ -281,14 +342,29 @@ module _ (p columns inputs : ℕ) (rows : List RowShown) (leads : List ℕ) (hel
   pub left_some : Each (λ (r : RowShown). 0 < length r.entries) (rows_left left)
   left_some = rows_some p columns inputs (rows_left left) pass.good
 
-  places_apart : IsDistinct eqb (places left)
-  places_apart = distinct_front (places left) pass.gone (IsDistinct-IsPermutation eqb eqb_flips pending (places left ++ pass.gone) pass.split h.apart)
+  whole : IsPermutation pending ((places left ++ later) ++ pass.gone)
+  whole =
+      IsPermutation-trans pending (now ++ later) ((places left ++ later) ++ pass.gone) some.parts
+      (IsPermutation-trans (now ++ later) ((places left ++ pass.gone) ++ later) ((places left ++ later) ++ pass.gone)
+      (IsPermutation-append_left later now (places left ++ pass.gone) pass.split) (turned_parts (places left) pass.gone later))
 
-  there : Each (λ (l : Left). row_at (with_left rows left) l.number ≡ l.row) left
-  there = placed_there rows left places_apart places_known
+  next_apart : IsDistinct eqb (places left ++ later)
+  next_apart =
+      distinct_front (places left ++ later) pass.gone
+      (IsDistinct-IsPermutation eqb eqb_flips pending ((places left ++ later) ++ pass.gone) whole h.apart)
+
+  there : Each (λ (l : Left). row_at new l.number ≡ l.row) left
+  there = placed_there rows left (distinct_front (places left) later next_apart) places_known
+
+  -- the rows for later passes stay
+  later_stay : Each (λ k. row_at new k ≡ row_at rows k) later
+  later_stay =
+      each_more (λ k. Each (λ x. x ≡ k → ⊥) (places left)) (λ k. row_at new k ≡ row_at rows k)
+      (λ k apart. placed_other rows left k (each_unmap (λ x. x ≡ k → ⊥) (λ (l : Left). l.number) left apart)) later
+      (distinct_parts (places left) later next_apart)
 
   -- the row that has a column stays
-  untouched : (c k : ℕ) → Names words c k → row_at (with_left rows left) k ≡ row_at rows k
+  untouched : (c k : ℕ) → Names words c k → row_at new k ≡ row_at rows k
   untouched c k e = placed_other rows left k (each_more (IsLeftOf rows words) (λ (l : Left). l.number ≡ k → ⊥) (λ l lost same. clash l lost same) left pass.replaced)
     where
       fit : (k < length (leads_of rows)) × (get_or (leads_of rows) k 0 ≡ c)
@@ -303,55 +379,90 @@ module _ (p columns inputs : ℕ) (rows : List RowShown) (leads : List ℕ) (hel
           let one : Some (Some lost.winner) ≡ Some (Some k) = sym mine ∙ e in
           lost.other (some_some lost.winner k one ∙ sym same)
 
-  same_named : named (with_left rows left) words ≡ named rows words
-  same_named = named_same rows (with_left rows left) words untouched
+  same_named : named new words ≡ named rows words
+  same_named = named_same rows new words untouched
 
-  same_left : map (row_at (with_left rows left)) (places left) ≡ rows_left left
-  same_left = places_rows (with_left rows left) left there
+  same_left : map (row_at new) (places left) ≡ rows_left left
+  same_left = places_rows new left there
 
-  monic : Each (IsRow p columns inputs) (with_left rows left)
+  monic : Each (IsRow p columns inputs) new
   monic = each_placed (IsRow p columns inputs) rows left h.ready.monic pass.good
 
-  fits : LeadsFit (leads_of (with_left rows left)) words
+  fits : LeadsFit (leads_of new) words
   fits c k e =
       let old = pass.fits c k e in
       let lt : k < length rows = omega (arith, old.0, length-map rows (λ (r : RowShown). first_column r.entries)) in
-      let lt' : k < length (with_left rows left) = omega (arith, length_placed rows left) in (
-        omega (arith, length-map (with_left rows left) (λ (r : RowShown). first_column r.entries)),
-        lead_at (with_left rows left) k lt' ∙ ap (λ (r : RowShown). first_column r.entries) (untouched c k e) ∙ sym (lead_at rows k lt) ∙ old.1,
+      let lt' : k < length new = omega (arith, length_placed rows left) in (
+        omega (arith, length-map new (λ (r : RowShown). first_column r.entries)),
+        lead_at new k lt' ∙ ap (λ (r : RowShown). first_column r.entries) (untouched c k e) ∙ sym (lead_at rows k lt) ∙ old.1,
       )
 
-  pub between_next : AreBetween p columns inputs (with_left rows left) (leads_of (with_left rows left)) words (places left)
+  pub between_next : AreBetween p columns inputs new (leads_of new) words (places left ++ later)
   between_next = record {
     ready = record { monic = monic; known = refl; wide = pass.wide ∙ h.ready.wide };
     fits = fits;
-    known = each_more (λ k. k < length rows) (λ k. k < length (with_left rows left)) (λ k lt. subst (λ n. k < n) (sym (length_placed rows left)) lt) (places left) places_known;
-    apart = places_apart;
+    known = each_more (λ k. k < length rows) (λ k. k < length new) (λ k lt. subst (λ n. k < n) (sym (length_placed rows left)) lt) (places left ++ later)
+        (Each_append (λ k. k < length rows) (places left) later places_known known_later);
+    apart = next_apart;
   }
 
-  new_span : named (with_left rows left) words ++ map (row_at (with_left rows left)) (places left) ≡ named rows words ++ rows_left left
-  new_span = ap (λ xs. xs ++ map (row_at (with_left rows left)) (places left)) same_named ∙ ap (λ xs. named rows words ++ xs) same_left
+  -- what spans all from now on
+  abbrev spanning : List RowShown
+  spanning = (named rows words ++ rows_left left) ++ map (row_at rows) later
 
-  old_in : Each (IsSpanned p (named rows words ++ rows_left left)) (named rows held ++ map (row_at rows) pending)
+  new_span : named new words ++ map (row_at new) (places left ++ later) ≡ spanning
+  new_span =
+      ap (λ xs. xs ++ map (row_at new) (places left ++ later)) same_named
+      ∙ ap (λ xs. named rows words ++ xs) (map-append (row_at new) (places left) later ∙ ap (λ xs. xs ++ map (row_at new) later) same_left
+      ∙ ap (λ xs. rows_left left ++ xs) (map_same (row_at new) (row_at rows) later later_stay))
+      ∙ sym (append_assoc (named rows words) (rows_left left) (map (row_at rows) later))
+
+  itself : Each (IsSpanned p spanning) spanning
+  itself = all_itself p spanning
+
+  through : Each (IsSpanned p spanning) (named rows words ++ rows_left left)
+  through = Each_front (IsSpanned p spanning) (named rows words ++ rows_left left) (map (row_at rows) later) itself
+
+  old_in : Each (IsSpanned p spanning) (named rows held ++ map (row_at rows) (now ++ later))
   old_in =
-      let S = named rows words ++ rows_left left in
-      let front : Each (IsSpanned p S) (named rows words) = Each_front (IsSpanned p S) (named rows words) (rows_left left) (all_itself p S) in
-      Each_append (IsSpanned p S) (named rows held) (map (row_at rows) pending)
-      (named_each (IsSpanned p S) rows held (λ c k e. member (IsSpanned p S) (named rows words) (row_at rows k) front (named_contains rows words c k (pass.stayed c k e))))
-      (each_map (IsSpanned p S) (row_at rows) pending pass.inside)
+      let front : Each (IsSpanned p spanning) (named rows words) = Each_front (IsSpanned p spanning) (named rows words) (rows_left left) through in
+      Each_append (IsSpanned p spanning) (named rows held) (map (row_at rows) (now ++ later))
+      (named_each (IsSpanned p spanning) rows held (λ c k e. member (IsSpanned p spanning) (named rows words) (row_at rows k) front (named_contains rows words c k (pass.stayed c k e))))
+      (subst (Each (IsSpanned p spanning)) (sym (map-append (row_at rows) now later))
+      (Each_append (IsSpanned p spanning) (map (row_at rows) now) (map (row_at rows) later)
+      (all_through p spanning (named rows words ++ rows_left left) (map (row_at rows) now) through (each_map (IsSpanned p (named rows words ++ rows_left left)) (row_at rows) now pass.inside))
+      (Each_back (IsSpanned p spanning) (named rows words ++ rows_left left) (map (row_at rows) later) itself)))
+
+  all_in : Each (IsSpanned p spanning) (named rows held ++ map (row_at rows) pending)
+  all_in =
+      Each_append (IsSpanned p spanning) (named rows held) (map (row_at rows) pending)
+      (Each_front (IsSpanned p spanning) (named rows held) (map (row_at rows) (now ++ later)) old_in)
+      (each_map (IsSpanned p spanning) (row_at rows) pending
+      (Each_permutation (λ k. IsSpanned p spanning (row_at rows k)) (now ++ later) pending (IsPermutation-sym pending (now ++ later) some.parts)
+      (each_unmap (IsSpanned p spanning) (row_at rows) (now ++ later) (Each_back (IsSpanned p spanning) (named rows held) (map (row_at rows) (now ++ later)) old_in))))
+
+  -- a lead whose row is pending has its column, or is pending still
+  lead_next :
+      (c i : ℕ) → lead_column rows i ≡ c → Contains pending i
+      → ((k : ℕ) × Names words c k) ⊎ (Contains (places left ++ later) i × (lead_column new i ≡ c))
+  lead_next c i e there = elim (Contains-append_cases now later i (Contains-permutation pending (now ++ later) i some.parts there)) [
+    | inl k ↦
+        let own = member_of (λ m. (w : ℕ) × Names words (lead_column rows m) w) now i pass.claimed k in
+        inl (own.0, subst (λ d. Names words d own.0) e own.1)
+    | inr k ↦
+        let same : row_at new i ≡ row_at rows i = member_of (λ m. row_at new m ≡ row_at rows m) later i later_stay k in
+        inr (Contains-append_right (places left) later i k, ap (λ (r : RowShown). first_column r.entries) same ∙ e)
+  ]
 
   -- what rows come from the rows next come from
-  pub from_next : (M : List RowShown) → AreFrom p M rows held pending → AreFrom p M (with_left rows left) words (places left)
+  pub from_next : (M : List RowShown) → AreFrom p M rows held pending → AreFrom p M new words (places left ++ later)
   from_next M from = record {
     count = length_placed rows left ∙ from.count;
-    leads = λ i lt. inl (elim (from.leads i lt) [
-      | inl k ↦ (k.0, pass.stayed (lead_column M i) k.0 k.1)
-      | inr k ↦
-          let own = member_of (λ m. (w : ℕ) × Names words (lead_column rows m) w) pending i pass.claimed k.0 in
-          (own.0, subst (λ c. Names words c own.0) k.1 own.1)
-    ]);
-    inside = subst (λ S. Each (IsSpanned p S) M) (sym new_span)
-        (all_through p (named rows words ++ rows_left left) (named rows held ++ map (row_at rows) pending) M old_in from.inside);
+    leads = λ i lt. elim (from.leads i lt) [
+      | inl k ↦ inl (k.0, pass.stayed (lead_column M i) k.0 k.1)
+      | inr k ↦ lead_next (lead_column M i) i k.1 k.0
+    ];
+    inside = subst (λ S. Each (IsSpanned p S) M) (sym new_span) (all_through p spanning (named rows held ++ map (row_at rows) pending) M all_in from.inside);
     outside = each_placed (IsSpanned p M) rows left from.outside (all_through p M rows (rows_left left) from.outside pass.outside);
     combined = λ n F key all.
         let old = from.combined n F key all in
@@ -361,19 +472,19 @@ module _ (p columns inputs : ℕ) (rows : List RowShown) (leads : List ℕ) (hel
   below : (k : ℕ) → k < length rows → lead_column rows k < columns
   below = lead_below p columns inputs rows h.ready.monic
 
-  -- and there are fewer columns behind the leads of pending rows
-  pub room_next : 0 < length pending → columns_behind columns (with_left rows left) (places left) < columns_behind columns rows pending
-  room_next pos =
+  -- and there are fewer columns behind the leads of the rows of this pass
+  room_now : columns_behind columns new (places left) < columns_behind columns rows now
+  room_now =
       let f = λ (k : ℕ). columns - lead_column rows k in
-      let split : columns_behind columns rows (places left ++ pass.gone) ≡ columns_behind columns rows pending = sum_by-IsPermutation f pending (places left ++ pass.gone) pass.split in
+      let split : columns_behind columns rows (places left ++ pass.gone) ≡ columns_behind columns rows now = sum_by-IsPermutation f now (places left ++ pass.gone) pass.split in
       let halves : columns_behind columns rows (places left ++ pass.gone) ≡ columns_behind columns rows (places left) + columns_behind columns rows pass.gone = sum_by-append f (places left) pass.gone in
-      let less = room_less columns rows (with_left rows left) left fewer there in
-      let some = room_some columns rows pass.gone
+      let less = room_less columns rows new left fewer there in
+      let gone = room_some columns rows pass.gone
       (each_more (λ k. k < length rows) (λ k. lead_column rows k < columns) below pass.gone (Each_back (λ k. k < length rows) (places left) pass.gone all_known)) in
-      let count : length (places left ++ pass.gone) ≡ length pending = length_permutation pending (places left ++ pass.gone) pass.split in
+      let count : length (places left ++ pass.gone) ≡ length now = length_permutation now (places left ++ pass.gone) pass.split in
       let sizes : length (places left ++ pass.gone) ≡ length (places left) + length pass.gone = length-append (places left) pass.gone in
       let size : length (places left) ≡ length left = length-map left (λ (l : Left). l.number) in
-      omega arith
+      omega (arith, some.some)
     where
       fewer : Each (λ (l : Left). (lead_column rows l.number < first_column l.row.entries) × (first_column l.row.entries < columns)) left
       fewer =
@@ -381,6 +492,18 @@ module _ (p columns inputs : ℕ) (rows : List RowShown) (leads : List ℕ) (hel
           (each_more (IsLeftOf rows words) (λ (l : Left). lead_column rows l.number < first_column l.row.entries) (λ l lost. lost.lower) left pass.replaced)
           (each_unmap (λ (r : RowShown). first_column r.entries < columns) (λ (l : Left). l.row) left
           (each_more (IsRow p columns inputs) (λ (r : RowShown). first_column r.entries < columns) (λ r good. first_below p columns r.entries good.entries good.monic) (rows_left left) pass.good))
+
+  -- and so behind those of pending rows
+  pub room_next : columns_behind columns new (places left ++ later) < columns_behind columns rows pending
+  room_next =
+      let f = λ (k : ℕ). columns - lead_column rows k in
+      let g = λ (k : ℕ). columns - lead_column new k in
+      let old : columns_behind columns rows (now ++ later) ≡ columns_behind columns rows pending = sum_by-IsPermutation f pending (now ++ later) some.parts in
+      let parts : columns_behind columns rows (now ++ later) ≡ columns_behind columns rows now + columns_behind columns rows later = sum_by-append f now later in
+      let next : columns_behind columns new (places left ++ later) ≡ columns_behind columns new (places left) + columns_behind columns new later
+      = sum_by-append g (places left) later in
+      let same = behind_same columns rows new later later_stay in
+      omega (arith, room_now)
 
 -- ---- the first pass
 none_named : (columns c k : ℕ) → Names (replicate columns None) c k → ⊥

@@ -2,11 +2,12 @@
 use Rattle.std.specs.Prelude.{Contains, List, Option, [], eqb, get_or, length, map, slice_set, sum_by}
 use Rattle.std.specs.Prelude.{ℕ, ◌++◌, ◌-◌, ◌<◌, ◌∷◌, ◌≡◌, ◌≤◌, ◌⊎◌}
 use Rattle.std.specs.List.{IsDistinct}
+use Rattle.std.specs.List.Sorted.{IsPermutation}
 use Rattle.formal_sums.specs.FormalSums.{Each, FormalSum, Key}
 use Rattle.pivot_table.specs.Law.{LeadsFit}
 use Rattle.row_laws.specs.Rows.{IsInSpan}
 use Rattle.row_matrix.specs.Rows.{IsRow, RowShown}
-use Rattle.row_reduce.specs.Passes.{AreReady, Names, named}
+use Rattle.row_reduce.specs.Passes.{AreReady, IsPass, Names, named}
 use Rattle.row_reduce.specs.Pivots.{lead_column, row_at, row_vectors}
 use Rattle.row_reduce.specs.Underway.{AreCombined, IsSpanned}
 use Rattle.row_reduce.specs.declared.lefts.Left.{Left}
@@ -46,6 +47,15 @@ pub record AreFrom (p : ℕ) (M rows : List RowShown) (held : List (Option ℕ))
 abbrev pub with_left : List RowShown → List Left → List RowShown
 with_left rows [] = rows
 with_left rows (l ∷ left) = with_left (slice_set rows l.number l.row) left
+
+-- one pass over some of the pending rows, one at least: the words after it, the rows left, and the numbers of those for later passes
+pub record IsPassOverSome
+    (p columns inputs : ℕ) (rows : List RowShown) (held : List (Option ℕ)) (pending : List ℕ) (words : List (Option ℕ)) (left : List Left)
+    (later : List ℕ) : Type 0 where
+  pub now : List ℕ
+  pub some : 0 < length now
+  pub parts : IsPermutation pending (now ++ later)
+  pub pass : IsPass p columns inputs rows held now words left
 
 -- how many columns there are behind the leads of these rows, all told
 abbrev pub columns_behind : ℕ → List RowShown → List ℕ → ℕ

@@ -7,9 +7,10 @@ ghost use Rattle.bases.specs.Settings.{IsLawful, Setting};
 ghost use Rattle.pivot_table.specs.Law.{LeadsFit};
 ghost use Rattle.row_laws.specs.Jobs.{IsEchelonForm};
 ghost use Rattle.row_matrix.specs.Rows.{Descend, IsRow, RowShown, vectors_of};
-ghost use Rattle.row_reduce.specs.Echelons.{AreBetween, AreFrom, IsEchelonOf, with_left, columns_behind};
-ghost use Rattle.row_reduce.specs.Passes.{IsPass, leads_of, named, places, rows_left};
+ghost use Rattle.row_reduce.specs.Echelons.{AreBetween, AreFrom, IsEchelonOf, IsPassOverSome, with_left, columns_behind};
+ghost use Rattle.row_reduce.specs.Passes.{leads_of, named, places, rows_left};
 
+use crate::choosing::choose;
 use crate::helpers::{Passed, pass};
 use crate::lefts::Left;
 use module_vectors::{Key, NoMemory};
@@ -27,9 +28,6 @@ pub struct EchelonRows {
     pub columns: Vec<Key>,
     pub rows: Vec<Row>,
 }
-
-// So many additions of a product take about a millisecond: no thread is for less.
-const THREAD: usize = 1_000_000;
 
 // The rows between two passes. Each keeps its number until another is left in its place.
 #[derive(Drop)]
@@ -75,37 +73,6 @@ fn begin(alloc: Global, columns: usize, rows: Vec<Row>) -> Result<Underway, NoMe
     })
 }
 
-// About how many additions of a product the pass makes: for each entry of a row whose column is taken, those of a row.
-fn work_ahead(alloc: Global, state: &Underway) -> Result<usize, NoMemory>
-    requires { (p inputs : ℕ) × AreBetween p (length state.now.held.items) inputs
-        state.now.rows.items state.now.leads.items state.now.held.items state.now.pending.items }
-{
-    let mut taken = vec![in alloc; false; state.held.len()]?;
-    let mut entries: usize = 0;
-    for number in &state.pending {
-        let row = &state.rows[*number as usize];
-        let column = state.leads[*number as usize] as usize;
-        if taken[column] || state.held[column].is_some() {
-            entries = entries.saturating_add(row.entries().len());
-        }
-        taken[column] = true;
-    }
-    let mut all: usize = 0;
-    for row in &state.rows {
-        all = all.saturating_add(row.entries().len());
-    }
-    Ok(entries.saturating_mul(all / state.rows.len().max(1)))
-}
-
-// How many helpers the pass has, each with a thread: all under a held gate, where they wait for one another.
-fn helpers_for(gate: &SharedGate, helpers: u32, work: usize) -> u32 {
-    if !gate.is_open() {
-        return helpers;
-    }
-    let threads = u32::try_from(work / THREAD).unwrap_or(u32::MAX);
-    helpers.min(threads.saturating_add(1))
-}
-
 // Puts a row that was left in its place.
 fn put_left(state: &mut Underway, left: Left) -> Result<(), NoMemory>
     requires within { left.number < length state.old.rows.items }
@@ -123,15 +90,15 @@ fn put_left(state: &mut Underway, left: Left) -> Result<(), NoMemory>
     Ok(())
 }
 
-// The rows after a pass.
-fn put_all(state: &mut Underway, passed: Passed) -> Result<(), NoMemory>
+// The rows after a pass, where these are for later ones.
+fn put_all(state: &mut Underway, passed: Passed, later: Vec<u64>) -> Result<(), NoMemory>
     requires within { Each (λ k. k < length state.old.rows.items) (places passed.left.items) }
     requires some { Each (λ r. 0 < length r.entries) (rows_left passed.left.items) }
     requires leads { state.old.leads.items ≡ leads_of state.old.rows.items }
     ensures rows { OnOk result (state.new.rows.items ≡ with_left state.old.rows.items passed.left.items) }
     ensures leads { OnOk result (state.new.leads.items ≡ leads_of state.new.rows.items) }
     ensures held { OnOk result (state.new.held.items ≡ passed.words.items) }
-    ensures pending { OnOk result (state.new.pending.items ≡ places passed.left.items) }
+    ensures pending { OnOk result (state.new.pending.items ≡ places passed.left.items ++ later.items) }
 {
     state.held = passed.words;
     state.pending.clear();
@@ -139,10 +106,12 @@ fn put_all(state: &mut Underway, passed: Passed) -> Result<(), NoMemory>
     while let Some(left) = rest.pop_front() {
         put_left(state, left)?;
     }
+    let mut later = later;
+    state.pending.append(&mut later)?;
     Ok(())
 }
 
-// One pass over the pending rows.
+// One pass over some of the pending rows, and those for later ones.
 fn pass_over<R: Threads + Sync>(
     rt: &R,
     alloc: Global,
@@ -151,16 +120,22 @@ fn pass_over<R: Threads + Sync>(
     state: &Underway,
     helpers: u32,
     gate: &SharedGate,
-) -> Result<Passed, NoMemory>
+) -> Result<(Passed, Vec<u64>), NoMemory>
     requires some { 0 < length state.now.pending.items }
     requires ready { AreBetween modulus.now.value (length state.now.held.items) inputs
         state.now.rows.items state.now.leads.items state.now.held.items state.now.pending.items }
-    ensures { IfOk result (λ p. IsPass modulus.now.value (length state.now.held.items) inputs
-        state.now.rows.items state.now.held.items state.now.pending.items p.words.items p.left.items) }
+    ensures { IfOk result (λ p. IsPassOverSome modulus.now.value (length state.now.held.items) inputs
+        state.now.rows.items state.now.held.items state.now.pending.items p.0.words.items p.0.left.items p.1.items) }
 {
-    let work = work_ahead(alloc, state)?;
-    let most = helpers.min(u32::try_from(state.pending.len()).unwrap_or(u32::MAX));
-    let shared_by = helpers_for(gate, most, work);
+    let chosen = choose(
+        alloc,
+        gate,
+        &state.rows,
+        &state.leads,
+        &state.held,
+        &state.pending,
+        helpers,
+    )?;
     let passed = pass(
         rt,
         alloc,
@@ -170,13 +145,13 @@ fn pass_over<R: Threads + Sync>(
         inputs,
         &state.leads,
         &state.held,
-        &state.pending,
-        shared_by,
+        &chosen.now,
+        chosen.helpers,
     )?;
-    Ok(passed)
+    Ok((passed, chosen.later))
 }
 
-// One pass over the pending rows, and its rows put in their places.
+// One pass over some of the pending rows, and its rows put in their places.
 fn run_pass<R: Threads + Sync>(
     rt: &R,
     alloc: Global,
@@ -196,8 +171,8 @@ fn run_pass<R: Threads + Sync>(
     ensures less { OnOk result (columns_behind (length state.old.held.items) state.new.rows.items state.new.pending.items
         < columns_behind (length state.old.held.items) state.old.rows.items state.old.pending.items) }
 {
-    let passed = pass_over(rt, alloc, modulus, inputs, state, helpers, gate)?;
-    put_all(state, passed)?;
+    let (passed, later) = pass_over(rt, alloc, modulus, inputs, state, helpers, gate)?;
+    put_all(state, passed, later)?;
     Ok(())
 }
 
@@ -266,12 +241,12 @@ fn reduce_rows<R: Threads + Sync>(
 /// section 2): monic rows whose leads are apart, no more than the matrix has, with the same span, each with the combination of
 /// the input rows that it is; the least lead comes first.
 ///
-/// The rows of a pass are shared and read only. Of n helpers number h has the rows h, h + n, and so on, those with fewer entries
-/// first. It claims the first column of each of its rows, by one exchange, and passes the gate at `RowClaimed`. Once all have
-/// claimed, the rows whose columns other rows have are dealt in the same way anew. A helper claims for each of these once more,
-/// and reduces it by the row that has its column and by each other pivot that the helper can read: at each column the row that
-/// has it by then, or else one that the helper left itself. What is left has a lower lead, so the passes end. `NoMemory` is the
-/// only error; the matrix is gone then.
+/// The rows of a pass are shared and read only. Of n helpers number h has the rows h, h + n, and so on. It claims the first column of
+/// each of its rows, by one exchange, and passes the gate at `RowClaimed`. Then it reduces those whose column another row has, by
+/// that row and by each other pivot that the helper can read: at each column the row that has it by then, or else one that the helper
+/// left itself. What is left has a lower lead, so the passes end. Which of the rows a pass is over `choose` says: where there is
+/// work for several helpers, at first those that have free columns, those with fewer entries first, and then a part of the others
+/// after another. `NoMemory` is the only error; the matrix is gone then.
 pub fn echelon<R: Threads + Sync>(
     rt: &R,
     alloc: Global,

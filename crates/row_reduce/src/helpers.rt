@@ -6,11 +6,10 @@ ghost use Rattle.formal_sums.specs.FormalSums.{Each};
 ghost use Rattle.pivot_table.specs.Law.{IsSeatOf, LeadsFit, told};
 ghost use Rattle.pivot_table.specs.declared.law.Entry.{Entry as Told};
 ghost use Rattle.row_matrix.specs.Rows.{RowShown};
-ghost use Rattle.row_reduce.specs.LostRows.{AreClaimed, numbers};
 ghost use Rattle.row_reduce.specs.Passes.{AreHelped, AreReady, IsPass, leads_of};
 
-use crate::helping::{claim, help};
-use crate::lefts::{Left, Lost};
+use crate::helping::help;
+use crate::lefts::Left;
 use crate::reduction::Shared;
 use module_vectors::NoMemory;
 use pivot_table::{ClaimSeat, Claims};
@@ -80,113 +79,6 @@ fn unite(
     let (more, other) = theirs;
     claims.join(&mut seat, other);
     (gather(left, more), seat)
-}
-
-// The rows that lost of both, in one list.
-fn gather_lost(
-    ours: Result<Vec<Lost>, NoMemory>,
-    theirs: Result<Vec<Lost>, NoMemory>,
-) -> Result<Vec<Lost>, NoMemory>
-    ensures { (rows : List RowShown) (mine more : List ℕ) (known new : List Told)
-        → IfOk ours (λ lost. AreClaimed rows mine known lost.items)
-        → IfOk theirs (λ lost. AreClaimed rows more new lost.items)
-        → IfOk result (λ lost. AreClaimed rows (mine ++ more) (known ++ new) lost.items) }
-{
-    let mut lost = ours?;
-    let mut more = theirs?;
-    lost.append(&mut more)?;
-    Ok(lost)
-}
-
-// The rows that lost of both, and one seat that was told what both were.
-fn unite_claims(
-    claims: &Claims,
-    ours: (Result<Vec<Lost>, NoMemory>, ClaimSeat),
-    theirs: (Result<Vec<Lost>, NoMemory>, ClaimSeat),
-) -> (Result<Vec<Lost>, NoMemory>, ClaimSeat)
-    requires { IsSeatOf claims.now.table.shared.table_id claims.now.rows.leads.items ours.1
-        × IsSeatOf claims.now.table.shared.table_id claims.now.rows.leads.items theirs.1 }
-    ensures seat { IsSeatOf claims.now.table.shared.table_id claims.now.rows.leads.items result.1 }
-    ensures claimed { (rows : List RowShown) (mine more : List ℕ)
-        → IfOk ours.0 (λ lost. AreClaimed rows mine (told ours.1) lost.items)
-        → IfOk theirs.0 (λ lost. AreClaimed rows more (told theirs.1) lost.items)
-        → IfOk result.0 (λ lost. AreClaimed rows (mine ++ more) (told result.1) lost.items) }
-{
-    let (lost, mut seat) = ours;
-    let (more, other) = theirs;
-    claims.join(&mut seat, other);
-    (gather_lost(lost, more), seat)
-}
-
-// The helpers below n side by side, of which the seat is the first's, claim the first columns of their rows: helper h has the rows h,
-// h + n, and so on. The answer are the rows that lost.
-fn claim_all<R: Threads + Sync>(
-    rt: &R,
-    alloc: Global,
-    shared: Shared<'_>,
-    gate: &SharedGate,
-    mut seat: ClaimSeat,
-    mine: &[u64],
-    n: u32,
-) -> (Result<Vec<Lost>, NoMemory>, ClaimSeat)
-    requires known { shared.claims.now.rows.leads.items ≡ leads_of shared.rows.now }
-    requires seat { IsSeatOf shared.claims.now.table.shared.table_id shared.claims.now.rows.leads.items seat }
-    requires fresh { told seat ≡ [] }
-    requires mine { Each (λ m. m < length shared.rows.now) mine.now }
-    ensures seat { IsSeatOf shared.entry.claims.now.table.shared.table_id shared.entry.claims.now.rows.leads.items result.1 }
-    ensures claimed { IfOk result.0 (λ lost. AreClaimed shared.entry.rows.now mine.now (told result.1) lost.items) }
-{
-    if n <= 1 {
-        return claim(alloc, shared, gate, 0, seat, mine);
-    }
-    let last = n - 1;
-    let dealt = match deal(alloc, mine, n) {
-        Ok(dealt) => dealt,
-        Err(stop) => return (Err(stop), seat),
-    };
-    let (late, others) = (dealt.last.as_slice(), dealt.others.as_slice());
-    let other = shared.claims.split(&mut seat);
-    // Nothing is known of what a closure returns that holds a struct of references, so these hold each apart.
-    let Shared {
-        modulus,
-        rows,
-        inputs,
-        claims,
-    } = shared;
-    let (theirs, ours) = join(
-        rt,
-        || -> (Result<Vec<Lost>, NoMemory>, ClaimSeat)
-            requires { (claims.now.rows.leads.items ≡ leads_of rows.now)
-                × IsSeatOf claims.now.table.shared.table_id claims.now.rows.leads.items other
-                × (told other ≡ []) × Each (λ m. m < length rows.now) late.now }
-            ensures { IsSeatOf claims.entry.now.table.shared.table_id claims.entry.now.rows.leads.items result.1
-                × IfOk result.0 (λ lost. AreClaimed rows.entry.now late.entry.now (told result.1) lost.items) }
-        {
-            let shared = Shared {
-                modulus,
-                rows,
-                inputs,
-                claims,
-            };
-            claim(alloc, shared, gate, last, other, late)
-        },
-        || -> (Result<Vec<Lost>, NoMemory>, ClaimSeat)
-            requires { IsSync R.row × (claims.now.rows.leads.items ≡ leads_of rows.now)
-                × IsSeatOf claims.now.table.shared.table_id claims.now.rows.leads.items seat
-                × (told seat ≡ []) × Each (λ m. m < length rows.now) others.now }
-            ensures { IsSeatOf claims.entry.now.table.shared.table_id claims.entry.now.rows.leads.items result.1
-                × IfOk result.0 (λ lost. AreClaimed rows.entry.now others.entry.now (told result.1) lost.items) }
-        {
-            let shared = Shared {
-                modulus,
-                rows,
-                inputs,
-                claims,
-            };
-            claim_all(rt, alloc, shared, gate, seat, others, last)
-        },
-    );
-    unite_claims(claims, ours, theirs)
 }
 
 // The helpers below n side by side, of which the seat is the first's: helper h has the rows h, h + n, and so on.
@@ -269,56 +161,6 @@ pub(crate) struct Passed {
     pub(crate) left: Vec<Left>,
 }
 
-// The numbers of the rows that lost.
-fn numbers_lost(alloc: Global, lost: &[Lost]) -> Result<Vec<u64>, NoMemory>
-    ensures { IfOk result (λ ns. ns.items ≡ numbers lost.now) }
-{
-    let mut all = Vec::with_capacity(alloc, lost.len())?;
-    for one in lost {
-        all.push(one.number)?;
-    }
-    Ok(all)
-}
-
-// All that these helpers do in a pass. Several first claim for all rows; then those that lost are dealt among them anew, so that each
-// has as many to reduce. Whoever reduces a row claims for it once more, and is told who has its column.
-fn help_in_turns<R: Threads + Sync>(
-    rt: &R,
-    alloc: Global,
-    shared: Shared<'_>,
-    columns: usize,
-    gate: &SharedGate,
-    seat: ClaimSeat,
-    pending: &[u64],
-    helpers: u32,
-) -> (Result<Vec<Left>, NoMemory>, ClaimSeat)
-    requires ready { AreReady shared.modulus.now.value columns shared.inputs shared.rows.now
-        shared.claims.now.rows.leads.items shared.claims.now.rows.held.items }
-    requires seat { IsSeatOf shared.claims.now.table.shared.table_id shared.claims.now.rows.leads.items seat }
-    requires fresh { told seat ≡ [] }
-    requires pending { Each (λ m. m < length shared.rows.now) pending.now }
-    ensures seat { IsSeatOf shared.entry.claims.now.table.shared.table_id shared.entry.claims.now.rows.leads.items result.1 }
-    ensures helped { IfOk result.0 (λ left. AreHelped shared.entry.modulus.now.value columns shared.entry.inputs shared.entry.rows.now
-        pending.now (told result.1) left.items) }
-{
-    if helpers <= 1 {
-        return help(alloc, shared, columns, gate, 0, seat, pending);
-    }
-    let (lost, mut seat) = claim_all(rt, alloc, shared, gate, seat, pending, helpers);
-    let again = match lost {
-        Ok(lost) => numbers_lost(alloc, &lost),
-        Err(stop) => return (Err(stop), seat),
-    };
-    let again = match again {
-        Ok(again) => again,
-        Err(stop) => return (Err(stop), seat),
-    };
-    let other = shared.claims.split(&mut seat);
-    let (left, other) = help_all(rt, alloc, shared, columns, gate, other, &again, helpers);
-    shared.claims.join(&mut seat, other);
-    (left, seat)
-}
-
 /// One pass over the rows with these numbers by so many helpers, where each column has the old row that `held` names, or none.
 pub(crate) fn pass<R: Threads + Sync>(
     rt: &R,
@@ -348,7 +190,7 @@ pub(crate) fn pass<R: Threads + Sync>(
         inputs,
         claims: &claims,
     };
-    let (left, seat) = help_in_turns(rt, alloc, shared, held.len(), gate, seat, pending, helpers);
+    let (left, seat) = help_all(rt, alloc, shared, held.len(), gate, seat, pending, helpers);
     let left = left?;
     let words = claims.close(seat);
     Ok(Passed { words, left })

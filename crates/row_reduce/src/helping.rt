@@ -79,26 +79,6 @@ fn claim_rows(
     Ok(lost)
 }
 
-/// One helper claims the first column of each of these rows. The answer are those that another row has.
-pub(crate) fn claim(
-    alloc: Global,
-    shared: Shared<'_>,
-    gate: &SharedGate,
-    helper: u32,
-    seat: ClaimSeat,
-    mine: &[u64],
-) -> (Result<Vec<Lost>, NoMemory>, ClaimSeat)
-    requires known { shared.claims.now.rows.leads.items ≡ leads_of shared.rows.now }
-    requires seat { IsSeatOf shared.claims.now.table.shared.table_id shared.claims.now.rows.leads.items seat }
-    requires mine { Each (λ m. m < length shared.rows.now) mine.now }
-    ensures seat { IsSeatOf shared.entry.claims.now.table.shared.table_id shared.entry.claims.now.rows.leads.items result.1 }
-    ensures claimed { IfOk result.0 (λ lost. AreClaimed shared.entry.rows.now mine.now (told result.1) lost.items) }
-{
-    let mut seat = seat;
-    let lost = claim_rows(alloc, shared, gate, helper, &mut seat, mine);
-    (lost, seat)
-}
-
 // Keeps what is left of the row with this number, as the pivot of its first column.
 fn keep_left(own: &mut Own, number: u64, row: Row) -> Result<(), NoMemory>
     requires some { 0 < length row.entries }

@@ -17,8 +17,8 @@ returns g c =
     let rows = c.args.rows.now in
     let pending = c.args.pending.now in
     let made = c.in-Ok.made.0.rows in
-    let all = told c.help_in_turns-left.result.1 in
+    let all = told c.help_all-left.result.1 in
     passed p columns inputs rows c.args.leads.now made.leads.items pending c.args.held.now made.held.items c.close-words.result.items
     all c.in_ok-left.left.items c.requires.ready.known c.in-Ok.ensures.rows.0 c.in-Ok.ensures.rows.1
-    (subst (λ r. IfOk r (λ left. AreHelped p columns inputs rows pending all left.items)) c.in_ok-left.was c.help_in_turns-left.ensures.helped)
+    (subst (λ r. IfOk r (λ left. AreHelped p columns inputs rows pending all left.items)) c.in_ok-left.was c.help_all-left.ensures.helped)
     c.close-words.ensures
