@@ -1,9 +1,12 @@
 // Numbers for module monomials.
-ghost use Rattle.std.specs.Prelude.{◌≡◌, ◌<◌, ◌≤◌, ◌+◌, ◌++◌, ◌↔◌, [], ◌∷◌, ◌⊎◌, ℕ, fold, length, get_or, IfErr, IfOk, IfSome, IfNone, IsTrue, OnOk, OnErr};
+ghost use Rattle.std.specs.Prelude.{◌≡◌, ◌<◌, ◌≤◌, ◌+◌, ◌++◌, ◌↔◌, List, true, [], ◌∷◌, ◌⊎◌, ℕ, fold, length, get_or, IfErr, IfOk, IfSome, IfNone, IsTrue, OnOk, OnErr};
 ghost use Rattle.std.specs.Vec.{vec_len, vec_capacity};
 ghost use Rattle.monomial_orders.specs.Monomials.{StopsAbove};
-ghost use Rattle.row_matrix.specs.Hashes.{AreApart, Lacks, IsChained, IsTable, IsNumbered, bucket_of, factor_hash, hash_of, hash_step, no_key, key_product, sums};
-ghost use Rattle.row_matrix.specs.Told.{AreTold, AreToldWith, IsToldKey};
+ghost use Rattle.row_matrix.specs.Hashes.{AreApart, Lacks, IsChained, IsTable, IsNumbered, bucket_of, factor_hash, hash_of, hash_step, no_key, key_product, sums, term_hashes};
+ghost use Rattle.module_vectors.specs.Vectors.{HasVariables};
+ghost use Rattle.formal_sums.specs.FormalSums.{Each};
+ghost use Rattle.row_matrix.specs.Naming.{IsPartOfProduct};
+ghost use Rattle.row_matrix.specs.Told.{AreTold, AreToldWith, IsToldKey, TellsProduct};
 
 use crate::{TermHashes, kept_number};
 use module_vectors::{Key, NoMemory};
@@ -352,11 +355,45 @@ impl KeyTable {
         false
     }
 
-    /// The number of a key with this hash, if there is one.
-    pub(crate) fn number_with_hash(&self, hash: u64) -> Option<usize>
-        ensures { IfSome result (λ i. (i < length self.now) × (hash_of (get_or self.now i no_key) ≡ hash)) }
+    /// Pushes entries of the product t v, each the number of a key and the residue, from that of the term behind those
+    /// that have one: up to the first term whose product's hash no key has, and none where hashes do not tell the
+    /// products. `added` is what t adds to a hash (`hash_of_factor`), `hashes` are those of v's keys.
+    ///
+    /// One loop over slices that it does not write to, with the entries its own: all stays in registers.
+    pub(crate) fn push_known(
+        &self,
+        told: bool,
+        t: &Mono,
+        added: u64,
+        v: &[(Key, u32)],
+        hashes: &[u64],
+        mut entries: Vec<(u32, u32)>,
+    ) -> Vec<(u32, u32)>
+        requires told { told ≡ true → Each (λ u. TellsProduct self.now t.now u.0) v.now }
+        requires variables { Each (HasVariables (length t.now.exponents)) v.now }
+        requires added { added ≡ factor_hash t.now }
+        requires hashes { hashes.now ≡ term_hashes v.now }
+        requires within { length entries.items ≤ length v.now }
+        requires room { length v.now ≤ vec_capacity entries }
+        ensures part { (start : List Key) → IsPartOfProduct start self.now t.now v.now entries.items
+            → IsPartOfProduct start self.now t.now v.now result.items }
+        ensures longer { length entries.items ≤ length result.items }
+        ensures within { length result.items ≤ length v.now }
+        ensures room { length v.now ≤ vec_capacity result }
     {
-        find_hash(&self.hashes, &self.earlier, &self.last, hash)
+        if !told {
+            return entries;
+        }
+        let known: &[u64] = &self.hashes;
+        let earlier: &[u32] = &self.earlier;
+        let last: &[u32] = &self.last;
+        for i in entries.len()..v.len() {
+            match find_hash(known, earlier, last, hashes[i].wrapping_add(added)) {
+                None => return entries,
+                Some(number) => entries.push_reserved((number as u32, v[i].1)),
+            }
+        }
+        entries
     }
 
     /// The number of the product of the monomial and the key, which is made and put at the end only where it has none
