@@ -1,5 +1,5 @@
 -- The entries of a product, one after another
-use Rattle.std.proofs.Common.{List, [], ap, arith, get_or, inl, length, map, refl, subst, sym, take, ℕ, ◌+◌, ◌++◌, ◌<◌, ◌∙◌, ◌∷◌, ◌≡◌, ◌≤◌, ◌^◌, ◌%◌}
+use Rattle.std.proofs.Common.{List, [], ap, get_or, inl, length, map, refl, subst, sym, take, ℕ, ◌+◌, ◌++◌, ◌<◌, ◌∙◌, ◌∷◌, ◌≡◌, ◌≤◌, ◌^◌, ◌%◌}
 use Rattle.std.proofs.lemmas.List.{get_or-map, length-map, length_push}
 use Rattle.monomials.specs.Exponents.{exponents_of}
 use Rattle.formal_sums.specs.FormalSums.{FormalSum, scale}
@@ -57,7 +57,8 @@ pub known_numbered :
     → IsNumbered keys keys (key_product t key) number
 known_numbered keys known t key added hash number told sized a h lt hashed within found =
     let inside : number < length keys = subst (λ n. number < n) (ap length hashed ∙ length-map keys hash_of) within in
-    let at : get_or known number 0 ≡ hash_of (get_or keys number no_key) = ap (λ hs. get_or hs number 0) hashed ∙ get_or-map hash_of keys number no_key 0 inside in
+    let at : get_or known number 0 ≡ hash_of (get_or keys number no_key) =
+    ap (λ hs. get_or hs number 0) hashed ∙ get_or-map hash_of keys number no_key 0 inside in
     record {
       within = inside;
       there = told.told number inside (sym at ∙ found ∙ hash_sum t key added hash (sym sized) a h lt);

@@ -1,5 +1,5 @@
 -- Where hashes tell the keys, a key with the hash of a product is the product
-use Rattle.std.proofs.Common.{List, [], ap, ap₂, arith, get_or, inl, inr, length, subst, sym, take, true, ℕ, ◌+◌, ◌++◌, ◌<◌, ◌∙◌, ◌∷◌, ◌≡◌, ◌≤◌, ◌⊎◌}
+use Rattle.std.proofs.Common.{List, [], ap, ap₂, arith, get_or, inl, inr, length, subst, sym, take, ℕ, ◌+◌, ◌++◌, ◌<◌, ◌∙◌, ◌∷◌, ◌≡◌, ◌≤◌, ◌⊎◌}
 use Rattle.std.proofs.lemmas.List.{get_or_default}
 use Rattle.monomials.specs.Exponents.{exponents_of}
 use Rattle.formal_sums.proofs.Combining.{Each_map}
@@ -11,7 +11,7 @@ use Rattle.module_vectors.proofs.Scaling.{Each_at, Each_more}
 use Rattle.module_vectors.specs.declared.key.Key.{Key}
 use Rattle.row_matrix.proofs.Digits.{digits_same, sums_few}
 use Rattle.row_matrix.proofs.KeyProducts.{key_product_weighed}
-use Rattle.row_matrix.specs.Hashes.{IsNumbered, hash_of, key_product, no_key}
+use Rattle.row_matrix.specs.Hashes.{IsNumbered, key_product, no_key}
 use Rattle.row_matrix.specs.Rows.{AreKeys}
 use Rattle.row_matrix.specs.Told.{AreTold, AreToldWith, HashesShown, IsToldKey, IsUpTo, TellsProduct}
 

@@ -29,10 +29,10 @@ pub record IsGrown (old new : List CodeKey) (entries : List Entry) : Type 0 wher
 -- the entries are those of t times the first terms of v, one each; the keys have grown from `start` by what they name alone
 pub record IsPartOfProduct (start keys : List CodeKey) (t : Monomial) (v : List (CodeKey × ℕ)) (entries : List Entry) : Type 0 where
   pub named : AreNamed (length t.exponents) keys entries (scale 1 (exponents_of (length t.exponents) t.exponents)
-    (sum_of (length t.exponents) (take (length entries) v)))
+      (sum_of (length t.exponents) (take (length entries) v)))
   pub grown : IsGrown start keys entries
   pub weighed : (ws : List ℕ) → IsWeighed (length t.exponents) ws t → Each (λ u. IsWeighed (length t.exponents) ws u.0.monomial) v
-    → AreKeys (length t.exponents) ws start → AreKeys (length t.exponents) ws keys
+      → AreKeys (length t.exponents) ws start → AreKeys (length t.exponents) ws keys
   pub fits : Fits t (take (length entries) v)
 
 -- 0 for the number of a key, 1 for any other

@@ -1,10 +1,12 @@
 // Numbers for module monomials.
-ghost use Rattle.std.specs.Prelude.{◌≡◌, ◌<◌, ◌≤◌, ◌+◌, ◌++◌, ◌↔◌, List, true, [], ◌∷◌, ◌⊎◌, ℕ, fold, length, get_or, IfErr, IfOk, IfSome, IfNone, IsTrue, OnOk, OnErr};
+ghost use Rattle.std.specs.Prelude.{◌≡◌, ◌<◌, ◌≤◌, ◌+◌, ◌++◌, ◌↔◌, List, true, [], ◌∷◌, ◌⊎◌, ℕ, fold, length, get_or};
+ghost use Rattle.std.specs.Prelude.{IfErr, IfOk, IfSome, IfNone, IsTrue, OnOk, OnErr};
 ghost use Rattle.std.specs.Vec.{vec_len, vec_capacity};
-ghost use Rattle.monomial_orders.specs.Monomials.{StopsAbove};
-ghost use Rattle.row_matrix.specs.Hashes.{AreApart, Lacks, IsChained, IsTable, IsNumbered, bucket_of, factor_hash, hash_of, hash_step, no_key, key_product, sums, term_hashes};
-ghost use Rattle.module_vectors.specs.Vectors.{HasVariables};
 ghost use Rattle.formal_sums.specs.FormalSums.{Each};
+ghost use Rattle.module_vectors.specs.Vectors.{HasVariables};
+ghost use Rattle.monomial_orders.specs.Monomials.{StopsAbove};
+ghost use Rattle.row_matrix.specs.Hashes.{AreApart, Lacks, IsChained, IsTable, IsNumbered};
+ghost use Rattle.row_matrix.specs.Hashes.{bucket_of, factor_hash, hash_of, hash_step, no_key, key_product, sums, term_hashes};
 ghost use Rattle.row_matrix.specs.Naming.{IsPartOfProduct};
 ghost use Rattle.row_matrix.specs.Told.{AreTold, AreToldWith, IsToldKey, TellsProduct};
 
@@ -355,11 +357,9 @@ impl KeyTable {
         false
     }
 
-    /// Pushes entries of the product t v, each the number of a key and the residue, from that of the term behind those
-    /// that have one: up to the first term whose product's hash no key has, and none where hashes do not tell the
-    /// products. `added` is what t adds to a hash (`hash_of_factor`), `hashes` are those of v's keys.
-    ///
-    /// One loop over slices that it does not write to, with the entries its own: all stays in registers.
+    /// Goes on with the row t v: pushes the entries of the terms behind those that have one, up to the first term whose
+    /// product's hash no key has. Where hashes do not tell the products, it pushes none. `added` is what t adds to a
+    /// hash (`hash_of_factor`), `hashes` are those of v's keys.
     pub(crate) fn push_known(
         &self,
         told: bool,
@@ -384,6 +384,7 @@ impl KeyTable {
         if !told {
             return entries;
         }
+        // Slices taken once, and entries that are the loop's own: no store can change them, so nothing is read again.
         let known: &[u64] = &self.hashes;
         let earlier: &[u32] = &self.earlier;
         let last: &[u32] = &self.last;

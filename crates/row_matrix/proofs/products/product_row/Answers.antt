@@ -1,8 +1,8 @@
-use Rattle.std.proofs.Common.{[], ap, arith, length, refl, subst, sym, take, ℕ, ◌++◌, ◌∙◌, ◌∷◌, ◌<◌, ◌≡◌}
+use Rattle.std.proofs.Common.{arith, length, subst, sym, ◌∙◌, ◌<◌, ◌≡◌}
 use Rattle.std.proofs.lemmas.List.{get_or_default, take_all}
 use Rattle.monomials.specs.Exponents.{exponents_of}
 use Rattle.formal_sums.proofs.Combining.{Each_map}
-use Rattle.formal_sums.specs.FormalSums.{Each, scale}
+use Rattle.formal_sums.specs.FormalSums.{scale}
 use Rattle.monomial_orders.specs.Kept.{IsWeighed}
 use Rattle.module_vectors.proofs.Scaling.{Each_at}
 use Rattle.module_vectors.specs.Stops.{Fits, IsTooGreat}
@@ -36,7 +36,8 @@ returns-then-i-v-clause-named c =
     let v = c.args.v.now in
     let entries = c.push_known-entries.result.items in
     let part = c.push_known-entries.ensures.part c.args.keys.now c.loop-hashes.invariant.part in
-    subst (λ u. AreNamed n c.loop-hashes.keys entries (scale 1 (exponents_of n t.exponents) (sum_of n u))) (take_all (length entries) v (omega arith)) part.named
+    subst (λ u. AreNamed n c.loop-hashes.keys entries (scale 1 (exponents_of n t.exponents) (sum_of n u)))
+    (take_all (length entries) v (omega arith)) part.named
 
 pub returns-then-i-v-clause-fits : goal.returns-then-i-v-clause-fits
 returns-then-i-v-clause-fits c =
@@ -74,5 +75,9 @@ loop-hashes-preserved c =
 pub returns-in-Err-Degree-clause-stop : goal.returns-in-Err-Degree-clause-stop
 returns-in-Err-Degree-clause-stop c =
     let x = c.index-v-i.result in
-    let lt : c.len-i.result < length c.args.v.now = omega arith in
-    (lt, subst (λ y. IsTooGreat c.args.t.now y.0.monomial) (c.index-v-i.is ∙ get_or_default c.args.v.now c.len-i.result x (no_key, 0) lt) (rw c.in-Err-Degree.field-0-is at c.in-Err-Degree.ensures.stop))
+    let lt : c.len-i.result < length c.args.v.now = omega arith in (
+      lt,
+      subst (λ y. IsTooGreat c.args.t.now y.0.monomial)
+          (c.index-v-i.is ∙ get_or_default c.args.v.now c.len-i.result x (no_key, 0) lt)
+          (rw c.in-Err-Degree.field-0-is at c.in-Err-Degree.ensures.stop),
+    )

@@ -16,11 +16,13 @@ loop-i-preserved c =
     let x = c.index-v-i.result in
     let number = c.in-Some.number in
     let lt : i < length v = c.loop-i-test.true in
-    let told : TellsProduct keys t x.0 = Each_at (λ u. TellsProduct keys t u.0) v i x (c.requires.told c.if-not-told.false) lt c.index-v-i.is in
+    let told : TellsProduct keys t x.0 =
+    Each_at (λ u. TellsProduct keys t u.0) v i x (c.requires.told c.if-not-told.false) lt c.index-v-i.is in
     let sized : length x.0.monomial.exponents ≡ length t.exponents = Each_at (HasVariables (length t.exponents)) v i x c.requires.variables lt c.index-v-i.is in
     let numbered : IsNumbered keys keys (key_product t x.0) number =
     known_numbered keys c.deref-known.result.now t x.0 c.args.added (get_or c.args.hashes.now i 0) number told sized c.requires.added
-    (term_hash_at v c.args.hashes.now i x c.requires.hashes lt c.index-v-i.is) (omega arith) (c.deref-known.ensures.value ∙ c.self.invariant.0.hashed ∙ ap (map hash_of) c.self.view_is)
+    (term_hash_at v c.args.hashes.now i x c.requires.hashes lt c.index-v-i.is) (omega arith)
+    (c.deref-known.ensures.value ∙ c.self.invariant.0.hashed ∙ ap (map hash_of) c.self.view_is)
     c.in-Some.ensures.0 c.in-Some.ensures.1 in
     let inv = c.loop-i.invariant in
     record {
