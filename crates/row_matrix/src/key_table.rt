@@ -256,7 +256,8 @@ fn append(
     Ok(())
 }
 
-// Takes twice as many buckets where there are no more than keys. After an error all is as before.
+// Takes four buckets to a key where there are no more than two: then the first key in a bucket is mostly the one that is
+// looked for, and a step along a chain is rare. After an error all is as before.
 fn widen(
     alloc: Global,
     keys: &[Key],
@@ -267,10 +268,10 @@ fn widen(
     requires table { IsTable keys.now hashes.now earlier.old.items last.old.items }
     ensures table { IsTable keys.now hashes.now earlier.new.items last.new.items }
 {
-    if last.len() > keys.len() {
+    if last.len() > 2 * keys.len() {
         return Ok(());
     }
-    let mut wide = vec![in alloc; 0; 2 * keys.len() + FIRST_BUCKETS]?;
+    let mut wide = vec![in alloc; 0; 4 * keys.len() + FIRST_BUCKETS]?;
     chain_all(hashes, earlier, &mut wide);
     *last = wide;
     Ok(())
