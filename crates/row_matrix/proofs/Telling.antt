@@ -1,5 +1,5 @@
 -- Where hashes tell the keys, a key with the hash of a product is the product
-use Rattle.std.proofs.Common.{List, [], ap, ap₂, arith, get_or, inl, inr, length, subst, sym, take, true, ℕ, ◌+◌, ◌++◌, ◌<◌, ◌∙◌, ◌∷◌, ◌≡◌, ◌≤◌, ◌⊎◌}
+use Rattle.std.proofs.Common.{List, [], ap, ap₂, arith, get_or, inl, inr, length, subst, sym, take, ℕ, ◌+◌, ◌++◌, ◌<◌, ◌∙◌, ◌∷◌, ◌≡◌, ◌≤◌, ◌⊎◌}
 use Rattle.std.proofs.lemmas.List.{get_or_default}
 use Rattle.monomials.specs.Exponents.{exponents_of}
 use Rattle.formal_sums.proofs.Combining.{Each_map}
@@ -11,7 +11,7 @@ use Rattle.module_vectors.proofs.Scaling.{Each_at, Each_more}
 use Rattle.module_vectors.specs.declared.key.Key.{Key}
 use Rattle.row_matrix.proofs.Digits.{digits_same, sums_few}
 use Rattle.row_matrix.proofs.KeyProducts.{key_product_weighed}
-use Rattle.row_matrix.specs.Hashes.{IsNumbered, hash_of, key_product, no_key}
+use Rattle.row_matrix.specs.Hashes.{IsNumbered, key_product, no_key}
 use Rattle.row_matrix.specs.Rows.{AreKeys}
 use Rattle.row_matrix.specs.Told.{AreTold, AreToldWith, HashesShown, IsToldKey, IsUpTo, TellsProduct}
 
@@ -31,7 +31,7 @@ same_key n ws a b v w p e =
     (ap₂ (λ (x : List ℕ) (y : ℕ). let m : Monomial = record { exponents = x; degree = y } in m) e
     (v.degree ∙ ap (λ xs. weighted_degree ws (exponents_of n xs)) e ∙ sym w.degree))
 
-pub tells_product :
+tells_product :
     (n : ℕ) (ws : List ℕ) (keys : List Key) (t : Monomial) (h : HashesShown) (key : Key)
     → AreToldWith keys t h → IsUpTo h.position h.degree key → IsWeighed n ws t → IsWeighed n ws key.monomial → AreKeys n ws keys
     → TellsProduct keys t key
@@ -51,6 +51,14 @@ tells_product n ws keys t h key a u wt wk known =
           same_key n ws k product over weighed both.0 both.1;
       small = omega (arith, u.few, a.degree);
     }
+
+pub tells_products :
+    (n : ℕ) (ws : List ℕ) (keys : List Key) (t : Monomial) (h : HashesShown) (v : List (Key × ℕ))
+    → AreToldWith keys t h → Each (λ u. IsUpTo h.position h.degree u.0) v → IsWeighed n ws t → Each (λ u. IsWeighed n ws u.0.monomial) v
+    → AreKeys n ws keys → Each (λ u. TellsProduct keys t u.0) v
+tells_products n ws keys t h [] a bounded wt wv known = tt
+tells_products n ws keys t h (u ∷ v) a bounded wt wv known =
+    (tells_product n ws keys t h u.0 a bounded.0 wt wv.0 known, tells_products n ws keys t h v a bounded.1 wt wv.1 known)
 
 -- the table has one key more at most, and that is the product
 pub told_more :

@@ -1,8 +1,12 @@
 -- Vectors whose keys have numbers in a table, and the numbers as columns
-use Rattle.std.specs.Prelude.{Contains, List, false, [], get_or, length, map, min, ⊤, ℕ, ◌++◌, ◌+◌, ◌-◌, ◌<◌, ◌∷◌, ◌≡◌, ◌≤◌}
+use Rattle.std.specs.Prelude.{Contains, List, false, [], get_or, length, map, min, take, ⊤, ℕ, ◌++◌, ◌+◌, ◌-◌, ◌<◌, ◌∷◌, ◌≡◌, ◌≤◌}
 use Rattle.std.specs.Ordering.{is_lt, nat_cmp, ordering_then}
 use Rattle.std.specs.declared.cmp.Ordering.{Ordering}
-use Rattle.formal_sums.specs.FormalSums.{Each, FormalSum, Key}
+use Rattle.monomials.specs.Exponents.{exponents_of}
+use Rattle.formal_sums.specs.FormalSums.{Each, FormalSum, Key, scale}
+use Rattle.monomial_orders.specs.Kept.{IsWeighed, Monomial}
+use Rattle.module_vectors.specs.Stops.{Fits}
+use Rattle.module_vectors.specs.Vectors.{sum_of}
 use Rattle.module_vectors.specs.declared.key.Key.{Key as CodeKey}
 use Rattle.row_matrix.specs.Hashes.{no_key}
 use Rattle.row_matrix.specs.Rows.{AreKeys, Descend, Entry, column_key, row_sum}
@@ -21,6 +25,15 @@ pub record IsGrown (old new : List CodeKey) (entries : List Entry) : Type 0 wher
   pub added : List CodeKey
   pub grown : new ≡ old ++ added
   pub named : (i : ℕ) → length old ≤ i → i < length new → Names entries i
+
+-- the entries are those of t times the first terms of v, one each; the keys have grown from `start` by what they name alone
+pub record IsPartOfProduct (start keys : List CodeKey) (t : Monomial) (v : List (CodeKey × ℕ)) (entries : List Entry) : Type 0 where
+  pub named : AreNamed (length t.exponents) keys entries (scale 1 (exponents_of (length t.exponents) t.exponents)
+      (sum_of (length t.exponents) (take (length entries) v)))
+  pub grown : IsGrown start keys entries
+  pub weighed : (ws : List ℕ) → IsWeighed (length t.exponents) ws t → Each (λ u. IsWeighed (length t.exponents) ws u.0.monomial) v
+      → AreKeys (length t.exponents) ws start → AreKeys (length t.exponents) ws keys
+  pub fits : Fits t (take (length entries) v)
 
 -- 0 for the number of a key, 1 for any other
 abbrev pub lack_of : List CodeKey → ℕ → ℕ

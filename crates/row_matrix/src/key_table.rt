@@ -1,9 +1,14 @@
 // Numbers for module monomials.
-ghost use Rattle.std.specs.Prelude.{◌≡◌, ◌<◌, ◌≤◌, ◌+◌, ◌++◌, ◌↔◌, [], ◌∷◌, ◌⊎◌, ℕ, fold, length, get_or, IfErr, IfOk, IfSome, IfNone, IsTrue, OnOk, OnErr};
+ghost use Rattle.std.specs.Prelude.{◌≡◌, ◌<◌, ◌≤◌, ◌+◌, ◌++◌, ◌↔◌, List, true, [], ◌∷◌, ◌⊎◌, ℕ, fold, length, get_or};
+ghost use Rattle.std.specs.Prelude.{IfErr, IfOk, IfSome, IfNone, IsTrue, OnOk, OnErr};
 ghost use Rattle.std.specs.Vec.{vec_len, vec_capacity};
+ghost use Rattle.formal_sums.specs.FormalSums.{Each};
+ghost use Rattle.module_vectors.specs.Vectors.{HasVariables};
 ghost use Rattle.monomial_orders.specs.Monomials.{StopsAbove};
-ghost use Rattle.row_matrix.specs.Hashes.{AreApart, Lacks, IsChained, IsTable, IsNumbered, bucket_of, factor_hash, hash_of, hash_step, no_key, key_product, sums};
-ghost use Rattle.row_matrix.specs.Told.{AreTold, AreToldWith, IsToldKey};
+ghost use Rattle.row_matrix.specs.Hashes.{AreApart, Lacks, IsChained, IsTable, IsNumbered};
+ghost use Rattle.row_matrix.specs.Hashes.{bucket_of, factor_hash, hash_of, hash_step, no_key, key_product, sums, term_hashes};
+ghost use Rattle.row_matrix.specs.Naming.{IsPartOfProduct};
+ghost use Rattle.row_matrix.specs.Told.{AreTold, AreToldWith, IsToldKey, TellsProduct};
 
 use crate::{TermHashes, kept_number};
 use module_vectors::{Key, NoMemory};
@@ -251,7 +256,8 @@ fn append(
     Ok(())
 }
 
-// Takes twice as many buckets where there are no more than keys. After an error all is as before.
+// Takes four buckets to a key where there are no more than two: then the first key in a bucket is mostly the one that is
+// looked for, and a step along a chain is rare. After an error all is as before.
 fn widen(
     alloc: Global,
     keys: &[Key],
@@ -262,10 +268,10 @@ fn widen(
     requires table { IsTable keys.now hashes.now earlier.old.items last.old.items }
     ensures table { IsTable keys.now hashes.now earlier.new.items last.new.items }
 {
-    if last.len() > keys.len() {
+    if last.len() > 2 * keys.len() {
         return Ok(());
     }
-    let mut wide = vec![in alloc; 0; 2 * keys.len() + FIRST_BUCKETS]?;
+    let mut wide = vec![in alloc; 0; 4 * keys.len() + FIRST_BUCKETS]?;
     chain_all(hashes, earlier, &mut wide);
     *last = wide;
     Ok(())
@@ -352,11 +358,44 @@ impl KeyTable {
         false
     }
 
-    /// The number of a key with this hash, if there is one.
-    pub(crate) fn number_with_hash(&self, hash: u64) -> Option<usize>
-        ensures { IfSome result (λ i. (i < length self.now) × (hash_of (get_or self.now i no_key) ≡ hash)) }
+    /// Goes on with the row t v: pushes the entries of the terms behind those that have one, up to the first term whose
+    /// product's hash no key has. Where hashes do not tell the products, it pushes none. `added` is what t adds to a
+    /// hash (`hash_of_factor`), `hashes` are those of v's keys.
+    pub(crate) fn push_known(
+        &self,
+        told: bool,
+        t: &Mono,
+        added: u64,
+        v: &[(Key, u32)],
+        hashes: &[u64],
+        mut entries: Vec<(u32, u32)>,
+    ) -> Vec<(u32, u32)>
+        requires told { told ≡ true → Each (λ u. TellsProduct self.now t.now u.0) v.now }
+        requires variables { Each (HasVariables (length t.now.exponents)) v.now }
+        requires added { added ≡ factor_hash t.now }
+        requires hashes { hashes.now ≡ term_hashes v.now }
+        requires within { length entries.items ≤ length v.now }
+        requires room { length v.now ≤ vec_capacity entries }
+        ensures part { (start : List Key) → IsPartOfProduct start self.now t.now v.now entries.items
+            → IsPartOfProduct start self.now t.now v.now result.items }
+        ensures longer { length entries.items ≤ length result.items }
+        ensures within { length result.items ≤ length v.now }
+        ensures room { length v.now ≤ vec_capacity result }
     {
-        find_hash(&self.hashes, &self.earlier, &self.last, hash)
+        if !told {
+            return entries;
+        }
+        // Slices taken once, and entries that are the loop's own: no store can change them, so nothing is read again.
+        let known: &[u64] = &self.hashes;
+        let earlier: &[u32] = &self.earlier;
+        let last: &[u32] = &self.last;
+        for i in entries.len()..v.len() {
+            match find_hash(known, earlier, last, hashes[i].wrapping_add(added)) {
+                None => return entries,
+                Some(number) => entries.push_reserved((number as u32, v[i].1)),
+            }
+        }
+        entries
     }
 
     /// The number of the product of the monomial and the key, which is made and put at the end only where it has none

@@ -3,11 +3,9 @@ ghost use Rattle.std.specs.Prelude.{◌≡◌, ◌<◌, ◌≤◌, ◌+◌, ◌+
 ghost use Rattle.monomials.specs.Exponents.{exponents_of};
 ghost use Rattle.formal_sums.specs.FormalSums.{Each, scale};
 ghost use Rattle.module_vectors.specs.Stops.{Fits};
-ghost use Rattle.module_vectors.specs.Vectors.{HasVariables, sum_of};
+ghost use Rattle.module_vectors.specs.Vectors.{sum_of};
 ghost use Rattle.monomial_orders.specs.Kept.{IsWeighed};
-ghost use Rattle.monomial_orders.specs.Monomials.{StopsAbove};
-ghost use Rattle.row_matrix.specs.Hashes.{IsNumbered, factor_hash, hash_of, key_product};
-ghost use Rattle.row_matrix.specs.Told.{AreHashesOf, TellsProduct};
+ghost use Rattle.row_matrix.specs.Told.{AreHashesOf};
 ghost use Rattle.row_matrix.specs.Naming.{AreNamed, IsGrown};
 ghost use Rattle.row_matrix.specs.Rows.{AreKeys};
 ghost use Rattle.row_matrix.specs.Products.{ProductStops};
@@ -42,32 +40,6 @@ impl From<NoMemory> for ProductStop {
     }
 }
 
-// The number of the product of the monomial and the key: where hashes tell it, that of the key with its hash.
-fn number_of(
-    alloc: Global,
-    keys: &mut KeyTable,
-    told: bool,
-    t: &Mono,
-    added: u64,
-    key: &Key,
-    hash: u64,
-) -> Result<usize, MonoStop>
-    requires told { told ≡ true → TellsProduct keys.old t.now key.now }
-    requires variables { length t.now.exponents ≡ length key.now.monomial.exponents }
-    requires added { added ≡ factor_hash t.now }
-    requires hash { hash ≡ hash_of key.now }
-    ensures ok { IfOk result (IsNumbered keys.old keys.new (key_product t.now key.now)) }
-    ensures small { OnOk result (t.now.degree + key.now.monomial.degree ≤ 65535) }
-    ensures stop { IfErr result (StopsAbove (t.now.degree + key.now.monomial.degree)) }
-{
-    if told {
-        if let Some(number) = keys.number_with_hash(hash.wrapping_add(added)) {
-            return Ok(number);
-        }
-    }
-    keys.number_of_product(alloc, t, added, key, hash)
-}
-
 /// The product t v as a row: the number of each key and its residue. `hashes` are those of v's keys. Keys that have no
 /// number yet are put into the table, after an error too.
 pub fn product_row(
@@ -92,12 +64,17 @@ pub fn product_row(
     let told = keys.tells(t, hashes);
     let hashes = hashes.hashes();
     let mut entries = Vec::with_capacity(alloc, v.len())?;
-    for (i, term) in v.iter().enumerate() {
-        match number_of(alloc, keys, told, t, added, &term.0, hashes[i]) {
+    loop {
+        entries = keys.push_known(told, t, added, v, hashes, entries);
+        let i = entries.len();
+        if i == v.len() {
+            return Ok(entries);
+        }
+        let term = &v[i];
+        match keys.number_of_product(alloc, t, added, &term.0, hashes[i]) {
             Ok(number) => entries.push_reserved((kept_number(number)?, term.1)),
             Err(MonoStop::Memory) => return Err(ProductStop::Memory),
             Err(MonoStop::Degree) => return Err(ProductStop::Degree(i)),
         }
     }
-    Ok(entries)
 }
