@@ -13,6 +13,3 @@ pub use top::{Ended, run};
 
 /// The most bytes that a script has.
 pub const SCRIPT_LIMIT: usize = 1_048_576;
-
-#[cfg(test)]
-mod tests;

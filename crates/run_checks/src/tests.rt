@@ -1,8 +1,8 @@
 // Runs over ports in memory: faults in mid-stream, what is kept of a stop, and a gate that workers pass.
-use crate::{Ended, run};
 use basis_core::BasisState;
 use byte_ports::{MemSink, MemSource};
 use module_vectors::{KeptTrail, TrailStart};
+use session_top::{Ended, run};
 use std::alloc::Global;
 use std::sync::Wait;
 use std::test::Fail;

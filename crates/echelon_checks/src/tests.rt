@@ -2,10 +2,10 @@
 ghost use Rattle.std.specs.Prelude.{◌≡◌, ◌<◌, [], ◌∷◌, length, IfOk};
 ghost use Rattle.row_matrix.specs.Rows.{AreEntries, first_residue};
 
-use crate::echelon;
 use module_vectors::{Key, NoMemory};
 use monomial_orders::Mono;
 use row_matrix::{Matrix, Row};
+use row_reduce::echelon;
 use std::alloc::Global;
 use std::test::Fail;
 use std::thread::Threads;

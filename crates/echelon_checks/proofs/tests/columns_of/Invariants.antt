@@ -1,5 +1,5 @@
 use Rattle.std.proofs.Common.{length, ◌≡◌}
-use Rattle.row_reduce.proofs.tests.columns_of.Given as goal
+use Rattle.echelon_checks.proofs.tests.columns_of.Given as goal
 
 abbrev pub invariant-loop-position : goal.invariant-loop-position
 invariant-loop-position l = length l.keys.items ≡ l.position
