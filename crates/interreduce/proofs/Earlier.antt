@@ -17,7 +17,7 @@ use Rattle.module_vectors.specs.declared.ring.Ring.{Ring}
 use Rattle.vector_division.proofs.Members.{sums_at}
 use Rattle.vector_division.specs.Divisions.{IsFreeOfLeads, IsUncovered}
 use Rattle.interreduce.specs.Leads.{AreNeeded, IsCoveredBy}
-use Rattle.interreduce.specs.Members.{IsReducedBy, IsReducedMember}
+use Rattle.interreduce.specs.Members.{HasReducedTail, IsReducedMember}
 use Rattle.interreduce.proofs.Choosing.{apart_at}
 use Rattle.interreduce.proofs.Leading.{Terms}
 
@@ -54,7 +54,7 @@ module _ (ring : Ring) (compare : (n : ℕ) → Key n → Key n → Ordering)
           let l : suc k < suc (length divisors) = subst (λ z. suc k < suc z) (length-map divisors (λ w. sum_of (variables ring) w)) lt in
           subst (IsMember ring.modulus.value F) (sym (sums_at (variables ring) divisors k)) (h k (omega (arith, l)))
 
-  pub by_list : (i : ℕ) (v : Terms) → IsReducedBy ring compare list (get_or list i []) v → IsReducedMember ring compare list i v
+  pub by_list : (i : ℕ) (v : Terms) → HasReducedTail ring compare list (get_or list i []) v → IsReducedMember ring compare list i v
   by_list i v h = record {
     vector = h.vector;
     lead = h.lead;
@@ -126,12 +126,12 @@ module _ (ring : Ring) (compare : (n : ℕ) → Key n → Key n → Ordering)
         subst (λ z. compare (variables ring) t.0 z ≡ Less) e (less_of_greater (lawful 0).order k t.0 below.0) in
         (uncovered t.0 lower free.0, keys_free k v e below.1 free.1)
 
-    tail_free : (v : Terms) → IsReducedBy ring compare earlier (get_or list (get_or kept i 0) []) v → IsFreeOfLeads F (drop 1 (sum_of (variables ring) v))
+    tail_free : (v : Terms) → HasReducedTail ring compare earlier (get_or list (get_or kept i 0) []) v → IsFreeOfLeads F (drop 1 (sum_of (variables ring) v))
     tail_free [] h = tt
     tail_free (t ∷ v) h = keys_free (head_key (sum_of (variables ring) (t ∷ v))) (sum_of (variables ring) v) h.lead h.vector.descends.0 h.tail
 
     pub by_earlier :
-        (v : Terms) → IsReducedBy ring compare earlier (get_or list (get_or kept i 0) []) v
+        (v : Terms) → HasReducedTail ring compare earlier (get_or list (get_or kept i 0) []) v
         → IsReducedMember ring compare list (get_or kept i 0) v
     by_earlier v h = record {
       vector = h.vector;

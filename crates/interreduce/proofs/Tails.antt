@@ -25,7 +25,7 @@ use Rattle.vector_division.proofs.Subtracting.{none_above, up_to_trans}
 use Rattle.vector_division.specs.Divisions.{IsFreeOfLeads, IsUncovered}
 use Rattle.vector_division.specs.Reductions.{AreMetFrom, HaveLeadsUpTo, IsScaledProduct, cofactors_of, unscaled}
 use Rattle.vector_division.specs.declared.reduction.ScaledProduct.{ScaledProduct}
-use Rattle.interreduce.specs.Members.{IsReducedBy}
+use Rattle.interreduce.specs.Members.{HasReducedTail}
 use Rattle.interreduce.proofs.Leading.{Terms}
 
 pub if_ok :
@@ -222,7 +222,7 @@ module _ (ring : Ring) (compare : (n : ℕ) → Key n → Key n → Ordering) (r
       → StandsFor ring tail (combination (sums_of (variables ring) list) (cofactors_of (variables ring) qs) ++ sum_of (variables ring) rest)
       → IsFreeOfLeads (sums_of (variables ring) list) (sum_of (variables ring) rest)
       → old ≡ take 1 v ++ rest → IsVectorOver ring compare new → IsMonicOf ring old new
-      → IsReducedBy ring compare list v new
+      → HasReducedTail ring compare list v new
   reduced [] tail rest old new qs some et known sum free eo vector monic = absurd (omega arith)
   reduced (t ∷ v) tail rest old new qs some et known sum free eo vector monic =
       let S = setting ring (variables ring) (compare (variables ring)) rank in

@@ -29,7 +29,7 @@ pub record IsReducedMember (ring : Ring) (compare : (n : ℕ) → Key n → Key 
 
 -- v is w with its tail reduced by the list: a monic vector with the same lead, of what w and the list generate, and no lead of the
 -- list divides a key behind its first
-pub record IsReducedBy (ring : Ring) (compare : (n : ℕ) → Key n → Key n → Ordering) (list : List (List (CodeKey × ℕ)))
+pub record HasReducedTail (ring : Ring) (compare : (n : ℕ) → Key n → Key n → Ordering) (list : List (List (CodeKey × ℕ)))
     (w v : List (CodeKey × ℕ)) : Type 0 where
   pub vector : IsVectorOver ring compare v
   pub lead : head_key (sum_of (variables ring) v) ≡ head_key (sum_of (variables ring) w)

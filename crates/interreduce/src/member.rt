@@ -7,7 +7,7 @@ ghost use Rattle.module_vectors.specs.Rings.{variables};
 ghost use Rattle.module_vectors.specs.Vectors.{AreVectorsOver, IsVectorOver, sum_of};
 ghost use Rattle.vector_division.specs.Divisions.{DivisionStops, IsDivisionTrail};
 ghost use Rattle.vector_division.specs.Divisors.{AreDivisors};
-ghost use Rattle.interreduce.specs.Members.{IsReducedBy, IsReducedMember};
+ghost use Rattle.interreduce.specs.Members.{HasReducedTail, IsReducedMember};
 ghost use Rattle.interreduce.specs.Trails.{MemberStops};
 
 use module_vectors::{Frame, KeptTrail, NoMemory, Vect, Vectors, WorkStop, lawful_setting};
@@ -70,7 +70,7 @@ pub(crate) fn reduced_by<F: Frame, L: Vectors>(
     requires member { IsVectorOver (F.over frame.now) (F.compare frame.now) member.now }
     requires list { AreVectorsOver (F.over frame.now) (F.compare frame.now) (L.listed list.now) }
     requires divisors { AreDivisors (variables (F.over frame.now)) (L.listed list.now) divisors.now }
-    ensures reduced { IfOk result (IsReducedBy (F.over frame.now) (F.compare frame.now) (L.listed list.now) member.now) }
+    ensures reduced { IfOk result (HasReducedTail (F.over frame.now) (F.compare frame.now) (L.listed list.now) member.now) }
     ensures stop { IfErr result (DivisionStops (F.over frame.now) member.now (L.listed list.now)) }
 {
     lawful_setting(frame);

@@ -8,6 +8,3 @@ mod remainders;
 
 pub use adding::axpy_dense;
 pub use remainders::reduce_lanes;
-
-#[cfg(test)]
-mod tests;

@@ -7,5 +7,3 @@ mod stop;
 pub use script::large_script;
 pub use stop::NoMemory;
 
-#[cfg(test)]
-mod tests;

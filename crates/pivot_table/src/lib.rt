@@ -12,8 +12,6 @@
 mod claims;
 mod law;
 mod plays;
-#[cfg(test)]
-mod tests;
 mod words;
 
 pub use claims::{Claim, Claims, NoMemory};

@@ -11,8 +11,6 @@ ghost use Rattle.script_tokens.specs.Scans.{token_at, tokens_of, GivesOrStops};
 ghost use Rattle.script_tokens.specs.Tokens.{is_blank, is_name_byte, sign_of, IsInOrder};
 ghost use Rattle.script_tokens.specs.declared.token.Token.{Token};
 
-#[cfg(test)]
-mod tests;
 mod token;
 
 use std::alloc::Global;

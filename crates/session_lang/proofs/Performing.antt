@@ -24,7 +24,7 @@ use Rattle.session_lang.specs.Held.{Held}
 use Rattle.session_lang.specs.Kept.{IsFit, IsGiven}
 use Rattle.session_lang.specs.Lines.{AnswersAsked, Does, IsLiftRun, IsRunForValue, IsRunForEither, Lifts, Needs, RefusesStated, States}
 use Rattle.session_lang.specs.Names.{HasValue, State, Value, after_run}
-use Rattle.session_lang.specs.Parts.{IsRunOf}
+use Rattle.session_lang.specs.Parts.{IsRunToKeep}
 use Rattle.session_lang.specs.Performing.{Performed, Performs, asking}
 use Rattle.session_lang.specs.Reporting.{HasReport, IsReport, IsReportTrail, KeepsAs, RefusesReport, ReportsAs, reporting}
 use Rattle.session_lang.specs.declared.reports.Report.{Report}
@@ -136,7 +136,7 @@ module _ {before after : State} {out out' : List ℕ} {old new : ℕ} {kept kept
       (name : String Global) (asked : Asked) (n : List ℕ) (over : Ring) (value : Value) → n ≡ string_bytes name → HasValue before n over value
       → OnOk called (after ≡ after_run n before)
       → OnOk called ((text : List ℕ) × IsAnswer over value asked text × (out' ≡ out ++ text))
-      → IfErr called (CallStops (IsRunOf over value) (IsTrailOf over value asked) old new kept kept')
+      → IfErr called (CallStops (IsRunToKeep over value) (IsTrailOf over value asked) old new kept kept')
       → Performed before (asking name asked) after out out' old new kept kept' answer
   asked_performed name asked n over value named has done text stop =
       let has' = subst (λ m. HasValue before m over value) named has in
@@ -270,7 +270,7 @@ pub reported_performed :
     → (IsSome item.basis → after ≡ after_run n before) → (item ≡ s → after ≡ before)
     → IfOk answer (KeepsAs s item) → OnErr answer (item ≡ s)
     → IfOk answer (ReportsAs over value report out out') → OnErr answer (out' ≡ out) → OnOk answer ((new ≡ old) × (kept' ≡ kept))
-    → IfErr answer (CallStops (IsRunOf over value) (IsReportTrail over value report) old new kept kept')
+    → IfErr answer (CallStops (IsRunToKeep over value) (IsReportTrail over value report) old new kept kept')
     → Performed before (reporting name report) after out out' old new kept kept' answer
 reported_performed {before} {after} {out} {out'} {old} {new} {kept} {kept'} (Ok steps.Done) name report n over value s item named has done same keeps undone reports unwritten engine stop =
     was_done before (reporting name report) after out out' old new kept kept' reports.0

@@ -17,7 +17,7 @@ use Rattle.session_lang.specs.Answers.{Asked}
 use Rattle.session_lang.specs.Kept.{value_of}
 use Rattle.session_lang.specs.Lines.{IsRunForValue}
 use Rattle.session_lang.specs.Names.{HasValue, State, Value}
-use Rattle.session_lang.specs.Parts.{IsRunAt, IsRunOf}
+use Rattle.session_lang.specs.Parts.{IsRunAt, IsRunToKeep}
 use Rattle.session_lang.specs.Stops.{IsTrailFor, IsTrailOf}
 use Rattle.session_lang.specs.Held.{Held}
 
@@ -26,7 +26,7 @@ module _ (old new : ℕ) (kept kept' : Option StoppedRun) where
   pub run_fails :
       (Trails : KeptTrail → Type 0) (ring : Ring) (info : NameInfo) (s : Held) (stop : Stop)
       → s.basis ≡ None → StopsRun old new kept kept' ring info.rank s.list stop
-      → CallStops (IsRunOf ring (value_of info s)) Trails old new kept kept' (op_stop_of_run stop)
+      → CallStops (IsRunToKeep ring (value_of info s)) Trails old new kept kept' (op_stop_of_run stop)
   run_fails Trails ring info s runs.Memory none h = h
   run_fails Trails ring info s runs.Pairs none h = (h.0, (ring, info.rank, s.list, (refl, ap is_some none, refl, refl), h.1))
   run_fails Trails ring info s runs.Degree none h = (h.0, (ring, info.rank, s.list, (refl, ap is_some none, refl, refl), h.1))
@@ -46,9 +46,9 @@ module _ (old new : ℕ) (kept kept' : Option StoppedRun) where
 pub placed_run :
     (over : Ring) (infos : List NameInfo) (stored : List Held) (i : ℕ) (d : NameInfo) (e : Held) (info : NameInfo) (s : Held)
     → i < length infos → i < length stored → info ≡ get_or infos i info → s ≡ get_or stored i s
-    → (ring : Ring) (rank : ℕ) (list : List (List (Key × ℕ))) → IsRunOf over (value_of info s) ring rank list → IsRunAt over infos stored i d e ring rank list
+    → (ring : Ring) (rank : ℕ) (list : List (List (Key × ℕ))) → IsRunToKeep over (value_of info s) ring rank list → IsRunAt over infos stored i d e ring rank list
 placed_run over infos stored i d e info s within below at_info at_item ring rank list h =
-    subst₂ (λ j t. IsRunOf over (value_of j t) ring rank list) (at_place infos i info d within at_info) (at_place stored i s e below at_item) h
+    subst₂ (λ j t. IsRunToKeep over (value_of j t) ring rank list) (at_place infos i info d within at_info) (at_place stored i s e below at_item) h
 
 -- there is no trail
 pub no_trail : (More : KeptTrail → Type 0) (t : KeptTrail) → NoTrail t → More t
@@ -57,7 +57,7 @@ no_trail More t h = absurd h
 -- the run for a value, as the run for a name that has it
 pub run_for :
     (before : State) (name : List ℕ) (over : Ring) (value : Value) → HasValue before name over value
-    → (ring : Ring) (rank : ℕ) (list : List (List (Key × ℕ))) → IsRunOf over value ring rank list → IsRunForValue before name ring rank list
+    → (ring : Ring) (rank : ℕ) (list : List (List (Key × ℕ))) → IsRunToKeep over value ring rank list → IsRunForValue before name ring rank list
 run_for before name over value has ring rank list h = (value, subst (λ r. HasValue before name r value) (sym h.0) has, h.1, h.2, h.3)
 
 -- the trail of a value, as one of a name that has it

@@ -15,12 +15,12 @@ pub record Keeps (before : List Held) (i : ℕ) (after : List Held) : Type 0 whe
   pub list : (e : Held) → item.list ≡ (get_or before i e).list
 
 -- the run for the reduced basis of a value over this ring, if it is not yet kept
-abbrev pub IsRunOf : Ring → Value → Ring → ℕ → List (List (Key × ℕ)) → Type 0
-IsRunOf over value ring rank list = (ring ≡ over) × (value.kept ≡ false) × (rank ≡ value.rank) × (list ≡ value.list)
+abbrev pub IsRunToKeep : Ring → Value → Ring → ℕ → List (List (Key × ℕ)) → Type 0
+IsRunToKeep over value ring rank list = (ring ≡ over) × (value.kept ≡ false) × (rank ≡ value.rank) × (list ≡ value.list)
 
 -- the same of the value at a place; past the end these stand for its name and its list
 abbrev pub IsRunAt : Ring → List NameInfo → List Held → ℕ → NameInfo → Held → Ring → ℕ → List (List (Key × ℕ)) → Type 0
-IsRunAt over infos stored i d e ring rank list = IsRunOf over (value_of (get_or infos i d) (get_or stored i e)) ring rank list
+IsRunAt over infos stored i d e ring rank list = IsRunToKeep over (value_of (get_or infos i d) (get_or stored i e)) ring rank list
 
 -- the same of one of two places, of the second once the basis of the first is kept
 abbrev pub IsRunAtEither : Ring → List NameInfo → List Held → ℕ × ℕ → NameInfo → Held → Ring → ℕ → List (List (Key × ℕ)) → Type 0

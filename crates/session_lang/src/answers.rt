@@ -7,7 +7,7 @@ ghost use Rattle.session_lang.specs.Answers.{Decides, IsAnswer, IsOneModule};
 ghost use Rattle.session_lang.specs.Asking.{AnswerStops, IsAskedOver, asked_of};
 ghost use Rattle.session_lang.specs.Held.{Held};
 ghost use Rattle.session_lang.specs.Kept.{AreSound, IsSound, value_of};
-ghost use Rattle.session_lang.specs.Parts.{IsRunAt, IsRunAtEither, IsRunOf, Keeps};
+ghost use Rattle.session_lang.specs.Parts.{IsRunAt, IsRunAtEither, IsRunToKeep, Keeps};
 ghost use Rattle.session_lang.specs.Stops.{IsTrailOf};
 
 use crate::kept_bases::{forget, is_one_module, keep_basis, normal_form};
@@ -93,7 +93,7 @@ pub fn answer_value<R: Threads + Wait + Sync, B: Groebner>(
     ensures text { OnOk result ((text : List ℕ) × IsAnswer ring.now (value_of info.now stored.old) (asked_of question.entry) text × (out.new.items ≡ out.old.items ++ text)) }
     ensures unwritten { OnErr result (out.new.items ≡ out.old.items) }
     ensures same { OnOk result ((B.stops engine.new ≡ B.stops engine.old) × (B.stopped engine.new ≡ B.stopped engine.old)) }
-    ensures stop { IfErr result (CallStops (IsRunOf ring.now (value_of info.now stored.old)) (IsTrailOf ring.now (value_of info.now stored.old) (asked_of question.entry))
+    ensures stop { IfErr result (CallStops (IsRunToKeep ring.now (value_of info.now stored.old)) (IsTrailOf ring.now (value_of info.now stored.old) (asked_of question.entry))
         (B.stops engine.old) (B.stops engine.new) (B.stopped engine.old) (B.stopped engine.new)) }
     ensures later { B.stops engine.old ≤ B.stops engine.new }
     ensures settings { B.settings engine.new ≡ B.settings engine.old }

@@ -5,7 +5,7 @@ ghost use Rattle.module_vectors.specs.Vectors.{HasPositions};
 ghost use Rattle.groebner_iface.specs.Calls.{CallStops};
 ghost use Rattle.groebner_iface.specs.Runs.{IsReducedBasisOf};
 ghost use Rattle.session_lang.specs.Kept.{IsSound, value_of};
-ghost use Rattle.session_lang.specs.Parts.{IsRunOf};
+ghost use Rattle.session_lang.specs.Parts.{IsRunToKeep};
 ghost use Rattle.session_lang.specs.Reporting.{HasReport, IsReportTrail, KeepsAs, ReportStops, Reports, ReportsAs};
 
 use crate::kept_bases::{forget, keep_basis};
@@ -88,7 +88,7 @@ pub fn report_value<R: Threads + Wait + Sync, B: Groebner>(
     ensures reports { IfOk result (ReportsAs ring.now (value_of info.now stored.old) report out.old.items out.new.items) }
     ensures unwritten { OnErr result (out.new.items ≡ out.old.items) }
     ensures same { OnOk result ((B.stops engine.new ≡ B.stops engine.old) × (B.stopped engine.new ≡ B.stopped engine.old)) }
-    ensures stop { IfErr result (CallStops (IsRunOf ring.now (value_of info.now stored.old)) (IsReportTrail ring.now (value_of info.now stored.old) report)
+    ensures stop { IfErr result (CallStops (IsRunToKeep ring.now (value_of info.now stored.old)) (IsReportTrail ring.now (value_of info.now stored.old) report)
         (B.stops engine.old) (B.stops engine.new) (B.stopped engine.old) (B.stopped engine.new)) }
     ensures later { B.stops engine.old ≤ B.stops engine.new }
     ensures settings { B.settings engine.new ≡ B.settings engine.old }

@@ -1,7 +1,7 @@
 use Rattle.std.proofs.Common.{[], length, subst, sym, ◌<◌}
 use Rattle.module_vectors.proofs.SumsOfProducts.{Each_member}
 use Rattle.module_vectors.specs.Vectors.{IsVectorOver}
-use Rattle.interreduce.specs.Members.{IsReducedBy}
+use Rattle.interreduce.specs.Members.{HasReducedTail}
 use Rattle.interreduce.proofs.Earlier.{by_list}
 use Rattle.interreduce.proofs.member.reduced_member.Goals as goal
 
@@ -19,4 +19,4 @@ returns-in-Ok-clause-reduced g c =
     let compare = g.F.Frame.compare c.args.frame.now in
     let list = g.L.Vectors.listed c.args.list.now in
     by_list ring compare c.lawful_setting.ensures list c.args.index c.in-Ok.reduced
-    (subst (λ w. IsReducedBy ring compare list w c.in-Ok.reduced) c.at.ensures c.in-Ok.ensures.reduced)
+    (subst (λ w. HasReducedTail ring compare list w c.in-Ok.reduced) c.at.ensures c.in-Ok.ensures.reduced)

@@ -1,7 +1,7 @@
 use Rattle.std.proofs.Common.{[], ap, get_or, length, subst, sym, ◌++◌, ◌+◌, ◌<◌, ◌∙◌, ◌∷◌, ◌≡◌}
 use Rattle.std.proofs.lemmas.List.{length_push}
 use Rattle.module_vectors.specs.Vectors.{IsVectorOver}
-use Rattle.interreduce.specs.Members.{IsReducedBy, IsReducedMember}
+use Rattle.interreduce.specs.Members.{HasReducedTail, IsReducedMember}
 use Rattle.interreduce.proofs.Earlier.{by_earlier}
 use Rattle.interreduce.proofs.Gathering.{one_more}
 use Rattle.interreduce.proofs.Reducing.{each_index}
@@ -25,7 +25,7 @@ loop-index-preserved g c =
     let next : IsReducedMember ring compare list (get_or kept i 0) c.in-Ok.member =
     by_earlier ring compare c.lawful_setting.ensures list kept c.requires.needed earlier i
     c.loop-index.invariant.count c.loop-index-test.true c.loop-index.invariant.each c.in-Ok.member
-    (subst (λ w. IsReducedBy ring compare earlier w c.in-Ok.member) c.at.ensures c.in-Ok.ensures.reduced) in
+    (subst (λ w. HasReducedTail ring compare earlier w c.in-Ok.member) c.at.ensures c.in-Ok.ensures.reduced) in
     let pushed : c.push.new.self ≡ earlier ++ c.in-Ok.member ∷ [] = c.in_ok-push-in-Ok.ensures.ok in
     record {
       count = ap length pushed ∙ length_push earlier c.in-Ok.member ∙ ap (λ n. n + 1) c.loop-index.invariant.count;

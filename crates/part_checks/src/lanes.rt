@@ -2,7 +2,7 @@
 ghost use Rattle.std.specs.Prelude.{◌≡◌, ◌<◌, ◌≤◌, ◌+◌, ◌-◌, ◌^◌, length};
 ghost use Rattle.lane_kernels.specs.Places.{AreBelow};
 
-use super::*;
+use lane_kernels::{axpy_dense, reduce_lanes};
 use std::test::Fail;
 use zp_field::Modulus;
 

@@ -1,7 +1,7 @@
 ghost use Rattle.std.specs.Prelude.{◌≡◌, ◌+◌, ◌<◌, ◌∷◌, [], ◌++◌, length, slice_index, IfSome};
 ghost use Rattle.pivot_table.specs.Law.{IsSeatOf, told, entry, found_by, word_of};
 
-use crate::{Claim, ClaimSeat, Claims};
+use pivot_table::{Claim, ClaimSeat, Claims};
 use std::alloc::Global;
 use std::test::Fail;
 use std::thread::{Threads, join};

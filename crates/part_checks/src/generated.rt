@@ -1,5 +1,5 @@
 // The beginning of the script of seed 1: the first numbers of the generator are known.
-use super::*;
+use large_script::large_script;
 use std::test::Fail;
 
 #[test]

@@ -1,7 +1,7 @@
 use Rattle.std.proofs.Common.{arith, get_or, subst, sym, ℕ, ◌-◌, ◌<◌}
 use Rattle.std.specs.Prelude.{replicate}
 use Rattle.std.proofs.lemmas.Simd.{get_or-replicate}
-use Rattle.lane_kernels.proofs.tests.three_times.Goals as goal
+use Rattle.part_checks.proofs.lanes.three_times.Goals as goal
 
 below_all : (limit n x : ℕ) → x < limit → (i : ℕ) → i < n → get_or (replicate n x) i 0 < limit
 below_all limit n x below i lt = subst (λ y. y < limit) (sym (get_or-replicate n i x 0 lt)) below

@@ -1,4 +1,5 @@
-use super::*;
+// Where the tokens of a line stand, and the first byte that begins none.
+use script_tokens::{TokenStop, tokens};
 use std::alloc::Global;
 use std::test::Fail;
 
