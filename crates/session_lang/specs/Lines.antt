@@ -94,10 +94,12 @@ Does before (statements.Let name operation) after text =
     ((ring : Ring) × (rank : ℕ) × (list : List (List (Key × ℕ))) × OperationGives before operation ring rank list
     × (after ≡ after_giving (record { name = string_bytes name; rank = rank; list = list; kept = true }) before)) × (text ≡ [])
 Does before (statements.Gens name) after text =
-    (after ≡ before) × ((ring : Ring) × (value : Value) × HasValue before (string_bytes name) ring value × (text ≡ listing (codes "gens") ring value value.list))
+    (after ≡ before)
+        × ((ring : Ring) × (value : Value) × HasValue before (string_bytes name) ring value × (text ≡ listing (codes "gens") ring value value.list))
 Does before (statements.Gb name) after text = (after ≡ after_run (string_bytes name) before) × AnswersAsked before (string_bytes name) basis text
 Does before (statements.Size name) after text = (after ≡ after_run (string_bytes name) before) × AnswersAsked before (string_bytes name) sizes_of_basis text
-Does before (statements.NormalForm name v) after text = (after ≡ after_run (string_bytes name) before) × AnswersAsked before (string_bytes name) (normal_form v) text
+Does before (statements.NormalForm name v) after text =
+    (after ≡ after_run (string_bytes name) before) × AnswersAsked before (string_bytes name) (normal_form v) text
 Does before (statements.Member name v) after text = (after ≡ after_run (string_bytes name) before) × AnswersAsked before (string_bytes name) (member v) text
 Does before (statements.Lift name v) after text = (after ≡ before) × Lifts before (string_bytes name) v text
 Does before (statements.Hilbert name) after text = (after ≡ after_run (string_bytes name) before) × Counts before (string_bytes name) text

@@ -46,7 +46,9 @@ pub fn push_answer(
     requires basis { (list : List _) × IsReducedBasisOf ring.now info.now.rank list basis.now }
     requires over { IsAskedOver ring.now (asked_of question) }
     ensures text { OnOk result ((list : List _) → IsReducedBasisOf ring.now info.now.rank list basis.now
-        → (kept : Bool) → (text : List ℕ) × IsAnswer ring.now (record { name = string_bytes info.now.name; rank = info.now.rank; list = list; kept = kept }) (asked_of question.entry) text × (out.new.items ≡ out.old.items ++ text)) }
+        → (kept : Bool) → (text : List ℕ)
+            × IsAnswer ring.now (record { name = string_bytes info.now.name; rank = info.now.rank; list = list; kept = kept }) (asked_of question.entry) text
+            × (out.new.items ≡ out.old.items ++ text)) }
     ensures unwritten { OnErr result (out.new.items ≡ out.old.items) }
     ensures stop { IfErr result (AnswerStops ring.now (asked_of question.entry) basis.now) }
 {
@@ -90,10 +92,12 @@ pub fn answer_value<R: Threads + Wait + Sync, B: Groebner>(
     ensures list { stored.new.list ≡ stored.old.list }
     ensures kept { OnOk result (IsSome stored.new.basis) }
     ensures as_before { OnErr result (stored.new ≡ stored.old) }
-    ensures text { OnOk result ((text : List ℕ) × IsAnswer ring.now (value_of info.now stored.old) (asked_of question.entry) text × (out.new.items ≡ out.old.items ++ text)) }
+    ensures text { OnOk result ((text : List ℕ) × IsAnswer ring.now (value_of info.now stored.old) (asked_of question.entry) text
+        × (out.new.items ≡ out.old.items ++ text)) }
     ensures unwritten { OnErr result (out.new.items ≡ out.old.items) }
     ensures same { OnOk result ((B.stops engine.new ≡ B.stops engine.old) × (B.stopped engine.new ≡ B.stopped engine.old)) }
-    ensures stop { IfErr result (CallStops (IsRunToKeep ring.now (value_of info.now stored.old)) (IsTrailOf ring.now (value_of info.now stored.old) (asked_of question.entry))
+    ensures stop { IfErr result (CallStops (IsRunToKeep ring.now (value_of info.now stored.old))
+        (IsTrailOf ring.now (value_of info.now stored.old) (asked_of question.entry))
         (B.stops engine.old) (B.stops engine.new) (B.stopped engine.old) (B.stopped engine.new)) }
     ensures later { B.stops engine.old ≤ B.stops engine.new }
     ensures settings { B.settings engine.new ≡ B.settings engine.old }

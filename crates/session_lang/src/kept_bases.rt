@@ -33,7 +33,8 @@ pub fn keep_basis<R: Threads + Wait + Sync, B: Groebner>(
     ensures known { IsSome stored.old.basis → stored.new ≡ stored.old }
     ensures none { OnErr result ((stored.old.basis ≡ None) × (stored.new ≡ stored.old)) }
     ensures same { OnOk result ((B.stops engine.new ≡ B.stops engine.old) × (B.stopped engine.new ≡ B.stopped engine.old)) }
-    ensures stop { IfErr result (λ stop. StopsRun (B.stops engine.old) (B.stops engine.new) (B.stopped engine.old) (B.stopped engine.new) ring.now rank stored.old.list stop) }
+    ensures stop { IfErr result (λ stop. StopsRun (B.stops engine.old) (B.stops engine.new) (B.stopped engine.old) (B.stopped engine.new)
+        ring.now rank stored.old.list stop) }
     ensures later { B.stops engine.old ≤ B.stops engine.new }
     ensures settings { B.settings engine.new ≡ B.settings engine.old }
 {

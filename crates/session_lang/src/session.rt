@@ -226,7 +226,8 @@ impl Session {
     // Gives a name to a list.
     fn give(&mut self, name: String, rank: u64, value: Stored) -> Result<(), NoMemory>
         requires { (ring : RingValue) × (self.old.ring ≡ Some ring) × IsSound ring rank value }
-        ensures named { OnOk result (self.new ≡ after_giving (record { name = string_bytes name; rank = rank; list = value.list; kept = is_some value.basis }) self.old) }
+        ensures named { OnOk result (self.new
+            ≡ after_giving (record { name = string_bytes name; rank = rank; list = value.list; kept = is_some value.basis }) self.old) }
         ensures same { OnErr result (self.new ≡ self.old) }
     {
         give_name(&mut self.names, &mut self.stored, name, rank, value)

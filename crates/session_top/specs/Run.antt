@@ -114,12 +114,14 @@ pub record Stopped (left left' taken taken' : Option (List ℕ)) (limits : Limit
   pub written : Appends taken taken' (text ++ stop_line kept trail)
 
 -- a run of a line met its budget of pairs, and its state is kept
-abbrev pub StoppedByPairs : Option (List ℕ) → Option (List ℕ) → Option (List ℕ) → Option (List ℕ) → (limits : Limits) (line : ℕ) → Option Shown → Option KeptTrail → Type 0
+abbrev pub StoppedByPairs : Option (List ℕ) → Option (List ℕ) → Option (List ℕ) → Option (List ℕ) → (limits : Limits) (line : ℕ)
+    → Option Shown → Option KeptTrail → Type 0
 StoppedByPairs left left' taken taken' limits line kept trail =
     (s : Shown) × (kept ≡ Some s) × (trail ≡ None) × Stopped left left' taken taken' limits line (Some s) None
 
 -- a line needed a product of too great a degree, and the trail to it is kept
-abbrev pub StoppedByDegree : Option (List ℕ) → Option (List ℕ) → Option (List ℕ) → Option (List ℕ) → (limits : Limits) (line : ℕ) → Option Shown → Option KeptTrail → Type 0
+abbrev pub StoppedByDegree : Option (List ℕ) → Option (List ℕ) → Option (List ℕ) → Option (List ℕ) → (limits : Limits) (line : ℕ)
+    → Option Shown → Option KeptTrail → Type 0
 StoppedByDegree left left' taken taken' limits line kept trail =
     (t : KeptTrail) × (trail ≡ Some t) × Stopped left left' taken taken' limits line kept (Some t)
 
@@ -142,7 +144,8 @@ abbrev pub IsToldAs : ℕ → ℕ → Ending → Type 0
 IsToldAs status line Done = (status ≡ 0) × (line ≡ 0)
 IsToldAs status line (Refused n refusal) = (status ≡ 1) × (line ≡ n)
 
--- Where the source tells a script of this meaning, the answer is its ending and the bytes are its text; or memory ran out, or a run was stopped by its budget or by a degree.
+-- Where the source tells a script of this meaning, the answer is its ending and the bytes are its text; or memory ran out, or a run was
+-- stopped by its budget or by a degree.
 abbrev pub IsComplete : Option (List ℕ) → Option (List ℕ) → Option (List ℕ) → Option (List ℕ) → ℕ → ℕ → Type 0
 IsComplete left left' taken taken' status line = (script text : List ℕ) (ending : Ending) → left ≡ Some script → Meaning script text ending
     → (status ≡ 5) ⊎ (status ≡ 6) ⊎ (status ≡ 7) ⊎ (IsToldAs status line ending × Appends taken taken' text × (ending ≡ Done → IsAtEnd left'))

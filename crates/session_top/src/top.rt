@@ -88,8 +88,10 @@ fn run_script<R: Threads + Wait + Sync, S: Source, K: Sink>(
 ) -> Result<(), Early>
     requires workers { 0 < request.workers }
     requires helpers { 0 < request.helpers }
-    ensures done { OnOk result (Meant (script_before request.command (S.left source.old)) (script_behind request.command (S.left source.new)) (K.taken sink.old) (K.taken sink.new) Done) }
-    ensures stops { IfErr result (ScriptStops (script_before request.command (S.left source.old)) (script_behind request.command (S.left source.new)) (K.taken sink.old) (K.taken sink.new) (limits_of request)) }
+    ensures done { OnOk result (Meant (script_before request.command (S.left source.old)) (script_behind request.command (S.left source.new))
+        (K.taken sink.old) (K.taken sink.new) Done) }
+    ensures stops { IfErr result (ScriptStops (script_before request.command (S.left source.old)) (script_behind request.command (S.left source.new))
+        (K.taken sink.old) (K.taken sink.new) (limits_of request)) }
     ensures read { result ≡ Err Early.ReadFault → Rose (S.faults source.old) (S.faults source.new) }
     ensures write { result ≡ Err Early.WriteFault → Rose (K.faults sink.old) (K.faults sink.new) }
     ensures unread { (request.command ≡ Run → ⊥) → source.new ≡ source.old }
@@ -124,9 +126,12 @@ pub fn run<R: Threads + Wait + Sync, S: Source, K: Sink, G: Gate + Sync>(
     ensures trail { result.status ≢ 7 → result.trail ≡ None }
 
     // Statuses 0 and 1: what was read has this meaning, and its text is what was written.
-    ensures done { result.status ≡ 0 → Meant (script_to_come (map string_bytes words.now) (S.left source.old)) (script_left (map string_bytes words.now) (S.left source.new)) (K.taken sink.old) (K.taken sink.new) Done }
+    ensures done { result.status ≡ 0 → Meant (script_to_come (map string_bytes words.now) (S.left source.old))
+        (script_left (map string_bytes words.now) (S.left source.new))
+        (K.taken sink.old) (K.taken sink.new) Done }
     ensures refused { result.status ≡ 1
-        → MeantRefused (script_to_come (map string_bytes words.now) (S.left source.old)) (script_left (map string_bytes words.now) (S.left source.new)) (K.taken sink.old) (K.taken sink.new) result.line }
+        → MeantRefused (script_to_come (map string_bytes words.now) (S.left source.old)) (script_left (map string_bytes words.now) (S.left source.new))
+            (K.taken sink.old) (K.taken sink.new) result.line }
 
     // Status 2 comes exactly where the words are not of the form, but for a failed write and want of memory.
     ensures words { result.status ≡ 2 → (IsForm (map string_bytes words.now) → ⊥)
@@ -140,27 +145,33 @@ pub fn run<R: Threads + Wait + Sync, S: Source, K: Sink, G: Gate + Sync>(
     // Statuses 3 and 4 have their cause in the ports. After 3 the text of all lines that were whole was written.
     ensures read_fault { result.status ≡ 3 → Rose (S.faults source.old) (S.faults source.new) }
     ensures read_cut { result.status ≡ 3
-        → ReadCut (script_to_come (map string_bytes words.now) (S.left source.old)) (script_left (map string_bytes words.now) (S.left source.new)) (K.taken sink.old) (K.taken sink.new) }
+        → ReadCut (script_to_come (map string_bytes words.now) (S.left source.old)) (script_left (map string_bytes words.now) (S.left source.new))
+            (K.taken sink.old) (K.taken sink.new) }
     ensures write_fault { result.status ≡ 4 → Rose (K.faults sink.old) (K.faults sink.new) }
     ensures write_cut { result.status ≡ 4 → IsForm (map string_bytes words.now)
-        → WriteCut (script_to_come (map string_bytes words.now) (S.left source.old)) (script_left (map string_bytes words.now) (S.left source.new)) (K.taken sink.old) (K.taken sink.new) (limits_of (request_of (map string_bytes words.now))) }
+        → WriteCut (script_to_come (map string_bytes words.now) (S.left source.old)) (script_left (map string_bytes words.now) (S.left source.new))
+            (K.taken sink.old) (K.taken sink.new) (limits_of (request_of (map string_bytes words.now))) }
 
     // Want of memory is the one free answer.
     ensures memory { result.status ≡ 5
-        → MemoryCut (script_to_come (map string_bytes words.now) (S.left source.old)) (script_left (map string_bytes words.now) (S.left source.new)) (K.taken sink.old) (K.taken sink.new) result.line }
+        → MemoryCut (script_to_come (map string_bytes words.now) (S.left source.old)) (script_left (map string_bytes words.now) (S.left source.new))
+            (K.taken sink.old) (K.taken sink.new) result.line }
 
     // Status 6: a run of this line took as many pairs as the words allow, and one more was to be looked at.
     ensures pairs { result.status ≡ 6
-        → StoppedByPairs (script_to_come (map string_bytes words.now) (S.left source.old)) (script_left (map string_bytes words.now) (S.left source.new)) (K.taken sink.old) (K.taken sink.new) (limits_of (request_of (map string_bytes words.now))) result.line result.kept result.trail }
+        → StoppedByPairs (script_to_come (map string_bytes words.now) (S.left source.old)) (script_left (map string_bytes words.now) (S.left source.new))
+            (K.taken sink.old) (K.taken sink.new) (limits_of (request_of (map string_bytes words.now))) result.line result.kept result.trail }
 
     // Status 7: this line led to a product of too great a degree.
     ensures degree { result.status ≡ 7
-        → StoppedByDegree (script_to_come (map string_bytes words.now) (S.left source.old)) (script_left (map string_bytes words.now) (S.left source.new)) (K.taken sink.old) (K.taken sink.new) (limits_of (request_of (map string_bytes words.now))) result.line result.kept result.trail }
+        → StoppedByDegree (script_to_come (map string_bytes words.now) (S.left source.old)) (script_left (map string_bytes words.now) (S.left source.new))
+            (K.taken sink.old) (K.taken sink.new) (limits_of (request_of (map string_bytes words.now))) result.line result.kept result.trail }
 
     // Where no count rose, a script that has a meaning ends as it means, or memory ran out, or a line stopped.
     ensures complete { IsForm (map string_bytes words.now)
         → (Rose (S.faults source.old) (S.faults source.new) → ⊥) → (Rose (K.faults sink.old) (K.faults sink.new) → ⊥)
-        → IsComplete (script_to_come (map string_bytes words.now) (S.left source.old)) (script_left (map string_bytes words.now) (S.left source.new)) (K.taken sink.old) (K.taken sink.new) result.status result.line }
+        → IsComplete (script_to_come (map string_bytes words.now) (S.left source.old)) (script_left (map string_bytes words.now) (S.left source.new))
+            (K.taken sink.old) (K.taken sink.new) result.status result.line }
 {
     let request = match read_words(alloc, words) {
         Ok(request) => request,
