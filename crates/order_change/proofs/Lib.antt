@@ -15,3 +15,4 @@ mod Finishing
 mod Reducing
 mod Clearing
 mod VariableProducts
+mod Summing

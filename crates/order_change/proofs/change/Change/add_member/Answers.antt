@@ -1,4 +1,4 @@
-use Rattle.std.proofs.Common.{[], ap, arith, inr, length, refl, subst, sym, ◌++◌, ◌+◌, ◌∙◌, ◌∷◌, ◌≡◌}
+use Rattle.std.proofs.Common.{[], ap, arith, inr, length, refl, subst, sym, ℕ, ◌++◌, ◌+◌, ◌∙◌, ◌∷◌, ◌≡◌, ◌≤◌}
 use Rattle.std.specs.Prelude.{slice_index}
 use Rattle.monomials.specs.Exponents.{exponents_of}
 use Rattle.formal_sums.specs.FormalSums.{IsSame}
@@ -13,6 +13,9 @@ use Rattle.order_change.specs.Changing.{AreNewMembers}
 use Rattle.order_change.specs.Forms.{AreResidues}
 use Rattle.order_change.specs.Lists.{AreMonomials, monomials}
 use Rattle.order_change.proofs.change.Change.add_member.Goals as goal
+
+at_least_none : (n : ℕ) → 0 ≤ n
+at_least_none n = omega arith
 
 pub member-requires : goal.member-requires
 member-requires c =
@@ -54,3 +57,9 @@ returns c =
       };
       added = record { turns = refl; one = inr (refl, c.in_ok-insert-2.ensures.items) };
     }
+
+pub insert-requires : goal.insert-requires
+insert-requires c = at_least_none _
+
+pub insert-requires-2 : goal.insert-requires-2
+insert-requires-2 c = at_least_none _
