@@ -6,4 +6,3 @@ mod stop;
 
 pub use script::large_script;
 pub use stop::NoMemory;
-

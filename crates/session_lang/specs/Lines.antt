@@ -95,7 +95,7 @@ Does before (statements.Let name operation) after text =
     × (after ≡ after_giving (record { name = string_bytes name; rank = rank; list = list; kept = true }) before)) × (text ≡ [])
 Does before (statements.Gens name) after text =
     (after ≡ before)
-        × ((ring : Ring) × (value : Value) × HasValue before (string_bytes name) ring value × (text ≡ listing (codes "gens") ring value value.list))
+    × ((ring : Ring) × (value : Value) × HasValue before (string_bytes name) ring value × (text ≡ listing (codes "gens") ring value value.list))
 Does before (statements.Gb name) after text = (after ≡ after_run (string_bytes name) before) × AnswersAsked before (string_bytes name) basis text
 Does before (statements.Size name) after text = (after ≡ after_run (string_bytes name) before) × AnswersAsked before (string_bytes name) sizes_of_basis text
 Does before (statements.NormalForm name v) after text =

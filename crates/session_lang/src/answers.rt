@@ -47,8 +47,8 @@ pub fn push_answer(
     requires over { IsAskedOver ring.now (asked_of question) }
     ensures text { OnOk result ((list : List _) → IsReducedBasisOf ring.now info.now.rank list basis.now
         → (kept : Bool) → (text : List ℕ)
-            × IsAnswer ring.now (record { name = string_bytes info.now.name; rank = info.now.rank; list = list; kept = kept }) (asked_of question.entry) text
-            × (out.new.items ≡ out.old.items ++ text)) }
+        × IsAnswer ring.now (record { name = string_bytes info.now.name; rank = info.now.rank; list = list; kept = kept }) (asked_of question.entry) text
+        × (out.new.items ≡ out.old.items ++ text)) }
     ensures unwritten { OnErr result (out.new.items ≡ out.old.items) }
     ensures stop { IfErr result (AnswerStops ring.now (asked_of question.entry) basis.now) }
 {

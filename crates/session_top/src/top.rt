@@ -131,7 +131,7 @@ pub fn run<R: Threads + Wait + Sync, S: Source, K: Sink, G: Gate + Sync>(
         (K.taken sink.old) (K.taken sink.new) Done }
     ensures refused { result.status ≡ 1
         → MeantRefused (script_to_come (map string_bytes words.now) (S.left source.old)) (script_left (map string_bytes words.now) (S.left source.new))
-            (K.taken sink.old) (K.taken sink.new) result.line }
+        (K.taken sink.old) (K.taken sink.new) result.line }
 
     // Status 2 comes exactly where the words are not of the form, but for a failed write and want of memory.
     ensures words { result.status ≡ 2 → (IsForm (map string_bytes words.now) → ⊥)
@@ -146,32 +146,32 @@ pub fn run<R: Threads + Wait + Sync, S: Source, K: Sink, G: Gate + Sync>(
     ensures read_fault { result.status ≡ 3 → Rose (S.faults source.old) (S.faults source.new) }
     ensures read_cut { result.status ≡ 3
         → ReadCut (script_to_come (map string_bytes words.now) (S.left source.old)) (script_left (map string_bytes words.now) (S.left source.new))
-            (K.taken sink.old) (K.taken sink.new) }
+        (K.taken sink.old) (K.taken sink.new) }
     ensures write_fault { result.status ≡ 4 → Rose (K.faults sink.old) (K.faults sink.new) }
     ensures write_cut { result.status ≡ 4 → IsForm (map string_bytes words.now)
         → WriteCut (script_to_come (map string_bytes words.now) (S.left source.old)) (script_left (map string_bytes words.now) (S.left source.new))
-            (K.taken sink.old) (K.taken sink.new) (limits_of (request_of (map string_bytes words.now))) }
+        (K.taken sink.old) (K.taken sink.new) (limits_of (request_of (map string_bytes words.now))) }
 
     // Want of memory is the one free answer.
     ensures memory { result.status ≡ 5
         → MemoryCut (script_to_come (map string_bytes words.now) (S.left source.old)) (script_left (map string_bytes words.now) (S.left source.new))
-            (K.taken sink.old) (K.taken sink.new) result.line }
+        (K.taken sink.old) (K.taken sink.new) result.line }
 
     // Status 6: a run of this line took as many pairs as the words allow, and one more was to be looked at.
     ensures pairs { result.status ≡ 6
         → StoppedByPairs (script_to_come (map string_bytes words.now) (S.left source.old)) (script_left (map string_bytes words.now) (S.left source.new))
-            (K.taken sink.old) (K.taken sink.new) (limits_of (request_of (map string_bytes words.now))) result.line result.kept result.trail }
+        (K.taken sink.old) (K.taken sink.new) (limits_of (request_of (map string_bytes words.now))) result.line result.kept result.trail }
 
     // Status 7: this line led to a product of too great a degree.
     ensures degree { result.status ≡ 7
         → StoppedByDegree (script_to_come (map string_bytes words.now) (S.left source.old)) (script_left (map string_bytes words.now) (S.left source.new))
-            (K.taken sink.old) (K.taken sink.new) (limits_of (request_of (map string_bytes words.now))) result.line result.kept result.trail }
+        (K.taken sink.old) (K.taken sink.new) (limits_of (request_of (map string_bytes words.now))) result.line result.kept result.trail }
 
     // Where no count rose, a script that has a meaning ends as it means, or memory ran out, or a line stopped.
     ensures complete { IsForm (map string_bytes words.now)
         → (Rose (S.faults source.old) (S.faults source.new) → ⊥) → (Rose (K.faults sink.old) (K.faults sink.new) → ⊥)
         → IsComplete (script_to_come (map string_bytes words.now) (S.left source.old)) (script_left (map string_bytes words.now) (S.left source.new))
-            (K.taken sink.old) (K.taken sink.new) result.status result.line }
+        (K.taken sink.old) (K.taken sink.new) result.status result.line }
 {
     let request = match read_words(alloc, words) {
         Ok(request) => request,
