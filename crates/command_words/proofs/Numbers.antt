@@ -1,6 +1,6 @@
 -- The number that an option's text states.
 use Rattle.std.proofs.Common.{◌≡◌, ◌∙◌, ℕ, ◌^◌, ◌<◌, ◌≤◌, Bool, true, false, List, Option, Some, None, refl, sym, ap, ap₂, subst, codes}
-use Rattle.std.specs.Prelude.{Box, option_map, option_and_then, unwrap_or}
+use Rattle.std.specs.Prelude.{Box, if◌then◌else◌, option_map, option_and_then, unwrap_or}
 use Rattle.std.specs.Box.{box_value}
 use Rattle.std.specs.Str.Parse.{IsNumeral, digits_value, without_leading_plus}
 use Rattle.clap.specs.Walk.{Row, Text, one_of, rows_of}
@@ -23,7 +23,7 @@ pub number_within : (least most default n : ℕ) (text : Text) → IsNumeral 10 
 number_within least most default n text numeral fits same low high =
     let test : is_unsigned_in least most text ≡ true =
     Accepts-accepts false (parser.Unsigned least most) text (numeral, fits, subst (λ k. least ≤ k) same low, subst (λ k. k ≤ most) same high) in
-    rw test same
+    same ∙ sym (ap (λ (t : Bool). if t then digits_value 10 (without_leading_plus text) else default) test)
 
 -- a text that is no number within the bounds leaves the default
 pub number_outside : (least most default : ℕ) (text : Text)
@@ -34,7 +34,7 @@ number_outside least most default text none = go (is_unsigned_in least most text
   where
     go : (t : Bool) → is_unsigned_in least most text ≡ t → default ≡ number_or least most default (Some text)
     go true e = let all = accepts-Accepts false (parser.Unsigned least most) text e in absurd (none all.0 all.1 all.2 all.3)
-    go false e = rw e refl
+    go false e = sym (ap (λ (t : Bool). if t then digits_value 10 (without_leading_plus text) else default) e)
 
 some_rows : (a b : List Row) → Some a ≡ Some b → a ≡ b
 some_rows a b e = ap (λ (o : Option (List Row)). unwrap_or o a) e
@@ -92,4 +92,5 @@ pub request_is : (command : Command) (workers helpers pairs : ℕ) (words : List
     → workers ≡ number_or 1 16 2 (option_text (codes "workers") words)
     → helpers ≡ number_or 1 16 2 (option_text (codes "helpers") words) → pairs ≡ number_or 0 1000000000 1000000 (option_text (codes "pairs") words)
     → ◌≡◌ {A = Request} (record { command = command; workers = workers; helpers = helpers; pairs = pairs }) (request_of words)
-request_is command workers helpers pairs words zero one two three = rw (zero, one, two, three) refl
+request_is command workers helpers pairs words zero one two three =
+    λ i. record { command = zero i; workers = one i; helpers = two i; pairs = three i }
