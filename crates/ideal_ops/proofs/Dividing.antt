@@ -1,5 +1,5 @@
 -- The quotient by the first components of syzygies
-use Rattle.std.proofs.Common.{Bool, List, [], ap, ap₂, arith, cond, false, get_or, length, map, refl, subst, suc, sym, true, zero, ℕ, ◌++◌, ◌+◌, ◌<◌, ◌∙◌, ◌∷◌, ◌≡◌}
+use Rattle.std.proofs.Common.{Bool, List, [], ap, ap₂, arith, cond, false, get_or, length, map, refl, subst, suc, sym, take, true, zero, ℕ, ◌++◌, ◌+◌, ◌<◌, ◌∙◌, ◌∷◌, ◌≡◌}
 use Rattle.std.proofs.lemmas.List.{length-map}
 use Rattle.std.specs.List.{filter}
 use Rattle.std.specs.Prelude.{nat_lt, ◌↔◌}
@@ -23,6 +23,7 @@ use Rattle.operation_laws.proofs.Saturate.{single_vector}
 use Rattle.operation_laws.specs.Operations.{basis_vector, first_components, listed, multiples_of}
 use Rattle.module_vectors.specs.Rings.{ring_comparison, setting, variables}
 use Rattle.module_vectors.specs.Vectors.{AreTermsOver, AreVectorsOver, HasPositions, sum_of, sums_of}
+use Rattle.module_vectors.specs.declared.key.Key.{Key as CodeKey}
 use Rattle.module_vectors.specs.declared.ring.Ring.{Ring}
 use Rattle.vector_division.proofs.Members.{sums_at}
 use Rattle.groebner_iface.specs.Runs.{IsReducedBasisOf}
@@ -39,6 +40,21 @@ use Rattle.ideal_ops.proofs.Shared.{members_of_run, own_basis, positions_for}
 pub sum_placed : (n j : ℕ) (v : Terms) → sum_of n (placed j v) ≡ product (sum_of n v) (basis_vector j)
 sum_placed n j [] = refl
 sum_placed n j (t ∷ v) = ap₂ ◌++◌ (sym (single_vector ((j, exponents_of n t.0.monomial.exponents), t.1))) (sum_placed n j v)
+
+-- one more term
+pub placed_next :
+    (j : ℕ) (items : Terms) (i : ℕ) (x : CodeKey × ℕ) → i < length items → x ≡ get_or items i x
+    → placed j (take (i + 1) items) ≡ placed j (take i items) ++ (record { position = j; monomial = x.0.monomial }, x.1) ∷ []
+placed_next j items i x lt e =
+    let s : i + 1 ≡ suc i = omega arith in
+    ap (λ z. placed j (take z items)) s ∙ go items i lt e
+  where
+    go :
+        (items : Terms) (i : ℕ) → i < length items → x ≡ get_or items i x
+        → placed j (take (suc i) items) ≡ placed j (take i items) ++ (record { position = j; monomial = x.0.monomial }, x.1) ∷ []
+    go [] i lt e = absurd (omega (arith, lt))
+    go (y ∷ ys) zero lt e = ap (λ z. (record { position = j; monomial = z.0.monomial }, z.1) ∷ []) (sym e)
+    go (y ∷ ys) (suc i) lt e = ap (λ z. (record { position = j; monomial = y.0.monomial }, y.1) ∷ z) (go ys i (omega (arith, lt)) e)
 
 pub placed_over : (ring : Ring) (j : ℕ) (v : Terms) → AreTermsOver ring v → AreTermsOver ring (placed j v)
 placed_over ring j [] h = tt

@@ -34,15 +34,18 @@ fn trail_of(
         × (r.start ≡ Product) × (r.vector ≡ b.now) × (r.members ≡ member)) }
     ensures step { IfOk result (λ r. (r.products.items ≡ (0, s) ∷ []) × (r.last ≡ t)) }
 {
+    let ring = ring.try_copy(alloc)?;
+    let vector = b.try_copy(alloc)?;
+    let products = vec![in alloc; (0, s)]?;
     Ok(KeptTrail {
-        ring: ring.try_copy(alloc)?,
+        ring,
         rank: 0,
         generators: VectList::new(alloc),
         below: Vec::new(alloc),
         start: TrailStart::Product,
-        vector: b.try_copy(alloc)?,
+        vector,
         members: member,
-        products: vec![in alloc; (0, s)]?,
+        products,
         last: t,
     })
 }

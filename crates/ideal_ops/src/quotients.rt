@@ -19,11 +19,15 @@ use std::sync::Wait;
 use std::thread::Threads;
 use syzygy_engine::syzygy_run;
 
-// The terms, each moved to this position.
-fn placed_terms(alloc: Global, v: &Vect, position: u64) -> Result<Vec<(Key, u32)>, NoMemory>
+/// The terms, each moved to this position, with room for one more.
+pub(crate) fn placed_terms(
+    alloc: Global,
+    v: &Vect,
+    position: u64,
+) -> Result<Vec<(Key, u32)>, NoMemory>
     ensures { IfOk result (λ terms. terms.items ≡ placed position v.now) }
 {
-    let mut terms = Vec::with_capacity(alloc, v.terms().len())?;
+    let mut terms = Vec::with_capacity(alloc, v.terms().len() + 1)?;
     for term in v.terms() {
         let mut key = term.0.try_copy(alloc)?;
         key.position = position;

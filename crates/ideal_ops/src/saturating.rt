@@ -18,6 +18,7 @@ use crate::back::basis_back;
 use crate::components::as_position;
 use crate::front::{all_in_front, in_front, minus_one, product_stop, variable, variable_vector};
 use crate::multiplying::followed;
+use crate::quotients::placed_terms;
 use groebner_iface::{Groebner, OpStop};
 use module_vectors::{Key, NoMemory, Ring, Vect, VectList, VectStop, WorkStop, lawful_setting};
 use monomial_orders::Mono;
@@ -76,19 +77,6 @@ fn negative_multiple(
     }
 }
 
-// The terms, each at this position, with room for one more.
-fn placed_with_room(alloc: Global, w: &Vect, position: u64) -> Result<Vec<(Key, u32)>, NoMemory>
-    ensures { IfOk result (λ terms. terms.items ≡ placed position w.now) }
-{
-    let mut terms = Vec::with_capacity(alloc, w.terms().len() + 1)?;
-    for term in w.terms() {
-        let mut key = term.0.try_copy(alloc)?;
-        key.position = position;
-        terms.push((key, term.1))?;
-    }
-    Ok(terms)
-}
-
 // The terms of w, each at this position, and behind them 1 there.
 fn inverse_terms(
     alloc: Global,
@@ -102,7 +90,7 @@ fn inverse_terms(
         IfOk result (λ terms. sum_of n terms.items ≡ sum_of n (placed position w.now) ++ basis_vector position) }
 {
     front.modulus.domain();
-    let mut terms = placed_with_room(alloc, w, position)?;
+    let mut terms = placed_terms(alloc, w, position)?;
     let key = Key {
         position,
         monomial: Mono::unit(alloc, front.vars.len())?,
@@ -151,6 +139,28 @@ fn inverses(
     Ok(VectList::from_vec(list))
 }
 
+// The members, in one more variable, and (1 - t f) e_1 to (1 - t f) e_m, where w is -t f.
+fn with_inverses(
+    alloc: Global,
+    ring: &Ring,
+    front: &Ring,
+    rank: u64,
+    list: &VectList,
+    w: &Vect,
+) -> Result<VectList, NoMemory>
+    requires front { front.now ≡ front_ring ring.now }
+    requires list { Each (AreTermsOver ring.now) list.now }
+    requires w { AreTermsOver (front_ring ring.now) w.now }
+    ensures { (f : FormalSum (variables ring.now))
+        → StandsFor (front_ring ring.now) w.now (scale (ring.now.modulus.value - 1) (first_variable (variables ring.now)) (with_first f))
+        → IfOk result (AreVectorsFor (front_ring ring.now)
+            (saturation_list ring.now.modulus.value rank f (sums_of (variables ring.now) list.now))) }
+{
+    let first = all_in_front(alloc, ring, front, list)?;
+    let second = inverses(alloc, ring, front, rank, w)?;
+    followed(first, second)
+}
+
 // The members, in one more variable, and (1 - t f) e_1 to (1 - t f) e_m.
 fn saturating_list(
     alloc: Global,
@@ -173,9 +183,7 @@ fn saturating_list(
         Ok(w) => w,
         Err(stop) => return Err(stop),
     };
-    let first = all_in_front(alloc, ring, front, list)?;
-    let second = inverses(alloc, ring, front, rank, &w)?;
-    Ok(followed(first, second)?)
+    Ok(with_inverses(alloc, ring, front, rank, list, &w)?)
 }
 
 /// The reduced basis of the vectors v of this rank with f^k v in the module of the list for some k of at least 1: a run on

@@ -1,13 +1,14 @@
-use Rattle.std.proofs.Common.{[], ap, arith, get_or, length, map, subst, subst₂, sym, take, ◌<◌, ◌∙◌, ◌∷◌}
+use Rattle.std.proofs.Common.{[], ap, get_or, length, map, subst, subst₂, sym, take, ◌<◌, ◌∙◌, ◌∷◌}
 use Rattle.std.proofs.lemmas.List.{get_or_default, map-append}
 use Rattle.operation_laws.specs.Operations.{times_rest, with_first}
 use Rattle.module_vectors.specs.FrontVariables.{front_ring}
 use Rattle.module_vectors.specs.Rings.{variables}
-use Rattle.module_vectors.specs.Vectors.{sum_of, sums_of}
+use Rattle.module_vectors.proofs.Scaling.{Each_at}
+use Rattle.module_vectors.specs.Vectors.{AreTermsOver, sum_of, sums_of}
 use Rattle.ideal_ops.specs.FrontVariable.{IsFrontTrail, IsFrontTrailOf, rest_polynomial}
 use Rattle.ideal_ops.specs.Runs.{AreVectorsFor}
 use Rattle.ideal_ops.proofs.Multiplied.{more_trails}
-use Rattle.ideal_ops.proofs.Shared.{take_next, vectors_next}
+use Rattle.ideal_ops.proofs.Shared.{take_next, vectors_next, vectors_none}
 use Rattle.ideal_ops.proofs.front.rest_multiples.Goals as goal
 
 pub returns-in-Err-clause-stop : goal.returns-in-Err-clause-stop
@@ -18,7 +19,7 @@ returns-in-Err-clause-stop c =
     let list = c.args.list.now in
     let i = c.loop-i.i in
     let x = c.index-as_slice-i.result in
-    let lt : i < length list = omega arith in
+    let lt : i < length list = subst (λ z. i < z) c.len-i-end.ensures c.loop-i-test.true in
     let is = c.index-as_slice-i.is ∙ ap (λ z. get_or z i x) c.as_slice.ensures ∙ get_or_default list i x [] lt in
     more_trails (IsFrontTrail ring b (with_first (sum_of n x))) (IsFrontTrailOf ring b list)
     (λ t h. (i, lt, subst (λ y. IsFrontTrail ring b (with_first (sum_of n y)) t) is h)) c.in-Err.stop c.in-Err.ensures.stop
@@ -31,8 +32,20 @@ loop-i-preserved c =
     let i = c.loop-i.i in
     let x = c.index-as_slice-i.result in
     let by = times_rest {n = n} ring.modulus.value in
-    let lt : i < length list = omega arith in
+    let lt : i < length list = subst (λ z. i < z) c.len-i-end.ensures c.loop-i-test.true in
     subst₂ (AreVectorsFor (front_ring ring))
     (sym (ap (map by) (take_next n list i x lt (c.index-as_slice-i.is ∙ ap (λ z. get_or z i x) c.as_slice.ensures)) ∙ map-append by (sums_of n (take i list)) (sum_of n x ∷ [])))
     (sym c.in_ok-push.ensures.items)
     (vectors_next (front_ring ring) c.loop-i.multiples.items (map by (sums_of n (take i list))) c.in-Ok.w (by (sum_of n x)) c.loop-i.invariant c.in-Ok.ensures.vector.vector c.in-Ok.ensures.vector.stand)
+
+pub rest_multiple-requires-clause-vector : goal.rest_multiple-requires-clause-vector
+rest_multiple-requires-clause-vector c =
+    let list = c.args.list.now in
+    let i = c.loop-i.i in
+    let x = c.index-as_slice-i.result in
+    let lt : i < length list = subst (λ z. i < z) c.len-i-end.ensures c.loop-i-test.true in
+    Each_at (AreTermsOver c.args.ring.now) list i x c.requires.vectors lt (c.index-as_slice-i.is ∙ ap (λ z. get_or z i x) c.as_slice.ensures)
+
+pub loop-i-init : goal.loop-i-init
+loop-i-init c =
+    subst (AreVectorsFor (front_ring c.args.ring.now) []) (sym c.in_ok-multiples.ensures.items) (vectors_none (front_ring c.args.ring.now))
