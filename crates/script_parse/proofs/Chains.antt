@@ -1,7 +1,7 @@
 -- One more name is chained
-use Rattle.std.proofs.Common.{List, [], ap, ap₂, arith, get_or, get_or-set_other, get_or-set_same, inl, inr, length, set, sym, refl, subst, ℕ, ◌+◌, ◌++◌, ◌-◌, ◌<◌, ◌∙◌, ◌∷◌, ◌≡◌, ◌≤◌}
-use Rattle.std.proofs.lemmas.List.{get_or_append_left, get_or_default, get_or_push, length-map, length-set, length_push, map_push}
-use Rattle.std.proofs.lemmas.Bool.{cases_eq}
+use Rattle.std.proofs.Common.{List, [], ap, ap₂, arith, get_or, get_or-set_other, get_or-set_same, inl, inr, length, map, set, sym, refl, subst, ℕ, ◌+◌, ◌++◌, ◌-◌, ◌<◌, ◌∙◌, ◌∷◌, ◌≡◌, ◌≤◌}
+use Rattle.std.proofs.lemmas.List.{get_or-map, get_or_append_left, get_or_default, get_or_push, length-map, length-set, length_push, map_push}
+use Rattle.std.proofs.lemmas.Bool.{cases_eq, cases_lt}
 use Rattle.script_parse.specs.Hashes.{AreApart, IsChained, IsLink, IsTable, Lacks, bucket_at, bucket_of, hash_of}
 
 -- a link to fewer keys is one to more
@@ -63,6 +63,49 @@ chained_more count i hashes earlier last earlier' last' h lt kept at others here
       | inl f ↦ subst (λ x. IsLink count x hashes (bucket_at count hashes x) (get_or earlier' x 0)) (sym f) (subst (IsLink count i hashes (bucket_at count hashes i)) (sym at) (h.last_link (bucket_at count hashes i) lt))
       | inr ne ↦ let lt' : k < i = omega arith in subst (IsLink count k hashes (bucket_at count hashes k)) (sym (kept k lt')) (h.earlier_link k lt')
     ]
+
+-- the same where both lists are written, by equations
+pub chained_goes :
+    (count i at before : ℕ) (hashes earlier last earlier' last' : List ℕ)
+    → IsChained count i hashes earlier last → at ≡ bucket_at count hashes i → at < count → count ≡ length last → i < length earlier
+    → before ≡ get_or last at before → earlier' ≡ set earlier i before → last' ≡ set last at (i + 1)
+    → IsChained count (i + 1) hashes earlier' last'
+chained_goes count i at before hashes earlier last earlier' last' h e lt size within b f g =
+    let inside : at < length last = omega arith in
+    chained_more count i hashes earlier last earlier' last' h (subst (λ x. x < count) e lt)
+    (λ j l. ap (λ xs. get_or xs j 0) f ∙ get_or-set_other earlier i j before 0 (λ q. omega (arith, l, q)))
+    (ap (λ xs. get_or xs i 0) f ∙ get_or-set_same earlier i before 0 within ∙ b ∙ get_or_default last at before 0 inside ∙ ap (λ x. get_or last x 0) e)
+    (λ x ne. ap (λ xs. get_or xs x 0) g ∙ get_or-set_other last at x (i + 1) 0 (λ q. ne (q ∙ e)))
+    (ap₂ (λ xs x. get_or xs x 0) g (sym e) ∙ get_or-set_same last at (i + 1) 0 inside)
+
+-- ---- a search along a chain
+
+-- a name at a place has the hash there
+pub same_hash :
+    (names : List (List ℕ)) (hashes name : List ℕ) (hash i : ℕ) → hashes ≡ map hash_of names → hash ≡ hash_of name → i < length names → get_or names i [] ≡ name
+    → get_or hashes i 0 ≡ hash
+same_hash names hashes name hash i hashed h lt e = ap (λ l. get_or l i 0) hashed ∙ get_or-map hash_of names i [] 0 lt ∙ ap hash_of e ∙ sym h
+
+-- the next link of a bucket is one before the place
+pub link_goes :
+    (count limit i b : ℕ) (hashes earlier last : List ℕ) → IsChained count limit hashes earlier last → i < limit → bucket_at count hashes i ≡ b
+    → IsLink count limit hashes b (get_or earlier i 0)
+link_goes count limit i b hashes earlier last h lt e =
+    subst (λ x. IsLink count limit hashes x (get_or earlier i 0)) e
+    (link_more count i limit hashes (bucket_at count hashes i) (get_or earlier i 0) (omega arith) (h.earlier_link i lt))
+
+-- what the next link passes has not the name
+pub passed_goes :
+    (count limit i b : ℕ) (hashes earlier last : List ℕ) (Has : ℕ → Type 0) → IsChained count limit hashes earlier last → i < limit → bucket_at count hashes i ≡ b → (Has i → ⊥)
+    → ((j : ℕ) → i + 1 ≤ j → j < limit → bucket_at count hashes j ≡ b → Has j → ⊥)
+    → (j : ℕ) → get_or earlier i 0 ≤ j → j < limit → bucket_at count hashes j ≡ b → Has j → ⊥
+passed_goes count limit i b hashes earlier last Has h lt e here later j le l f = elim (cases_eq j i) [
+  | inl q ↦ λ has. here (subst Has q has)
+  | inr ne ↦ elim (cases_lt i j) [
+    | inl q ↦ later j (omega arith) l f
+    | inr q ↦ absurd (let r : j < get_or earlier i 0 = h.earlier_all i j lt (omega arith) (f ∙ sym e) in omega arith)
+  ]
+]
 
 -- a link by hashes that agree before it
 link_same :

@@ -1,7 +1,9 @@
 pub mod Answering
+pub mod Apart
 pub mod Chains
 pub mod LetLines
 pub mod Lines
+pub mod Listing
 pub mod NamePlaces
 pub mod OneAnswer
 pub mod Pieces

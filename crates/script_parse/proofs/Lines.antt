@@ -28,6 +28,7 @@ use Rattle.script_parse.specs.declared.form.Form.TheVariants as forms
 use Rattle.script_parse.specs.declared.operands.Operands.{Operands}
 use Rattle.script_parse.specs.declared.ring_words.RingForm.{RingForm}
 use Rattle.script_parse.specs.declared.vectors.Shape.{Shape}
+use Rattle.script_parse.proofs.Apart.{words_apart}
 use Rattle.script_parse.proofs.LetLines.{same_operation}
 use Rattle.script_parse.proofs.Pieces.{name_is, named, one_list, one_vector}
 use Rattle.script_parse.proofs.VectorLists.{one_list_of_vectors}
@@ -116,7 +117,7 @@ ring_none line xs Syntax h = go
     go : (w : Written) → word_of w ≡ Some ring_word → IsBehind line xs w → ⊥
     go nothing e k = k
     go (ring_line r) e k = none-some r (sym h ∙ ring_again line xs r k)
-    go _ e k = absurd cc
+    go _ e k = absurd (words_apart e refl)
 
 -- a parser of polynomials gives a line
 pub line_read :
@@ -140,7 +141,7 @@ show_made line xs ps k = (show_line k.0, refl, k.2, refl, sym k.1)
 
 pub show_split : (line : List ℕ) (xs : List Lexeme) (w : Written) → word_of w ≡ Some show_word → IsBehind line xs w → (ps : List Poly) × IsOnePoly xs ps
 show_split line xs (show_line p) e h = (p ∷ [], (p, refl, h))
-show_split line xs _ e h = absurd cc
+show_split line xs _ e h = absurd (words_apart e refl)
 
 module _ (line : List ℕ) (xs rest : List Lexeme) (t : Token) (is : xs ≡ name t ∷ rest) where
   -- what stands behind the first name
@@ -174,7 +175,7 @@ module _ (line : List ℕ) (xs rest : List Lexeme) (t : Token) (is : xs ≡ name
           let both : name t ∷ number r ∷ equals ∷ more ≡ name t' ∷ number r' ∷ equals ∷ k.0 = sym all ∙ k.1 in
           let same : more ≡ k.0 = cc in
           h vectors (subst (λ l. AreVectors l vectors) (sym same) k.2)
-      go _ g k = absurd cc
+      go _ g k = absurd (words_apart g refl)
 
   -- a parser of an operation gives a `let` line, or there is none
   pub let_read :
@@ -197,7 +198,7 @@ module _ (line : List ℕ) (xs rest : List Lexeme) (t : Token) (is : xs ≡ name
           let both : name t ∷ equals ∷ more ≡ name t' ∷ equals ∷ k.0 = sym (is ∙ ap (λ l. name t ∷ l) e) ∙ k.1 in
           let same : more ≡ k.0 = cc in
           h operation (subst (λ l. IsOperation line l operation) (sym same) k.2)
-      go _ g k = absurd cc
+      go _ g k = absurd (words_apart g refl)
 
   pub ask_read : (question : Question) (found : Vec (Vec Step Global) Global) → rest ≡ [] → found.items ≡ [] → IsReadBehind (question_word question) line xs (Ok (forms.Line (heads.Ask question t) found))
   ask_read question found e none = (ask_line question t, refl, is ∙ ap (λ l. name t ∷ l) e, record { head_is = refl; steps_are = ap (λ l. map (λ v. v.items) l) none })
@@ -208,7 +209,7 @@ module _ (line : List ℕ) (xs rest : List Lexeme) (t : Token) (is : xs ≡ name
   pub divide_split : (division : Division) (w : Written) → word_of w ≡ Some (division_word division) → IsBehind line xs w → (ps : List Poly) × AreEntries rest ps
   divide_split division (divide_line other value ps) e h = (ps, subst (λ l. AreEntries l ps) (sym (behind_name value h.0 h.1)) h.2)
   divide_split division nothing e h = absurd h
-  divide_split division _ e h = absurd cc
+  divide_split division _ e h = absurd (words_apart e refl)
 
   pub equal_read : (s : Token) (after : List Lexeme) (found : Vec (Vec Step Global) Global) → rest ≡ name s ∷ after → after ≡ [] → found.items ≡ [] → IsReadBehind equal_word line xs (Ok (forms.Line (heads.Equal t s) found))
   equal_read s after found e f none = (equal_line t s, refl, is ∙ ap (λ l. name t ∷ l) (e ∙ ap (λ l. name s ∷ l) f), record { head_is = refl; steps_are = ap (λ l. map (λ v. v.items) l) none })
@@ -224,7 +225,7 @@ module _ (line : List ℕ) (xs rest : List Lexeme) (t : Token) (is : xs ≡ name
       go : (w : Written) → word_of w ≡ Some change_word → IsBehind line xs w → ⊥
       go nothing g k = k
       go (change_line value order) g k = h order (subst (λ l. IsOrder line l order) (sym (behind_name value k.0 k.1)) k.2)
-      go _ g k = absurd cc
+      go _ g k = absurd (words_apart g refl)
 
 same_behind : (line : List ℕ) (xs : List Lexeme) (v w : Written) (word : Word) → word_of v ≡ Some word → word_of w ≡ Some word → IsBehind line xs v → IsBehind line xs w → v ≡ w
 same_behind line xs nothing w word e f h k = absurd h
@@ -272,7 +273,7 @@ same_behind line xs (change_line a o) (change_line b q) word e f h k =
     let values : a ≡ b = cc in
     let rest : h.0 ≡ k.0 = cc in
     ap₂ change_line values (one_order line k.0 o q (subst (λ l. IsOrder line l o) rest h.2) k.2)
-same_behind line xs v w word e f h k = absurd cc
+same_behind line xs v w word e f h k = absurd (words_apart (e ∙ sym f) refl)
 
 blank_written : (line : List ℕ) (w : Written) → IsWritten line [] w → w ≡ nothing
 blank_written line nothing h = refl

@@ -1,7 +1,7 @@
 -- Lists of POLYs: commas and brackets stand in none
 use Rattle.std.proofs.Common.{◌≡◌, ◌==◌, Bool, true, ℕ, ◌+◌, inl, inr, List, [], ◌∷◌, ◌++◌, map, take, drop, length, Result, Ok, Err, Vec, Global, refl, sym, ap, ap₂, subst, ◌∙◌, arith, append_assoc}
 use Rattle.std.proofs.lemmas.List.{map-append, same_from_push}
-use Rattle.std.proofs.lemmas.Bool.Decides.{nat_tests}
+use Rattle.std.proofs.lemmas.Bool.{eqb-true}
 use Rattle.std.specs.List.{AllByRecursion}
 use Rattle.script_tokens.specs.declared.token.Token.{Token}
 use Rattle.script_tokens.specs.declared.token.TokenKind.{TokenKind}
@@ -289,7 +289,7 @@ equals_first ts rest sign e kind =
 
 pub none_more : {X : Type 0} (xs : List X) (r : Bool) → r ≡ (length xs == 0) → r ≡ true → xs ≡ []
 none_more [] r e f = refl
-none_more (x ∷ xs) r e f = let n : length (x ∷ xs) ≡ 0 = grind (arith, nat_tests) in absurd (omega (arith, n))
+none_more (x ∷ xs) r e f = let n : length (x ∷ xs) ≡ 0 = eqb-true (length (x ∷ xs)) 0 (sym e ∙ f) in absurd (omega (arith, n))
 
 pub none_left : (ts : List Token) (r : Bool) → r ≡ (length ts == 0) → r ≡ true → map lexeme ts ≡ []
 none_left ts r e f = ap (map lexeme) (none_more ts r e f)

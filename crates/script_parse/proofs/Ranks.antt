@@ -1,7 +1,6 @@
 -- The tests of ranks, lengths and the numbers of entries
 use Rattle.std.proofs.Common.{◌≡◌, ℕ, zero, suc, ◌+◌, ◌*◌, ◌<◌, ◌≤◌, ◌⊎◌, inl, inr, nat_eq, Bool, true, false, List, [], ◌∷◌, ◌++◌, length, Option, Some, None, cond, refl, sym, ap, ap₂, subst, ◌∙◌, arith, length-append, le_refl, mul-le-mul}
-use Rattle.std.proofs.lemmas.Bool.{cases_lt}
-use Rattle.std.proofs.lemmas.Bool.Decides.{nat_tests}
+use Rattle.std.proofs.lemmas.Bool.{cases_lt, eqb-false, eqb-true, leb-false, leb-true}
 use Rattle.std.specs.List.{list_all}
 use Rattle.std.specs.Prelude.{Contains, flat_map, nat_le, ◌&&◌}
 use Rattle.poly_grammar.specs.Trees.{Poly}
@@ -16,16 +15,16 @@ both true b h = (refl, h)
 both false b h = absurd cc
 
 le_true : (m n : ℕ) → nat_le m n ≡ true → m ≤ n
-le_true m n e = grind (arith, nat_tests)
+le_true m n e = leb-true m n e
 
 le_false : (m n : ℕ) → nat_le m n ≡ false → n < m
-le_false m n e = grind (arith, nat_tests)
+le_false m n e = leb-false m n e
 
 eq_true : (m n : ℕ) → nat_eq m n ≡ true → m ≡ n
-eq_true m n e = grind (arith, nat_tests)
+eq_true m n e = eqb-true m n e
 
 eq_false : (m n : ℕ) → nat_eq m n ≡ false → m ≡ n → ⊥
-eq_false m n e f = grind (arith, nat_tests)
+eq_false m n e f = eqb-false m n e f
 
 -- a number is within bounds or outside of them
 pub not_within : (last k : ℕ) → within last k ≡ false → IsOutside last k

@@ -1,6 +1,6 @@
 -- The numbers of a ring line
 use Rattle.std.proofs.Common.{◌≡◌, ◌+◌, ◌<◌, ◌≤◌, ◌^◌, inl, inr, Bool, false, nat_eq, ℕ, zero, suc, List, [], ◌∷◌, ◌++◌, get_or, length, map, take, Some, refl, sym, ap, ap₂, subst, ◌∙◌, arith}
-use Rattle.std.proofs.lemmas.Bool.Decides.{nat_tests}
+use Rattle.std.proofs.lemmas.Bool.{eqb-false}
 use Rattle.std.specs.Prelude.{Contains}
 use Rattle.script_tokens.specs.declared.token.Token.{Token}
 use Rattle.poly_grammar.specs.Numerals.{value_of}
@@ -86,4 +86,4 @@ good_weights line n (t ∷ ts) ws us some e h f = (f ∙ weighed_are line (t ∷
 
 -- a list that is not empty
 pub some_tokens : (ts : List Token) (b : Bool) → b ≡ nat_eq (length ts) 0 → b ≡ false → ts ≡ [] → ⊥
-some_tokens ts b e f g = let h : length ts ≡ 0 = ap length g in grind (arith, nat_tests)
+some_tokens ts b e f g = eqb-false (length ts) 0 (sym e ∙ f) (ap length g)

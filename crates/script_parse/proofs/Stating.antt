@@ -31,6 +31,7 @@ use Rattle.script_parse.specs.declared.operation.Operation.TheVariants as operat
 use Rattle.script_parse.specs.declared.stated.Statement.TheVariants as statements
 use Rattle.script_parse.specs.declared.vectors.Shape.{Shape}
 use Rattle.script_parse.specs.declared.vectors.Shape.TheVariants.{Empty}
+use Rattle.script_parse.proofs.Apart.{heads_apart}
 use Rattle.script_parse.proofs.Ranks.{module_passes, same_width}
 use Rattle.script_parse.proofs.Testing.{both_true}
 use Rattle.script_parse.proofs.Working.{has_worth, weight_of}
@@ -124,7 +125,7 @@ vector_is ring line pieces ps u e vector positions stands = (
 pub is_shown : (pieces : List (Vec Step Global)) (w : Written) → IsLineOf heads.Show pieces w → 0 < length pieces
 is_shown (v ∷ pieces) w is = omega arith
 is_shown [] (show_line p) is = let e = is.steps_are in absurd cc
-is_shown [] _ is = let h = is.head_is in absurd cc
+is_shown [] _ is = absurd (heads_apart is.head_is refl)
 
 pub show_says : (ring : Ring) (line : List ℕ) (pieces more : List (Vec Step Global)) (v : Vec Step Global) (u : List (Key × ℕ)) → pieces ≡ v ∷ more → AllByRecursion (IsWorkable ring line) pieces → IsWorth ring line v.items u
     → (w : Written) → IsLineOf heads.Show pieces w → Says (Some ring) line w (statements.Show u)
@@ -133,7 +134,7 @@ show_says ring line pieces more v u e able worth (show_line p) is =
     let head : v.items ≡ steps p = cc in
     let one = subst (λ l. AllByRecursion (IsWorkable ring line) l) e able in
     polynomial_of ring line p v u head one.0 worth
-show_says ring line pieces more v u e able worth _ is = let h = is.head_is in absurd cc
+show_says ring line pieces more v u e able worth _ is = absurd (heads_apart is.head_is refl)
 
 pub ideal_says : (ring : Ring) (line : List ℕ) (pieces : List (Vec Step Global)) (given : Token) (name : _) (us : List (List (Key × ℕ))) → string_bytes name ≡ text_of line given → AllByRecursion (IsWorkable ring line) pieces → AreWorths ring line pieces us
     → (w : Written) → IsLineOf (heads.Ideal given) pieces w → Says (Some ring) line w (statements.Ideal name us)
@@ -141,7 +142,7 @@ ideal_says ring line pieces given name us e able worths (ideal_line t ps) is =
     let h = is.head_is in
     let same : given ≡ t = cc in
     (e ∙ ap (text_of line) same, polynomials_are ring line pieces ps us is.steps_are able worths)
-ideal_says ring line pieces given name us e able worths _ is = let h = is.head_is in absurd cc
+ideal_says ring line pieces given name us e able worths _ is = absurd (heads_apart is.head_is refl)
 
 pub normal_says : (ring : Ring) (line : List ℕ) (pieces : List (Vec Step Global)) (value : Token) (name : _) (u : List (Key × ℕ)) → string_bytes name ≡ text_of line value
     → IsVectorOver ring (ring_comparison ring) u → HasPositions (length pieces) u → StandsForEntries ring line pieces u
@@ -152,7 +153,7 @@ normal_says ring line pieces value name u e vector positions stands (divide_line
     (e ∙ ap (text_of line) same, vector_is ring line pieces ps u is.steps_are vector positions stands)
 normal_says ring line pieces value name u e vector positions stands (divide_line Member t ps) is = let h = is.head_is in absurd cc
 normal_says ring line pieces value name u e vector positions stands (divide_line Lift t ps) is = let h = is.head_is in absurd cc
-normal_says ring line pieces value name u e vector positions stands _ is = let h = is.head_is in absurd cc
+normal_says ring line pieces value name u e vector positions stands _ is = absurd (heads_apart is.head_is refl)
 
 pub member_says : (ring : Ring) (line : List ℕ) (pieces : List (Vec Step Global)) (value : Token) (name : _) (u : List (Key × ℕ)) → string_bytes name ≡ text_of line value
     → IsVectorOver ring (ring_comparison ring) u → HasPositions (length pieces) u → StandsForEntries ring line pieces u
@@ -163,7 +164,7 @@ member_says ring line pieces value name u e vector positions stands (divide_line
     (e ∙ ap (text_of line) same, vector_is ring line pieces ps u is.steps_are vector positions stands)
 member_says ring line pieces value name u e vector positions stands (divide_line NormalForm t ps) is = let h = is.head_is in absurd cc
 member_says ring line pieces value name u e vector positions stands (divide_line Lift t ps) is = let h = is.head_is in absurd cc
-member_says ring line pieces value name u e vector positions stands _ is = let h = is.head_is in absurd cc
+member_says ring line pieces value name u e vector positions stands _ is = absurd (heads_apart is.head_is refl)
 
 pub lift_says : (ring : Ring) (line : List ℕ) (pieces : List (Vec Step Global)) (value : Token) (name : _) (u : List (Key × ℕ)) → string_bytes name ≡ text_of line value
     → IsVectorOver ring (ring_comparison ring) u → HasPositions (length pieces) u → StandsForEntries ring line pieces u
@@ -174,7 +175,7 @@ lift_says ring line pieces value name u e vector positions stands (divide_line L
     (e ∙ ap (text_of line) same, vector_is ring line pieces ps u is.steps_are vector positions stands)
 lift_says ring line pieces value name u e vector positions stands (divide_line NormalForm t ps) is = let h = is.head_is in absurd cc
 lift_says ring line pieces value name u e vector positions stands (divide_line Member t ps) is = let h = is.head_is in absurd cc
-lift_says ring line pieces value name u e vector positions stands _ is = let h = is.head_is in absurd cc
+lift_says ring line pieces value name u e vector positions stands _ is = absurd (heads_apart is.head_is refl)
 
 -- ---- modules
 
@@ -230,7 +231,7 @@ module_says ring line pieces given rank shape name r us e n fits worths (module_
     let passes = module_passes (value_of line s) vectors (length pieces) (subst (λ x. module_fits (value_of line s) x (length pieces) ≡ true) shapes_are (subst (λ x. module_fits (value_of line x) shape (length pieces) ≡ true) ranks fits)) in
     let number : r ≡ value_of line s = n ∙ ap (value_of line) ranks in
     (e ∙ ap (text_of line) same, number, vectors_are ring line (value_of line s) passes.0 pieces vectors us is.steps_are passes.1 (subst (λ k. AreVectorWorths ring line k pieces us) number worths))
-module_says ring line pieces given rank shape name r us e n fits worths _ is = let h = is.head_is in absurd cc
+module_says ring line pieces given rank shape name r us e n fits worths _ is = absurd (heads_apart is.head_is refl)
 
 -- the vectors that are worked out, one behind the other
 pub record AreChunks (ring : Ring) (line : List ℕ) (rank : ℕ) (all rest : List (Vec Step Global)) (list : List (List (Key × ℕ))) : Type 0 where

@@ -1,7 +1,8 @@
 -- The tests of a line's names, ranks and degrees
 use Rattle.std.proofs.Common.{◌≡◌, ℕ, zero, suc, ◌+◌, ◌<◌, ◌≤◌, ◌⊎◌, inl, inr, cond, nat_eq, Bool, true, false, List, [], ◌∷◌, length, map, Option, Some, None, Vec, Global, refl, sym, ap, ap₂, subst, ◌∙◌, arith}
 use Rattle.std.proofs.lemmas.List.{length-map}
-use Rattle.std.proofs.lemmas.Bool.Decides.{nat_tests}
+use Rattle.std.proofs.lemmas.Bool.{eqb-false, eqb-true, false≢true, leb-false, leb-true}
+use Rattle.std.proofs.lemmas.Option.{same_Some}
 use Rattle.std.specs.Cmp.Lexicographic.{pointwise, same_text, other_text}
 use Rattle.std.specs.List.{list_all}
 use Rattle.std.specs.Option.{option_map}
@@ -135,26 +136,26 @@ operand_places_are (syzygies value) = refl
 places_are : (w : Written) (head : Head) → head_of w ≡ Some head → places head ≡ value_places w
 places_are nothing head e = absurd cc
 places_are (ring_line r) head e = absurd cc
-places_are (show_line p) head e = let is : heads.Show ≡ head = cc in ap places (sym is)
-places_are (ideal_line given ps) head e = let is : heads.Ideal given ≡ head = cc in ap places (sym is)
-places_are (module_line given rank vectors) head e = let is : heads.Module given rank (shape_behind Empty vectors) ≡ head = cc in ap places (sym is)
-places_are (let_line given operation) head e = let is : heads.Let given (operands_of operation) ≡ head = cc in ap places (sym is) ∙ operand_places_are operation
-places_are (ask_line question value) head e = let is : heads.Ask question value ≡ head = cc in ap places (sym is)
-places_are (divide_line division value ps) head e = let is : heads.Divide division value ≡ head = cc in ap places (sym is)
-places_are (equal_line left right) head e = let is : heads.Equal left right ≡ head = cc in ap places (sym is)
-places_are (change_line value order) head e = let is : heads.Change value order ≡ head = cc in ap places (sym is)
+places_are (show_line p) head e = let is : heads.Show ≡ head = same_Some _ _ e in ap places (sym is)
+places_are (ideal_line given ps) head e = let is : heads.Ideal given ≡ head = same_Some _ _ e in ap places (sym is)
+places_are (module_line given rank vectors) head e = let is : heads.Module given rank (shape_behind Empty vectors) ≡ head = same_Some _ _ e in ap places (sym is)
+places_are (let_line given operation) head e = let is : heads.Let given (operands_of operation) ≡ head = same_Some _ _ e in ap places (sym is) ∙ operand_places_are operation
+places_are (ask_line question value) head e = let is : heads.Ask question value ≡ head = same_Some _ _ e in ap places (sym is)
+places_are (divide_line division value ps) head e = let is : heads.Divide division value ≡ head = same_Some _ _ e in ap places (sym is)
+places_are (equal_line left right) head e = let is : heads.Equal left right ≡ head = same_Some _ _ e in ap places (sym is)
+places_are (change_line value order) head e = let is : heads.Change value order ≡ head = same_Some _ _ e in ap places (sym is)
 
 given_are : (w : Written) (head : Head) → head_of w ≡ Some head → given_name head ≡ given_by w
 given_are nothing head e = absurd cc
 given_are (ring_line r) head e = absurd cc
-given_are (show_line p) head e = let is : heads.Show ≡ head = cc in ap given_name (sym is)
-given_are (ideal_line given ps) head e = let is : heads.Ideal given ≡ head = cc in ap given_name (sym is)
-given_are (module_line given rank vectors) head e = let is : heads.Module given rank (shape_behind Empty vectors) ≡ head = cc in ap given_name (sym is)
-given_are (let_line given operation) head e = let is : heads.Let given (operands_of operation) ≡ head = cc in ap given_name (sym is)
-given_are (ask_line question value) head e = let is : heads.Ask question value ≡ head = cc in ap given_name (sym is)
-given_are (divide_line division value ps) head e = let is : heads.Divide division value ≡ head = cc in ap given_name (sym is)
-given_are (equal_line left right) head e = let is : heads.Equal left right ≡ head = cc in ap given_name (sym is)
-given_are (change_line value order) head e = let is : heads.Change value order ≡ head = cc in ap given_name (sym is)
+given_are (show_line p) head e = let is : heads.Show ≡ head = same_Some _ _ e in ap given_name (sym is)
+given_are (ideal_line given ps) head e = let is : heads.Ideal given ≡ head = same_Some _ _ e in ap given_name (sym is)
+given_are (module_line given rank vectors) head e = let is : heads.Module given rank (shape_behind Empty vectors) ≡ head = same_Some _ _ e in ap given_name (sym is)
+given_are (let_line given operation) head e = let is : heads.Let given (operands_of operation) ≡ head = same_Some _ _ e in ap given_name (sym is)
+given_are (ask_line question value) head e = let is : heads.Ask question value ≡ head = same_Some _ _ e in ap given_name (sym is)
+given_are (divide_line division value ps) head e = let is : heads.Divide division value ≡ head = same_Some _ _ e in ap given_name (sym is)
+given_are (equal_line left right) head e = let is : heads.Equal left right ≡ head = same_Some _ _ e in ap given_name (sym is)
+given_are (change_line value order) head e = let is : heads.Change value order ≡ head = same_Some _ _ e in ap given_name (sym is)
 
 some_rank : (o : Option ℕ) → is_some o ≡ true → (r : ℕ) × (o ≡ Some r)
 some_rank None e = absurd cc
@@ -165,23 +166,22 @@ no_rank None e h = let q = h.1 in cc
 no_rank (Some r) e h = cc
 
 ranks_differ : (o q : Option ℕ) → same_rank o q ≡ false → (r s : ℕ) × (o ≡ Some r) × (q ≡ Some s) × (r ≡ s → ⊥)
-ranks_differ (Some r) (Some s) e = (r, s, refl, refl, λ same. (let n : r ≡ s = same in grind (arith, nat_tests)))
+ranks_differ (Some r) (Some s) e = (r, s, refl, refl, eqb-false r s e)
 ranks_differ (Some r) None e = absurd cc
 ranks_differ None q e = absurd cc
 
 ranks_same : (o q : Option ℕ) (r s : ℕ) → same_rank o q ≡ true → o ≡ Some r → q ≡ Some s → r ≡ s
 ranks_same (Some a) (Some b) r s e f g =
-    let n : a ≡ b = grind (arith, nat_tests) in
-    let x : a ≡ r = cc in
-    let y : b ≡ s = cc in sym x ∙ n ∙ y
+    let n : a ≡ b = eqb-true a b e in
+    sym (same_Some _ _ f) ∙ n ∙ same_Some _ _ g
 ranks_same (Some a) None r s e f g = absurd cc
 ranks_same None q r s e f g = absurd cc
 
 many : (n m : ℕ) → n ≡ m → nat_le n 1000 ≡ false → 1000 < m
-many n m e f = let lt : 1000 < n = grind (arith, nat_tests) in omega arith
+many n m e f = subst (λ k. 1000 < k) e (leb-false n 1000 f)
 
 few : (n m : ℕ) → n ≡ m → nat_le n 1000 ≡ true → 1000 < m → ⊥
-few n m e f lt = let le : n ≤ 1000 = grind (arith, nat_tests) in omega arith
+few n m e f lt = let le : n ≤ 1000 = leb-true n 1000 f in omega arith
 
 -- the tests of an operation
 
@@ -238,47 +238,47 @@ other_rank_of : (names : List NameInfo) (line : List ℕ) (w : Written) (head : 
 other_rank_of names line nothing head count e n f = absurd cc
 other_rank_of names line (ring_line r) head count e n f = absurd cc
 other_rank_of names line (show_line p) head count e n f =
-    let is : head ≡ heads.Show = cc in let no : true ≡ false = subst (λ h. rank_fits names line h count ≡ false) is f in absurd cc
+    let is : head ≡ heads.Show = sym (same_Some _ _ e) in let no : true ≡ false = subst (λ h. rank_fits names line h count ≡ false) is f in absurd (false≢true (sym no))
 other_rank_of names line (ideal_line given ps) head count e n f =
-    let is : head ≡ heads.Ideal given = cc in many count (length ps) n (subst (λ h. rank_fits names line h count ≡ false) is f)
+    let is : head ≡ heads.Ideal given = sym (same_Some _ _ e) in many count (length ps) n (subst (λ h. rank_fits names line h count ≡ false) is f)
 other_rank_of names line (module_line given rank vectors) head count e n f =
-    let is : head ≡ heads.Module given rank (shape_behind Empty vectors) = cc in
+    let is : head ≡ heads.Module given rank (shape_behind Empty vectors) = sym (same_Some _ _ e) in
     vectors_other (value_of line rank) vectors count n (subst (λ h. rank_fits names line h count ≡ false) is f)
 other_rank_of names line (let_line given operation) head count e n f =
-    let is : head ≡ heads.Let given (operands_of operation) = cc in
+    let is : head ≡ heads.Let given (operands_of operation) = sym (same_Some _ _ e) in
     other_operands_of names line operation (subst (λ h. rank_fits names line h count ≡ false) is f)
 other_rank_of names line (ask_line question value) head count e n f =
-    let is : head ≡ heads.Ask question value = cc in let no : true ≡ false = subst (λ h. rank_fits names line h count ≡ false) is f in absurd cc
+    let is : head ≡ heads.Ask question value = sym (same_Some _ _ e) in let no : true ≡ false = subst (λ h. rank_fits names line h count ≡ false) is f in absurd (false≢true (sym no))
 other_rank_of names line (divide_line division value ps) head count e n f =
-    let is : head ≡ heads.Divide division value = cc in
+    let is : head ≡ heads.Divide division value = sym (same_Some _ _ e) in
     let d = ranks_differ (rank_named names (text_of line value)) (Some count) (subst (λ h. rank_fits names line h count ≡ false) is f) in
     (d.0, d.2, λ same. d.4 (let c : count ≡ d.1 = (let q = d.3 in cc) in sym same ∙ sym n ∙ c))
 other_rank_of names line (equal_line left right) head count e n f =
-    let is : head ≡ heads.Equal left right = cc in
+    let is : head ≡ heads.Equal left right = sym (same_Some _ _ e) in
     ranks_differ (rank_named names (text_of line left)) (rank_named names (text_of line right)) (subst (λ h. rank_fits names line h count ≡ false) is f)
 other_rank_of names line (change_line value order) head count e n f =
-    let is : head ≡ heads.Change value order = cc in
+    let is : head ≡ heads.Change value order = sym (same_Some _ _ e) in
     let d = ranks_differ (rank_named names (text_of line value)) (Some 1) (subst (λ h. rank_fits names line h count ≡ false) is f) in
     (d.0, d.2, λ one. d.4 (let c : 1 ≡ d.1 = (let q = d.3 in cc) in one ∙ c))
 
 right_rank_of : (names : List NameInfo) (line : List ℕ) (w : Written) (head : Head) (count : ℕ) → head_of w ≡ Some head → count ≡ length (polys_of w) → rank_fits names line head count ≡ true → HasOtherRank names line w → ⊥
 right_rank_of names line (ideal_line given ps) head count e n f h =
-    let is : head ≡ heads.Ideal given = cc in few count (length ps) n (subst (λ d. rank_fits names line d count ≡ true) is f) h
+    let is : head ≡ heads.Ideal given = sym (same_Some _ _ e) in few count (length ps) n (subst (λ d. rank_fits names line d count ≡ true) is f) h
 right_rank_of names line (module_line given rank vectors) head count e n f h =
-    let is : head ≡ heads.Module given rank (shape_behind Empty vectors) = cc in
+    let is : head ≡ heads.Module given rank (shape_behind Empty vectors) = sym (same_Some _ _ e) in
     vectors_fit (value_of line rank) vectors count n (subst (λ d. rank_fits names line d count ≡ true) is f) h
 right_rank_of names line (let_line given operation) head count e n f h =
-    let is : head ≡ heads.Let given (operands_of operation) = cc in
+    let is : head ≡ heads.Let given (operands_of operation) = sym (same_Some _ _ e) in
     no_other_operands names line operation (subst (λ d. rank_fits names line d count ≡ true) is f) h
 right_rank_of names line (divide_line division value ps) head count e n f h =
-    let is : head ≡ heads.Divide division value = cc in
+    let is : head ≡ heads.Divide division value = sym (same_Some _ _ e) in
     let same = ranks_same (rank_named names (text_of line value)) (Some count) h.0 count (subst (λ d. rank_fits names line d count ≡ true) is f) h.1 refl in
     h.2 (sym n ∙ sym same)
 right_rank_of names line (equal_line left right) head count e n f h =
-    let is : head ≡ heads.Equal left right = cc in
+    let is : head ≡ heads.Equal left right = sym (same_Some _ _ e) in
     h.4 (ranks_same (rank_named names (text_of line left)) (rank_named names (text_of line right)) h.0 h.1 (subst (λ d. rank_fits names line d count ≡ true) is f) h.2 h.3)
 right_rank_of names line (change_line value order) head count e n f h =
-    let is : head ≡ heads.Change value order = cc in
+    let is : head ≡ heads.Change value order = sym (same_Some _ _ e) in
     h.2 (ranks_same (rank_named names (text_of line value)) (Some 1) h.0 1 (subst (λ d. rank_fits names line d count ≡ true) is f) h.1 refl)
 right_rank_of names line _ head count e n f h = h
 
@@ -286,27 +286,27 @@ right_rank_of names line _ head count e n f h = h
 
 other_factor : (names : List NameInfo) (line : List ℕ) (w : Written) (head : Head) → head_of w ≡ Some head → factor_fits names line head ≡ false → HasOtherFactor names line w
 other_factor names line (let_line given operation) head e f =
-    let is : head ≡ heads.Let given (operands_of operation) = cc in other_factor_of names line given operation (subst (λ h. factor_fits names line h ≡ false) is f)
+    let is : head ≡ heads.Let given (operands_of operation) = sym (same_Some _ _ e) in other_factor_of names line given operation (subst (λ h. factor_fits names line h ≡ false) is f)
 other_factor names line nothing head e f = absurd cc
 other_factor names line (ring_line r) head e f = absurd cc
 other_factor names line (show_line p) head e f =
-    let is : head ≡ heads.Show = cc in let no : true ≡ false = subst (λ h. factor_fits names line h ≡ false) is f in absurd cc
+    let is : head ≡ heads.Show = sym (same_Some _ _ e) in let no : true ≡ false = subst (λ h. factor_fits names line h ≡ false) is f in absurd (false≢true (sym no))
 other_factor names line (ideal_line given ps) head e f =
-    let is : head ≡ heads.Ideal given = cc in let no : true ≡ false = subst (λ h. factor_fits names line h ≡ false) is f in absurd cc
+    let is : head ≡ heads.Ideal given = sym (same_Some _ _ e) in let no : true ≡ false = subst (λ h. factor_fits names line h ≡ false) is f in absurd (false≢true (sym no))
 other_factor names line (module_line given rank vectors) head e f =
-    let is : head ≡ heads.Module given rank (shape_behind Empty vectors) = cc in let no : true ≡ false = subst (λ h. factor_fits names line h ≡ false) is f in absurd cc
+    let is : head ≡ heads.Module given rank (shape_behind Empty vectors) = sym (same_Some _ _ e) in let no : true ≡ false = subst (λ h. factor_fits names line h ≡ false) is f in absurd (false≢true (sym no))
 other_factor names line (ask_line question value) head e f =
-    let is : head ≡ heads.Ask question value = cc in let no : true ≡ false = subst (λ h. factor_fits names line h ≡ false) is f in absurd cc
+    let is : head ≡ heads.Ask question value = sym (same_Some _ _ e) in let no : true ≡ false = subst (λ h. factor_fits names line h ≡ false) is f in absurd (false≢true (sym no))
 other_factor names line (divide_line division value ps) head e f =
-    let is : head ≡ heads.Divide division value = cc in let no : true ≡ false = subst (λ h. factor_fits names line h ≡ false) is f in absurd cc
+    let is : head ≡ heads.Divide division value = sym (same_Some _ _ e) in let no : true ≡ false = subst (λ h. factor_fits names line h ≡ false) is f in absurd (false≢true (sym no))
 other_factor names line (equal_line left right) head e f =
-    let is : head ≡ heads.Equal left right = cc in let no : true ≡ false = subst (λ h. factor_fits names line h ≡ false) is f in absurd cc
+    let is : head ≡ heads.Equal left right = sym (same_Some _ _ e) in let no : true ≡ false = subst (λ h. factor_fits names line h ≡ false) is f in absurd (false≢true (sym no))
 other_factor names line (change_line value order) head e f =
-    let is : head ≡ heads.Change value order = cc in let no : true ≡ false = subst (λ h. factor_fits names line h ≡ false) is f in absurd cc
+    let is : head ≡ heads.Change value order = sym (same_Some _ _ e) in let no : true ≡ false = subst (λ h. factor_fits names line h ≡ false) is f in absurd (false≢true (sym no))
 
 right_factor : (names : List NameInfo) (line : List ℕ) (w : Written) (head : Head) → head_of w ≡ Some head → factor_fits names line head ≡ true → HasOtherFactor names line w → ⊥
 right_factor names line (let_line given operation) head e f h =
-    let is : head ≡ heads.Let given (operands_of operation) = cc in no_other_factor names line given operation (subst (λ d. factor_fits names line d ≡ true) is f) h
+    let is : head ≡ heads.Let given (operands_of operation) = sym (same_Some _ _ e) in no_other_factor names line given operation (subst (λ d. factor_fits names line d ≡ true) is f) h
 right_factor names line _ head e f h = h
 
 order_outside : (ring : Ring) (line : List ℕ) (order : OrderName) → order_eliminates (length ring.vars) line order ≡ false → HasElimOutside (Some ring) line order
@@ -321,30 +321,30 @@ order_not_outside ring line Grevlex e h = h
 
 outside : (ring : Ring) (line : List ℕ) (w : Written) (head : Head) → head_of w ≡ Some head → elimination_fits (length ring.vars) line head ≡ false → LacksRing (Some ring) line w
 outside ring line (let_line given operation) head e f =
-    let is : head ≡ heads.Let given (operands_of operation) = cc in outside_of ring line given operation (subst (λ h. elimination_fits (length ring.vars) line h ≡ false) is f)
+    let is : head ≡ heads.Let given (operands_of operation) = sym (same_Some _ _ e) in outside_of ring line given operation (subst (λ h. elimination_fits (length ring.vars) line h ≡ false) is f)
 outside ring line nothing head e f = absurd cc
 outside ring line (ring_line r) head e f = absurd cc
 outside ring line (show_line p) head e f =
-    let is : head ≡ heads.Show = cc in let no : true ≡ false = subst (λ h. elimination_fits (length ring.vars) line h ≡ false) is f in absurd cc
+    let is : head ≡ heads.Show = sym (same_Some _ _ e) in let no : true ≡ false = subst (λ h. elimination_fits (length ring.vars) line h ≡ false) is f in absurd (false≢true (sym no))
 outside ring line (ideal_line given ps) head e f =
-    let is : head ≡ heads.Ideal given = cc in let no : true ≡ false = subst (λ h. elimination_fits (length ring.vars) line h ≡ false) is f in absurd cc
+    let is : head ≡ heads.Ideal given = sym (same_Some _ _ e) in let no : true ≡ false = subst (λ h. elimination_fits (length ring.vars) line h ≡ false) is f in absurd (false≢true (sym no))
 outside ring line (module_line given rank vectors) head e f =
-    let is : head ≡ heads.Module given rank (shape_behind Empty vectors) = cc in let no : true ≡ false = subst (λ h. elimination_fits (length ring.vars) line h ≡ false) is f in absurd cc
+    let is : head ≡ heads.Module given rank (shape_behind Empty vectors) = sym (same_Some _ _ e) in let no : true ≡ false = subst (λ h. elimination_fits (length ring.vars) line h ≡ false) is f in absurd (false≢true (sym no))
 outside ring line (ask_line question value) head e f =
-    let is : head ≡ heads.Ask question value = cc in let no : true ≡ false = subst (λ h. elimination_fits (length ring.vars) line h ≡ false) is f in absurd cc
+    let is : head ≡ heads.Ask question value = sym (same_Some _ _ e) in let no : true ≡ false = subst (λ h. elimination_fits (length ring.vars) line h ≡ false) is f in absurd (false≢true (sym no))
 outside ring line (divide_line division value ps) head e f =
-    let is : head ≡ heads.Divide division value = cc in let no : true ≡ false = subst (λ h. elimination_fits (length ring.vars) line h ≡ false) is f in absurd cc
+    let is : head ≡ heads.Divide division value = sym (same_Some _ _ e) in let no : true ≡ false = subst (λ h. elimination_fits (length ring.vars) line h ≡ false) is f in absurd (false≢true (sym no))
 outside ring line (equal_line left right) head e f =
-    let is : head ≡ heads.Equal left right = cc in let no : true ≡ false = subst (λ h. elimination_fits (length ring.vars) line h ≡ false) is f in absurd cc
+    let is : head ≡ heads.Equal left right = sym (same_Some _ _ e) in let no : true ≡ false = subst (λ h. elimination_fits (length ring.vars) line h ≡ false) is f in absurd (false≢true (sym no))
 outside ring line (change_line value order) head e f =
-    let is : head ≡ heads.Change value order = cc in inr (order_outside ring line order (subst (λ h. elimination_fits (length ring.vars) line h ≡ false) is f))
+    let is : head ≡ heads.Change value order = sym (same_Some _ _ e) in inr (order_outside ring line order (subst (λ h. elimination_fits (length ring.vars) line h ≡ false) is f))
 
 inside : (ring : Ring) (line : List ℕ) (w : Written) (head : Head) → head_of w ≡ Some head → elimination_fits (length ring.vars) line head ≡ true → LacksRing (Some ring) line w → ⊥
 inside ring line (let_line given operation) head e f h =
-    let is : head ≡ heads.Let given (operands_of operation) = cc in not_outside ring line given operation (subst (λ d. elimination_fits (length ring.vars) line d ≡ true) is f) h
+    let is : head ≡ heads.Let given (operands_of operation) = sym (same_Some _ _ e) in not_outside ring line given operation (subst (λ d. elimination_fits (length ring.vars) line d ≡ true) is f) h
 inside ring line (change_line value order) head e f (inl h) = absurd cc
 inside ring line (change_line value order) head e f (inr h) =
-    let is : head ≡ heads.Change value order = cc in order_not_outside ring line order (subst (λ d. elimination_fits (length ring.vars) line d ≡ true) is f) h
+    let is : head ≡ heads.Change value order = sym (same_Some _ _ e) in order_not_outside ring line order (subst (λ d. elimination_fits (length ring.vars) line d ≡ true) is f) h
 inside ring line nothing head e f h = h
 inside ring line (ring_line r) head e f h = absurd cc
 inside ring line _ head e f h = absurd cc

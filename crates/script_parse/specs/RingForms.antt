@@ -32,6 +32,21 @@ token_of Name (name t) = Some t
 token_of Number (number t) = Some t
 token_of _ _ = None
 
+-- a token, if there is one, before what stands behind it
+abbrev pub item_before : Option Token → List Lexeme → Option (Token × List Lexeme)
+item_before None xs = None
+item_before (Some t) xs = Some (t, xs)
+
+-- the token that stands first, and what stands behind it
+abbrev pub item_first : (Lexeme → Option Token) → List Lexeme → Option (Token × List Lexeme)
+item_first pick [] = None
+item_first pick (x ∷ xs) = item_before (pick x) xs
+
+-- whether a comma stands first
+abbrev pub begins_with_comma : List Lexeme → Bool
+begins_with_comma (comma ∷ xs) = true
+begins_with_comma _ = false
+
 -- { , X } as far as it goes, and what stands behind it
 abbrev pub list_behind : (Lexeme → Option Token) → List Lexeme → Option (List Token × List Lexeme)
 list_behind pick [] = Some ([], [])

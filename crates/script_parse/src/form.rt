@@ -19,7 +19,7 @@ use script_tokens::{Token, TokenKind};
 use std::alloc::Global;
 
 /// The word of a question on a value.
-#[derive(Clone, Copy, Debug, PartialEq, Eq)]
+#[derive(Clone, Copy)]
 pub enum Question {
     /// `gens`
     Gens,
@@ -40,7 +40,7 @@ pub enum Question {
 }
 
 /// The word of a division of a vector by a value.
-#[derive(Clone, Copy, Debug, PartialEq, Eq)]
+#[derive(Clone, Copy)]
 pub enum Division {
     /// `nf`
     NormalForm,
@@ -51,7 +51,7 @@ pub enum Division {
 }
 
 /// The word and the names of a line that needs a ring, without its polynomials.
-#[derive(Clone, Copy, Debug)]
+#[derive(Clone, Copy)]
 pub enum Head {
     /// `show`
     Show,
@@ -72,7 +72,7 @@ pub enum Head {
 }
 
 /// A line as it is written.
-#[derive(Debug, Drop)]
+#[derive(Drop)]
 pub enum Form {
     /// A blank line.
     Nothing,

@@ -16,7 +16,7 @@ use script_tokens::Token;
 use std::alloc::Global;
 
 /// The word of an operation on two values.
-#[derive(Clone, Copy, Debug, PartialEq, Eq)]
+#[derive(Clone, Copy)]
 pub enum Binary {
     /// `sum`
     Sum,
@@ -29,7 +29,7 @@ pub enum Binary {
 }
 
 /// The word of an operation on a value by a polynomial.
-#[derive(Clone, Copy, Debug, PartialEq, Eq)]
+#[derive(Clone, Copy)]
 pub enum ByPolynomial {
     /// `quotient`
     Quotient,
@@ -38,7 +38,7 @@ pub enum ByPolynomial {
 }
 
 /// An operation, by the names of its values and without its polynomial.
-#[derive(Clone, Copy, Debug)]
+#[derive(Clone, Copy)]
 pub enum Operands {
     /// Two values.
     Two(Binary, Token, Token),

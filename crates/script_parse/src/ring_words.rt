@@ -1,12 +1,12 @@
 //! What stands behind `ring`, before a name or a number is looked at.
 
-ghost use Rattle.std.specs.Prelude.{◌≡◌, ◌⊎◌, Some, None, map, IfSome, IfNone};
+ghost use Rattle.std.specs.Prelude.{◌≡◌, ◌∷◌, ◌⊎◌, Some, None, false, map, IfSome, IfNone};
 ghost use Rattle.script_tokens.specs.declared.token.TokenKind.TheVariants.{Name, Number};
-ghost use Rattle.poly_grammar.specs.Lexemes.{lexeme};
+ghost use Rattle.poly_grammar.specs.Lexemes.{comma, lexeme};
 ghost use Rattle.poly_grammar.specs.Machine.{Gives};
 ghost use Rattle.script_parse.specs.Written.{IsOrder};
 ghost use Rattle.script_parse.specs.declared.ring_words.OrderName.{OrderName as OrderValue};
-ghost use Rattle.script_parse.specs.RingForms.{elim_first, list_first, list_view, order_first, ring_line_of, ring_of, token_of, top_first, weights_of};
+ghost use Rattle.script_parse.specs.RingForms.{begins_with_comma, elim_first, item_first, list_first, list_view, order_first, ring_line_of, ring_of, token_of, top_first, weights_of};
 
 use crate::words::is_word;
 use poly_grammar::ReadStop;
@@ -14,7 +14,7 @@ use script_tokens::{Token, TokenKind};
 use std::alloc::Global;
 
 /// The order of a ring line, by its word.
-#[derive(Clone, Copy, Debug, PartialEq, Eq)]
+#[derive(Clone, Copy)]
 pub enum OrderName {
     /// `lex`
     Lex,
@@ -25,7 +25,7 @@ pub enum OrderName {
 }
 
 /// A ring line as it is written.
-#[derive(Debug, Drop)]
+#[derive(Drop)]
 pub struct RingForm {
     pub modulus: Token,
     /// The names of its variables, of which there is one at least.
@@ -37,6 +37,35 @@ pub struct RingForm {
     pub weights: Vec<Token>,
 }
 
+/// The token of the kind that stands first, and what stands behind it.
+fn item_first(kind: TokenKind, tokens: &[Token]) -> Option<(Token, &[Token])>
+    requires { (kind ≡ Name) ⊎ (kind ≡ Number) }
+    ensures found { IfSome result (λ f. item_first (token_of kind) (map lexeme tokens.now) ≡ Some (f.0, map lexeme f.1.now)) }
+    ensures none { IfNone result (item_first (token_of kind) (map lexeme tokens.now) ≡ None) }
+{
+    let Some((first, behind)) = tokens.split_first() else {
+        return None;
+    };
+    if first.kind != kind {
+        return None;
+    }
+    Some((*first, behind))
+}
+
+/// What stands behind a comma, where it stands first.
+fn behind_comma(tokens: &[Token]) -> Option<&[Token]>
+    ensures found { IfSome result (λ rest. map lexeme tokens.now ≡ comma ∷ map lexeme rest.now) }
+    ensures none { IfNone result (begins_with_comma (map lexeme tokens.now) ≡ false) }
+{
+    let Some((sign, behind)) = tokens.split_first() else {
+        return None;
+    };
+    let TokenKind::Comma = sign.kind else {
+        return None;
+    };
+    Some(behind)
+}
+
 /// Names or numbers with commas between them, as far as they go, and what stands behind them.
 fn listed(
     alloc: Global,
@@ -46,26 +75,17 @@ fn listed(
     requires { (kind ≡ Name) ⊎ (kind ≡ Number) }
     ensures { Gives (λ found. list_view found.0 found.1.now) result (list_first (token_of kind) (map lexeme tokens.now)) }
 {
-    let Some((first, behind)) = tokens.split_first() else {
+    let Some((first, behind)) = item_first(kind, tokens) else {
         return Err(ReadStop::Syntax);
     };
-    if first.kind != kind {
-        return Err(ReadStop::Syntax);
-    }
     let mut found = Vec::new(alloc);
-    found.push(*first)?;
+    found.push(first)?;
     let mut rest = behind;
-    while let Some((comma, after)) = rest.split_first() {
-        if comma.kind != TokenKind::Comma {
-            return Ok((found, rest));
-        }
-        let Some((item, more)) = after.split_first() else {
+    while let Some(after) = behind_comma(rest) {
+        let Some((item, more)) = item_first(kind, after) else {
             return Err(ReadStop::Syntax);
         };
-        if item.kind != kind {
-            return Err(ReadStop::Syntax);
-        }
-        found.push(*item)?;
+        found.push(item)?;
         rest = more;
     }
     Ok((found, rest))

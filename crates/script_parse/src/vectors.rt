@@ -10,7 +10,7 @@ use script_tokens::{Token, TokenKind};
 use std::alloc::Global;
 
 /// How many entries the vectors of a list have.
-#[derive(Clone, Copy, Debug, PartialEq, Eq)]
+#[derive(Clone, Copy)]
 pub enum Shape {
     /// There is no vector.
     Empty,

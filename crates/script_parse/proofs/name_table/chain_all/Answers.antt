@@ -1,0 +1,17 @@
+use Rattle.std.proofs.Common.{ap, arith, get_or, refl, ◌∙◌}
+use Rattle.script_parse.proofs.Chains.{chained_goes}
+use Rattle.script_parse.specs.Hashes.{bucket_of}
+use Rattle.script_parse.proofs.name_table.chain_all.Goals as goal
+
+pub loop-i-preserved : goal.loop-i-preserved
+loop-i-preserved c =
+    let hashes = c.args.hashes.now in
+    let last = c.loop-i.last in
+    let earlier = c.loop-i.earlier in
+    record {
+      chained = chained_goes last.len c.loop-i.i c.bucket-at.result c.index.result.now hashes earlier.items last.items _ _ c.loop-i.invariant.chained
+          (c.bucket-at.ensures.value ∙ ap (λ m. bucket_of m (get_or hashes c.loop-i.i 0)) c.len.ensures) (omega (arith, c.bucket-at.ensures.within, c.len.ensures)) (omega (arith, last.ok.0))
+          (omega (arith, c.loop-i.invariant.lengths, c.loop-i-test.true, earlier.ok.0)) c.index.ensures refl refl;
+      count = c.loop-i.invariant.count;
+      lengths = c.loop-i.invariant.lengths;
+    }
