@@ -6,7 +6,8 @@ ghost use Rattle.poly_grammar.specs.Lexemes.{comma, lexeme};
 ghost use Rattle.poly_grammar.specs.Machine.{Gives};
 ghost use Rattle.script_parse.specs.Written.{IsOrder};
 ghost use Rattle.script_parse.specs.declared.ring_words.OrderName.{OrderName as OrderValue};
-ghost use Rattle.script_parse.specs.RingForms.{begins_with_comma, elim_first, item_first, list_first, list_view, order_first, ring_line_of, ring_of, token_of, top_first, weights_of};
+ghost use Rattle.script_parse.specs.RingForms.{begins_with_comma, elim_first, item_first, list_first, list_view, order_first, ring_line_of};
+ghost use Rattle.script_parse.specs.RingForms.{ring_of, token_of, top_first, weights_of};
 
 use crate::words::is_word;
 use poly_grammar::ReadStop;
