@@ -1,6 +1,5 @@
 // Minimal resolutions of values, and what is read off them.
-ghost use Rattle.std.specs.Fmt.{signed_decimal};
-ghost use Rattle.std.specs.Prelude.{◌≡◌, ◌++◌, ◌∷◌, IfErr, IfOk, List, OnErr, OnOk, false, true, ℕ};
+ghost use Rattle.std.specs.Prelude.{◌≡◌, ◌++◌, IfErr, IfOk, List, OnErr, OnOk, false, true, ℕ};
 ghost use Rattle.formal_sums.specs.FormalSums.{Each};
 ghost use Rattle.groebner_iface.specs.Runs.{IsReducedBasisOf};
 ghost use Rattle.minimal_betti.specs.Tables.{IsTable};
@@ -13,11 +12,10 @@ ghost use Rattle.session_lang.specs.declared.reports.Report.TheVariants as repor
 
 use crate::resolving::append_resolution;
 use crate::step::Step;
-use crate::texts::whole_or_none;
+use crate::texts::{append_number, whole_or_none};
 use itoa::Buffer;
 use minimal_betti::{Entry, invariants, minimal, table};
 use module_vectors::{NoMemory, Ring, Vect, VectList, WorkStop, lawful_setting};
-use poly_text::push_number;
 use schreyer_resolution::{Resolution, resolve};
 use script_parse::{Kind, NameInfo};
 use std::alloc::Global;
@@ -193,18 +191,6 @@ fn measures_of(entries: &[Entry]) -> Measures
             dimension: -1,
             regularity: 0,
         },
-    }
-}
-
-// Appends a number behind a space. After an error what was written so far stands there.
-fn append_number(alloc: Global, out: &mut Vec<u8>, number: i128) -> Result<(), NoMemory>
-    ensures ok { OnOk result (out.new.items ≡ out.old.items ++ (32 ∷ signed_decimal number)) }
-    ensures err { OnErr result (IsFront out.old.items out.new.items) }
-{
-    out.push(b' ')?;
-    match push_number(alloc, out, number) {
-        Ok(()) => Ok(()),
-        Err(_) => Err(NoMemory),
     }
 }
 

@@ -1,6 +1,5 @@
 // Hilbert numerator, dimension and degree of a value.
-ghost use Rattle.std.specs.Prelude.{◌≡◌, ◌≤◌, ◌++◌, IfErr, IfOk, Bool, List, OnErr, OnOk, ℕ, string_bytes, ◌∷◌};
-ghost use Rattle.std.specs.Fmt.{signed_decimal};
+ghost use Rattle.std.specs.Prelude.{◌≡◌, ◌≤◌, ◌++◌, IfErr, IfOk, Bool, List, OnErr, OnOk, ℕ, string_bytes};
 ghost use Rattle.groebner_iface.specs.Runs.{IsReducedBasisOf};
 ghost use Rattle.hilbert_laws.specs.Dimensions.{HasDimension};
 ghost use Rattle.hilbert_series.specs.Large.{IsLarge};
@@ -15,7 +14,7 @@ ghost use Rattle.session_lang.specs.Reporting.{Reports, ReportsAs};
 ghost use Rattle.session_lang.specs.declared.reports.Report.TheVariants as reports;
 
 use crate::step::Step;
-use crate::texts::whole_or_none;
+use crate::texts::{append_number, whole_or_none};
 use hilbert_series::{HilbertStop, Series, dimension_degree, numerator};
 use module_vectors::{Key, NoMemory, Ring, VectList};
 use poly_text::push_number;
@@ -75,18 +74,6 @@ fn numbers_of(
     }
 }
 
-// Appends a coefficient behind a space. After an error what was written so far stands there.
-fn append_coefficient(alloc: Global, out: &mut Vec<u8>, k: i128) -> Result<(), NoMemory>
-    ensures ok { OnOk result (out.new.items ≡ out.old.items ++ (32 ∷ signed_decimal k)) }
-    ensures err { OnErr result (IsFront out.old.items out.new.items) }
-{
-    out.push(b' ')?;
-    match push_number(alloc, out, k) {
-        Ok(()) => Ok(()),
-        Err(_) => Err(NoMemory),
-    }
-}
-
 // Appends the coefficients. After an error what was written so far stands there.
 fn append_coefficients(
     alloc: Global,
@@ -101,7 +88,7 @@ fn append_coefficients(
         return Ok(());
     }
     for k in coefficients {
-        match append_coefficient(alloc, out, *k) {
+        match append_number(alloc, out, *k) {
             Ok(()) => {}
             Err(early) => return Err(early),
         }

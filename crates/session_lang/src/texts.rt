@@ -1,5 +1,6 @@
 // The lines that are printed of values.
 ghost use Rattle.std.specs.Prelude.{◌≡◌, ◌++◌, ◌∷◌, [], OnErr, OnOk, length, take};
+ghost use Rattle.std.specs.Fmt.{signed_decimal};
 ghost use Rattle.formal_sums.specs.FormalSums.{Each};
 ghost use Rattle.module_vectors.specs.Rings.{variables};
 ghost use Rattle.module_vectors.specs.Vectors.{HasVariables};
@@ -9,7 +10,7 @@ ghost use Rattle.session_lang.specs.Texts.{heading, verdict};
 
 use itoa::Buffer;
 use module_vectors::{NoMemory, Ring, Vect, VectList};
-use poly_text::{push_entries, push_list, push_vect};
+use poly_text::{push_entries, push_list, push_number, push_vect};
 use std::alloc::Global;
 
 /// Keeps what was written, and after an error only so many bytes as there were before.
@@ -46,6 +47,18 @@ pub fn append_heading(
     out.extend_from_slice(digits.format(count).as_bytes())?;
     out.push(b'\n')?;
     Ok(())
+}
+
+/// Appends a number behind a space. After an error what was written so far stands there.
+pub fn append_number(alloc: Global, out: &mut Vec<u8>, number: i128) -> Result<(), NoMemory>
+    ensures ok { OnOk result (out.new.items ≡ out.old.items ++ (32 ∷ signed_decimal number)) }
+    ensures err { OnErr result (IsFront out.old.items out.new.items) }
+{
+    out.push(b' ')?;
+    match push_number(alloc, out, number) {
+        Ok(()) => Ok(()),
+        Err(_) => Err(NoMemory),
+    }
 }
 
 // Appends a heading and a list. After an error what was written so far stands there.
