@@ -6,4 +6,5 @@ pub returns-clause-app : goal.returns-clause-app
 returns-clause-app c =
     c.in_ok-whole.ensures.shape c.number_option-3.ensures.local
     ∙ ap₂ with_rule (c.in_ok-counted.ensures.shape c.number_option-2.ensures.local
-    ∙ ap₂ with_rule (c.in_ok-arg.ensures.shape c.number_option.ensures.local ∙ ap₂ with_rule refl c.number_option.ensures.rule) c.number_option-2.ensures.rule) c.number_option-3.ensures.rule
+    ∙ ap₂ with_rule (c.in_ok-arg.ensures.shape c.number_option.ensures.local ∙ ap₂ with_rule refl c.number_option.ensures.rule)
+    c.number_option-2.ensures.rule) c.number_option-3.ensures.rule
