@@ -1,0 +1,10 @@
+-- Room for positions
+use Rattle.std.proofs.Common.{arith, subst, sym, ℕ, ◌*◌, ◌<◌, ◌≡◌, ◌≤◌}
+
+-- the positions of all blocks, by another name for their number
+pub blocks_room : (rank s count : ℕ) → s ≡ count → rank * count < 9223372036854775808 → rank * s < 9223372036854775808
+blocks_room rank s count e room = subst (λ z. rank * z < 9223372036854775808) (sym e) room
+
+-- the positions of one block are below their end
+pub block_room : (a rank s count : ℕ) → s ≡ count → a ≤ rank * s → rank * count < 9223372036854775808 → a < 9223372036854775808
+block_room a rank s count e le room = let all = blocks_room rank s count e room in omega (arith, le, all)
