@@ -6,3 +6,4 @@ mod Multiplied
 mod FrontBases
 mod OneMoreVariable
 mod Stacked
+mod Room

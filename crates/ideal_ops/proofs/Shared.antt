@@ -16,7 +16,7 @@ use Rattle.operation_laws.proofs.Plain.{eliminate_plain}
 use Rattle.operation_laws.proofs.RankFacts.{eliminated_rank}
 use Rattle.operation_laws.proofs.RunFacts.{run_of}
 use Rattle.operation_laws.proofs.Running.{lawful_elimination, run_generates, run_itself}
-use Rattle.operation_laws.specs.Operations.{IsCombinationOfKept, IsRun, eliminated, elimination_setting}
+use Rattle.operation_laws.specs.Operations.{IsCombinationOfKept, eliminated, elimination_setting}
 use Rattle.module_vectors.proofs.NormalVectors.{vector_positions}
 use Rattle.module_vectors.specs.Rings.{ring_comparison, setting, variables}
 use Rattle.module_vectors.specs.Vectors.{AreTermsOver, AreVectorsOver, HasPositions, HasVariables, IsVectorOver, StandsFor, sum_of, sums_of}

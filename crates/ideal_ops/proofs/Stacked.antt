@@ -1,5 +1,5 @@
 -- Vectors in blocks of positions, and the colon
-use Rattle.std.proofs.Common.{Err, IfErr, List, Ok, Option, Result, [], ap, append-nil, append_assoc, ap₂, arith, get_or, length, map, refl, subst, subst₂, suc, sym, take, zero, ℕ, ◌*◌, ◌++◌, ◌+◌, ◌<◌, ◌≤◌, ◌∙◌, ◌∷◌, ◌≡◌}
+use Rattle.std.proofs.Common.{Err, IfErr, List, Ok, Option, Result, [], ap, append-nil, append_assoc, ap₂, arith, get_or, length, map, refl, subst, subst₂, suc, sym, take, zero, ℕ, ◌*◌, ◌++◌, ◌+◌, ◌<◌, ◌∙◌, ◌∷◌, ◌≡◌}
 use Rattle.std.proofs.lemmas.List.{get_or_default, length-map, length-take-le, map-append}
 use Rattle.monomials.specs.Exponents.{exponents_of}
 use Rattle.formal_sums.proofs.Combining.{Each_map, IsMember_same, IsMember_through}

@@ -3,9 +3,9 @@ use Rattle.std.proofs.Common.{List, [], append-nil, arith, get_or, inl, inr, len
 use Rattle.monomials.specs.Exponents.{unit}
 use Rattle.formal_sums.proofs.Combining.{IsMember_itself, IsMember_same, IsMember_through}
 use Rattle.formal_sums.proofs.OfRank.{IsOfRank_of}
-use Rattle.formal_sums.proofs.Sameness.{IsSame_append, IsSame_refl, IsSame_scale, IsSame_sym, IsSame_trans}
+use Rattle.formal_sums.proofs.Sameness.{IsSame_append, IsSame_refl, IsSame_scale}
 use Rattle.formal_sums.specs.Combinations.{IsMember}
-use Rattle.formal_sums.specs.FormalSums.{Each, FormalSum, HasRank, IsOfRank, IsSame, coefficient, scale}
+use Rattle.formal_sums.specs.FormalSums.{Each, FormalSum, HasRank, IsSame, scale}
 use Rattle.residues.proofs.Congruences.{IsCongruent_sym, IsCongruent_trans}
 use Rattle.bases.proofs.Leading.{positive}
 use Rattle.bases.proofs.Normalizing.{normal_exists}
@@ -16,7 +16,6 @@ use Rattle.division_laws.proofs.Remainders.{normal_form_of_member}
 use Rattle.operation_laws.proofs.Dividing.{remainder_exists}
 use Rattle.operation_laws.proofs.Linear.{Each_at}
 use Rattle.operation_laws.proofs.RunFacts.{run_of}
-use Rattle.operation_laws.proofs.Running.{run_generates}
 use Rattle.operation_laws.specs.Lifts.{IsRemainder}
 use Rattle.operation_laws.specs.Operations.{IsRun}
 use Rattle.module_vectors.specs.Rings.{ring_comparison, setting, variables}

@@ -154,7 +154,7 @@ fn with_inverses(
     ensures { (f : FormalSum (variables ring.now))
         → StandsFor (front_ring ring.now) w.now (scale (ring.now.modulus.value - 1) (first_variable (variables ring.now)) (with_first f))
         → IfOk result (AreVectorsFor (front_ring ring.now)
-            (saturation_list ring.now.modulus.value rank f (sums_of (variables ring.now) list.now))) }
+        (saturation_list ring.now.modulus.value rank f (sums_of (variables ring.now) list.now))) }
 {
     let first = all_in_front(alloc, ring, front, list)?;
     let second = inverses(alloc, ring, front, rank, w)?;

@@ -7,6 +7,7 @@ use Rattle.syzygy_engine.specs.Marking.{IsMarkedRun}
 use Rattle.groebner_iface.proofs.CallingRuns.{more_stops, run_stops}
 use Rattle.ideal_ops.specs.Components.{AreColonRuns}
 use Rattle.ideal_ops.proofs.Dividing.{parts_positions}
+use Rattle.ideal_ops.proofs.Room.{blocks_room, rank_room}
 use Rattle.ideal_ops.proofs.Shared.{later_stops, loose_list}
 use Rattle.ideal_ops.proofs.Stacked.{at_rank, basis_of_colon, colon_positions, runs_of_some, stops_of_none}
 use Rattle.ideal_ops.proofs.colons.colon.Goals as goal
@@ -16,6 +17,26 @@ returns-then-len-eq0-clause-stop g c =
     let by = c.args.by.now in
     let e : length by ≡ 0 = omega arith in
     stops_of_none c.args.ring.now c.args.rank c.args.list.now by _ _ _ _ e c.all_polynomials.result c.all_polynomials.ensures.stop
+
+pub as_position-requires : goal.as_position-requires
+as_position-requires g c = rank_room c.args.rank c.len.result (length c.args.by.now) c.len.ensures c.if-len-eq0.false c.requires.room
+
+pub colon_list-requires-clause-positions : goal.colon_list-requires-clause-positions
+colon_list-requires-clause-positions g c = subst (λ r. Each (HasPositions r) c.args.list.now) (sym c.as_position.ensures) c.requires.positions
+
+pub colon_list-requires-clause-by_positions : goal.colon_list-requires-clause-by_positions
+colon_list-requires-clause-by_positions g c = subst (λ r. Each (HasPositions r) c.args.by.now) (sym c.as_position.ensures) c.requires.by_positions
+
+pub colon_list-requires-clause-room : goal.colon_list-requires-clause-room
+colon_list-requires-clause-room g c = subst (λ r. r * length c.args.by.now < 9223372036854775808) (sym c.as_position.ensures) c.requires.room
+
+pub rank_of_blocks-requires : goal.rank_of_blocks-requires
+rank_of_blocks-requires g c = blocks_room c.args.rank c.len-2.result (length c.args.by.now) c.len-2.ensures c.requires.room
+
+pub syzygy_run-requires-clause-room : goal.syzygy_run-requires-clause-room
+syzygy_run-requires-clause-room g c κs within =
+    subst (λ z. z < 9223372036854775808) (sym c.rank_of_blocks.ensures)
+    (blocks_room c.args.rank c.len-2.result (length c.args.by.now) c.len-2.ensures c.requires.room)
 
 pub colon_list-requires-clause-terms : goal.colon_list-requires-clause-terms
 colon_list-requires-clause-terms g c = loose_list c.args.ring.now c.args.list.now c.requires.vectors

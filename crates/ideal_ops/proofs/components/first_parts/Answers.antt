@@ -1,10 +1,12 @@
-use Rattle.std.proofs.Common.{[], ap, arith, map, subst₂, sym, take, ◌∙◌, ◌∷◌}
+use Rattle.std.proofs.Common.{[], ap, map, subst, subst₂, sym, take, ◌∙◌, ◌∷◌}
 use Rattle.std.proofs.lemmas.List.{map-append}
 use Rattle.operation_laws.specs.Operations.{first_components}
+use Rattle.formal_sums.specs.FormalSums.{Each}
 use Rattle.module_vectors.specs.Rings.{variables}
-use Rattle.module_vectors.specs.Vectors.{sum_of, sums_of}
+use Rattle.module_vectors.proofs.Scaling.{Each_at}
+use Rattle.module_vectors.specs.Vectors.{AreTermsOver, sum_of, sums_of}
 use Rattle.ideal_ops.specs.Runs.{AreVectorsFor}
-use Rattle.ideal_ops.proofs.Shared.{take_next, vectors_next}
+use Rattle.ideal_ops.proofs.Shared.{take_next, vectors_next, vectors_none}
 use Rattle.ideal_ops.proofs.components.first_parts.Goals as goal
 
 pub loop-v-preserved : goal.loop-v-preserved
@@ -16,6 +18,15 @@ loop-v-preserved c =
     let x = c.v-item.result in
     let part = first_components c.args.rank in
     subst₂ (AreVectorsFor ring)
-    (sym (ap (map part) (take_next n items i x (omega arith) c.v-item.is) ∙ map-append part (sums_of n (take i items)) (sum_of n x ∷ []))) (sym c.in_ok-push.ensures.items)
+    (sym (ap (map part) (take_next n items i x c.loop-v-test.true c.v-item.is) ∙ map-append part (sums_of n (take i items)) (sum_of n x ∷ []))) (sym c.in_ok-push.ensures.items)
     (vectors_next ring c.loop-v.parts.items (map part (sums_of n (take i items))) c.in_ok-first_part.field-0 (part (sum_of n x)) c.loop-v.invariant
     c.in_ok-first_part.ensures.vector c.in_ok-first_part.ensures.sum)
+
+pub loop-v-init : goal.loop-v-init
+loop-v-init c = subst (AreVectorsFor c.args.ring.now []) (sym c.in_ok-parts.ensures.items) (vectors_none c.args.ring.now)
+
+pub first_part-requires : goal.first_part-requires
+first_part-requires c =
+    let items = c.as_slice-v-items.result.now in
+    let all = subst (Each (AreTermsOver c.args.ring.now)) (sym c.as_slice-v-items.ensures) c.requires in
+    Each_at (AreTermsOver c.args.ring.now) items c.loop-v.v-index c.v-item.result all c.loop-v-test.true c.v-item.is

@@ -1,9 +1,7 @@
 use Rattle.std.proofs.Common.{subst, subst₂, sym, ◌∙◌}
-use Rattle.formal_sums.proofs.Combining.{Each_map}
-use Rattle.formal_sums.specs.FormalSums.{Each}
 use Rattle.operation_laws.specs.Operations.{eliminated}
 use Rattle.module_vectors.specs.Rings.{variables}
-use Rattle.module_vectors.specs.Vectors.{HasVariables, sum_of}
+use Rattle.module_vectors.specs.Vectors.{sum_of}
 use Rattle.ideal_ops.specs.Runs.{AreVectorsFor}
 use Rattle.ideal_ops.proofs.Free.{free_kept, free_left}
 use Rattle.ideal_ops.proofs.Shared.{of_terms, vectors_next}

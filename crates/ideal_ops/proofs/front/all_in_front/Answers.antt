@@ -1,11 +1,13 @@
-use Rattle.std.proofs.Common.{[], ap, arith, map, subst₂, sym, take, ◌∙◌, ◌∷◌}
+use Rattle.std.proofs.Common.{[], ap, map, subst, subst₂, sym, take, ◌∙◌, ◌∷◌}
 use Rattle.std.proofs.lemmas.List.{map-append}
 use Rattle.operation_laws.specs.Operations.{with_first}
 use Rattle.module_vectors.specs.FrontVariables.{front_ring}
+use Rattle.formal_sums.specs.FormalSums.{Each}
 use Rattle.module_vectors.specs.Rings.{variables}
-use Rattle.module_vectors.specs.Vectors.{sum_of, sums_of}
+use Rattle.module_vectors.proofs.Scaling.{Each_at}
+use Rattle.module_vectors.specs.Vectors.{AreTermsOver, sum_of, sums_of}
 use Rattle.ideal_ops.specs.Runs.{AreVectorsFor}
-use Rattle.ideal_ops.proofs.Shared.{take_next, vectors_next}
+use Rattle.ideal_ops.proofs.Shared.{take_next, vectors_next, vectors_none}
 use Rattle.ideal_ops.proofs.front.all_in_front.Goals as goal
 
 pub loop-v-preserved : goal.loop-v-preserved
@@ -16,6 +18,15 @@ loop-v-preserved c =
     let items = c.as_slice-v-items.result.now in
     let x = c.v-item.result in
     subst₂ (AreVectorsFor (front_ring ring))
-    (sym (ap (map with_first) (take_next n items i x (omega arith) c.v-item.is) ∙ map-append with_first (sums_of n (take i items)) (sum_of n x ∷ []))) (sym c.in_ok-push.ensures.items)
+    (sym (ap (map with_first) (take_next n items i x c.loop-v-test.true c.v-item.is) ∙ map-append with_first (sums_of n (take i items)) (sum_of n x ∷ []))) (sym c.in_ok-push.ensures.items)
     (vectors_next (front_ring ring) c.loop-v.moved.items (map with_first (sums_of n (take i items))) c.in_ok-in_front.field-0 (with_first (sum_of n x)) c.loop-v.invariant
     c.in_ok-in_front.ensures.vector c.in_ok-in_front.ensures.stand)
+
+pub loop-v-init : goal.loop-v-init
+loop-v-init c = subst (AreVectorsFor (front_ring c.args.ring.now) []) (sym c.in_ok-moved.ensures.items) (vectors_none (front_ring c.args.ring.now))
+
+pub in_front-requires-clause-vector : goal.in_front-requires-clause-vector
+in_front-requires-clause-vector c =
+    let items = c.as_slice-v-items.result.now in
+    let all = subst (Each (AreTermsOver c.args.ring.now)) (sym c.as_slice-v-items.ensures) c.requires.vectors in
+    Each_at (AreTermsOver c.args.ring.now) items c.loop-v.v-index c.v-item.result all c.loop-v-test.true c.v-item.is

@@ -1,4 +1,4 @@
-use Rattle.std.proofs.Common.{[], subst, ◌∙◌, ◌∷◌}
+use Rattle.std.proofs.Common.{subst, ◌∙◌}
 use Rattle.module_vectors.specs.Stops.{CombinationStops}
 use Rattle.module_vectors.specs.declared.stop.VectStop.TheVariants.{Degree}
 use Rattle.ideal_ops.proofs.Multiplied.{product_trail}

@@ -12,6 +12,9 @@ use Rattle.ideal_ops.proofs.Dividing.{basis_of_quotient, parts_positions, quotie
 use Rattle.ideal_ops.proofs.Shared.{later_stops, loose_list}
 use Rattle.ideal_ops.proofs.quotients.quotient.Goals as goal
 
+pub syzygy_run-requires-clause-room : goal.syzygy_run-requires-clause-room
+syzygy_run-requires-clause-room g c κs within = c.requires.room
+
 pub multiples-requires : goal.multiples-requires
 multiples-requires g c = loose c.args.ring.now c.args.f.now c.requires.f.each
 

@@ -1,7 +1,10 @@
-use Rattle.std.proofs.Common.{◌∷◌}
+use Rattle.std.proofs.Common.{[], ap, length, subst, sym, ◌++◌, ◌∙◌, ◌∷◌}
 use Rattle.operation_laws.specs.Operations.{blocks, stacked}
 use Rattle.module_vectors.specs.Rings.{variables}
 use Rattle.module_vectors.specs.Vectors.{sums_of}
+use Rattle.ideal_ops.specs.Runs.{AreVectorsFor}
+use Rattle.ideal_ops.proofs.Room.{block_room, blocks_room}
+use Rattle.ideal_ops.proofs.Shared.{vectors_next, vectors_none}
 use Rattle.ideal_ops.proofs.Stacked.{blocks_step}
 use Rattle.ideal_ops.proofs.stacking.colon_list.Goals as goal
 
@@ -14,3 +17,18 @@ loop-j-preserved c =
     let S = stacked rank 0 (sums_of n c.args.by.now) in
     let F = sums_of n c.args.list.now in
     blocks_step ring rank j c.first_of_block.result S F _ c.first_of_block.ensures.value (c.in_ok-push_block.ensures (S ∷ blocks rank 0 j F) c.loop-j.invariant)
+
+pub loop-j-init : goal.loop-j-init
+loop-j-init c =
+    let ring = c.args.ring.now in
+    let S = stacked c.args.rank 0 (sums_of (variables ring) c.args.by.now) in
+    let v = c.in_ok-stacked_vector.field-0 in
+    subst (AreVectorsFor ring (S ∷ [])) (sym (c.in_ok-push.ensures.items ∙ ap (λ z. z ++ v ∷ []) c.in_ok-all.ensures.items))
+    (vectors_next ring [] [] v S (vectors_none ring) c.in_ok-stacked_vector.ensures.vector c.in_ok-stacked_vector.ensures.sum)
+
+pub first_of_block-requires-clause-room : goal.first_of_block-requires-clause-room
+first_of_block-requires-clause-room c = blocks_room c.args.rank c.len-s.result (length c.args.by.now) c.len-s.ensures c.requires.room
+
+pub push_block-requires-clause-room : goal.push_block-requires-clause-room
+push_block-requires-clause-room c =
+    block_room _ c.args.rank c.len-s.result (length c.args.by.now) c.len-s.ensures c.first_of_block.ensures.low c.requires.room
