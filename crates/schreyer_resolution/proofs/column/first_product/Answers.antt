@@ -1,12 +1,38 @@
-use Rattle.std.proofs.Common.{[], ap, get_or, subst, ◌∙◌}
+use Rattle.std.proofs.Common.{[], ap, get_or, subst, sym, ◌∙◌}
 use Rattle.std.proofs.lemmas.List.{get_or_default}
 use Rattle.module_vectors.specs.Rings.{variables}
 use Rattle.module_vectors.specs.Stops.{ScaledStops}
+use Rattle.module_vectors.specs.Vectors.{IsVectorOver}
+use Rattle.schreyer_resolution.proofs.LeastLeads.{each_at}
 use Rattle.schreyer_resolution.proofs.Trailing.{key_inside}
 use Rattle.schreyer_resolution.proofs.column.first_product.Goals as goal
 
 pub add_scaled-requires-clause-factor : goal.add_scaled-requires-clause-factor
 add_scaled-requires-clause-factor g c = (c.lawful_setting.ensures 0).domain.above_one
+
+pub add_scaled-requires-clause-variables : goal.add_scaled-requires-clause-variables
+add_scaled-requires-clause-variables g c = c.requires.monomial
+
+pub add_scaled-requires-clause-right : goal.add_scaled-requires-clause-right
+add_scaled-requires-clause-right g c =
+    let ring = g.F.Frame.over c.args.frame.now in
+    let cols = c.args.columns.now in
+    let key = c.args.key.now in
+    let x = c.index-as_slice-key.result in
+    each_at (IsVectorOver ring (g.F.Frame.compare c.args.frame.now)) cols x c.requires.vectors
+    (key.position, key_inside (variables ring) cols key c.requires.pair, sym (c.index-as_slice-key.is ∙ ap (λ l. get_or l key.position x) c.as_slice.ensures))
+
+pub first_stop-requires-clause-vectors : goal.first_stop-requires-clause-vectors
+first_stop-requires-clause-vectors g c = c.requires.vectors
+
+pub first_stop-requires-clause-base : goal.first_stop-requires-clause-base
+first_stop-requires-clause-base g c = c.requires.base
+
+pub first_stop-requires-clause-monomial : goal.first_stop-requires-clause-monomial
+first_stop-requires-clause-monomial g c = c.requires.monomial
+
+pub first_stop-requires-clause-pair : goal.first_stop-requires-clause-pair
+first_stop-requires-clause-pair g c = c.requires.pair
 
 pub first_stop-requires-clause-stop : goal.first_stop-requires-clause-stop
 first_stop-requires-clause-stop g c =
