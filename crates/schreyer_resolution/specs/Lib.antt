@@ -4,6 +4,7 @@ pub mod Laws
 pub mod Resolved
 -- invariants of loops
 pub mod Steps
+pub mod Covered
 pub mod Heads
 pub mod Columns
 pub mod Chains

@@ -9,6 +9,7 @@ ghost use Rattle.module_vectors.specs.Vectors.{AreVectorsOver, HasPositions, IsM
 ghost use Rattle.vector_division.specs.Progress.{HasBoundedHead, IsSubtraction, SubtractionStops, last_position};
 ghost use Rattle.vector_division.specs.Runs.{AreBelow, total};
 ghost use Rattle.schreyer_resolution.specs.Columns.{ColumnStops, IsAbove, IsBase, IsColumnOf, IsDivided, IsFoundLast, IsProductOf, IsUnderway, negated_term};
+ghost use Rattle.schreyer_resolution.specs.Covered.{AreCoveredPut};
 ghost use Rattle.schreyer_resolution.specs.Inducing.{tower_comparison};
 ghost use Rattle.schreyer_resolution.specs.Spans.{IsIndexOf};
 ghost use Rattle.schreyer_resolution.specs.Steps.{IsPairKey};
@@ -147,6 +148,26 @@ fn subtract_lead<F: Frame>(
     Ok(rest)
 }
 
+// Puts the terms of the vector that leads of the columns divide into the lists.
+fn put_covered<F: Frame>(
+    alloc: Global,
+    frame: &F,
+    columns: &VectList,
+    index: &LeadIndex,
+    v: Vect,
+    buckets: &mut Buckets,
+) -> Result<(), NoMemory>
+    requires vectors { AreVectorsOver (F.over frame.now) (F.compare frame.now) columns.now }
+    requires index { IsIndexOf columns.now index.now }
+    requires vector { IsVectorOver (F.over frame.now) (F.compare frame.now) v }
+    requires runs { AreVectorsOver (F.over frame.now) (F.compare frame.now) buckets.old }
+    ensures { OnOk result (AreCoveredPut (F.over frame.now) (F.compare frame.now) columns.now v buckets.old buckets.new) }
+{
+    let kept = covered_terms(alloc, frame, columns, index, v)?;
+    buckets.add(alloc, frame, Run::from_vect(kept))?;
+    Ok(())
+}
+
 // Takes away the product of the last column whose lead divides the key of this term, which is the greatest of what is left
 // and not in the lists any more. After an error the lists are lost.
 fn take_last<F: Frame>(
@@ -187,8 +208,7 @@ fn take_last<F: Frame>(
     drop(term);
     match taken {
         Ok(rest) => {
-            let kept = covered_terms(alloc, frame, columns, index, rest)?;
-            buckets.add(alloc, frame, Run::from_vect(kept))?;
+            put_covered(alloc, frame, columns, index, rest, buckets)?;
             quotients.push(ScaledProduct {
                 index: at,
                 residue,

@@ -1,5 +1,5 @@
 // The trail of a column that meets a product of too great a degree.
-ghost use Rattle.std.specs.Prelude.{◌≡◌, ◌++◌, ◌∷◌, [], List, IfOk, get_or, map};
+ghost use Rattle.std.specs.Prelude.{◌≡◌, ◌++◌, ◌∷◌, [], List, IfOk, OnOk, get_or, map};
 ghost use Rattle.module_vectors.specs.Rings.{variables};
 ghost use Rattle.module_vectors.specs.Stops.{HasMonomial, IsTooGreat, ScaledStops};
 ghost use Rattle.module_vectors.specs.Trails.{KeptProduct};
@@ -65,7 +65,22 @@ fn copy_maps(alloc: Global, maps: &[VectList]) -> Result<Vec<VectList>, NoMemory
     Ok(copy)
 }
 
-// The trail of these products, which begin with the key's.
+// The ring, the maps and the columns again.
+fn copy_parts(
+    alloc: Global,
+    ring: &Ring,
+    maps: &[VectList],
+    columns: &VectList,
+) -> Result<(Ring, Vec<VectList>, VectList), NoMemory>
+    ensures { IfOk result (λ parts. (parts.0 ≡ ring.now) × (parts.1.items ≡ maps.now) × (parts.2 ≡ columns.now)) }
+{
+    let copied_ring = ring.try_copy(alloc)?;
+    let copied_maps = copy_maps(alloc, maps)?;
+    let copied_columns = VectList::copy_of(alloc, columns)?;
+    Ok((copied_ring, copied_maps, copied_columns))
+}
+
+// The trail of these products, which begin with the key's. All copies are made before the parts are put together.
 fn keep_trail<F: Frame>(
     alloc: Global,
     frame: &F,
@@ -86,14 +101,15 @@ fn keep_trail<F: Frame>(
     lawful_setting(frame);
     let ring = frame.ring();
     let j = partner(alloc, ring, columns.as_slice(), key)?;
+    let (copied_ring, copied_maps, members) = copy_parts(alloc, ring, below, columns)?;
     Ok(KeptTrail {
-        ring: ring.try_copy(alloc)?,
+        ring: copied_ring,
         rank: 0,
         generators: VectList::new(alloc),
-        below: copy_maps(alloc, below)?,
+        below: copied_maps,
         start: TrailStart::Pair(key.position, j),
         vector: Vect::zero(alloc),
-        members: VectList::copy_of(alloc, columns)?,
+        members,
         products,
         last,
     })
@@ -108,6 +124,34 @@ fn first_products(alloc: Global, key: &Key) -> Result<Vec<(u64, Mono)>, NoMemory
     Ok(products)
 }
 
+// Puts the quotient's product behind the others.
+fn push_product(
+    alloc: Global,
+    quotient: &ScaledProduct,
+    products: &mut Vec<(u64, Mono)>,
+) -> Result<(), NoMemory>
+    ensures { OnOk result (products.new.items ≡ products.old.items ++ unscaled quotient.now ∷ []) }
+{
+    let monomial = quotient.monomial.try_copy(alloc)?;
+    products.push((quotient.index, monomial))?;
+    Ok(())
+}
+
+// The key's product and those of the quotients.
+fn quotient_products(
+    alloc: Global,
+    key: &Key,
+    quotients: &[ScaledProduct],
+) -> Result<Vec<(u64, Mono)>, NoMemory>
+    ensures { IfOk result (λ products. products.items ≡ (key.now.position, key.now.monomial) ∷ map unscaled quotients.now) }
+{
+    let mut products = first_products(alloc, key)?;
+    for quotient in quotients {
+        push_product(alloc, quotient, &mut products)?;
+    }
+    Ok(products)
+}
+
 // The key's product, those of the quotients, and one more.
 fn all_products(
     alloc: Global,
@@ -117,10 +161,7 @@ fn all_products(
 ) -> Result<Vec<(u64, Mono)>, NoMemory>
     ensures { IfOk result (λ products. products.items ≡ (key.now.position, key.now.monomial) ∷ (map unscaled quotients.now ++ failing ∷ [])) }
 {
-    let mut products = first_products(alloc, key)?;
-    for quotient in quotients {
-        products.push((quotient.index, quotient.monomial.try_copy(alloc)?))?;
-    }
+    let mut products = quotient_products(alloc, key, quotients)?;
     products.push(failing)?;
     Ok(products)
 }

@@ -1,9 +1,25 @@
-use Rattle.std.proofs.Common.{None, Some, subst, subst₂}
+use Rattle.std.proofs.Common.{None, Some, subst, subst₂, sym}
 use Rattle.module_vectors.specs.Rings.{variables}
-use Rattle.module_vectors.specs.Vectors.{key_of}
+use Rattle.module_vectors.specs.Vectors.{IsMonomialOver, key_of}
+use Rattle.vector_division.proofs.Looping.{are_weighed}
+use Rattle.vector_division.specs.Progress.{AreWeighed}
 use Rattle.schreyer_resolution.specs.Columns.{IsFoundLast}
+use Rattle.schreyer_resolution.specs.Spans.{IsIndexOf}
 use Rattle.schreyer_resolution.proofs.Dividing.{divisible}
 use Rattle.schreyer_resolution.proofs.column.next_divisor.Goals as goal
+
+pub last_divisor-requires-clause-key : goal.last_divisor-requires-clause-key
+last_divisor-requires-clause-key g c = subst (λ r. IsMonomialOver r c.args.term.now.0.monomial) (sym c.ring.ensures) c.requires.variables
+
+pub last_divisor-requires-clause-columns : goal.last_divisor-requires-clause-columns
+last_divisor-requires-clause-columns g c =
+    let ring = g.F.Frame.over c.args.frame.now in
+    let n = variables ring in
+    subst₂ (λ r z. AreWeighed (variables r) r.weights z) (sym c.ring.ensures) (sym c.as_slice.ensures)
+    (are_weighed n ring.weights ring.modulus.value (g.F.Frame.compare c.args.frame.now n) c.args.columns.now c.requires.vectors)
+
+pub last_divisor-requires-clause-index : goal.last_divisor-requires-clause-index
+last_divisor-requires-clause-index g c = subst (λ z. IsIndexOf z c.args.index.now) (sym c.as_slice.ensures) c.requires.index
 
 pub unreachable-requires : goal.unreachable-requires
 unreachable-requires g c =

@@ -1,10 +1,9 @@
-use Rattle.std.proofs.Common.{[], ap, get_or, subst, sym, ◌++◌, ◌∷◌, ◌∙◌}
+use Rattle.std.proofs.Common.{[], ap, get_or, subst, sym, ◌∷◌, ◌∙◌}
 use Rattle.std.proofs.lemmas.List.{get_or_default}
-use Rattle.formal_sums.specs.FormalSums.{IsSame}
 use Rattle.module_vectors.specs.Rings.{variables}
-use Rattle.module_vectors.specs.Vectors.{key_of, sum_of}
+use Rattle.module_vectors.specs.Vectors.{key_of}
 use Rattle.vector_division.specs.Progress.{IsSubtraction}
-use Rattle.vector_division.specs.Runs.{IsOver, total}
+use Rattle.vector_division.specs.Runs.{total}
 use Rattle.schreyer_resolution.specs.Chains.{IsFailing}
 use Rattle.schreyer_resolution.specs.Columns.{IsUnderway}
 use Rattle.schreyer_resolution.proofs.Dividing.{failing_is, one_first, rest_below, underway_next}
@@ -42,13 +41,13 @@ returns-in_ok-push-in-Ok-clause-below g c =
     let cols = c.args.columns.now in
     let x = c.index-as_slice-at.result in
     let at = c.index-as_slice-at.is ∙ ap (λ l. get_or l c.in_ok-at.at x) c.as_slice.ensures ∙ get_or_default cols c.in_ok-at.at x [] c.in_ok-at.ensures.0.index in
-    c.in_ok-add-in-Ok.ensures.below (key_of n c.args.term.0) c.requires.below
-    (subst (λ b. IsOver (compare n) (key_of n c.args.term.0) (sum_of n b)) (sym c.from_vect.ensures)
+    let put = c.in_ok-put_covered-in-Ok.ensures in
+    put.below (key_of n c.args.term.0) c.requires.below
     (rest_below ring compare base.rank (c.lawful_setting.ensures base.rank) (g.met.F.Frame.laws c.args.frame.now n 0) cols c.requires.vectors base.monic base.basis
     c.args.key.now c.requires.pair c.args.quotients.now.items c.args.term c.args.buckets.now c.requires.variables c.requires.nonzero c.requires.reduced c.requires.below c.requires.underway
-    (c.in_ok-at.at, c.in_ok-at.monomial) c.in_ok-at.ensures c.add.new.self c.in-Ok.rest c.in_ok-kept-in-Ok.kept c.in_ok-add-in-Ok.ensures.runs
-    (subst (λ v. IsSubtraction n ring.weights ring.modulus.value (compare n) c.in_ok-at.monomial v 0 (c.args.term ∷ []) c.in-Ok.rest c.args.term.1) at c.in-Ok.ensures.taken) c.in_ok-kept-in-Ok.ensures
-    (subst (λ b. IsSame ring.modulus.value (total n c.add.new.self) (total n c.args.buckets.now ++ sum_of n b)) c.from_vect.ensures c.in_ok-add-in-Ok.ensures.sum)))
+    (c.in_ok-at.at, c.in_ok-at.monomial) c.in_ok-at.ensures c.put_covered.new.buckets c.in-Ok.rest put.kept put.runs
+    (subst (λ v. IsSubtraction n ring.weights ring.modulus.value (compare n) c.in_ok-at.monomial v 0 (c.args.term ∷ []) c.in-Ok.rest c.args.term.1) at c.in-Ok.ensures.taken) put.sifted
+    put.sum)
 
 pub returns-in_ok-push-in-Ok-clause-underway : goal.returns-in_ok-push-in-Ok-clause-underway
 returns-in_ok-push-in-Ok-clause-underway g c =
@@ -59,9 +58,10 @@ returns-in_ok-push-in-Ok-clause-underway g c =
     let cols = c.args.columns.now in
     let x = c.index-as_slice-at.result in
     let at = c.index-as_slice-at.is ∙ ap (λ l. get_or l c.in_ok-at.at x) c.as_slice.ensures ∙ get_or_default cols c.in_ok-at.at x [] c.in_ok-at.ensures.0.index in
-    subst (λ q. IsUnderway ring compare cols c.args.key.now q c.add.new.self (total n c.add.new.self)) (sym c.in_ok-push-in-Ok.ensures.items)
+    let put = c.in_ok-put_covered-in-Ok.ensures in
+    subst (λ q. IsUnderway ring compare cols c.args.key.now q c.put_covered.new.buckets (total n c.put_covered.new.buckets)) (sym c.in_ok-push-in-Ok.ensures.items)
     (underway_next ring compare base.rank (c.lawful_setting.ensures base.rank) (g.met.F.Frame.laws c.args.frame.now n 0) cols c.requires.vectors base.monic base.basis
     c.args.key.now c.requires.pair c.args.quotients.now.items c.args.term c.args.buckets.now c.requires.variables c.requires.nonzero c.requires.reduced c.requires.below c.requires.underway
-    (c.in_ok-at.at, c.in_ok-at.monomial) c.in_ok-at.ensures c.add.new.self c.in-Ok.rest c.in_ok-kept-in-Ok.kept c.in_ok-add-in-Ok.ensures.runs
-    (subst (λ v. IsSubtraction n ring.weights ring.modulus.value (compare n) c.in_ok-at.monomial v 0 (c.args.term ∷ []) c.in-Ok.rest c.args.term.1) at c.in-Ok.ensures.taken) c.in_ok-kept-in-Ok.ensures
-    (subst (λ b. IsSame ring.modulus.value (total n c.add.new.self) (total n c.args.buckets.now ++ sum_of n b)) c.from_vect.ensures c.in_ok-add-in-Ok.ensures.sum))
+    (c.in_ok-at.at, c.in_ok-at.monomial) c.in_ok-at.ensures c.put_covered.new.buckets c.in-Ok.rest put.kept put.runs
+    (subst (λ v. IsSubtraction n ring.weights ring.modulus.value (compare n) c.in_ok-at.monomial v 0 (c.args.term ∷ []) c.in-Ok.rest c.args.term.1) at c.in-Ok.ensures.taken) put.sifted
+    put.sum)

@@ -41,4 +41,4 @@ returns g c =
     column_trail ring c.args.below.now cols key c.in_ok-j.j c.args.products.items c.requires.chain.0 c.args.last _
     (some ring compare rank (c.lawful_setting.ensures rank) (g.met.F.Frame.laws c.args.frame.now (variables ring) 0) cols c.requires.vectors c.requires.base.monic)
     (subst₂ (λ r z. IsPartner (variables r) z key c.in_ok-j.j) c.ring-ring.ensures c.as_slice.ensures c.in_ok-j.ensures)
-    c.requires.chain.1 c.requires.chain.2 (c.in_ok-try_copy.ensures ∙ c.ring-ring.ensures) refl c.new.ensures c.in_ok-copy_maps.ensures refl c.zero.ensures c.in_ok-copy_of.ensures refl refl
+    c.requires.chain.1 c.requires.chain.2 (c.in_ok-copied_ring.ensures.0 ∙ c.ring-ring.ensures) refl c.new.ensures c.in_ok-copied_ring.ensures.1 refl c.zero.ensures c.in_ok-copied_ring.ensures.2 refl refl
