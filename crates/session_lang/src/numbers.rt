@@ -1,5 +1,5 @@
 // Hilbert numerator, dimension and degree of a value.
-ghost use Rattle.std.specs.Prelude.{◌≡◌, ◌≤◌, ◌++◌, IfErr, IfOk, Bool, List, OnErr, OnOk, ℕ, string_bytes};
+ghost use Rattle.std.specs.Prelude.{◌≡◌, ◌≤◌, ◌++◌, IfErr, IfOk, Bool, List, OnErr, OnOk, ℕ, flat_map, string_bytes, ◌∷◌};
 ghost use Rattle.groebner_iface.specs.Runs.{IsReducedBasisOf};
 ghost use Rattle.hilbert_laws.specs.Dimensions.{HasDimension};
 ghost use Rattle.hilbert_series.specs.Large.{IsLarge};
@@ -7,6 +7,7 @@ ghost use Rattle.module_vectors.specs.Rings.{variables};
 ghost use Rattle.module_vectors.specs.declared.key.Key.{Key as KeyValue};
 ghost use Rattle.module_vectors.specs.declared.ring.Ring.{Ring as RingValue};
 ghost use Rattle.poly_text.specs.Writing.{IsFront};
+ghost use Rattle.std.specs.Fmt.{signed_decimal};
 ghost use Rattle.session_lang.specs.Counting.{NumbersStop};
 ghost use Rattle.session_lang.specs.Names.{Value};
 ghost use Rattle.session_lang.specs.Numbers.{HasManyLeads, IsNumeratorFor, coefficients_text, leads_of, measures_text, numbers_text};
@@ -74,6 +75,20 @@ fn numbers_of(
     }
 }
 
+// Appends each number behind a space. After an error what was written so far stands there.
+fn append_each(alloc: Global, out: &mut Vec<u8>, numbers: &[i128]) -> Result<(), NoMemory>
+    ensures ok { OnOk result (out.new.items ≡ out.old.items ++ flat_map (λ k. 32 ∷ signed_decimal k) numbers.now) }
+    ensures err { OnErr result (IsFront out.old.items out.new.items) }
+{
+    for k in numbers {
+        match append_number(alloc, out, *k) {
+            Ok(()) => {}
+            Err(early) => return Err(early),
+        }
+    }
+    Ok(())
+}
+
 // Appends the coefficients. After an error what was written so far stands there.
 fn append_coefficients(
     alloc: Global,
@@ -84,16 +99,27 @@ fn append_coefficients(
     ensures err { OnErr result (IsFront out.old.items out.new.items) }
 {
     if coefficients.len() == 0 {
-        out.extend_from_slice(b" 0")?;
-        return Ok(());
+        append_each(alloc, out, &[0])
+    } else {
+        append_each(alloc, out, coefficients)
     }
-    for k in coefficients {
-        match append_number(alloc, out, *k) {
-            Ok(()) => {}
-            Err(early) => return Err(early),
-        }
+}
+
+// Appends a word and a number. After an error what was written so far stands there.
+fn append_measure(
+    alloc: Global,
+    out: &mut Vec<u8>,
+    word: &[u8],
+    number: i128,
+) -> Result<(), NoMemory>
+    ensures ok { OnOk result (out.new.items ≡ out.old.items ++ (word.now ++ signed_decimal number)) }
+    ensures err { OnErr result (IsFront out.old.items out.new.items) }
+{
+    out.extend_from_slice(word)?;
+    match push_number(alloc, out, number) {
+        Ok(()) => Ok(()),
+        Err(_) => Err(NoMemory),
     }
-    Ok(())
 }
 
 // Appends dimension and degree. After an error what was written so far stands there.
@@ -106,14 +132,8 @@ fn append_measures(
     ensures ok { OnOk result (out.new.items ≡ out.old.items ++ measures_text dimension degree) }
     ensures err { OnErr result (IsFront out.old.items out.new.items) }
 {
-    out.extend_from_slice(b"\ndim ")?;
-    if push_number(alloc, out, dimension).is_err() {
-        return Err(NoMemory);
-    }
-    out.extend_from_slice(b" degree ")?;
-    if push_number(alloc, out, degree).is_err() {
-        return Err(NoMemory);
-    }
+    append_measure(alloc, out, b"\ndim ", dimension)?;
+    append_measure(alloc, out, b" degree ", degree)?;
     out.push(b'\n')?;
     Ok(())
 }

@@ -29,6 +29,16 @@ pub fn whole_or_none(
     written
 }
 
+// Appends a word and a blank. After an error what was written so far stands there.
+fn append_word(out: &mut Vec<u8>, word: &[u8]) -> Result<(), NoMemory>
+    ensures ok { OnOk result (out.new.items ≡ out.old.items ++ (word.now ++ 32 ∷ [])) }
+    ensures err { OnErr result (IsFront out.old.items out.new.items) }
+{
+    out.extend_from_slice(word)?;
+    out.push(b' ')?;
+    Ok(())
+}
+
 /// Appends a word, a name and a number. After an error what was written so far stands there.
 pub fn append_heading(
     out: &mut Vec<u8>,
@@ -40,10 +50,8 @@ pub fn append_heading(
     ensures err { OnErr result (IsFront out.old.items out.new.items) }
 {
     let mut digits = Buffer::new();
-    out.extend_from_slice(word)?;
-    out.push(b' ')?;
-    out.extend_from_slice(name)?;
-    out.push(b' ')?;
+    append_word(out, word)?;
+    append_word(out, name)?;
     out.extend_from_slice(digits.format(count).as_bytes())?;
     out.push(b'\n')?;
     Ok(())
