@@ -11,6 +11,16 @@ drop_nil : (k : ℕ) → ◌≡◌ {A = List ℕ} [] (drop k [])
 drop_nil zero = refl
 drop_nil (suc k) = refl
 
+-- the weight at a place of a list of weights, none of which is 0
+pub weight_there : (ws : List ℕ) (k w : ℕ) → k < length ws → 0 < get_or ws k 0 → w ≡ get_or ws k w → w ≡ first_weight (drop k ws)
+weight_there [] k w lt some is = absurd (omega arith)
+weight_there (v ∷ ws) zero w lt some is = omega (arith, is)
+weight_there (v ∷ ws) (suc k) w lt some is = weight_there ws k w (omega arith) some is
+
+-- and behind its end
+pub weight_behind : (ws : List ℕ) (k : ℕ) → length ws ≤ k → 1 ≡ first_weight (drop k ws)
+weight_behind ws k le = sym (ap first_weight (drop_all k ws le))
+
 -- the sum from a place on
 abbrev pub sum_from : List ℕ → List ℕ → ℕ → ℕ
 sum_from ws xs k = weighted_sum (drop k ws) (drop k xs)
