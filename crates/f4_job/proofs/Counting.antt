@@ -7,8 +7,8 @@ use Rattle.bases.specs.Settings.{IsLawful, Setting}
 use Rattle.module_vectors.proofs.SumsOfProducts.{Each_member}
 use Rattle.module_vectors.specs.declared.key.Key.{Key as CodeKey}
 use Rattle.row_matrix.specs.Rows.{Descend, IsRow, RowShown, column_key, first_column, vector_of, vectors_of}
+use Rattle.dense_reduction.specs.Pivots.{lead_column}
 use Rattle.row_reduce.specs.Echelons.{IsEchelonOf}
-use Rattle.row_reduce.specs.Pivots.{lead_column}
 use Rattle.symbolic_prep.specs.Counts.{HasFewRows}
 use Rattle.f4_job.proofs.News.{lead}
 use Rattle.f4_job.specs.Flags.{AreFlags, unflagged}

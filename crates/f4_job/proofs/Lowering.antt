@@ -21,9 +21,9 @@ use Rattle.row_laws.proofs.NewRows.{find_row}
 use Rattle.row_laws.specs.Jobs.{IsNewRows}
 use Rattle.row_laws.specs.Rows.{row_combination}
 use Rattle.row_matrix.specs.Rows.{IsRow, MatrixShown, RowShown, column_key, vector_of, vectors_of}
+use Rattle.dense_reduction.specs.Pivots.{no_row, row_at}
 use Rattle.row_reduce.proofs.Forms.{row_monic, row_normal}
 use Rattle.row_reduce.specs.Echelons.{IsEchelonOf}
-use Rattle.row_reduce.specs.Pivots.{no_row, row_at}
 use Rattle.symbolic_prep.proofs.Matrices.{Each_index, contains_at}
 use Rattle.symbolic_prep.proofs.Tracing.{traced_at}
 use Rattle.symbolic_prep.specs.Plans.{product_sum}

@@ -20,7 +20,7 @@ use Rattle.monomial_orders.specs.Kept.{IsWeighed}
 use Rattle.member_products.specs.declared.member.Row.{Row as CodeRow}
 use Rattle.row_matrix.specs.Hashes.{no_key}
 use Rattle.row_matrix.specs.Rows.{AreEntries, AreKeys, Descend, Entry, IsRow, RowShown, column_key, row_sum, vector_of}
-use Rattle.row_reduce.proofs.Entries.{entries_within}
+use Rattle.dense_reduction.proofs.Entries.{entries_within}
 use Rattle.row_reduce.proofs.Forms.{row_normal}
 use Rattle.vector_division.specs.Reductions.{cofactors_of}
 use Rattle.vector_division.specs.declared.reduction.ScaledProduct.{ScaledProduct}

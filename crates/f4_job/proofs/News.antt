@@ -9,10 +9,10 @@ use Rattle.module_vectors.specs.declared.key.Key.{Key as CodeKey}
 use Rattle.row_laws.proofs.Jobs.{ContainsLead_row}
 use Rattle.row_laws.specs.Jobs.{IsNewRows}
 use Rattle.row_matrix.specs.Rows.{Descend, IsRow, RowShown, column_key, vector_of, vectors_of}
-use Rattle.row_reduce.proofs.Entries.{first_below}
+use Rattle.dense_reduction.proofs.Entries.{first_below}
+use Rattle.dense_reduction.specs.Pivots.{lead_column, no_row, row_at}
 use Rattle.row_reduce.proofs.Forms.{key_first, one_column}
 use Rattle.row_reduce.specs.Echelons.{IsEchelonOf}
-use Rattle.row_reduce.specs.Pivots.{lead_column, no_row, row_at}
 use Rattle.symbolic_prep.proofs.Matrices.{contains_at}
 use Rattle.f4_job.specs.Flags.{AreFlags, unflagged}
 use Rattle.f4_job.proofs.Flagging.{unflagged_all, unflagged_each, unflagged_from}

@@ -37,7 +37,7 @@ use Rattle.basis_core.specs.Members.{IsRunRow, IsTracked, members_of, row_of, ro
 use Rattle.basis_core.specs.Outcomes.{IsOutcomeOver, product_of, products_of}
 use Rattle.basis_core.specs.Rows.{vectors_in}
 use Rattle.row_matrix.specs.Rows.{AreEntries, Entry, IsFromSources, IsRow, RowShown, row_sum, source_key, vector_of, vectors_of}
-use Rattle.row_reduce.proofs.Entries.{entries_within}
+use Rattle.dense_reduction.proofs.Entries.{entries_within}
 use Rattle.row_reduce.proofs.Forms.{row_monic}
 use Rattle.s_vectors.proofs.Lists.{length-vectors_in, vectors_are}
 use Rattle.s_vectors.proofs.Listed.{row_listed, row_ranked}

@@ -23,11 +23,11 @@ use Rattle.row_laws.proofs.NewRows.{IsMonicList_new}
 use Rattle.row_laws.specs.Jobs.{HasPairRows, IsEchelonForm, IsNewRows}
 use Rattle.vector_division.proofs.Members.{sums_at}
 use Rattle.row_matrix.specs.Rows.{IsFromSources, IsRow, MatrixShown, RowShown, column_key, first_column, row_sum, source_key, vector_of, vectors_of}
-use Rattle.row_reduce.proofs.Entries.{first_below, monic_entries}
+use Rattle.dense_reduction.proofs.Entries.{first_below, monic_entries}
+use Rattle.dense_reduction.specs.Pivots.{no_row, row_at}
+use Rattle.dense_reduction.specs.Underway.{AreCombined}
 use Rattle.row_reduce.proofs.Forms.{echelon_form}
 use Rattle.row_reduce.specs.Echelons.{IsEchelonOf}
-use Rattle.row_reduce.specs.Pivots.{no_row, row_at}
-use Rattle.row_reduce.specs.Underway.{AreCombined}
 use Rattle.symbolic_prep.proofs.Matrices.{Each_index}
 use Rattle.symbolic_prep.specs.Plans.{IsPairOf, product_sum}
 use Rattle.symbolic_prep.specs.Prepared.{IsMonicVector, IsPrepared}

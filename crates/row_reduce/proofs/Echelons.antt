@@ -23,15 +23,17 @@ use Rattle.pivot_table.specs.Law.{LeadsFit}
 use Rattle.row_laws.proofs.RowSpans.{IsInSpan_itself, IsInSpan_through}
 use Rattle.row_laws.specs.Rows.{IsInSpan}
 use Rattle.row_matrix.specs.Rows.{IsRow, RowShown, first_column, row_sum}
-use Rattle.row_reduce.proofs.Adding.{Each_back, Each_front, Each_set}
-use Rattle.row_reduce.proofs.Entries.{first_below, monic_entries}
+use Rattle.dense_reduction.proofs.Adding.{Each_back, Each_front, Each_set}
+use Rattle.dense_reduction.proofs.Entries.{first_below, monic_entries}
+use Rattle.dense_reduction.proofs.Reducing.{zeros_at}
+use Rattle.dense_reduction.specs.Pivots.{ArePivots, lead_column, no_row, row_at, row_vectors}
+use Rattle.dense_reduction.specs.Rests.{rows_left}
+use Rattle.dense_reduction.specs.Underway.{IsSpanned}
+use Rattle.dense_reduction.specs.Words.{Names, leads_of, named}
+use Rattle.dense_reduction.specs.declared.lefts.Left.{Left}
 use Rattle.row_reduce.proofs.Orders.{vector_at}
-use Rattle.row_reduce.proofs.Reducing.{zeros_at}
 use Rattle.row_reduce.specs.Echelons.{AreBetween, AreFrom, IsEchelonOf, IsPassOverSome, with_left, columns_behind}
-use Rattle.row_reduce.specs.Passes.{IsLeftOf, IsPass, Names, leads_of, named, places, rows_left}
-use Rattle.row_reduce.specs.Pivots.{ArePivots, lead_column, no_row, row_at, row_vectors}
-use Rattle.row_reduce.specs.Underway.{IsSpanned}
-use Rattle.row_reduce.specs.declared.lefts.Left.{Left}
+use Rattle.row_reduce.specs.Passes.{IsLeftOf, IsPass, places}
 
 -- ---- pivots of rows
 -- a row whose first column has no pivot becomes one

@@ -13,9 +13,9 @@ use Rattle.module_vectors.specs.declared.key.Key.{Key as CodeKey}
 use Rattle.row_laws.specs.Jobs.{IsEchelonForm}
 use Rattle.row_laws.specs.Rows.{HasDistinctLeads}
 use Rattle.row_matrix.specs.Rows.{AreEntries, Descend, Entry, IsRow, RowShown, column_key, first_column, first_residue, row_sum, vector_of, vectors_of}
-use Rattle.row_reduce.proofs.Entries.{entries_from, entries_within, first_below}
+use Rattle.dense_reduction.proofs.Entries.{entries_from, entries_within, first_below}
+use Rattle.dense_reduction.specs.Pivots.{lead_column, no_row, row_at}
 use Rattle.row_reduce.specs.Echelons.{IsEchelonOf}
-use Rattle.row_reduce.specs.Pivots.{lead_column, no_row, row_at}
 
 module _ (n : ℕ) (S : Setting n) (lawful : IsLawful S) (columns : List CodeKey) (descend : Descend n S.compare columns) where
   -- entries whose columns ascend descend

@@ -1,35 +1,32 @@
 -- Rows that helpers claim, and what they leave of those that lost their columns
-use Rattle.std.proofs.Common.{List, Option, [], ap, append-nil, append_assoc, arith, get_or, inl, inr, length, set, slice_index, subst, sym, refl, replicate, subst₂, take, ℕ, ◌+◌, ◌++◌, ◌-◌, ◌<◌, ◌∙◌, ◌∷◌, ◌≡◌}
+use Rattle.std.proofs.Common.{List, Option, [], ap, append-nil, append_assoc, arith, get_or, inl, inr, length, set, slice_index, subst, sym, refl, replicate, subst₂, take, ℕ, ◌+◌, ◌++◌, ◌-◌, ◌<◌, ◌∙◌, ◌∷◌, ◌≡◌, ◌≤◌}
 use Rattle.std.proofs.lemmas.Bool.{cases_lt}
-use Rattle.std.proofs.lemmas.List.{get_or-map, get_or_default, length-map, map-append}
+use Rattle.std.proofs.lemmas.List.{length-map, map-append, take_all}
 use Rattle.std.proofs.lemmas.List.Elements.{All-tail}
-use Rattle.std.proofs.lemmas.List.Sorted.{IsPermutation-append, IsPermutation-append_comm, IsPermutation-append_left, IsPermutation-append_right, IsPermutation-middle, IsPermutation-push_more, IsPermutation-refl, IsPermutation-sym, IsPermutation-trans}
+use Rattle.std.proofs.lemmas.List.Sorted.{IsPermutation-append, IsPermutation-append_comm, IsPermutation-append_left, IsPermutation-append_right, IsPermutation-push_more, IsPermutation-refl, IsPermutation-sym, IsPermutation-trans}
 use Rattle.std.specs.List.Sorted.{IsPermutation}
 use Rattle.formal_sums.proofs.Combining.{Each_map}
 use Rattle.formal_sums.proofs.WeightedSums.{Each_append}
 use Rattle.formal_sums.specs.FormalSums.{Each}
 use Rattle.module_vectors.proofs.Gathers.{Each_permutation}
-use Rattle.module_vectors.proofs.Scaling.{take_item}
 use Rattle.module_vectors.proofs.SumsOfProducts.{Each_member}
-use Rattle.pivot_table.specs.Law.{LeadsFit, NamesRowOf, Tallies, entry, found_by, word_of}
-use Rattle.pivot_table.specs.declared.claims.Claim.{Claim}
+use Rattle.pivot_table.specs.Law.{LeadsFit, Tallies}
 use Rattle.pivot_table.specs.declared.law.Entry.{Entry as Told}
 use Rattle.row_matrix.specs.Rows.{IsRow, RowShown, first_column, row_sum}
-use Rattle.row_reduce.proofs.Adding.{Each_back, Each_front}
+use Rattle.dense_reduction.proofs.Adding.{Each_back, Each_front}
+use Rattle.dense_reduction.proofs.Claimed.{HasWon, item_taken, lead_read, lost_at, lost_stays, none_taken, put_between}
+use Rattle.dense_reduction.proofs.Entries.{first_below}
+use Rattle.dense_reduction.proofs.Naming.{named_span, span_at, span_left, span_right, span_through, told_before}
+use Rattle.dense_reduction.specs.LostRows.{AreClaimed, IsLost, numbers}
+use Rattle.dense_reduction.specs.Pivots.{ArePivots, lead_column, no_row, row_at}
+use Rattle.dense_reduction.specs.Rests.{IsGone, IsRest, IsRestFrom, rows_left}
+use Rattle.dense_reduction.specs.Underway.{AreCombined, IsSpanned}
+use Rattle.dense_reduction.specs.Words.{AreAsTold, Follows, Names, leads_of, named}
+use Rattle.dense_reduction.specs.declared.lefts.Left.{Left}
+use Rattle.dense_reduction.specs.declared.lefts.Lost.{Lost}
 use Rattle.row_reduce.proofs.Echelons.{pivots_more, pivots_none}
-use Rattle.row_reduce.proofs.Entries.{first_below}
-use Rattle.row_reduce.proofs.Naming.{named_span, span_at, span_left, span_right, span_through, told_before, told_last, told_stays}
-use Rattle.row_reduce.specs.LostRows.{AreClaimed, IsLost, IsReplaced, numbers}
-use Rattle.row_reduce.specs.Passes.{AreAsTold, AreHelped, Follows, IsGone, IsLeftOf, IsPass, IsRest, IsRestFrom, IsTold, Names}
-use Rattle.row_reduce.specs.Passes.{leads_of, named, places, rows_left}
-use Rattle.row_reduce.specs.Pivots.{ArePivots, lead_column, no_row, row_at}
-use Rattle.row_reduce.specs.Underway.{AreCombined, IsSpanned}
-use Rattle.row_reduce.specs.declared.lefts.Lost.{Lost}
-use Rattle.row_reduce.specs.declared.lefts.Left.{Left}
-
--- the row has its column
-abbrev HasWon : List RowShown → List Told → ℕ → Type 0
-HasWon rows told m = IsTold rows told (lead_column rows m) m
+use Rattle.row_reduce.specs.Passes.{AreHelped, IsLeftOf, IsPass, places}
+use Rattle.row_reduce.specs.Replaced.{IsReplaced}
 
 -- its column has a row
 abbrev HasColumn : List RowShown → List (Option ℕ) → ℕ → Type 0
@@ -83,91 +80,20 @@ inside_before p rows words before own mine h =
     Each_map (IsInside p rows words own) (IsInside p rows words (before ++ own)) mine
     (λ m s. spanned_before p (named rows words) before own (row_at rows m) s) h
 
--- ---- what an answer tells
-lead_read : (rows : List RowShown) (leads : List ℕ) (k : ℕ) → leads ≡ leads_of rows → k < length rows → slice_index leads k ≡ lead_column rows k
-lead_read rows leads k e lt = ap (λ xs. slice_index xs k) e ∙ get_or-map (λ (r : RowShown). first_column r.entries) rows k no_row 0 lt
-
--- the word of the column names this row
-pub told_now :
-    (rows : List RowShown) (leads : List ℕ) (old new : List Told) (answer : Claim) (number k : ℕ)
-    → leads ≡ leads_of rows → number < length rows
-    → new ≡ old ++ entry (slice_index leads number) (found_by answer) (word_of number answer) ∷ []
-    → NamesRowOf leads (slice_index leads number) (word_of number answer) → word_of number answer ≡ k + 1
-    → IsTold rows new (lead_column rows number) k
-told_now rows leads old new answer number k known lt is names after =
-    let n = names (omega arith) in
-    let l : k < length rows = omega (arith, n.0, ap length known, length-map rows (λ (r : RowShown). first_column r.entries)) in
-    let back : word_of number answer - 1 ≡ k = omega arith in
-    let column = lead_read rows leads number known lt in
-    record {
-      known = l;
-      lead = sym (lead_read rows leads k known l) ∙ ap (slice_index leads) (sym back) ∙ n.1 ∙ column;
-      named = λ words a.
-          subst (λ c. Names words c k) column
-          (told_last words old (entry (slice_index leads number) (found_by answer) (word_of number answer)) k after (subst (AreAsTold words) is a));
-    }
-
-lost_stays : (rows : List RowShown) (old new : List Told) (l : Lost) → Follows old new → IsLost rows old l → IsLost rows new l
-lost_stays rows old new l f h = record { known = h.known; other = h.other; held = told_stays rows old new (lead_column rows l.number) l.winner f h.held }
-
-pub all_lost_stay :
-    (rows : List RowShown) (old new : List Told) (lost : List Lost) → Follows old new → Each (IsLost rows old) lost
-    → Each (IsLost rows new) lost
-all_lost_stay rows old new lost f h = Each_map (IsLost rows old) (IsLost rows new) lost (λ l. lost_stays rows old new l f) h
-
 pub told_after : (words : List (Option ℕ)) (told more : List Told) → AreAsTold words (told ++ more) → AreAsTold words more
 told_after words [] more a = a
 told_after words (e ∷ told) more a =
     told_after words told more (All-tail (λ (x : Told). (k : ℕ) → x.after ≡ k + 1 → Names words x.column k) e (told ++ more) a)
 
-pub item_taken : {X : Type 0} (xs : List X) (i : ℕ) (d : X) → i < length xs → take (i + 1) xs ≡ take i xs ++ get_or xs i d ∷ []
-item_taken xs i d lt = take_item xs i (get_or xs i d) lt (get_or_default xs i d (get_or xs i d) lt)
-
-put_between : (xs ys : List ℕ) (m : ℕ) → IsPermutation (m ∷ (xs ++ ys)) ((xs ++ m ∷ []) ++ ys)
-put_between xs ys m =
-    subst (IsPermutation (m ∷ (xs ++ ys))) (sym (append_assoc xs (m ∷ []) ys))
-    (IsPermutation-sym (xs ++ m ∷ ys) (m ∷ (xs ++ ys)) (IsPermutation-middle xs m ys))
-
-pub lost_at :
-    (rows : List RowShown) (old new : List Told) (lost : List Lost) (i : ℕ) (d : Lost)
-    → Follows old new → Each (IsLost rows old) lost → i < length lost → IsLost rows new (get_or lost i d)
-lost_at rows old new lost i d f h lt = lost_stays rows old new (get_or lost i d) f (Each_member (IsLost rows old) lost i d h lt)
-
--- ---- claimed rows
--- one more row, which has its column
-pub claimed_won :
-    (rows : List RowShown) (mine : List ℕ) (old new : List Told) (lost : List Lost) (i d : ℕ)
-    → i < length mine → Follows old new
-    → AreClaimed rows (take i mine) old lost → IsTold rows new (lead_column rows (get_or mine i d)) (get_or mine i d)
-    → AreClaimed rows (take (i + 1) mine) new lost
-claimed_won rows mine old new lost i d lt f h won = let m = get_or mine i d in record {
-  won = h.won ++ m ∷ [];
-  split =
-      subst₂ IsPermutation (sym (item_taken mine i d lt)) (append_assoc (numbers lost) h.won (m ∷ []))
-      (IsPermutation-append_left (m ∷ []) (take i mine) (numbers lost ++ h.won) h.split);
-  named = Each_append (HasWon rows new) h.won (m ∷ [])
-      (Each_map (HasWon rows old) (HasWon rows new) h.won (λ k t. told_stays rows old new (lead_column rows k) k f t) h.named) (won, tt);
-  beaten = all_lost_stay rows old new lost f h.beaten;
-}
-
--- one more row, which lost it
-pub claimed_lost :
-    (rows : List RowShown) (mine : List ℕ) (old new : List Told) (lost lost' : List Lost) (l : Lost) (i d : ℕ)
-    → i < length mine → Follows old new
-    → AreClaimed rows (take i mine) old lost → (l.number ≡ get_or mine i d) × IsLost rows new l → lost' ≡ lost ++ l ∷ []
-    → AreClaimed rows (take (i + 1) mine) new lost'
-claimed_lost rows mine old new lost lost' l i d lt f h one e = let m = get_or mine i d in record {
-  won = h.won;
-  split =
-      subst₂ IsPermutation (sym (item_taken mine i d lt))
-      (ap (λ k. (numbers lost ++ k ∷ []) ++ h.won) (sym one.0)
-      ∙ ap (λ xs. xs ++ h.won) (sym (map-append (λ (x : Lost). x.number) lost (l ∷ [])) ∙ ap numbers (sym e)))
-      (IsPermutation-push_more (take i mine) (numbers lost ++ h.won) ((numbers lost ++ m ∷ []) ++ h.won) m h.split (put_between (numbers lost) h.won m));
-  named = Each_map (HasWon rows old) (HasWon rows new) h.won (λ k t. told_stays rows old new (lead_column rows k) k f t) h.named;
-  beaten = subst (Each (IsLost rows new)) (sym e) (Each_append (IsLost rows new) lost (l ∷ []) (all_lost_stay rows old new lost f h.beaten) (one.1, tt));
-}
-
 -- ---- dealt rows
+-- none yet
+pub dealt_none : (mine others last : List ℕ) → others ≡ [] → last ≡ [] → IsPermutation (take 0 mine) (others ++ last)
+dealt_none mine others last a b = subst₂ (λ xs ys. IsPermutation (take 0 mine) (xs ++ ys)) (sym a) (sym b) (none_taken mine)
+
+-- all of them
+pub dealt_whole : (mine parts : List ℕ) (i : ℕ) → length mine ≤ i → IsPermutation (take i mine) parts → IsPermutation mine parts
+dealt_whole mine parts i le h = subst (λ xs. IsPermutation xs parts) (take_all i mine le) h
+
 -- one more of the last helper
 pub dealt_last :
     (mine others last last' : List ℕ) (i d : ℕ)
@@ -396,6 +322,18 @@ module _ (p columns inputs : ℕ) (rows : List RowShown) where
   -- none yet
   pub helped_none : (told : List Told) (left : List Left) → left ≡ [] → AreHelped p columns inputs rows [] told left
   helped_none told left e = subst (AreHelped p columns inputs rows [] told) (sym e) (helped_won [] told tt)
+
+  -- where none lost its column
+  pub helped_empty :
+      (told : List Told) (lost : List Lost) (left : List Left) → length lost ≡ 0 → left ≡ [] → AreHelped p columns inputs rows (numbers lost) told left
+  helped_empty told [] left none e = helped_none told left e
+  helped_empty told (l ∷ lost) left none e = absurd (omega (arith, none))
+
+  -- all that lost their columns
+  pub helped_whole :
+      (told : List Told) (lost : List Lost) (left : List Left) (i : ℕ) → length lost ≤ i
+      → AreHelped p columns inputs rows (numbers (take i lost)) told left → AreHelped p columns inputs rows (numbers lost) told left
+  helped_whole told lost left i le h = subst (λ ls. AreHelped p columns inputs rows (numbers ls) told left) (take_all i lost le) h
 
   pub pivots_start : (left : List Left) (pivots : List ℕ) → left ≡ [] → pivots ≡ replicate columns 0 → ArePivots p columns inputs (rows_left left) pivots
   pivots_start left pivots e z = subst (λ ls. ArePivots p columns inputs (rows_left ls) pivots) (sym e) (pivots_none p columns inputs pivots z)

@@ -1,28 +1,30 @@
 -- Rows that come one after another behind a helper's own ones
-use Rattle.std.proofs.Common.{List, None, Option, Some, [], ap, append-nil, append_assoc, arith, drop, get_or, inl, inr, length, refl}
-use Rattle.std.proofs.Common.{set, slice_range, subst, subst₂, suc, sym, take, take-add, false, ℕ, ◌+◌, ◌++◌, ◌-◌, ◌<◌, ◌==◌, ◌∙◌, ◌∷◌, ◌≡◌, ◌≤◌}
-use Rattle.std.proofs.lemmas.Bool.{true≢false}
+use Rattle.std.proofs.Common.{List, None, Option, Some, [], ap, append-nil, append_assoc, arith, drop, get_or, inl, inr, length, refl, set, slice_range, subst, subst₂, suc, sym, take, take-add, ℕ, ◌+◌, ◌++◌, ◌-◌, ◌<◌, ◌∙◌, ◌∷◌, ◌≡◌, ◌≤◌}
 use Rattle.std.proofs.lemmas.List.{drop_more, length-map, map-append, take-append-drop}
 use Rattle.formal_sums.proofs.Combining.{Each_map}
 use Rattle.formal_sums.proofs.WeightedSums.{Each_append}
 use Rattle.formal_sums.specs.FormalSums.{Each}
 use Rattle.pivot_table.specs.declared.law.Entry.{Entry as Told}
-use Rattle.row_matrix.specs.Rows.{Entry, IsRow, RowShown, first_column, first_residue}
-use Rattle.row_reduce.proofs.Adding.{Each_back, Each_front}
+use Rattle.row_matrix.specs.Rows.{IsRow, RowShown, first_column}
+use Rattle.dense_reduction.proofs.Adding.{Each_back, Each_front}
+use Rattle.dense_reduction.proofs.Claimed.{all_lost_stay, item_taken}
+use Rattle.dense_reduction.proofs.Entries.{first_below}
+use Rattle.dense_reduction.proofs.Naming.{follows_same, told_before}
+use Rattle.dense_reduction.proofs.Reducing.{span_last}
+use Rattle.dense_reduction.proofs.Steps.{least_above}
+use Rattle.dense_reduction.specs.LostRows.{IsLost, numbers}
+use Rattle.dense_reduction.specs.Pivots.{ArePivots, lead_column, row_at}
+use Rattle.dense_reduction.specs.Reductions.{least_left}
+use Rattle.dense_reduction.specs.Rests.{IsGone, IsRest, IsRestFrom, rows_left}
+use Rattle.dense_reduction.specs.Together.{AreRests, IsRestOf}
+use Rattle.dense_reduction.specs.Underway.{AreCombined, IsSpanned}
+use Rattle.dense_reduction.specs.Words.{Follows, named}
+use Rattle.dense_reduction.specs.declared.lefts.Left.{Left}
+use Rattle.dense_reduction.specs.declared.lefts.Lost.{Lost}
 use Rattle.row_reduce.proofs.Echelons.{pivots_more}
-use Rattle.row_reduce.proofs.Entries.{first_below}
-use Rattle.row_reduce.proofs.HelpedRows.{all_lost_stay, helped_later, helped_more, item_taken, spanned_left, spanned_more, spanned_rows, spanned_through}
-use Rattle.row_reduce.proofs.Naming.{follows_same, told_before}
-use Rattle.row_reduce.proofs.Reducing.{span_last}
-use Rattle.row_reduce.proofs.Steps.{least_above}
-use Rattle.row_reduce.specs.LostRows.{IsLost, IsLowered, IsReplaced, IsRestKept, numbers}
-use Rattle.row_reduce.specs.Passes.{AreHelped, Follows, IsGone, IsRest, IsRestFrom, named, rows_left}
-use Rattle.row_reduce.specs.Pivots.{ArePivots, lead_column, row_at}
-use Rattle.row_reduce.specs.Reductions.{least_left}
-use Rattle.row_reduce.specs.Together.{AreReplaced, AreRests, IsRestOf}
-use Rattle.row_reduce.specs.Underway.{AreCombined, IsSpanned}
-use Rattle.row_reduce.specs.declared.lefts.Left.{Left}
-use Rattle.row_reduce.specs.declared.lefts.Lost.{Lost}
+use Rattle.row_reduce.proofs.HelpedRows.{helped_later, helped_more, spanned_left, spanned_more, spanned_rows, spanned_through}
+use Rattle.row_reduce.specs.Passes.{AreHelped}
+use Rattle.row_reduce.specs.Replaced.{AreReplaced, IsLowered, IsReplaced, IsRestKept}
 
 -- ---- parts of a list
 pub taken_range : {X : Type 0} (xs : List X) (from to : ℕ) → from ≤ to → take from xs ++ slice_range xs from to ≡ take to xs
@@ -35,6 +37,11 @@ Each_range P xs from to h =
     Each_front P (take (to - from) (drop from xs)) (drop (to - from) (drop from xs))
     (subst (Each P) (sym (take-append-drop (to - from) (drop from xs)))
     (Each_back P (take from xs) (drop from xs) (subst (Each P) (sym (take-append-drop from xs)) h)))
+
+-- a list of which no item was taken has none
+pub none_popped : {X : Type 0} (xs ys : List X) → xs ≡ ys → ys ≡ drop 1 xs → xs ≡ []
+none_popped [] ys e e' = refl
+none_popped (x ∷ xs) ys e e' = absurd (let q : suc (length xs) ≡ length xs = ap length (e ∙ e') in omega arith)
 
 -- ---- what is left of a row, under more own rows
 rows_more : (p : ℕ) (A B C : List RowShown) → Each (IsSpanned p (A ++ (B ++ C))) (A ++ B)
@@ -239,11 +246,7 @@ module _ (p columns inputs : ℕ) (rows : List RowShown) where
       (own : List RowShown) (told : List Told) (lost : List Lost) (i : ℕ) (d : Lost) (rests rests' : List (Option RowShown))
       → i < length lost → rests ≡ rests' → rests' ≡ drop 1 rests → AreRests p columns inputs rows own told (drop i lost) rests → ⊥
   rest_missing own told lost i d rests rests' lt e e' h =
-      subst₂ (λ ls rs. AreRests p columns inputs rows own told ls rs) (drop_more lost i d lt) (none rests rests' e e') h
-    where
-      none : (xs ys : List (Option RowShown)) → xs ≡ ys → ys ≡ drop 1 xs → xs ≡ []
-      none [] ys e e' = refl
-      none (x ∷ xs) ys e e' = absurd (let q : suc (length xs) ≡ length xs = ap length (e ∙ e') in omega arith)
+      subst₂ (λ ls rs. AreRests p columns inputs rows own told ls rs) (drop_more lost i d lt) (none_popped rests rests' e e') h
 
   -- the loop's step: what is kept of the rest takes the row's place
   pub keep_next :
@@ -302,12 +305,3 @@ module _ (p columns inputs : ℕ) (rows : List RowShown) where
 
       some : Each (IsLost rows first) (slice_range lost from to)
       some = Each_range (IsLost rows first) lost from to all
-
--- ---- pivots of a first column
-pub some_entries : {X : Type 0} (xs : List X) → false ≡ (length xs == 0) → 0 < length xs
-some_entries [] e = absurd (true≢false (sym e))
-some_entries (x ∷ xs) e = omega arith
-
-pub first_residue_read : (es : List Entry) → (get_or es 0 (0, 0)).1 ≡ first_residue es
-first_residue_read [] = refl
-first_residue_read (y ∷ es) = refl

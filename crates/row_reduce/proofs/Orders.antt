@@ -9,8 +9,8 @@ use Rattle.module_vectors.proofs.Gathers.{Each_permutation}
 use Rattle.row_laws.proofs.RowSpans.{IsInSpan_itself, IsInSpan_through}
 use Rattle.row_laws.specs.Rows.{IsInSpan}
 use Rattle.row_matrix.specs.Rows.{RowShown, first_column, row_sum}
+use Rattle.dense_reduction.specs.Pivots.{no_row, row_at, row_vectors}
 use Rattle.row_reduce.specs.Echelons.{IsEchelonOf}
-use Rattle.row_reduce.specs.Pivots.{no_row, row_at, row_vectors}
 
 -- a row of the one list is a row of the other
 row_moved : (A B : List RowShown) → IsPermutation A B → (i : ℕ) → i < length A → (j : ℕ) × (j < length B) × (row_at B j ≡ row_at A i)

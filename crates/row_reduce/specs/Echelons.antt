@@ -7,10 +7,11 @@ use Rattle.formal_sums.specs.FormalSums.{Each, FormalSum, Key}
 use Rattle.pivot_table.specs.Law.{LeadsFit}
 use Rattle.row_laws.specs.Rows.{IsInSpan}
 use Rattle.row_matrix.specs.Rows.{IsRow, RowShown}
-use Rattle.row_reduce.specs.Passes.{AreReady, IsPass, Names, named}
-use Rattle.row_reduce.specs.Pivots.{lead_column, row_at, row_vectors}
-use Rattle.row_reduce.specs.Underway.{AreCombined, IsSpanned}
-use Rattle.row_reduce.specs.declared.lefts.Left.{Left}
+use Rattle.dense_reduction.specs.Pivots.{lead_column, row_at, row_vectors}
+use Rattle.dense_reduction.specs.Underway.{AreCombined, IsSpanned}
+use Rattle.dense_reduction.specs.Words.{AreReady, Names, named}
+use Rattle.dense_reduction.specs.declared.lefts.Left.{Left}
+use Rattle.row_reduce.specs.Passes.{IsPass}
 
 -- E is an echelon form of the rows M: monic rows with columns of their own, as many as M at most, in one span with M, with a row for each
 -- first column of M, and combinations of input rows where those of M are

@@ -1,7 +1,7 @@
 -- Room in which a helper reduces rows, one or eight
 use Rattle.std.specs.Prelude.{ℕ}
-use Rattle.row_reduce.specs.Eights.{AreAllIdle}
-use Rattle.row_reduce.specs.Underway.{AreIdle}
+use Rattle.dense_reduction.specs.Eights.{AreAllIdle}
+use Rattle.dense_reduction.specs.Underway.{AreIdle}
 use Rattle.row_reduce.specs.declared.helping.Room.{Room}
 
 -- for rows of so many columns, all numbers 0

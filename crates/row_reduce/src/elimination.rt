@@ -7,12 +7,14 @@ ghost use Rattle.bases.specs.Settings.{IsLawful, Setting};
 ghost use Rattle.pivot_table.specs.Law.{LeadsFit};
 ghost use Rattle.row_laws.specs.Jobs.{IsEchelonForm};
 ghost use Rattle.row_matrix.specs.Rows.{Descend, IsRow, RowShown, vectors_of};
+ghost use Rattle.dense_reduction.specs.Rests.{rows_left};
+ghost use Rattle.dense_reduction.specs.Words.{leads_of, named};
 ghost use Rattle.row_reduce.specs.Echelons.{AreBetween, AreFrom, IsEchelonOf, IsPassOverSome, with_left, columns_behind};
-ghost use Rattle.row_reduce.specs.Passes.{leads_of, named, places, rows_left};
+ghost use Rattle.row_reduce.specs.Passes.{places};
 
 use crate::choosing::choose;
 use crate::helpers::{Passed, pass};
-use crate::lefts::Left;
+use dense_reduction::Left;
 use module_vectors::{Key, NoMemory};
 use row_matrix::{Matrix, Row};
 use std::alloc::Global;

@@ -6,11 +6,11 @@ ghost use Rattle.formal_sums.specs.FormalSums.{Each};
 ghost use Rattle.pivot_table.specs.Law.{IsSeatOf, LeadsFit, told};
 ghost use Rattle.pivot_table.specs.declared.law.Entry.{Entry as Told};
 ghost use Rattle.row_matrix.specs.Rows.{RowShown};
-ghost use Rattle.row_reduce.specs.Passes.{AreHelped, AreReady, IsPass, leads_of};
+ghost use Rattle.dense_reduction.specs.Words.{AreReady};
+ghost use Rattle.row_reduce.specs.Passes.{AreHelped, IsPass};
 
 use crate::helping::help;
-use crate::lefts::Left;
-use crate::reduction::Shared;
+use dense_reduction::{Left, Shared};
 use module_vectors::NoMemory;
 use pivot_table::{ClaimSeat, Claims};
 use row_matrix::Row;

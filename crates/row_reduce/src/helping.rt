@@ -1,83 +1,31 @@
 // What one helper does in a pass.
-ghost use Rattle.std.specs.Prelude.{◌≡◌, ◌<◌, ◌≤◌, ◌+◌, ◌++◌, ◌∷◌, [], false, get_or, length, slice_set, IfOk, MatchOption, OnOk};
+ghost use Rattle.std.specs.Prelude.{◌≡◌, ◌<◌, ◌≤◌, ◌+◌, ◌++◌, ◌∷◌, [], false, get_or, length, slice_set, IfOk, OnOk};
 ghost use Rattle.formal_sums.specs.FormalSums.{Each};
 ghost use Rattle.pivot_table.specs.Law.{IsSeatOf, told};
 ghost use Rattle.row_matrix.specs.Rows.{IsRow, first_column};
-ghost use Rattle.row_reduce.specs.LostRows.{AreClaimed, IsLost, IsReplaced, IsRestKept, numbers};
-ghost use Rattle.row_reduce.specs.Passes.{AreHelped, AreReady, Follows, IsTold, leads_of, rows_left};
-ghost use Rattle.row_reduce.specs.Pivots.{ArePivots, lead_column};
+ghost use Rattle.dense_reduction.specs.LostRows.{IsLost, numbers};
+ghost use Rattle.dense_reduction.specs.Pivots.{ArePivots};
+ghost use Rattle.dense_reduction.specs.Rests.{rows_left};
+ghost use Rattle.dense_reduction.specs.Together.{AreRests};
+ghost use Rattle.dense_reduction.specs.Underway.{AreIdle};
+ghost use Rattle.dense_reduction.specs.Words.{AreReady, Follows};
+ghost use Rattle.row_reduce.specs.Passes.{AreHelped};
+ghost use Rattle.row_reduce.specs.Replaced.{AreReplaced, IsReplaced, IsRestKept};
 ghost use Rattle.row_reduce.specs.Room.{HasIdleRoom};
-ghost use Rattle.row_reduce.specs.Together.{AreReplaced, AreRests};
-ghost use Rattle.row_reduce.specs.Underway.{AreIdle};
 
-use crate::eights::EIGHT;
-use crate::lefts::{Left, Lost};
-use crate::reduction::{Own, Shared, Work, own_pivot, reduce_row};
-use crate::together::{Together, reduce_together, room_for_eight};
+use dense_reduction::{
+    EIGHT, Left, Lost, Own, Shared, Together, Work, claim_rows, own_pivot, reduce_row,
+    reduce_together, room_for_eight, room_for_one,
+};
 use module_vectors::NoMemory;
-use pivot_table::{Claim, ClaimSeat};
+use pivot_table::ClaimSeat;
 use row_matrix::Row;
 use std::alloc::Global;
 use std::collections::VecDeque;
-use worker_gate::{Gate, Point, SharedGate};
+use worker_gate::SharedGate;
 
 // Fewer rows than these are reduced one after another.
 const FEW: usize = 3;
-
-// Claims the first column of the row, and passes the gate. The answer is the row that lost, where another has its column.
-fn claim_row(
-    shared: Shared<'_>,
-    gate: &SharedGate,
-    helper: u32,
-    seat: &mut ClaimSeat,
-    number: u64,
-) -> Option<Lost>
-    requires known { shared.claims.now.rows.leads.items ≡ leads_of shared.rows.now }
-    requires seat { IsSeatOf shared.claims.now.table.shared.table_id shared.claims.now.rows.leads.items seat.old }
-    requires number { number < length shared.rows.now }
-    ensures seat { IsSeatOf shared.entry.claims.now.table.shared.table_id shared.entry.claims.now.rows.leads.items seat.new }
-    ensures follows { Follows (told seat.old) (told seat.new) }
-    ensures claimed { MatchOption result (IsTold shared.entry.rows.now (told seat.new) (lead_column shared.entry.rows.now number) number)
-        (λ l. (l.number ≡ number) × IsLost shared.entry.rows.now (told seat.new) l) }
-{
-    let answer = shared.claims.claim(seat, number);
-    gate.pass(helper, Point::RowClaimed);
-    match answer {
-        Claim::Won => None,
-        Claim::Lost(winner) => {
-            if winner == number {
-                None
-            } else {
-                Some(Lost { number, winner })
-            }
-        }
-    }
-}
-
-// Claims the first column of each of these rows, and passes the gate with each. The answer are those that another row has.
-fn claim_rows(
-    alloc: Global,
-    shared: Shared<'_>,
-    gate: &SharedGate,
-    helper: u32,
-    seat: &mut ClaimSeat,
-    mine: &[u64],
-) -> Result<Vec<Lost>, NoMemory>
-    requires known { shared.claims.now.rows.leads.items ≡ leads_of shared.rows.now }
-    requires seat { IsSeatOf shared.claims.now.table.shared.table_id shared.claims.now.rows.leads.items seat.old }
-    requires mine { Each (λ m. m < length shared.rows.now) mine.now }
-    ensures seat { IsSeatOf shared.entry.claims.now.table.shared.table_id shared.entry.claims.now.rows.leads.items seat.new }
-    ensures claimed { IfOk result (λ lost. AreClaimed shared.entry.rows.now mine.now (told seat.new) lost.items) }
-{
-    let mut lost = Vec::new(alloc);
-    for number in mine {
-        match claim_row(shared, gate, helper, seat, *number) {
-            None => {}
-            Some(one) => lost.push(one)?,
-        }
-    }
-    Ok(lost)
-}
 
 // Keeps what is left of the row with this number, as the pivot of its first column.
 fn keep_left(own: &mut Own, number: u64, row: Row) -> Result<(), NoMemory>
@@ -261,12 +209,7 @@ struct Room {
 fn room_for(alloc: Global, columns: usize) -> Result<Room, NoMemory>
     ensures { IfOk result (HasIdleRoom columns) }
 {
-    let work = Work {
-        left: Vec::new(alloc),
-        numbers: vec![in alloc; 0; columns]?,
-        limit: 0,
-        taken: Vec::new(alloc),
-    };
+    let work = room_for_one(alloc, columns)?;
     let together = room_for_eight(alloc, columns)?;
     Ok(Room { work, together })
 }

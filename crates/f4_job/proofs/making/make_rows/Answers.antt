@@ -29,3 +29,6 @@ loop-row-preserved c =
 pub returns : goal.returns
 returns c = subst (λ (rs : List RowShown). AreMadeRows c.args.ring.now c.args.columns.now c.args.products.now rs c.loop-row.made.items)
     (take_all c.loop-row.row-index c.args.rows.now (omega (arith, c.loop-row-test.false))) c.loop-row.invariant
+
+pub ranks_of-requires : goal.ranks_of-requires
+ranks_of-requires c = c.requires.products

@@ -1,7 +1,11 @@
-use Rattle.std.proofs.Common.{[], ap, arith, get_or, length, subst, ◌++◌, ◌<◌, ◌∙◌, ◌∷◌, ◌≡◌}
-use Rattle.row_matrix.specs.Rows.{first_column}
+use Rattle.std.proofs.Common.{[], ap, arith, get_or, length, subst, sym, ◌++◌, ◌<◌, ◌∙◌, ◌∷◌, ◌≡◌, ◌≤◌}
+use Rattle.std.proofs.lemmas.List.{take_all}
+use Rattle.std.specs.List.{range_with_len}
+use Rattle.module_vectors.proofs.SumsOfProducts.{Each_member}
+use Rattle.row_matrix.specs.Rows.{RowShown, first_column}
+use Rattle.dense_reduction.proofs.Reducing.{first_column_read}
+use Rattle.dense_reduction.specs.Words.{leads_of}
 use Rattle.row_reduce.proofs.Echelons.{leads_push, range_push}
-use Rattle.row_reduce.proofs.Reducing.{first_column_read}
 use Rattle.row_reduce.proofs.elimination.begin.Goals as goal
 
 pub loop-row-preserved : goal.loop-row-preserved
@@ -21,3 +25,33 @@ loop-row-preserved c =
       room = omega (arith, v.room, c.push_reserved-in-loop-row.ensures.capacity);
       space = omega (arith, v.space, c.push_reserved.ensures.capacity);
     }
+
+pub push_reserved-requires : goal.push_reserved-requires
+push_reserved-requires c =
+    let v = c.loop-row.invariant in
+    omega (arith, v.same, v.space, c.loop-row-test.true, c.deref-row-items.ensures.len, c.args.rows.ok.0)
+
+pub push_reserved-requires-in-loop-row : goal.push_reserved-requires-in-loop-row
+push_reserved-requires-in-loop-row c =
+    let v = c.loop-row.invariant in
+    omega (arith, v.count, v.room, c.loop-row-test.true, c.deref-row-items.ensures.len, c.args.rows.ok.0)
+
+pub bounds-entries-0 : goal.bounds-entries-0
+bounds-entries-0 c =
+    let rows = c.args.rows.items in
+    let i = c.loop-row.row-index in
+    let r = c.row-item.result in
+    let is : r ≡ get_or rows i r = subst (λ xs. r ≡ get_or xs i r) c.deref-row-items.ensures.value c.row-item.is in
+    let lt : i < length rows = omega (arith, c.loop-row-test.true, c.deref-row-items.ensures.len, c.args.rows.ok.0) in
+    let some : 0 < length r.entries = subst (λ (x : RowShown). 0 < length x.entries) (sym is) (Each_member (λ (x : RowShown). 0 < length x.entries) rows i r c.requires lt) in
+    omega (arith, some, ap length c.entries.ensures)
+
+pub returns-clause-leads : goal.returns-clause-leads
+returns-clause-leads c =
+    let le : length c.args.rows.items ≤ c.loop-row.row-index = omega (arith, c.loop-row-test.false, c.deref-row-items.ensures.len, c.args.rows.ok.0) in
+    c.loop-row.invariant.leads ∙ ap leads_of (take_all c.loop-row.row-index c.args.rows.items le)
+
+pub returns-clause-pending : goal.returns-clause-pending
+returns-clause-pending c =
+    c.loop-row.invariant.pending
+    ∙ ap (range_with_len 0) (omega (arith, c.loop-row-test.false, c.loop-row.auto.row-index-end, c.deref-row-items.ensures.len, c.args.rows.ok.0))

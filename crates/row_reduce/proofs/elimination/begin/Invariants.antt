@@ -1,7 +1,7 @@
 use Rattle.std.proofs.Common.{length, take, ◌≡◌, ◌≤◌}
 use Rattle.std.specs.List.{range_with_len}
 use Rattle.std.specs.Vec.{vec_capacity, vec_len}
-use Rattle.row_reduce.specs.Passes.{leads_of}
+use Rattle.dense_reduction.specs.Words.{leads_of}
 use Rattle.row_reduce.proofs.elimination.begin.Given as goal
 
 abbrev pub invariant-loop-row : goal.invariant-loop-row

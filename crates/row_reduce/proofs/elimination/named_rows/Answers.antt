@@ -1,7 +1,7 @@
 use Rattle.std.proofs.Common.{ap, arith, length, set, ◌<◌, ◌∙◌, ◌≡◌}
 use Rattle.std.proofs.lemmas.List.{length-set}
+use Rattle.dense_reduction.specs.Pivots.{row_at}
 use Rattle.row_reduce.proofs.Echelons.{taken_fit, taken_found, taken_kept, taken_none, taken_read}
-use Rattle.row_reduce.specs.Pivots.{row_at}
 use Rattle.row_reduce.proofs.elimination.named_rows.Goals as goal
 use Rattle.row_reduce.proofs.elimination.named_rows.Goals.{in-Some+in_ok-push, in_default}
 

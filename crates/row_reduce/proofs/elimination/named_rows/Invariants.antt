@@ -1,6 +1,6 @@
 use Rattle.std.proofs.Common.{drop, length, reverse, ℕ, ◌-◌, ◌<◌, ◌≡◌}
-use Rattle.row_reduce.specs.Passes.{named}
-use Rattle.row_reduce.specs.Pivots.{lead_column, row_at}
+use Rattle.dense_reduction.specs.Pivots.{lead_column, row_at}
+use Rattle.dense_reduction.specs.Words.{named}
 use Rattle.row_reduce.proofs.elimination.named_rows.Given as goal
 
 abbrev pub invariant-loop-past : goal.invariant-loop-past

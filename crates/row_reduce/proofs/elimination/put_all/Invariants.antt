@@ -1,8 +1,10 @@
 use Rattle.std.proofs.Common.{length, ◌++◌, ◌<◌, ◌≡◌}
 use Rattle.std.specs.VecDeque.{deque_len}
 use Rattle.formal_sums.specs.FormalSums.{Each}
+use Rattle.dense_reduction.specs.Rests.{rows_left}
+use Rattle.dense_reduction.specs.Words.{leads_of}
 use Rattle.row_reduce.specs.Echelons.{with_left}
-use Rattle.row_reduce.specs.Passes.{leads_of, places, rows_left}
+use Rattle.row_reduce.specs.Passes.{places}
 use Rattle.row_reduce.proofs.elimination.put_all.Given as goal
 
 abbrev pub invariant-loop-left : goal.invariant-loop-left

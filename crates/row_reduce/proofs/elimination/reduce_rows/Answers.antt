@@ -4,10 +4,10 @@ use Rattle.std.specs.List.{range_with_len}
 use Rattle.module_vectors.proofs.Gathers.{Each_permutation}
 use Rattle.pivot_table.specs.Law.{LeadsFit}
 use Rattle.row_matrix.specs.Rows.{IsRow}
+use Rattle.dense_reduction.specs.Words.{named}
 use Rattle.row_reduce.proofs.Echelons.{between_read, between_start, echelon_end, from_read, from_start, rows_some}
 use Rattle.row_reduce.proofs.Orders.{echelon_permuted}
 use Rattle.row_reduce.specs.Echelons.{AreBetween, IsEchelonOf}
-use Rattle.row_reduce.specs.Passes.{named}
 use Rattle.row_reduce.proofs.elimination.reduce_rows.Goals as goal
 
 pub begin-requires : goal.begin-requires

@@ -1,7 +1,8 @@
 use Rattle.std.proofs.Common.{length, subst, ◌++◌, ◌≡◌}
+use Rattle.dense_reduction.specs.Words.{leads_of}
 use Rattle.row_reduce.proofs.Echelons.{between_next, between_read, from_next, from_read, left_some, places_known, room_next, room_read}
 use Rattle.row_reduce.specs.Echelons.{with_left, columns_behind}
-use Rattle.row_reduce.specs.Passes.{leads_of, places}
+use Rattle.row_reduce.specs.Passes.{places}
 use Rattle.row_reduce.proofs.elimination.run_pass.Goals as goal
 
 pub put_all-requires-clause-within : goal.put_all-requires-clause-within

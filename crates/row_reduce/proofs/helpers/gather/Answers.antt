@@ -1,6 +1,6 @@
 use Rattle.std.proofs.Common.{IfOk, subst, sym, ◌++◌}
-use Rattle.row_reduce.specs.Passes.{AreHelped}
 use Rattle.row_reduce.proofs.HelpedRows.{helped_both}
+use Rattle.row_reduce.specs.Passes.{AreHelped}
 use Rattle.row_reduce.proofs.helpers.gather.Goals as goal
 
 pub returns : goal.returns

@@ -2,13 +2,13 @@ use Rattle.std.proofs.Common.{ap, arith, get_or, inr, length, subst, ◌<◌, �
 use Rattle.formal_sums.proofs.Combining.{Each_map}
 use Rattle.pivot_table.specs.Law.{told}
 use Rattle.row_matrix.specs.Rows.{Entry, first_column}
-use Rattle.row_reduce.proofs.Entries.{entries_within, first_below, monic_entries}
+use Rattle.dense_reduction.proofs.Entries.{entries_within, first_below, monic_entries}
+use Rattle.dense_reduction.proofs.Reducing.{first_column_read}
+use Rattle.dense_reduction.proofs.Steps.{first_free}
+use Rattle.dense_reduction.specs.Reductions.{HasPivot}
+use Rattle.dense_reduction.specs.Rests.{rows_left}
 use Rattle.row_reduce.proofs.HelpedRows.{pivots_left}
 use Rattle.row_reduce.proofs.Lowered.{itself_lowered, lowered_of_rest, pivots_kept}
-use Rattle.row_reduce.proofs.Reducing.{first_column_read}
-use Rattle.row_reduce.proofs.Steps.{first_free}
-use Rattle.row_reduce.specs.Passes.{rows_left}
-use Rattle.row_reduce.specs.Reductions.{HasPivot}
 use Rattle.row_reduce.proofs.helping.keep_rest.Goals as goal
 
 pub meets_own-requires : goal.meets_own-requires

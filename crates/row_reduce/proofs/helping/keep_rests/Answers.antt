@@ -1,13 +1,14 @@
 use Rattle.std.proofs.Common.{Some, ap, arith, get_or, length, subst, sym, ◌<◌, ◌∙◌, ◌∷◌}
 use Rattle.pivot_table.specs.Law.{told}
 use Rattle.row_matrix.specs.Rows.{IsRow}
+use Rattle.dense_reduction.proofs.Naming.{follows_trans}
+use Rattle.dense_reduction.specs.Pivots.{ArePivots}
+use Rattle.dense_reduction.specs.Rests.{rows_left}
+use Rattle.dense_reduction.specs.Underway.{AreIdle}
+use Rattle.dense_reduction.specs.Words.{AreReady}
+use Rattle.dense_reduction.specs.declared.lefts.Lost.{Lost}
 use Rattle.row_reduce.proofs.Lowered.{keep_next, rest_missing, rest_next, skip_next}
-use Rattle.row_reduce.proofs.Naming.{follows_trans}
-use Rattle.row_reduce.specs.Passes.{AreReady, rows_left}
-use Rattle.row_reduce.specs.LostRows.{IsRestKept}
-use Rattle.row_reduce.specs.Pivots.{ArePivots}
-use Rattle.row_reduce.specs.Underway.{AreIdle}
-use Rattle.row_reduce.specs.declared.lefts.Lost.{Lost}
+use Rattle.row_reduce.specs.Replaced.{IsRestKept}
 use Rattle.row_reduce.proofs.helping.keep_rests.Goals as goal
 use Rattle.row_reduce.proofs.helping.keep_rests.Goals.{in-Some-Some+in_ok-keep_rest-in-Some-Some, in-Some-None, in-None}
 

@@ -1,13 +1,14 @@
 use Rattle.std.proofs.Common.{arith, get_or, length, subst, sym, ◌<◌}
 use Rattle.pivot_table.specs.Law.{told}
-use Rattle.row_reduce.proofs.HelpedRows.{lost_at}
+use Rattle.dense_reduction.proofs.Claimed.{lost_at}
+use Rattle.dense_reduction.proofs.Naming.{follows_trans}
+use Rattle.dense_reduction.specs.Pivots.{ArePivots}
+use Rattle.dense_reduction.specs.Rests.{rows_left}
+use Rattle.dense_reduction.specs.Underway.{AreIdle}
+use Rattle.dense_reduction.specs.Words.{AreReady}
+use Rattle.dense_reduction.specs.declared.lefts.Lost.{Lost}
 use Rattle.row_reduce.proofs.Lowered.{replaced_next}
-use Rattle.row_reduce.proofs.Naming.{follows_trans}
-use Rattle.row_reduce.specs.Passes.{AreReady, rows_left}
-use Rattle.row_reduce.specs.LostRows.{IsReplaced}
-use Rattle.row_reduce.specs.Pivots.{ArePivots}
-use Rattle.row_reduce.specs.Underway.{AreIdle}
-use Rattle.row_reduce.specs.declared.lefts.Lost.{Lost}
+use Rattle.row_reduce.specs.Replaced.{IsReplaced}
 use Rattle.row_reduce.proofs.helping.replace_each.Goals as goal
 
 pub replace_row-requires-clause-ready : goal.replace_row-requires-clause-ready

@@ -1,9 +1,10 @@
 use Rattle.std.proofs.Common.{length, take, ◌≡◌}
 use Rattle.pivot_table.specs.Law.{IsSeatOf, told}
-use Rattle.row_reduce.specs.Passes.{Follows, rows_left}
-use Rattle.row_reduce.specs.Pivots.{ArePivots}
-use Rattle.row_reduce.specs.Together.{AreReplaced}
-use Rattle.row_reduce.specs.Underway.{AreIdle}
+use Rattle.dense_reduction.specs.Pivots.{ArePivots}
+use Rattle.dense_reduction.specs.Rests.{rows_left}
+use Rattle.dense_reduction.specs.Underway.{AreIdle}
+use Rattle.dense_reduction.specs.Words.{Follows}
+use Rattle.row_reduce.specs.Replaced.{AreReplaced}
 use Rattle.row_reduce.proofs.helping.replace_each.Given as goal
 
 abbrev pub invariant-loop-one : goal.invariant-loop-one

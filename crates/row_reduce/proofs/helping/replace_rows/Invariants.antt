@@ -1,8 +1,10 @@
 use Rattle.std.proofs.Common.{length, take, ◌-◌, ◌≡◌, ◌≤◌}
 use Rattle.pivot_table.specs.Law.{IsSeatOf, told}
-use Rattle.row_reduce.specs.LostRows.{numbers}
-use Rattle.row_reduce.specs.Passes.{AreHelped, Follows, rows_left}
-use Rattle.row_reduce.specs.Pivots.{ArePivots}
+use Rattle.dense_reduction.specs.LostRows.{numbers}
+use Rattle.dense_reduction.specs.Pivots.{ArePivots}
+use Rattle.dense_reduction.specs.Rests.{rows_left}
+use Rattle.dense_reduction.specs.Words.{Follows}
+use Rattle.row_reduce.specs.Passes.{AreHelped}
 use Rattle.row_reduce.specs.Room.{HasIdleRoom}
 use Rattle.row_reduce.proofs.helping.replace_rows.Given as goal
 

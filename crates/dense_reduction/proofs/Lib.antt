@@ -1,0 +1,10 @@
+pub mod Adding
+pub mod Entries
+pub mod Clearing
+pub mod Reducing
+pub mod Naming
+pub mod Claimed
+pub mod Steps
+pub mod EightSums
+pub mod Lanes
+pub mod OnTheWay

@@ -1,0 +1,9 @@
+pub mod Dense
+pub mod Eights
+pub mod Pivots
+pub mod Underway
+pub mod Words
+pub mod Rests
+pub mod LostRows
+pub mod Reductions
+pub mod Together

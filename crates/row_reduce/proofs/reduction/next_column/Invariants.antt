@@ -1,7 +1,0 @@
-use Rattle.std.proofs.Common.{get_or, ℕ, ◌<◌, ◌≡◌, ◌≤◌}
-use Rattle.row_reduce.proofs.reduction.next_column.Given as goal
-
-abbrev pub invariant-loop-c : goal.invariant-loop-c
-invariant-loop-c l = record {
-  zeros : (j : ℕ) → l.fn.from ≤ j → j < l.c → get_or l.numbers j 0 ≡ 0;
-}

@@ -1,6 +1,0 @@
-use Rattle.std.proofs.Common.{take, ◌≡◌}
-use Rattle.row_reduce.specs.Together.{lane_left}
-use Rattle.row_reduce.proofs.together.entries_left.Given as goal
-
-abbrev pub invariant-loop-one : goal.invariant-loop-one
-invariant-loop-one l = l.entries.items ≡ lane_left l.j (take l.one-index l.left)
