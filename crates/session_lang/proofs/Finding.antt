@@ -10,15 +10,16 @@ use Rattle.module_vectors.specs.declared.ring.Ring.{Ring}
 use Rattle.script_parse.specs.declared.named.NameInfo.{NameInfo}
 use Rattle.session_lang.proofs.KeptValues.{length_written}
 use Rattle.session_lang.proofs.Stopping.{run_for}
-use Rattle.session_lang.proofs.Values.{found_value, kept_values, no_value}
-use Rattle.session_lang.specs.Answers.{Asked}
+use Rattle.session_values.proofs.Values.{found_value, kept_values, no_value}
+use Rattle.session_values.specs.Answers.{Asked}
 use Rattle.session_lang.specs.Asking.{IsAskedOver}
 use Rattle.script_parse.specs.Places.{place_named}
-use Rattle.session_lang.specs.Kept.{AreKept, AreSound, IsGiven, value_of, values_of}
-use Rattle.session_lang.specs.Names.{HasValue, State, after_run, value_named}
+use Rattle.session_lang.specs.Fitting.{IsGiven}
+use Rattle.session_values.specs.Kept.{AreKept, AreSound, value_of, values_of}
+use Rattle.session_values.specs.Names.{HasValue, State, after_run, value_named}
 use Rattle.session_lang.specs.Lines.{IsRunForEither}
 use Rattle.session_lang.specs.Parts.{IsRunAtEither, Keeps}
-use Rattle.session_lang.specs.Held.{Held}
+use Rattle.session_values.specs.Held.{Held}
 
 module _ (before : State) (ring : Option Ring) (infos : List NameInfo) (stored : List Held)
     (view : record { ring = ring; values = values_of infos stored } ≡ before) where

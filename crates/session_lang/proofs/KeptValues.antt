@@ -8,11 +8,11 @@ use Rattle.module_vectors.specs.declared.key.Key.{Key}
 use Rattle.module_vectors.specs.declared.ring.Ring.{Ring}
 use Rattle.groebner_iface.specs.Runs.{IsReducedBasisOf}
 use Rattle.script_parse.specs.declared.named.NameInfo.{NameInfo}
-use Rattle.session_lang.proofs.Values.{sound_at}
-use Rattle.session_lang.specs.Answers.{Decides, IsOneModule}
-use Rattle.session_lang.specs.Texts.{verdict}
-use Rattle.session_lang.specs.Kept.{AreSound, IsSound}
-use Rattle.session_lang.specs.Held.{Held}
+use Rattle.session_values.proofs.Values.{sound_at}
+use Rattle.session_values.specs.Answers.{Decides, IsOneModule}
+use Rattle.session_values.specs.Texts.{verdict}
+use Rattle.session_values.specs.Kept.{AreSound, IsSound}
+use Rattle.session_values.specs.Held.{Held}
 
 abbrev Terms : Type 0
 Terms = List (List (Key × ℕ))

@@ -1,9 +1,4 @@
-mod Values
-mod DegreeLines
-mod Dividing
-mod Leading
 mod Reading
-mod OneModule
 mod Finding
 mod Making
 mod Placing

@@ -8,10 +8,11 @@ use Rattle.module_vectors.specs.declared.ring.Ring.{Ring}
 use Rattle.script_parse.specs.declared.operation.Operation.{Operation}
 use Rattle.script_parse.specs.declared.operation.Operation.TheVariants as operations
 use Rattle.session_lang.proofs.OneAnswer.{one_value}
-use Rattle.session_lang.specs.Kept.{AreGiven, IsListOver, IsPolynomialOver, IsSound, IsValueRank, IsWithPolynomial, IsWorkable}
-use Rattle.session_lang.specs.Names.{State}
-use Rattle.session_lang.specs.Operations.{IsResult, Work, WorksOn, colon, eliminate, intersect, multiply, quotient, result_rank, saturate, sum, syzygies}
-use Rattle.session_lang.specs.Tasks.{IsOperand, IsReady}
+use Rattle.session_lang.specs.Fitting.{AreGiven, IsWithPolynomial, IsWorkable}
+use Rattle.session_values.specs.Kept.{IsListOver, IsPolynomialOver, IsSound, IsValueRank}
+use Rattle.session_values.specs.Names.{State}
+use Rattle.session_values.specs.Operations.{IsResult, Work, WorksOn, colon, eliminate, intersect, multiply, quotient, result_rank, saturate, sum, syzygies}
+use Rattle.session_values.specs.Tasks.{IsOperand, IsReady}
 
 abbrev Lists : Type 0
 Lists = List (List (Key × ℕ))

@@ -62,9 +62,9 @@ use Rattle.vector_division.specs.Progress.{AreWeighed}
 use Rattle.session_lang.proofs.Reporting.{written_joined}
 use Rattle.session_lang.specs.Cancelling.{IsCancelledAs, StopsAsMinimal}
 use Rattle.session_lang.specs.Minimising.{HasTwoDegrees, IsInhomogeneous, IsMinimalText}
-use Rattle.session_lang.specs.Resolving.{maps_text}
-use Rattle.session_lang.specs.Texts.{heading}
-use Rattle.session_lang.specs.Writing.{resolution_written}
+use Rattle.session_values.specs.Resolving.{maps_text}
+use Rattle.session_values.specs.Texts.{heading}
+use Rattle.session_values.specs.Writing.{resolution_written}
 
 abbrev Terms : Type 0
 Terms = List (Key × ℕ)

@@ -3,10 +3,10 @@ use Rattle.std.proofs.Common.{List, Some, [], ap, codes, inl, inr, subst₂, sym
 use Rattle.module_vectors.specs.declared.ring.Ring.{Ring}
 use Rattle.poly_text.specs.Texts.{names_of, vector_text}
 use Rattle.session_lang.proofs.OneForm.{one_form, one_reduced}
-use Rattle.session_lang.specs.Answers.{Asked, Decides, IsAnswer, basis, member, normal_form, sizes_of_basis}
+use Rattle.session_values.specs.Answers.{Asked, Decides, IsAnswer, basis, member, normal_form, sizes_of_basis}
 use Rattle.session_lang.specs.Lines.{AnswersAsked}
-use Rattle.session_lang.specs.Names.{HasValue, State, Value}
-use Rattle.session_lang.specs.Texts.{listing, sizes}
+use Rattle.session_values.specs.Names.{HasValue, State, Value}
+use Rattle.session_values.specs.Texts.{listing, sizes}
 
 some_same : {X : Type 0} {x y : X} → Some x ≡ Some y → x ≡ y
 some_same e = cc

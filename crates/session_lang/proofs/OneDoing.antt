@@ -19,11 +19,11 @@ use Rattle.session_lang.proofs.OneMinimal.{betti_once, minimal_once, regularity_
 use Rattle.session_lang.proofs.OneResolution.{resolves_once}
 use Rattle.session_lang.proofs.OneText.{counts_once, lifts_once}
 use Rattle.session_lang.proofs.OneWork.{gives_once}
-use Rattle.session_lang.specs.Answers.{Asked, Decides, IsOneModule, basis, member, normal_form, sizes_of_basis}
+use Rattle.session_values.specs.Answers.{Asked, Decides, IsOneModule, basis, member, normal_form, sizes_of_basis}
 use Rattle.session_lang.specs.Lines.{AnswersAsked, Does, OperationGives}
 use Rattle.session_lang.specs.Minimising.{IsBettiText, IsMinimalText, IsRegularityText}
-use Rattle.session_lang.specs.Names.{HasValue, State, Value, after_giving, after_run}
-use Rattle.session_lang.specs.Texts.{listing}
+use Rattle.session_values.specs.Names.{HasValue, State, Value, after_giving, after_run}
+use Rattle.session_values.specs.Texts.{listing}
 
 abbrev Terms : Type 0
 Terms = List (Key × ℕ)

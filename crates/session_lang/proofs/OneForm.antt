@@ -20,7 +20,7 @@ use Rattle.module_vectors.specs.declared.key.Key.{Key as CodeKey}
 use Rattle.module_vectors.specs.declared.ring.Ring.{Ring}
 use Rattle.groebner_iface.specs.Runs.{IsReducedBasisOf}
 use Rattle.script_parse.proofs.Working.{lawful}
-use Rattle.session_lang.specs.Answers.{IsNormalForm}
+use Rattle.session_values.specs.Answers.{IsNormalForm}
 
 abbrev Terms : Type 0
 Terms = List (CodeKey × ℕ)

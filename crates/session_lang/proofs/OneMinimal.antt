@@ -42,9 +42,9 @@ use Rattle.session_lang.specs.Minimising.{
   regularity_text,
   table_text,
 }
-use Rattle.session_lang.specs.Names.{State, Value}
-use Rattle.session_lang.specs.Resolving.{maps_text}
-use Rattle.session_lang.specs.Texts.{heading}
+use Rattle.session_values.specs.Names.{State, Value}
+use Rattle.session_values.specs.Resolving.{maps_text}
+use Rattle.session_values.specs.Texts.{heading}
 
 abbrev Terms : Type 0
 Terms = List (Key × ℕ)

@@ -14,9 +14,9 @@ use Rattle.script_parse.specs.declared.kind.Kind.TheVariants as kinds
 use Rattle.session_lang.proofs.OneAnswer.{one_ring, one_value}
 use Rattle.session_lang.proofs.OneForm.{one_reduced}
 use Rattle.session_lang.specs.Lines.{Reorders}
-use Rattle.session_lang.specs.Names.{HasValue, State, Value}
+use Rattle.session_values.specs.Names.{HasValue, State, Value}
 use Rattle.session_lang.specs.Reordering.{IsReorderedText, RefusesReordering}
-use Rattle.session_lang.specs.Texts.{listing}
+use Rattle.session_values.specs.Texts.{listing}
 
 module _ (ring : Ring) (value : Value) where
   -- the text in one order is one

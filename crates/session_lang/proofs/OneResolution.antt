@@ -19,9 +19,9 @@ use Rattle.syzygy_engine.proofs.Standing.{ranks_of_positions}
 use Rattle.session_lang.proofs.OneAnswer.{one_ring, one_value}
 use Rattle.session_lang.proofs.OneForm.{one_reduced}
 use Rattle.session_lang.specs.Lines.{Resolves}
-use Rattle.session_lang.specs.Names.{HasValue, State, Value}
-use Rattle.session_lang.specs.Resolving.{IsResolutionText, maps_text}
-use Rattle.session_lang.specs.Texts.{heading}
+use Rattle.session_values.specs.Names.{HasValue, State, Value}
+use Rattle.session_values.specs.Resolving.{IsResolutionText, maps_text}
+use Rattle.session_values.specs.Texts.{heading}
 
 -- vectors with the same formal sums are one list, in whatever order each has its terms
 columns_once :

@@ -15,7 +15,7 @@ use Rattle.session_lang.proofs.OneText.{counts_or_refuses, refuses_once}
 use Rattle.session_lang.proofs.Reading.{refuses_alike, states_alike}
 use Rattle.session_lang.specs.Lines.{Does, Line, Refuses, RefusesReading, RefusesStated, RunOf, States}
 use Rattle.session_lang.specs.Minimising.{IsBettiText, IsMinimalText, IsRegularityText}
-use Rattle.session_lang.specs.Names.{State}
+use Rattle.session_values.specs.Names.{State}
 
 -- a line states one statement
 pub states_once : (before : State) (line : List ℕ) (s t : Statement) → States before line s → States before line t → IsSameStatement s t

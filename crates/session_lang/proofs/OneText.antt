@@ -17,11 +17,11 @@ use Rattle.script_parse.specs.declared.kind.Kind.TheVariants as kinds
 use Rattle.syzygy_engine.proofs.OneLift.{one_lift_of}
 use Rattle.session_lang.proofs.OneAnswer.{one_ring, one_value}
 use Rattle.session_lang.proofs.OneForm.{one_reduced}
-use Rattle.session_lang.specs.Answers.{IsInModule}
+use Rattle.session_values.specs.Answers.{IsInModule}
 use Rattle.session_lang.specs.Lifting.{IsLiftOver, IsLiftText, cofactor_text}
 use Rattle.session_lang.specs.Lines.{Counts, Lifts}
-use Rattle.session_lang.specs.Names.{HasValue, State, Value}
-use Rattle.session_lang.specs.Numbers.{HasManyLeads, IsNumbersText, IsNumeratorFor, RefusesNumbers, leads_of, numbers_text}
+use Rattle.session_values.specs.Names.{HasValue, State, Value}
+use Rattle.session_values.specs.Numbers.{HasManyLeads, IsNumbersText, IsNumeratorFor, RefusesNumbers, leads_of, numbers_text}
 
 -- ---- lifts
 -- what has a lift is in the module

@@ -16,8 +16,8 @@ use Rattle.script_parse.specs.declared.operation.Operation.TheVariants as operat
 use Rattle.session_lang.proofs.OneForm.{one_reduced}
 use Rattle.session_lang.proofs.OneAnswer.{one_ring, one_value}
 use Rattle.session_lang.specs.Lines.{OperationGives}
-use Rattle.session_lang.specs.Names.{HasValue, State, Value}
-use Rattle.session_lang.specs.Operations.{IsResult, Work, WorksOn, colon, eliminate, intersect, multiply, quotient, result_rank, saturate, sum, syzygies}
+use Rattle.session_values.specs.Names.{HasValue, State, Value}
+use Rattle.session_values.specs.Operations.{IsResult, Work, WorksOn, colon, eliminate, intersect, multiply, quotient, result_rank, saturate, sum, syzygies}
 
 abbrev Lists : Type 0
 Lists = List (List (Key × ℕ))

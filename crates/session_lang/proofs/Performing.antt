@@ -17,13 +17,14 @@ use Rattle.module_vectors.specs.declared.trail.KeptTrail.{KeptTrail}
 use Rattle.script_parse.specs.declared.kind.Kind.{Kind}
 use Rattle.script_parse.specs.declared.stated.Statement.{Statement}
 use Rattle.script_parse.specs.declared.stated.Statement.TheVariants as statements
-use Rattle.session_lang.proofs.Stopping.{call_stops, no_trail, run_for, trail_for}
-use Rattle.session_lang.specs.Answers.{Asked, Decides, IsAnswer, IsOneModule, basis, member, normal_form, sizes_of_basis}
+use Rattle.groebner_iface.proofs.CallingRuns.{more_stops}
+use Rattle.session_lang.proofs.Stopping.{no_trail, run_for, trail_for}
+use Rattle.session_values.specs.Answers.{Asked, Decides, IsAnswer, IsOneModule, basis, member, normal_form, sizes_of_basis}
 use Rattle.session_lang.specs.Asking.{IsAskedOver}
-use Rattle.session_lang.specs.Held.{Held}
-use Rattle.session_lang.specs.Kept.{IsFit, IsGiven}
+use Rattle.session_values.specs.Held.{Held}
+use Rattle.session_lang.specs.Fitting.{IsFit, IsGiven}
 use Rattle.session_lang.specs.Lines.{AnswersAsked, Does, IsLiftRun, IsRunForValue, IsRunForEither, Lifts, Needs, RefusesStated, States}
-use Rattle.session_lang.specs.Names.{HasValue, State, Value, after_run}
+use Rattle.session_values.specs.Names.{HasValue, State, Value, after_run}
 use Rattle.session_lang.specs.Parts.{IsRunToKeep}
 use Rattle.session_lang.specs.Performing.{Performed, Performs, asking}
 use Rattle.session_lang.specs.Reporting.{HasReport, IsReport, IsReportTrail, KeepsAs, RefusesReport, ReportsAs, reporting}
@@ -67,7 +68,7 @@ module _ (before : State) (statement : Statement) (after : State) (out out' : Li
       subst (Performed before statement after out out' old new kept kept') (sym ok) (was_done text.0 text.1 text.2 engine.0 engine.1)
   was_called (Err e) answer ok err text same unwritten engine needs meets stop =
       subst (Performed before statement after out out' old new kept kept') (sym err)
-      (was_stopped e same unwritten (call_stops old new kept kept' needs meets e stop))
+      (was_stopped e same unwritten (more_stops old new kept kept' _ _ _ _ needs meets e stop))
 
 -- nothing is written behind a text
 pub nothing_behind : (text : List ℕ) → text ≡ text ++ []
@@ -291,7 +292,7 @@ reported_performed {before} {after} {out} {out'} {old} {new} {kept} {kept'} (Ok 
     }
 reported_performed {before} {after} {out} {out'} {old} {new} {kept} {kept'} (Err e) name report n over value s item named has done same keeps undone reports unwritten engine stop =
     was_stopped before (reporting name report) after out out' old new kept kept' e (same undone) unwritten
-    (call_stops old new kept kept'
+    (more_stops old new kept kept' _ _ _ _
     (λ ring rank list h. report_needs before name report ring rank list
     (run_for before (string_bytes name) over value (subst (λ m. HasValue before m over value) named has) ring rank list h))
     (λ t h. report_meets before name report over value t (subst (λ m. HasValue before m over value) named has) h) e stop)

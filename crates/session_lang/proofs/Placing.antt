@@ -6,11 +6,11 @@ use Rattle.script_parse.specs.declared.named.NameInfo.{NameInfo}
 use Rattle.session_lang.proofs.Finding.{has_value, kept_after, no_stored, sound_over}
 use Rattle.session_lang.proofs.KeptValues.{at_place, written_same}
 use Rattle.script_parse.proofs.NamePlaces.{place_bound}
-use Rattle.session_lang.proofs.Values.{kept_as_many, kept_sound, sound_at}
-use Rattle.session_lang.specs.Held.{Held}
+use Rattle.session_values.proofs.Values.{kept_as_many, kept_sound, sound_at}
+use Rattle.session_values.specs.Held.{Held}
 use Rattle.script_parse.specs.Places.{place_named}
-use Rattle.session_lang.specs.Kept.{AreKept, IsSound, value_of, values_of}
-use Rattle.session_lang.specs.Names.{HasValue, State, after_run}
+use Rattle.session_values.specs.Kept.{AreKept, IsSound, value_of, values_of}
+use Rattle.session_values.specs.Names.{HasValue, State, after_run}
 use Rattle.session_lang.specs.Parts.{Keeps}
 
 -- what a call has found once it has the place of a name

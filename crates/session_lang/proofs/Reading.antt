@@ -30,8 +30,9 @@ use Rattle.script_parse.specs.declared.operation.Operation.{Operation}
 use Rattle.script_parse.specs.declared.operation.Operation.TheVariants as operations
 use Rattle.script_parse.specs.declared.stated.Statement.{Statement}
 use Rattle.script_parse.specs.declared.stated.Statement.TheVariants as statements
-use Rattle.session_lang.specs.Kept.{AreGiven, IsFit, IsGiven, IsIdealGiven, IsOfValue, IsOfValueRank, IsValueRank, IsWithPolynomial, IsWorkable}
-use Rattle.session_lang.specs.Names.{AreInfosOf, HasValue, State, Value, value_named}
+use Rattle.session_lang.specs.Fitting.{AreGiven, IsFit, IsGiven, IsIdealGiven, IsOfValue, IsOfValueRank, IsWithPolynomial, IsWorkable}
+use Rattle.session_values.specs.Kept.{IsValueRank}
+use Rattle.session_values.specs.Names.{AreInfosOf, HasValue, State, Value, value_named}
 
 -- the rank of a value that may be none
 abbrev rank_of : Option Value → Option ℕ

@@ -7,11 +7,12 @@ use Rattle.script_parse.specs.declared.kind.Kind.{Kind}
 use Rattle.script_parse.specs.declared.named.NameInfo.{NameInfo}
 use Rattle.script_parse.specs.declared.stated.Statement.{Statement}
 use Rattle.session_lang.proofs.Reading.{stated_fits}
-use Rattle.session_lang.proofs.Values.{kept_told}
-use Rattle.session_lang.specs.Kept.{AreKept, IsFit, values_of}
+use Rattle.session_values.proofs.Values.{kept_told}
+use Rattle.session_lang.specs.Fitting.{IsFit}
+use Rattle.session_values.specs.Kept.{AreKept, values_of}
 use Rattle.session_lang.specs.Lines.{Refuses, RefusesReading, States}
-use Rattle.session_lang.specs.Names.{State}
-use Rattle.session_lang.specs.Held.{Held}
+use Rattle.session_values.specs.Names.{State}
+use Rattle.session_values.specs.Held.{Held}
 
 module _ (before : State) (ring : Option Ring) (infos : List NameInfo) (stored : List Held)
     (view : record { ring = ring; values = values_of infos stored } ≡ before) (kept : AreKept ring infos stored)

@@ -1,6 +1,6 @@
 -- Reports of values
 use Rattle.std.proofs.Common.{Bool, Err, List, Ok, Option, Result, [], ap, ap₂, length, map, refl, replicate, subst, sym, ℕ, ◌+◌, ◌++◌, ◌∙◌, ◌∷◌, ◌≡◌}
-use Rattle.std.proofs.lemmas.List.{append_assoc, length-map}
+use Rattle.std.proofs.lemmas.List.{length-map}
 use Rattle.std.specs.Prelude.{IfErr, codes, string_bytes}
 use Rattle.std.specs.declared.cmp.Ordering.{Ordering}
 use Rattle.formal_sums.proofs.Combining.{Each_map, IsMember_itself}
@@ -19,7 +19,6 @@ use Rattle.operation_laws.proofs.RunFacts.{run_of}
 use Rattle.operation_laws.proofs.Running.{run_generates, run_itself}
 use Rattle.operation_laws.specs.Operations.{IsRun}
 use Rattle.order_change.specs.Reordered.{with_order}
-use Rattle.poly_text.specs.Writing.{IsFront}
 use Rattle.reduced_bases.proofs.Comparing.{IsReducedBasis_same}
 use Rattle.script_parse.proofs.Working.{lawful}
 use Rattle.resolution_laws.specs.Resolutions.{IsCanonical}
@@ -32,11 +31,11 @@ use Rattle.script_parse.specs.declared.named.NameInfo.{NameInfo}
 use Rattle.syzygy_engine.proofs.Standing.{ranks_of_positions}
 use Rattle.session_lang.proofs.Finding.{listed}
 use Rattle.session_lang.specs.Cancelling.{StopsAsMinimal}
-use Rattle.session_lang.specs.Names.{Value}
+use Rattle.session_values.specs.Names.{Value}
 use Rattle.session_lang.specs.Reporting.{IsReportTrail, ReportStops}
-use Rattle.session_lang.specs.Resolving.{IsResolutionText, map_text, maps_text}
-use Rattle.session_lang.specs.Texts.{heading}
-use Rattle.session_lang.specs.Writing.{AreOverVariables, resolution_written, written_maps}
+use Rattle.session_values.specs.Resolving.{IsResolutionText, map_text, maps_text}
+use Rattle.session_values.specs.Texts.{heading}
+use Rattle.session_values.specs.Writing.{AreOverVariables, resolution_written, written_maps}
 use Rattle.session_lang.specs.declared.reports.Report.{Report}
 use Rattle.session_lang.specs.declared.reports.Report.TheVariants.{Betti, InOrder, Minimal, Numbers, Regularity, Resolution}
 
@@ -153,13 +152,6 @@ report_stops old new kept kept' Runs ring value basis Resolution (Degree t) redu
 report_stops old new kept kept' Runs ring value basis Minimal (Degree t) reduced h same = (same.0, same.1, (basis, reduced, h))
 report_stops old new kept kept' Runs ring value basis Betti (Degree t) reduced h same = (same.0, same.1, (basis, reduced, h))
 report_stops old new kept kept' Runs ring value basis Regularity (Degree t) reduced h same = (same.0, same.1, (basis, reduced, h))
-
--- what stands behind a front stands behind a longer one
-pub front_more : (a b c x : List ℕ) → IsFront a b → c ≡ b ++ x → IsFront a c
-front_more a b c x h e = (h.0 ++ x, e ∙ ap (λ l. l ++ x) h.1 ∙ append_assoc a h.0 x)
-
-pub front_front : (a b c : List ℕ) → IsFront a b → IsFront b c → IsFront a c
-front_front a b c h g = front_more a b c g.0 h g.1
 
 -- a resolution that is written shows the value's
 pub resolution_shown :

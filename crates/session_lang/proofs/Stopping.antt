@@ -7,19 +7,17 @@ use Rattle.module_vectors.specs.declared.trail.KeptTrail.{KeptTrail}
 use Rattle.groebner_iface.specs.Calls.{CallStops, NoTrail}
 use Rattle.groebner_iface.specs.Runs.{StoppedRun, StopsRun}
 use Rattle.groebner_iface.specs.Stops.{op_stop_of_run}
-use Rattle.groebner_iface.specs.declared.stop.OpStop.{OpStop}
-use Rattle.groebner_iface.specs.declared.stop.OpStop.TheVariants as causes
 use Rattle.groebner_iface.specs.declared.stop.Stop.{Stop}
 use Rattle.groebner_iface.specs.declared.stop.Stop.TheVariants as runs
 use Rattle.script_parse.specs.declared.named.NameInfo.{NameInfo}
 use Rattle.session_lang.proofs.KeptValues.{at_place}
-use Rattle.session_lang.specs.Answers.{Asked}
-use Rattle.session_lang.specs.Kept.{value_of}
+use Rattle.session_values.specs.Answers.{Asked}
+use Rattle.session_values.specs.Kept.{value_of}
 use Rattle.session_lang.specs.Lines.{IsRunForValue}
-use Rattle.session_lang.specs.Names.{HasValue, State, Value}
+use Rattle.session_values.specs.Names.{HasValue, State, Value}
 use Rattle.session_lang.specs.Parts.{IsRunAt, IsRunToKeep}
 use Rattle.session_lang.specs.Stops.{IsTrailFor, IsTrailOf}
-use Rattle.session_lang.specs.Held.{Held}
+use Rattle.session_values.specs.Held.{Held}
 
 module _ (old new : ℕ) (kept kept' : Option StoppedRun) where
   -- the stop of a run for a value, as a stop of the call that needs it
@@ -30,17 +28,6 @@ module _ (old new : ℕ) (kept kept' : Option StoppedRun) where
   run_fails Trails ring info s runs.Memory none h = h
   run_fails Trails ring info s runs.Pairs none h = (h.0, (ring, info.rank, s.list, (refl, ap is_some none, refl, refl), h.1))
   run_fails Trails ring info s runs.Degree none h = (h.0, (ring, info.rank, s.list, (refl, ap is_some none, refl, refl), h.1))
-
-  -- what stops a call stops one that needs the same runs and can meet the same trails, and more
-  pub call_stops :
-      {Runs Others : Ring → ℕ → List (List (Key × ℕ)) → Type 0} {Trails More : KeptTrail → Type 0}
-      → ((ring : Ring) (rank : ℕ) (list : List (List (Key × ℕ))) → Runs ring rank list → Others ring rank list)
-      → ((t : KeptTrail) → Trails t → More t)
-      → (stop : OpStop) → CallStops Runs Trails old new kept kept' stop → CallStops Others More old new kept kept' stop
-  call_stops needs meets causes.Memory h = h
-  call_stops needs meets causes.Pairs h = (h.0, (h.1.0, h.1.1, h.1.2, needs h.1.0 h.1.1 h.1.2 h.1.3, h.1.4))
-  call_stops needs meets causes.Degree h = (h.0, (h.1.0, h.1.1, h.1.2, needs h.1.0 h.1.1 h.1.2 h.1.3, h.1.4))
-  call_stops needs meets (causes.Trail t) h = (h.0, h.1, meets t h.2)
 
 -- the run for an item and its name, as the run for the value at their place
 pub placed_run :

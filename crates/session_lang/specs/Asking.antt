@@ -6,7 +6,7 @@ use Rattle.module_vectors.specs.declared.key.Key.{Key}
 use Rattle.module_vectors.specs.declared.ring.Ring.{Ring}
 use Rattle.groebner_iface.specs.declared.stop.OpStop.{OpStop}
 use Rattle.groebner_iface.specs.declared.stop.OpStop.TheVariants as causes
-use Rattle.session_lang.specs.Answers.{Asked, basis, member, normal_form, sizes_of_basis}
+use Rattle.session_values.specs.Answers.{Asked, basis, member, normal_form, sizes_of_basis}
 use Rattle.session_lang.specs.Stops.{DividesBy}
 use Rattle.session_lang.specs.declared.answers.Question.{Question}
 use Rattle.session_lang.specs.declared.answers.Question.TheVariants as questions

@@ -6,9 +6,9 @@ use Rattle.module_vectors.specs.declared.key.Key.{Key}
 use Rattle.module_vectors.specs.declared.ring.Ring.{Ring}
 use Rattle.poly_text.specs.Texts.{entries_text, names_of}
 use Rattle.syzygy_engine.specs.Lifts.{IsLiftOf}
-use Rattle.session_lang.specs.Answers.{IsInModule}
-use Rattle.session_lang.specs.Names.{Value}
-use Rattle.session_lang.specs.Texts.{verdict}
+use Rattle.session_values.specs.Answers.{IsInModule}
+use Rattle.session_values.specs.Names.{Value}
+use Rattle.session_values.specs.Texts.{verdict}
 
 -- a is the lift of v to the list
 abbrev pub IsLiftOver : Ring → List (List (Key × ℕ)) → (v a : List (Key × ℕ)) → Type 0

@@ -12,15 +12,15 @@ use Rattle.script_parse.specs.declared.operation.Operation.{Operation}
 use Rattle.script_parse.specs.declared.stated.Statement.{Statement}
 use Rattle.script_parse.specs.declared.stated.Statement.TheVariants as statements
 use Rattle.syzygy_engine.specs.Marking.{IsMarkedRun}
-use Rattle.session_lang.specs.Answers.{Asked, Decides, IsAnswer, IsOneModule, basis, member, normal_form, sizes_of_basis}
+use Rattle.session_values.specs.Answers.{Asked, Decides, IsAnswer, IsOneModule, basis, member, normal_form, sizes_of_basis}
 use Rattle.session_lang.specs.Lifting.{IsLiftText}
-use Rattle.session_lang.specs.Names.{AreInfosOf, HasValue, State, Value, after_giving, after_run}
-use Rattle.session_lang.specs.Numbers.{IsNumbersText, RefusesNumbers}
+use Rattle.session_values.specs.Names.{AreInfosOf, HasValue, State, Value, after_giving, after_run}
+use Rattle.session_values.specs.Numbers.{IsNumbersText, RefusesNumbers}
 use Rattle.session_lang.specs.Reordering.{IsReorderedText, RefusesReordering}
 use Rattle.session_lang.specs.Minimising.{IsBettiText, IsMinimalText, IsRegularityText, RefusesMinimal}
-use Rattle.session_lang.specs.Resolving.{IsResolutionText}
-use Rattle.session_lang.specs.Operations.{AreRunsOf, IsResult, Work, WorksOn, result_rank}
-use Rattle.session_lang.specs.Texts.{listing}
+use Rattle.session_values.specs.Resolving.{IsResolutionText}
+use Rattle.session_values.specs.Operations.{AreRunsOf, IsResult, Work, WorksOn, result_rank}
+use Rattle.session_values.specs.Texts.{listing}
 
 -- the line states this, with the ring and the names of this state
 abbrev pub States : State → List ℕ → Statement → Type 0

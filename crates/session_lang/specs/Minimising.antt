@@ -20,9 +20,9 @@ use Rattle.schreyer_resolution.specs.Inducing.{Columns, maps_of}
 use Rattle.schreyer_resolution.specs.Resolved.{IsResolutionTrail}
 use Rattle.script_parse.specs.declared.kind.Kind.{Kind}
 use Rattle.script_parse.specs.declared.kind.Kind.TheVariants as kinds
-use Rattle.session_lang.specs.Names.{Value}
-use Rattle.session_lang.specs.Resolving.{maps_text}
-use Rattle.session_lang.specs.Texts.{heading}
+use Rattle.session_values.specs.Names.{Value}
+use Rattle.session_values.specs.Resolving.{maps_text}
+use Rattle.session_values.specs.Texts.{heading}
 
 -- the vector has terms of two degrees
 abbrev pub HasTwoDegrees : List (Key × ℕ) → Type 0

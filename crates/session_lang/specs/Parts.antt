@@ -3,9 +3,9 @@ use Rattle.std.specs.Prelude.{IsSome, List, false, get_or, slice_set, ℕ, ◌�
 use Rattle.module_vectors.specs.declared.key.Key.{Key}
 use Rattle.module_vectors.specs.declared.ring.Ring.{Ring}
 use Rattle.script_parse.specs.declared.named.NameInfo.{NameInfo}
-use Rattle.session_lang.specs.Kept.{value_of}
-use Rattle.session_lang.specs.Names.{Value}
-use Rattle.session_lang.specs.Held.{Held}
+use Rattle.session_values.specs.Kept.{value_of}
+use Rattle.session_values.specs.Names.{Value}
+use Rattle.session_values.specs.Held.{Held}
 
 -- the basis of the value at this place is kept now; the other values are as before
 pub record Keeps (before : List Held) (i : ℕ) (after : List Held) : Type 0 where

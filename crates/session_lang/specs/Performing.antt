@@ -6,9 +6,9 @@ use Rattle.groebner_iface.specs.Runs.{StoppedRun}
 use Rattle.groebner_iface.specs.declared.stop.OpStop.{OpStop}
 use Rattle.script_parse.specs.declared.stated.Statement.{Statement}
 use Rattle.script_parse.specs.declared.stated.Statement.TheVariants as statements
-use Rattle.session_lang.specs.Answers.{Asked, basis, member, normal_form, sizes_of_basis}
+use Rattle.session_values.specs.Answers.{Asked, basis, member, normal_form, sizes_of_basis}
 use Rattle.session_lang.specs.Lines.{Does, Needs, RefusesStated}
-use Rattle.session_lang.specs.Names.{State}
+use Rattle.session_values.specs.Names.{State}
 use Rattle.session_lang.specs.Stops.{Meets}
 use Rattle.session_lang.specs.declared.step.Step.{Step}
 use Rattle.session_lang.specs.declared.step.Step.TheVariants as steps

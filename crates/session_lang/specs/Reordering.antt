@@ -11,8 +11,8 @@ use Rattle.order_change.specs.Reordered.{with_order}
 use Rattle.order_change.specs.Stops.{AreFew}
 use Rattle.script_parse.specs.declared.kind.Kind.{Kind}
 use Rattle.script_parse.specs.declared.kind.Kind.TheVariants as kinds
-use Rattle.session_lang.specs.Names.{Value}
-use Rattle.session_lang.specs.Texts.{listing}
+use Rattle.session_values.specs.Names.{Value}
+use Rattle.session_values.specs.Texts.{listing}
 
 -- the text has the value's reduced basis in this order, and nothing refuses it: by the leads of the one in the ring's order there
 -- are finitely many standard monomials, at most 256

@@ -14,12 +14,12 @@ use Rattle.script_parse.specs.declared.kind.Kind.{Kind}
 use Rattle.script_parse.specs.declared.named.NameInfo.{NameInfo}
 use Rattle.script_parse.specs.declared.stated.Statement.{Statement}
 use Rattle.script_parse.specs.declared.stated.Statement.TheVariants as statements
-use Rattle.session_lang.specs.Held.{Held}
-use Rattle.session_lang.specs.Names.{Value}
-use Rattle.session_lang.specs.Numbers.{IsNumbersText, RefusesNumbers}
+use Rattle.session_values.specs.Held.{Held}
+use Rattle.session_values.specs.Names.{Value}
+use Rattle.session_values.specs.Numbers.{IsNumbersText, RefusesNumbers}
 use Rattle.session_lang.specs.Reordering.{IsReorderedText, RefusesReordering}
 use Rattle.session_lang.specs.Minimising.{IsBettiText, IsMinimalText, IsMinimalTrail, IsRegularityText, RefusesMinimal}
-use Rattle.session_lang.specs.Resolving.{IsResolutionText, IsResolvingTrail}
+use Rattle.session_values.specs.Resolving.{IsResolutionText, IsResolvingTrail}
 use Rattle.session_lang.specs.declared.reports.Report.{Report}
 use Rattle.session_lang.specs.declared.reports.Report.TheVariants.{Betti, InOrder, Minimal, Numbers, Regularity, Resolution}
 use Rattle.session_lang.specs.declared.step.Step.{Step}

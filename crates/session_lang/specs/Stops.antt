@@ -8,12 +8,12 @@ use Rattle.groebner_iface.specs.Runs.{IsReducedBasisOf}
 use Rattle.script_parse.specs.declared.operation.Operation.{Operation}
 use Rattle.script_parse.specs.declared.stated.Statement.{Statement}
 use Rattle.script_parse.specs.declared.stated.Statement.TheVariants as statements
-use Rattle.session_lang.specs.Answers.{Asked, basis, member, normal_form, sizes_of_basis}
+use Rattle.session_values.specs.Answers.{Asked, basis, member, normal_form, sizes_of_basis}
 use Rattle.session_lang.specs.Lines.{Line, Refuses, States}
-use Rattle.session_lang.specs.Names.{HasValue, State, Value}
+use Rattle.session_values.specs.Names.{HasValue, State, Value}
 use Rattle.session_lang.specs.Minimising.{IsMinimalTrail}
-use Rattle.session_lang.specs.Resolving.{IsResolvingTrail}
-use Rattle.session_lang.specs.Operations.{AreTrailsOf, Work, WorksOn}
+use Rattle.session_values.specs.Resolving.{IsResolvingTrail}
+use Rattle.session_values.specs.Operations.{AreTrailsOf, Work, WorksOn}
 use Rattle.syzygy_engine.specs.Lifts.{IsLiftTrail}
 use Rattle.session_lang.specs.declared.step.Step.{Step}
 use Rattle.session_lang.specs.declared.step.Step.TheVariants as steps

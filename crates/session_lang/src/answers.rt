@@ -3,20 +3,20 @@ ghost use Rattle.std.specs.Prelude.{◌≡◌, ◌<◌, ◌≤◌, ◌++◌, Boo
 ghost use Rattle.groebner_iface.specs.Calls.{CallStops, NoTrail};
 ghost use Rattle.groebner_iface.specs.Runs.{IsReducedBasisOf};
 ghost use Rattle.script_parse.specs.declared.named.NameInfo.{NameInfo as NameValue};
-ghost use Rattle.session_lang.specs.Answers.{Decides, IsAnswer, IsOneModule};
+ghost use Rattle.session_values.specs.Answers.{Decides, IsAnswer, IsOneModule};
 ghost use Rattle.session_lang.specs.Asking.{AnswerStops, IsAskedOver, asked_of};
-ghost use Rattle.session_lang.specs.Held.{Held};
-ghost use Rattle.session_lang.specs.Kept.{AreSound, IsSound, value_of};
+ghost use Rattle.session_values.specs.Held.{Held};
+ghost use Rattle.session_values.specs.Kept.{AreSound, IsSound, value_of};
 ghost use Rattle.session_lang.specs.Parts.{IsRunAt, IsRunAtEither, IsRunToKeep, Keeps};
 ghost use Rattle.session_lang.specs.Stops.{IsTrailOf};
 
-use crate::kept_bases::{forget, is_one_module, keep_basis, normal_form};
-use crate::sizes::push_sizes;
-use crate::stored::Stored;
-use crate::texts::{push_line, push_listing, push_verdict};
 use groebner_iface::{Groebner, OpStop};
 use module_vectors::{Ring, Vect, VectList};
 use script_parse::{NameInfo, NameTable};
+use session_values::{
+    Stored, forget, is_one_module, keep_basis, normal_form, push_line, push_listing, push_sizes,
+    push_verdict,
+};
 use std::alloc::Global;
 use std::sync::Wait;
 use std::thread::Threads;

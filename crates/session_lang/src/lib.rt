@@ -8,21 +8,15 @@
 #![tactic(auto)]
 
 mod answers;
-mod kept_bases;
+mod counting;
 mod lifts;
 mod line_laws;
 mod minimising;
-mod names;
-mod numbers;
-mod operate;
 mod reordering;
 mod reports;
 mod resolving;
 mod session;
-mod sizes;
 mod step;
-mod stored;
-mod texts;
 
 pub use line_laws::{no_run_of_refused, one_result, one_statement};
 pub use session::Session;

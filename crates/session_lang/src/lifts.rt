@@ -3,16 +3,15 @@ ghost use Rattle.std.specs.Prelude.{◌≡◌, ◌≤◌, ◌++◌, IfErr, List,
 ghost use Rattle.module_vectors.specs.Rings.{ring_comparison};
 ghost use Rattle.module_vectors.specs.Vectors.{HasPositions, IsVectorOver};
 ghost use Rattle.groebner_iface.specs.Calls.{CallStops};
-ghost use Rattle.session_lang.specs.Kept.{IsSound, value_of};
+ghost use Rattle.session_values.specs.Kept.{IsSound, value_of};
 ghost use Rattle.session_lang.specs.Lifting.{IsLiftText};
 ghost use Rattle.syzygy_engine.specs.Lifts.{IsLiftTrail};
 ghost use Rattle.syzygy_engine.specs.Marking.{IsMarkedRun};
 
-use crate::stored::Stored;
-use crate::texts::{push_cofactors, push_verdict};
 use groebner_iface::{Groebner, OpStop};
 use module_vectors::{Ring, Vect};
 use script_parse::NameInfo;
+use session_values::{Stored, push_cofactors, push_verdict};
 use std::alloc::Global;
 use std::sync::Wait;
 use std::thread::Threads;

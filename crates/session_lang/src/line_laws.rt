@@ -7,7 +7,7 @@ ghost use Rattle.script_parse.specs.Statements.{IsSameStatement};
 ghost use Rattle.script_parse.specs.declared.kind.Kind.{Kind as KindValue};
 ghost use Rattle.script_parse.specs.declared.stated.Statement.{Statement as StatementValue};
 ghost use Rattle.session_lang.specs.Lines.{Line, Refuses, RefusesReading, RunOf, States};
-ghost use Rattle.session_lang.specs.Names.{State};
+ghost use Rattle.session_values.specs.Names.{State};
 
 /// A line that is done has one state behind it and one text, a refused one has one kind, and no line is both: so what a
 /// script prints is its own, whatever engine found the bases.

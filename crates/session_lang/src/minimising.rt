@@ -10,14 +10,13 @@ ghost use Rattle.session_lang.specs.Minimising.{AreInvariants, HasTwoDegrees, Is
 ghost use Rattle.session_lang.specs.Reporting.{Reports};
 ghost use Rattle.session_lang.specs.declared.reports.Report.TheVariants as reports;
 
-use crate::resolving::append_resolution;
 use crate::step::Step;
-use crate::texts::{append_number, whole_or_none};
 use itoa::Buffer;
 use minimal_betti::{Entry, invariants, minimal, table};
 use module_vectors::{NoMemory, Ring, Vect, VectList, WorkStop, lawful_setting};
 use schreyer_resolution::{Resolution, resolve};
 use script_parse::{Kind, NameInfo};
+use session_values::{append_number, append_resolution, whole_or_none};
 use std::alloc::Global;
 
 /// The projective dimension and the regularity of a value; -1 and 0 of one that has no table.

@@ -9,16 +9,16 @@ ghost use Rattle.module_vectors.specs.declared.key.Key.{Key};
 ghost use Rattle.module_vectors.specs.declared.ring.Ring.{Ring as RingValue};
 ghost use Rattle.monomial_orders.specs.declared.order.Order.{Order as OrderValue};
 ghost use Rattle.order_change.specs.Stops.{OrderChangeStops};
-ghost use Rattle.session_lang.specs.Names.{Value};
+ghost use Rattle.session_values.specs.Names.{Value};
 ghost use Rattle.session_lang.specs.Reporting.{Reports, ReportsAs};
 ghost use Rattle.session_lang.specs.declared.reports.Report.TheVariants as reports;
 
 use crate::step::Step;
-use crate::texts::push_listing;
 use module_vectors::{NoMemory, Ring, VectList, lawful_setting};
 use monomial_orders::Order;
 use order_change::{ChangeStop, convert};
 use script_parse::{Kind, NameInfo};
+use session_values::push_listing;
 use std::alloc::Global;
 
 // What the stop is to the line.

@@ -1,123 +1,18 @@
 // The canonical resolution of a value.
-ghost use Rattle.std.specs.Prelude.{◌≡◌, ◌++◌, ◌+◌, IfErr, IfOk, List, OnErr, OnOk};
+ghost use Rattle.std.specs.Prelude.{◌≡◌, IfErr, IfOk, List, OnErr};
 ghost use Rattle.formal_sums.specs.FormalSums.{Each};
 ghost use Rattle.groebner_iface.specs.Runs.{IsReducedBasisOf};
-ghost use Rattle.module_vectors.specs.Rings.{variables};
-ghost use Rattle.module_vectors.specs.Vectors.{HasPositions, HasVariables};
-ghost use Rattle.poly_text.specs.Writing.{IsFront};
+ghost use Rattle.module_vectors.specs.Vectors.{HasPositions};
 ghost use Rattle.schreyer_resolution.specs.Resolved.{ResolutionStops};
 ghost use Rattle.session_lang.specs.Reporting.{Reports};
-ghost use Rattle.session_lang.specs.Resolving.{columns_text, counts_text, map_line, map_text};
-ghost use Rattle.session_lang.specs.Writing.{AreOverVariables, resolution_written, written_maps};
 ghost use Rattle.session_lang.specs.declared.reports.Report.TheVariants as reports;
 
 use crate::step::Step;
-use crate::texts::{append_heading, push_cofactors, whole_or_none};
-use itoa::Buffer;
-use module_vectors::{NoMemory, Ring, VectList, WorkStop, lawful_setting};
-use schreyer_resolution::{Map, Resolution, resolve};
+use module_vectors::{Ring, VectList, WorkStop, lawful_setting};
+use schreyer_resolution::resolve;
 use script_parse::NameInfo;
+use session_values::{append_resolution, whole_or_none};
 use std::alloc::Global;
-
-// Appends the columns of a map with so many rows. After an error what was written so far stands there.
-fn append_columns(
-    alloc: Global,
-    out: &mut Vec<u8>,
-    ring: &Ring,
-    rows: u64,
-    columns: &VectList,
-) -> Result<(), NoMemory>
-    requires { Each (λ v. Each (HasVariables (variables ring.now)) v) columns.now }
-    ensures ok { OnOk result (out.new.items ≡ out.old.items ++ columns_text ring.now rows columns.now) }
-    ensures err { OnErr result (IsFront out.old.items out.new.items) }
-{
-    for column in columns.as_slice() {
-        match push_cofactors(alloc, out, ring, rows as usize, column) {
-            Ok(()) => {}
-            Err(early) => return Err(early),
-        }
-    }
-    Ok(())
-}
-
-// Appends how many rows and columns there are, on a line. After an error what was written so far stands there.
-fn append_counts(out: &mut Vec<u8>, rows: u64, columns: usize) -> Result<(), NoMemory>
-    ensures ok { OnOk result (out.new.items ≡ out.old.items ++ counts_text rows columns) }
-    ensures err { OnErr result (IsFront out.old.items out.new.items) }
-{
-    let mut digits = Buffer::new();
-    out.extend_from_slice(digits.format(rows).as_bytes())?;
-    out.push(b' ')?;
-    out.extend_from_slice(digits.format(columns).as_bytes())?;
-    out.push(b'\n')?;
-    Ok(())
-}
-
-// Appends the line before a map's columns. After an error what was written so far stands there.
-fn append_map_line(
-    out: &mut Vec<u8>,
-    number: usize,
-    rows: u64,
-    columns: usize,
-) -> Result<(), NoMemory>
-    ensures ok { OnOk result (out.new.items ≡ out.old.items ++ map_line number rows columns) }
-    ensures err { OnErr result (IsFront out.old.items out.new.items) }
-{
-    let mut digits = Buffer::new();
-    out.extend_from_slice(b"map ")?;
-    out.extend_from_slice(digits.format(number).as_bytes())?;
-    out.push(b' ')?;
-    append_counts(out, rows, columns)
-}
-
-// Appends a map with its number. After an error what was written so far stands there.
-fn append_map(
-    alloc: Global,
-    out: &mut Vec<u8>,
-    ring: &Ring,
-    number: usize,
-    map: &Map,
-) -> Result<(), NoMemory>
-    requires { Each (λ v. Each (HasVariables (variables ring.now)) v) map.now.columns }
-    ensures ok { OnOk result (out.new.items ≡ out.old.items ++ map_text ring.now number map.now.rows map.now.columns) }
-    ensures err { OnErr result (IsFront out.old.items out.new.items) }
-{
-    append_map_line(out, number, map.rows, map.columns.len())?;
-    append_columns(alloc, out, ring, map.rows, &map.columns)
-}
-
-// Appends the maps with their numbers. After an error what was written so far stands there.
-#[tactic(auto, using(crate::proofs::Reporting::front_more))]
-fn append_maps(alloc: Global, out: &mut Vec<u8>, ring: &Ring, maps: &[Map]) -> Result<(), NoMemory>
-    requires { Each (AreOverVariables ring.now) maps.now }
-    ensures ok { OnOk result (out.new.items ≡ out.old.items ++ written_maps ring.now 1 maps.now) }
-    ensures err { OnErr result (IsFront out.old.items out.new.items) }
-{
-    for k in 0..maps.len() {
-        match append_map(alloc, out, ring, k + 1, &maps[k]) {
-            Ok(()) => {}
-            Err(early) => return Err(early),
-        }
-    }
-    Ok(())
-}
-
-/// Appends a resolution with its heading. After an error what was written so far stands there.
-pub fn append_resolution(
-    alloc: Global,
-    out: &mut Vec<u8>,
-    ring: &Ring,
-    word: &[u8],
-    name: &[u8],
-    resolution: &Resolution,
-) -> Result<(), NoMemory>
-    requires { Each (AreOverVariables ring.now) resolution.now.maps.items }
-    ensures ok { OnOk result (out.new.items ≡ out.old.items ++ resolution_written ring.now word.now name.now resolution.now.maps.items) }
-    ensures err { OnErr result (IsFront out.old.items out.new.items) }
-{
-    append_heading(out, word, name, resolution.maps.len())?;
-    append_maps(alloc, out, ring, &resolution.maps)
-}
 
 /// Appends the canonical resolution of a value with this reduced basis. After an error nothing is appended; `Degree` comes with a
 /// trail of the resolution.

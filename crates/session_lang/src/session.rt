@@ -7,15 +7,12 @@ ghost use Rattle.session_lang.specs.declared.step.Step.TheVariants as steps;
 
 use crate::answers::{Question, answer_value, compare_values};
 use crate::lifts::push_lift;
-use crate::names::give_name;
-use crate::operate::{Task, operate, rank_of_result};
 use crate::reports::{Report, report_value};
 use crate::step::Step;
-use crate::stored::Stored;
-use crate::texts::{push_line, push_listing};
 use groebner_iface::{Groebner, OpStop};
 use module_vectors::{NoMemory, Ring, Vect, VectList};
 use script_parse::{NameInfo, NameTable, Operation, ParseStop, Statement, statement};
+use session_values::{Stored, Task, give_name, operate, push_line, push_listing, rank_of_result};
 use std::alloc::Global;
 use std::marker::Model;
 use std::sync::Wait;
@@ -57,8 +54,8 @@ fn done(called: Result<(), OpStop>) -> Result<Step, OpStop>
 }
 
 impl Model for Session {
-    ghost use Rattle.session_lang.specs.Kept.{AreKept, values_of};
-    ghost use Rattle.session_lang.specs.Names.{State};
+    ghost use Rattle.session_values.specs.Kept.{AreKept, values_of};
+    ghost use Rattle.session_values.specs.Names.{State};
 
     ghost Value = { State };
 
@@ -72,12 +69,13 @@ impl Session {
     ghost use Rattle.module_vectors.specs.declared.ring.Ring.{Ring as RingValue};
     ghost use Rattle.script_parse.specs.declared.stated.Statement.TheVariants as statements;
     ghost use Rattle.session_lang.specs.Asking.{asked_of};
-    ghost use Rattle.session_lang.specs.Kept.{IsFit, IsGiven, IsSound, IsWorkable, value_of};
-    ghost use Rattle.session_lang.specs.Names.{HasValue, after_giving, no_names};
-    ghost use Rattle.session_lang.specs.Operations.{WorksOn};
+    ghost use Rattle.session_lang.specs.Fitting.{IsFit, IsGiven, IsWorkable};
+    ghost use Rattle.session_values.specs.Kept.{IsSound, value_of};
+    ghost use Rattle.session_values.specs.Names.{HasValue, after_giving, no_names};
+    ghost use Rattle.session_values.specs.Operations.{WorksOn};
     ghost use Rattle.session_lang.specs.Performing.{Performed, PerformedAlone, asking};
     ghost use Rattle.session_lang.specs.Reporting.{reporting};
-    ghost use Rattle.session_lang.specs.Tasks.{IsOperand, IsReady, work_of};
+    ghost use Rattle.session_values.specs.Tasks.{IsOperand, IsReady, work_of};
 
     /// A session in which no ring is stated and nothing has a name.
     pub fn new(alloc: Global) -> Session

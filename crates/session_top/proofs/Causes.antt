@@ -15,7 +15,7 @@ use Rattle.groebner_iface.specs.declared.stop.Stop.{Stop}
 use Rattle.groebner_iface.specs.declared.stop.OpStop.TheVariants as causes
 use Rattle.run_endings.specs.Stops.{IsRunBy, IsStop, stopped_on, stopped_run}
 use Rattle.session_lang.specs.Lines.{RunOf}
-use Rattle.session_lang.specs.Names.{State}
+use Rattle.session_values.specs.Names.{State}
 use Rattle.session_lang.specs.Stops.{TrailOf}
 use Rattle.session_top.specs.Parts.{LineStops, StopEnds}
 use Rattle.session_top.specs.Stops.{IsRunState, StopsScript}

@@ -7,7 +7,7 @@ use Rattle.std.specs.declared.option.Option.{Option}
 use Rattle.std.specs.Io.KnownBytes.{Appends, IsAtEnd}
 use Rattle.session_top.specs.declared.early.Refusal.{Refusal}
 use Rattle.session_top.specs.declared.early.Refusal.TheVariants.{OfLine}
-use Rattle.session_lang.specs.Names.{State, no_names}
+use Rattle.session_values.specs.Names.{State, no_names}
 use Rattle.session_lang.specs.Lines.{Line, Refuses}
 use Rattle.script_parse.specs.declared.kind.Kind.{Kind}
 use Rattle.session_top.specs.declared.TheConstants.{SCRIPT_LIMIT}

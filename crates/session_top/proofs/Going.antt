@@ -3,7 +3,7 @@ use Rattle.std.proofs.Common.{◌≡◌, ℕ, ◌+◌, ◌≤◌, Bool, List, �
 use Rattle.std.specs.declared.option.Option.{Option}
 use Rattle.std.specs.Io.KnownBytes.{Appends, Consumes}
 use Rattle.byte_ports.specs.Lines.{Reading}
-use Rattle.session_lang.specs.Names.{State, no_names}
+use Rattle.session_values.specs.Names.{State, no_names}
 use Rattle.session_top.specs.declared.TheConstants.{SCRIPT_LIMIT}
 use Rattle.session_top.specs.Lines.{lines_in}
 use Rattle.session_top.specs.Meaning.{AllDone}

@@ -7,7 +7,7 @@ use Rattle.std.specs.declared.option.Option.{Option}
 use Rattle.std.specs.Io.KnownBytes.{Appends, Consumes}
 use Rattle.byte_ports.specs.Lines.{Reading, AreTaken, IsNextLine, IsRest, IsTooLong, IsCutOff}
 use Rattle.session_lang.specs.Lines.{Line}
-use Rattle.session_lang.specs.Names.{State, no_names}
+use Rattle.session_values.specs.Names.{State, no_names}
 use Rattle.session_top.specs.declared.TheConstants.{SCRIPT_LIMIT}
 use Rattle.session_top.specs.Lines.{lines_in, lines_of, whole_lines}
 use Rattle.session_top.specs.Meaning.{AllDone, is_long, script_lines}

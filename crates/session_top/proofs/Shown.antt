@@ -6,7 +6,7 @@ use Rattle.module_vectors.specs.declared.trail.KeptTrail.{KeptTrail}
 use Rattle.basis_core.specs.Shown.{Shown}
 use Rattle.session_lang.specs.Lines.{Refuses}
 use Rattle.script_parse.specs.declared.kind.Kind.{Kind}
-use Rattle.session_lang.specs.Names.{State}
+use Rattle.session_values.specs.Names.{State}
 use Rattle.session_top.specs.Parts.{ErrorEnds, LineStops, StopEnds}
 use Rattle.session_top.specs.Stops.{StopsScript, stop_line}
 use Rattle.session_top.specs.declared.early.Refusal.TheVariants.{OfLine}

@@ -6,7 +6,7 @@ use Rattle.std.proofs.lemmas.Bool.{lt-ltb}
 use Rattle.std.specs.declared.option.Option.{Option}
 use Rattle.std.specs.Io.KnownBytes.{Consumes, Keeps}
 use Rattle.session_top.specs.declared.TheConstants.{SCRIPT_LIMIT}
-use Rattle.session_lang.specs.Names.{State, no_names}
+use Rattle.session_values.specs.Names.{State, no_names}
 use Rattle.session_top.specs.Lines.{whole_lines, onto_whole}
 use Rattle.session_top.specs.Meaning.{is_long}
 use Rattle.module_vectors.specs.declared.trail.KeptTrail.{KeptTrail}

@@ -7,7 +7,7 @@ use Rattle.session_top.specs.declared.early.Refusal.{Refusal}
 use Rattle.session_top.specs.declared.early.Refusal.TheVariants.{OfLine, Length}
 use Rattle.session_top.specs.declared.TheConstants.{SCRIPT_LIMIT}
 use Rattle.session_lang.specs.Lines.{Line, Refuses}
-use Rattle.session_lang.specs.Names.{State, no_names}
+use Rattle.session_values.specs.Names.{State, no_names}
 use Rattle.session_top.specs.Lines.{lines_in}
 
 -- how a script ends: all its lines are done, or one is refused; line 0 stands for the script as a whole

@@ -7,7 +7,7 @@ use Rattle.basis_core.specs.Shown.{Shown}
 use Rattle.byte_ports.specs.Causes.{AppendsFront}
 use Rattle.script_parse.specs.declared.kind.Kind.{Kind}
 use Rattle.session_lang.specs.Lines.{Line, Refuses}
-use Rattle.session_lang.specs.Names.{State}
+use Rattle.session_values.specs.Names.{State}
 use Rattle.session_top.specs.declared.early.Early.{Early}
 use Rattle.session_top.specs.declared.early.Early.TheVariants as early
 use Rattle.session_top.specs.declared.early.Refusal.{Refusal}

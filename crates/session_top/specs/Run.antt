@@ -10,7 +10,7 @@ use Rattle.session_top.specs.declared.early.Early.{Early}
 use Rattle.session_top.specs.declared.early.Early.TheVariants as early
 use Rattle.session_top.specs.declared.TheConstants.{SCRIPT_LIMIT}
 use Rattle.session_top.specs.Lines.{whole_lines}
-use Rattle.session_lang.specs.Names.{State, no_names}
+use Rattle.session_values.specs.Names.{State, no_names}
 use Rattle.session_top.specs.Stops.{StopsScript, stop_line}
 use Rattle.session_top.specs.Meaning.{Ending, Done, Refused, Meaning, Folds, AllDone, script_lines, last_of, is_long}
 use Rattle.session_top.specs.Limits.{Limits}

@@ -15,7 +15,7 @@ use Rattle.basis_core.specs.Views.{run_of, state_of, variables_of}
 use Rattle.run_endings.specs.Endings.{IsDegreeStop, IsInterreductionStop}
 use Rattle.run_endings.specs.Stops.{shared_of_trail}
 use Rattle.session_lang.specs.Lines.{RunOf}
-use Rattle.session_lang.specs.Names.{State}
+use Rattle.session_values.specs.Names.{State}
 use Rattle.session_lang.specs.Stops.{TrailOf}
 use Rattle.session_top.specs.Limits.{Limits}
 

@@ -4,7 +4,7 @@ ghost use Rattle.std.specs.Io.KnownBytes.{Appends};
 ghost use Rattle.byte_ports.specs.Causes.{HasCause, AppendsFront};
 ghost use Rattle.risen_counts.specs.Counts.{Rose};
 ghost use Rattle.session_lang.specs.Lines.{Line};
-ghost use Rattle.session_lang.specs.Names.{no_names};
+ghost use Rattle.session_values.specs.Names.{no_names};
 ghost use Rattle.session_top.specs.Meaning.{refusal_word, error_line, Done};
 ghost use Rattle.basis_core.specs.Views.{run_of, state_of, variables_of};
 ghost use Rattle.basis_steps.specs.Steps.{Replays};

@@ -1,13 +1,14 @@
 use Rattle.std.proofs.Common.{List, ℕ, inl, inr, ◌++◌, ◌<◌, ◌≡◌, ◌∙◌, ap, arith, get_or, length, refl, rules, slice_set, subst, subst₂, sym}
 use Rattle.groebner_iface.specs.Stops.{op_stop_of_run}
 use Rattle.groebner_iface.specs.Calls.{CallStops, NoTrail}
-use Rattle.session_lang.specs.Kept.{IsSound}
+use Rattle.session_values.specs.Kept.{IsSound}
 use Rattle.session_lang.specs.Parts.{IsRunAtEither, Keeps}
-use Rattle.session_lang.specs.Answers.{Decides, IsOneModule}
+use Rattle.session_values.specs.Answers.{Decides, IsOneModule}
 use Rattle.session_lang.proofs.KeptValues.{at_place, length_written, undone, written_basis, written_lists}
-use Rattle.session_lang.proofs.Stopping.{call_stops, no_trail, placed_run, run_fails}
-use Rattle.session_lang.proofs.Values.{as_many, kept_sound, sound_at}
-use Rattle.session_lang.specs.Held.{Held}
+use Rattle.groebner_iface.proofs.CallingRuns.{more_stops}
+use Rattle.session_lang.proofs.Stopping.{no_trail, placed_run, run_fails}
+use Rattle.session_values.proofs.Values.{as_many, kept_sound, sound_at}
+use Rattle.session_values.specs.Held.{Held}
 use Rattle.session_lang.proofs.answers.compare_values.Goals as goal
 
 pub index-requires : goal.index-requires
@@ -32,7 +33,7 @@ returns-in-Err-clause-stop g c = λ d e.
     let same = as_many c.args.ring.now c.args.names.now c.args.stored.now.items c.requires.sound in
     let below : c.args.places.0 < length c.args.stored.now.items = omega (arith, c.requires.within.0, same) in
     rw c.from.ensures
-    (call_stops _ _ _ _
+    (more_stops _ _ _ _ _ _ _ _
     (λ r m l h. inl (placed_run c.args.ring.now c.args.names.now c.args.stored.now.items c.args.places.0 d e c.info_at.result.now c.index_mut.result.now
     c.requires.within.0 below c.info_at.ensures c.index_mut.ensures.value r m l h))
     (no_trail NoTrail) (op_stop_of_run c.in-Err.stop)
@@ -108,5 +109,5 @@ returns-in-Err-compare_with-clause-stop g c = λ d e.
     (λ a b. CallStops (IsRunAtEither c.args.ring.now c.args.names.now c.args.stored.now.items c.args.places d e) NoTrail
     a (g.B.Groebner.stops c.compare_with.new.engine) b (g.B.Groebner.stopped c.compare_with.new.engine) c.in-Err-compare_with.stop)
     c.in-Ok.ensures.same.0 c.in-Ok.ensures.same.1
-    (call_stops _ _ _ _ (λ r m l h. inr (slice_set c.args.stored.now.items c.args.places.0 c.keep_basis.new.stored, keeps, h)) (no_trail NoTrail)
+    (more_stops _ _ _ _ _ _ _ _ (λ r m l h. inr (slice_set c.args.stored.now.items c.args.places.0 c.keep_basis.new.stored, keeps, h)) (no_trail NoTrail)
     c.in-Err-compare_with.stop (c.in-Err-compare_with.ensures.stop d e))

@@ -2,11 +2,12 @@ use Rattle.std.proofs.Common.{◌<◌, ◌≡◌, ◌∙◌, Some, ap, arith, le
 use Rattle.std.specs.Prelude.{IsSome}
 use Rattle.groebner_iface.specs.Stops.{op_stop_of_run}
 use Rattle.groebner_iface.specs.Calls.{NoTrail}
-use Rattle.session_lang.specs.Kept.{AreSound, IsSound}
-use Rattle.session_lang.specs.Texts.{verdict}
+use Rattle.session_values.specs.Kept.{AreSound, IsSound}
+use Rattle.session_values.specs.Texts.{verdict}
 use Rattle.session_lang.proofs.KeptValues.{at_place, at_written, compared, decided, undone, written_lists}
-use Rattle.session_lang.proofs.Stopping.{call_stops, no_trail, placed_run, run_fails}
-use Rattle.session_lang.proofs.Values.{as_many, kept_sound, sound_at}
+use Rattle.groebner_iface.proofs.CallingRuns.{more_stops}
+use Rattle.session_lang.proofs.Stopping.{no_trail, placed_run, run_fails}
+use Rattle.session_values.proofs.Values.{as_many, kept_sound, sound_at}
 use Rattle.session_lang.proofs.answers.compare_with.Goals as goal
 
 pub index-requires : goal.index-requires
@@ -31,7 +32,7 @@ returns-in-Err-clause-stop g c = λ d e.
     let same = as_many c.args.ring.now c.args.names.now c.args.stored.now.items c.requires.sound in
     let below : c.args.places.1 < length c.args.stored.now.items = omega (arith, c.requires.within.1, same) in
     rw c.from.ensures
-    (call_stops _ _ _ _
+    (more_stops _ _ _ _ _ _ _ _
     (placed_run c.args.ring.now c.args.names.now c.args.stored.now.items c.args.places.1 d e c.info_at.result.now c.index_mut.result.now
     c.requires.within.1 below c.info_at.ensures c.index_mut.ensures.value)
     (no_trail NoTrail) (op_stop_of_run c.in-Err.stop)

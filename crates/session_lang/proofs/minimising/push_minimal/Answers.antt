@@ -2,7 +2,7 @@ use Rattle.std.proofs.Common.{rules}
 use Rattle.std.specs.Prelude.{codes, string_bytes}
 use Rattle.session_lang.proofs.MinimalMaps.{minimal_shown}
 use Rattle.session_lang.proofs.Reporting.{maps_variables}
-use Rattle.session_lang.specs.Writing.{resolution_written}
+use Rattle.session_values.specs.Writing.{resolution_written}
 use Rattle.session_lang.proofs.minimising.push_minimal.Goals as goal
 
 pub append_resolution-written-requires : goal.append_resolution-written-requires

@@ -4,7 +4,7 @@ use Rattle.std.specs.Prelude.{codes, string_bytes}
 use Rattle.groebner_iface.specs.Runs.{IsReducedBasisOf}
 use Rattle.order_change.specs.Reordered.{with_order}
 use Rattle.session_lang.proofs.Reporting.{of_list, over_variables, own_basis}
-use Rattle.session_lang.specs.Texts.{listing}
+use Rattle.session_values.specs.Texts.{listing}
 use Rattle.session_lang.proofs.reordering.push_reordered.Goals as goal
 
 pub convert-requires : goal.convert-requires

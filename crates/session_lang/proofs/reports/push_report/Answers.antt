@@ -62,3 +62,21 @@ pub returns-in-Regularity-clause-stop : goal.returns-in-Regularity-clause-stop
 returns-in-Regularity-clause-stop c =
     subst (λ r. IfErr c.push_regularity.result (ReportStops c.args.ring.now c.args.info.now.rank c.args.basis.now r)) (sym c.in-Regularity.is)
     (regularity_stops c.args.ring.now c.args.info.now.rank c.args.basis.now c.push_regularity.result c.push_regularity.ensures.stop)
+
+pub push_numbers-requires-clause-rank : goal.push_numbers-requires-clause-rank
+push_numbers-requires-clause-rank c = c.requires.rank
+
+pub push_reordered-requires-clause-basis : goal.push_reordered-requires-clause-basis
+push_reordered-requires-clause-basis c = c.requires.basis
+
+pub push_resolution-requires : goal.push_resolution-requires
+push_resolution-requires c = c.requires.basis
+
+pub push_minimal-requires : goal.push_minimal-requires
+push_minimal-requires c = c.requires.basis
+
+pub push_betti-requires : goal.push_betti-requires
+push_betti-requires c = c.requires.basis
+
+pub push_regularity-requires : goal.push_regularity-requires
+push_regularity-requires c = c.requires.basis

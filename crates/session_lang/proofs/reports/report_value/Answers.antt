@@ -3,7 +3,7 @@ use Rattle.std.specs.Prelude.{is_some}
 use Rattle.groebner_iface.specs.Runs.{IsReducedBasisOf}
 use Rattle.session_lang.proofs.KeptValues.{basis_kept}
 use Rattle.session_lang.proofs.Stopping.{run_fails}
-use Rattle.session_lang.specs.Kept.{value_of}
+use Rattle.session_values.specs.Kept.{value_of}
 use Rattle.session_lang.specs.Reporting.{IsReportTrail}
 use Rattle.session_lang.proofs.reports.report_value.Goals as goal
 
@@ -27,3 +27,6 @@ returns-in-Ok-Refused-clause-reports g c =
     subst (λ l. IsReducedBasisOf c.args.ring.now c.args.info.now.rank l c.basis.result.now) c.in-Ok.ensures.list
     (basis_kept c.args.ring.now c.args.info.now.rank kept c.basis.result.now c.in-Ok.ensures.sound c.basis.ensures) in
     (rw c.in-Ok-Refused.field-0-is at c.in-Ok-Refused.ensures.reports) c.args.stored.now.list (c.requires.sound).positions reduced (is_some c.args.stored.now.basis)
+
+pub push_report-requires-clause-has : goal.push_report-requires-clause-has
+push_report-requires-clause-has g c = c.requires.has

@@ -4,7 +4,7 @@ use Rattle.bases.specs.Bases.{IsReducedBasis}
 use Rattle.module_vectors.specs.Rings.{ring_comparison, setting, variables}
 use Rattle.module_vectors.specs.Vectors.{sums_of}
 use Rattle.session_lang.proofs.Reporting.{own_basis, resolution_shown, through_variables}
-use Rattle.session_lang.specs.Writing.{resolution_written}
+use Rattle.session_values.specs.Writing.{resolution_written}
 use Rattle.session_lang.proofs.resolving.push_resolution.Goals as goal
 
 pub resolve-requires-clause-basis : goal.resolve-requires-clause-basis

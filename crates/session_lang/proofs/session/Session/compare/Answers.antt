@@ -2,13 +2,15 @@ use Rattle.std.proofs.Common.{None, Some, ap, get_or, rules, subst, subst₂, sy
 use Rattle.std.proofs.lemmas.Result.{IfErr-weaker, on_err_weaker, on_ok_weaker}
 use Rattle.groebner_iface.specs.Calls.{NoTrail}
 use Rattle.script_parse.specs.Places.{place_named}
-use Rattle.session_lang.specs.Kept.{AreGiven, IsGiven, value_of, values_of}
+use Rattle.session_lang.specs.Fitting.{AreGiven, IsGiven}
+use Rattle.session_values.specs.Kept.{value_of, values_of}
 use Rattle.session_lang.proofs.OneAnswer.{one_value}
 use Rattle.session_lang.proofs.Finding.{as_many_after, has_value, kept_after, no_stored, place_given, run_for_either, some_info}
 use Rattle.session_lang.proofs.Performing.{compared_performed}
-use Rattle.session_lang.proofs.Stopping.{call_stops, no_trail}
+use Rattle.groebner_iface.proofs.CallingRuns.{more_stops}
+use Rattle.session_lang.proofs.Stopping.{no_trail}
 use Rattle.script_parse.proofs.NamePlaces.{place_bound}
-use Rattle.session_lang.proofs.Values.{kept_as_many}
+use Rattle.session_values.proofs.Values.{kept_as_many}
 use Rattle.session_lang.proofs.session.Session.compare.Goals as goal
 
 pub unreachable-requires-in_default-place_of : goal.unreachable-requires-in_default-place_of
@@ -78,7 +80,7 @@ returns-clause-performed g c =
     (on_ok_weaker called (λ t. t no_stored) e.text)
     (IfErr-weaker called _ _
     (λ stop k.
-    call_stops _ _ _ _
+    more_stops _ _ _ _ _ _ _ _
     (run_for_either before own infos stored view c.in-Some.ring first second i j d same c.in-Some.is found found')
     (no_trail NoTrail) stop (k d no_stored))
     e.stop)

@@ -2,8 +2,8 @@ use Rattle.std.proofs.Common.{[], refl, subst, sym, ◌≡◌}
 use Rattle.std.specs.Prelude.{is_some, string_bytes}
 use Rattle.groebner_iface.specs.declared.stop.OpStop.TheVariants as causes
 use Rattle.script_parse.specs.declared.stated.Statement.TheVariants as statements
-use Rattle.session_lang.specs.Kept.{IsSound}
-use Rattle.session_lang.specs.Names.{after_giving}
+use Rattle.session_values.specs.Kept.{IsSound}
+use Rattle.session_values.specs.Names.{after_giving}
 use Rattle.session_lang.proofs.Making.{sound_list}
 use Rattle.session_lang.proofs.Performing.{nothing_behind, was_done, was_stopped}
 use Rattle.session_lang.proofs.session.Session.define.Goals as goal

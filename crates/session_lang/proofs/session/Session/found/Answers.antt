@@ -1,10 +1,10 @@
 use Rattle.std.proofs.Common.{None, Some, arith, length, rules, subst₂, sym, ◌<◌, ◌≡◌}
 use Rattle.script_parse.specs.Places.{place_named}
-use Rattle.session_lang.specs.Kept.{IsSound, value_of}
-use Rattle.session_lang.specs.Names.{HasValue}
+use Rattle.session_values.specs.Kept.{IsSound, value_of}
+use Rattle.session_values.specs.Names.{HasValue}
 use Rattle.session_lang.proofs.Finding.{has_value, place_given, sound_over}
 use Rattle.script_parse.proofs.NamePlaces.{place_bound}
-use Rattle.session_lang.proofs.Values.{kept_as_many, sound_at}
+use Rattle.session_values.proofs.Values.{kept_as_many, sound_at}
 use Rattle.session_lang.proofs.session.Session.found.Goals as goal
 
 pub unreachable-requires-in_default-place_of : goal.unreachable-requires-in_default-place_of

@@ -1,4 +1,4 @@
-use Rattle.session_lang.proofs.Values.{kept_as_many}
+use Rattle.session_values.proofs.Values.{kept_as_many}
 use Rattle.session_lang.proofs.session.Session.give.Goals as goal
 
 pub give_name-requires : goal.give_name-requires

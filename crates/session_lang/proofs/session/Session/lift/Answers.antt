@@ -2,11 +2,12 @@ use Rattle.std.proofs.Common.{subst, sym}
 use Rattle.std.proofs.lemmas.Result.{IfErr-weaker, on_ok_weaker}
 use Rattle.module_vectors.specs.Rings.{ring_comparison}
 use Rattle.module_vectors.specs.Vectors.{HasPositions, IsVectorOver}
-use Rattle.session_lang.specs.Kept.{IsGiven, value_of}
-use Rattle.session_lang.specs.Names.{HasValue}
+use Rattle.session_lang.specs.Fitting.{IsGiven}
+use Rattle.session_values.specs.Kept.{value_of}
+use Rattle.session_values.specs.Names.{HasValue}
 use Rattle.session_lang.proofs.OneAnswer.{one_ring, one_value}
 use Rattle.session_lang.proofs.Performing.{lifted_performed}
-use Rattle.session_lang.proofs.Stopping.{call_stops}
+use Rattle.groebner_iface.proofs.CallingRuns.{more_stops}
 use Rattle.session_lang.proofs.session.Session.lift.Goals as goal
 
 pub found-value-requires : goal.found-value-requires
@@ -37,5 +38,5 @@ returns-clause-performed g c =
     c.done.ensures.ok c.done.ensures.err
     (on_ok_weaker called (λ t. (t.0, (ring, value, found.ensures.has, t.1), t.2)) e.text) e.unwritten e.same
     (IfErr-weaker called _ _
-    (call_stops _ _ _ _ (λ r m l h. (ring, value, found.ensures.has, h)) (λ t h. (ring, value, found.ensures.has, h)))
+    (more_stops _ _ _ _ _ _ _ _ (λ r m l h. (ring, value, found.ensures.has, h)) (λ t h. (ring, value, found.ensures.has, h)))
     e.stop)

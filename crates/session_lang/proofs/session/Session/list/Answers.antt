@@ -2,9 +2,10 @@ use Rattle.std.proofs.Common.{refl, rules, subst, sym, ◌≡◌}
 use Rattle.std.specs.Prelude.{codes, string_bytes}
 use Rattle.groebner_iface.specs.declared.stop.OpStop.TheVariants as causes
 use Rattle.script_parse.specs.declared.stated.Statement.TheVariants as statements
-use Rattle.session_lang.specs.Kept.{IsGiven, value_of}
-use Rattle.session_lang.specs.Names.{HasValue}
-use Rattle.session_lang.specs.Texts.{listing}
+use Rattle.session_lang.specs.Fitting.{IsGiven}
+use Rattle.session_values.specs.Kept.{value_of}
+use Rattle.session_values.specs.Names.{HasValue}
+use Rattle.session_values.specs.Texts.{listing}
 use Rattle.session_lang.proofs.Finding.{listed}
 use Rattle.session_lang.proofs.Performing.{was_done, was_stopped}
 use Rattle.session_lang.proofs.session.Session.list.Goals as goal

@@ -2,12 +2,12 @@ use Rattle.std.proofs.Common.{[], ap, refl, subst, sym, ◌∙◌, ◌≡◌}
 use Rattle.std.specs.Prelude.{is_some, string_bytes}
 use Rattle.groebner_iface.specs.declared.stop.OpStop.TheVariants as causes
 use Rattle.script_parse.specs.declared.stated.Statement.TheVariants as statements
-use Rattle.session_lang.specs.Kept.{IsSound}
-use Rattle.session_lang.specs.Names.{after_giving}
-use Rattle.session_lang.specs.Tasks.{work_of}
+use Rattle.session_values.specs.Kept.{IsSound}
+use Rattle.session_values.specs.Names.{after_giving}
+use Rattle.session_values.specs.Tasks.{work_of}
 use Rattle.session_lang.proofs.Making.{sound_result}
 use Rattle.session_lang.proofs.Performing.{nothing_behind, was_done, was_stopped}
-use Rattle.session_lang.proofs.Stopping.{call_stops}
+use Rattle.groebner_iface.proofs.CallingRuns.{more_stops}
 use Rattle.session_lang.proofs.session.Session.make.Goals as goal
 
 pub operate-requires-after_bounds : goal.operate-requires-after_bounds
@@ -21,7 +21,7 @@ returns-in-Err-clause-performed g c text =
     let works = (c.task-task.ensures c.in-Some.ring stated).0 in
     let work = work_of c.task-task.result in
     was_stopped c.args.self.now (statements.Let c.args.name c.args.operation.now) c.args.self.now text text _ _ _ _ c.in-Err.stop refl refl
-    (call_stops _ _ _ _ (λ r m l h. (c.in-Some.ring, work, works, h)) (λ t h. (c.in-Some.ring, work, works, h)) c.in-Err.stop c.in-Err.ensures.stop)
+    (more_stops _ _ _ _ _ _ _ _ (λ r m l h. (c.in-Some.ring, work, works, h)) (λ t h. (c.in-Some.ring, work, works, h)) c.in-Err.stop c.in-Err.ensures.stop)
 
 pub give-requires : goal.give-requires
 give-requires g c =

@@ -1,5 +1,5 @@
 use Rattle.std.proofs.Common.{subst, sym}
-use Rattle.session_lang.specs.Kept.{IsGiven}
+use Rattle.session_lang.specs.Fitting.{IsGiven}
 use Rattle.session_lang.proofs.session.Session.operand.Goals as goal
 
 pub found-value-requires : goal.found-value-requires

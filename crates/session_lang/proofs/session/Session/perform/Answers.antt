@@ -1,5 +1,5 @@
 use Rattle.std.proofs.Common.{[], arith, refl, subst, sym}
-use Rattle.session_lang.specs.Kept.{IsFit}
+use Rattle.session_lang.specs.Fitting.{IsFit}
 use Rattle.session_lang.specs.Lines.{Does}
 use Rattle.session_lang.proofs.Performing.{ideal_given, nothing_behind, performed_as, was_done}
 use Rattle.session_lang.proofs.session.Session.perform.Goals as goal

@@ -3,7 +3,7 @@ use Rattle.std.specs.Prelude.{option_copied}
 use Rattle.session_lang.proofs.Reported.{fits, refuses, states}
 use Rattle.std.proofs.lemmas.Result.{IfErr-weaker}
 use Rattle.session_lang.proofs.Performing.{performed_line}
-use Rattle.session_lang.proofs.Stopping.{call_stops}
+use Rattle.groebner_iface.proofs.CallingRuns.{more_stops}
 use Rattle.session_lang.specs.Lines.{Refuses}
 use Rattle.session_lang.proofs.session.Session.step.Goals as goal
 
@@ -26,7 +26,7 @@ returns-in-Ok-clause-stop g c =
     states c.args.self.now c.self.inside.ring c.self.inside.names c.self.inside.stored.items c.self.view_is c.self.invariant
     (option_copied c.as_ref.result) c.self.inside.names c.as_ref.ensures.value refl c.args.line.now c.in-Ok.stated c.in-Ok.ensures in
     IfErr-weaker c.perform.result _ _
-    (call_stops _ _ _ _ (λ r m l h. (c.in-Ok.stated, stated, h)) (λ t h. (c.in-Ok.stated, stated, h))) c.perform.ensures.performed.stop
+    (more_stops _ _ _ _ _ _ _ _ (λ r m l h. (c.in-Ok.stated, stated, h)) (λ t h. (c.in-Ok.stated, stated, h))) c.perform.ensures.performed.stop
 
 pub returns-in-Ok-clause-same : goal.returns-in-Ok-clause-same
 returns-in-Ok-clause-same g c = c.perform.ensures.performed.same

@@ -1,7 +1,7 @@
 use Rattle.std.proofs.Common.{subst, sym}
-use Rattle.session_lang.specs.Kept.{IsWorkable}
-use Rattle.session_lang.specs.Operations.{WorksOn, colon, eliminate, intersect, multiply, quotient, saturate, sum, syzygies}
-use Rattle.session_lang.specs.Tasks.{IsReady}
+use Rattle.session_lang.specs.Fitting.{IsWorkable}
+use Rattle.session_values.specs.Operations.{WorksOn, colon, eliminate, intersect, multiply, quotient, saturate, sum, syzygies}
+use Rattle.session_values.specs.Tasks.{IsReady}
 use Rattle.session_lang.proofs.Making.{colon_does, eliminate_does, intersect_does, product_does, quotient_does, saturate_does, sum_does, syzygies_does}
 use Rattle.session_lang.proofs.session.Session.task.Goals as goal
 

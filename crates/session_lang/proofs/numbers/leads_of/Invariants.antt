@@ -1,6 +1,0 @@
-use Rattle.std.proofs.Common.{drop, ◌++◌, ◌≡◌}
-use Rattle.session_lang.specs.Numbers.{leads_of}
-use Rattle.session_lang.proofs.numbers.leads_of.Given as goal
-
-abbrev pub invariant-loop-v : goal.invariant-loop-v
-invariant-loop-v l = l.keys.items ++ leads_of (drop l.v-index l.list) ≡ leads_of l.list

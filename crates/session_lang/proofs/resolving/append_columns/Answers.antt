@@ -1,5 +1,0 @@
-use Rattle.std.proofs.Common.{◌∙◌}
-use Rattle.session_lang.proofs.resolving.append_columns.Goals as goal
-
-pub returns-in-Err-clause-err : goal.returns-in-Err-clause-err
-returns-in-Err-clause-err c = (_, c.in-Err.ensures.err ∙ c.loop-column.invariant)

@@ -1,7 +1,0 @@
-use Rattle.std.proofs.Common.{flat_map, ◌++◌, ◌≡◌}
-use Rattle.std.specs.List.{range_with_len}
-use Rattle.session_lang.specs.Texts.{degree_line}
-use Rattle.session_lang.proofs.sizes.append_degrees.Given as goal
-
-abbrev pub invariant-loop-degree : goal.invariant-loop-degree
-invariant-loop-degree l = l.out.items ≡ l.initial.out.items ++ flat_map (degree_line l.list) (range_with_len 0 l.degree)

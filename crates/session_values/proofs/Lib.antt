@@ -1,0 +1,5 @@
+pub mod Values
+mod DegreeLines
+mod Dividing
+mod Leading
+mod OneModule

@@ -1,0 +1,98 @@
+use Rattle.std.proofs.Common.{IfOk, rules, subst, sym, ◌≡◌}
+use Rattle.std.proofs.lemmas.Result.{IfErr-weaker}
+use Rattle.session_values.specs.Operations.{AreRunsOf, AreTrailsOf, IsResult, colon, eliminate, intersect, multiply, quotient, saturate, sum, syzygies}
+use Rattle.session_values.specs.Tasks.{work_of}
+use Rattle.groebner_iface.proofs.CallingRuns.{more_stops}
+use Rattle.session_values.proofs.operations.operate.Goals as goal
+
+pub returns-in-Sum-clause-stop : goal.returns-in-Sum-clause-stop
+returns-in-Sum-clause-stop g c =
+    let rank : c.from.result ≡ c.in-Sum.rank = search rules in
+    IfErr-weaker c.sum.result _ _
+    (more_stops _ _ _ _ _ _ _ _
+    (λ r m l h.
+    subst (λ x. AreRunsOf c.args.ring.now (work_of x) r m l) (sym c.in-Sum.is)
+    (subst (λ k. AreRunsOf c.args.ring.now (sum k c.in-Sum.left.now c.in-Sum.right.now) r m l) rank h))
+    (λ t h. absurd h))
+    c.sum.ensures.stop
+
+pub returns-in-Product-clause-stop : goal.returns-in-Product-clause-stop
+returns-in-Product-clause-stop g c =
+    let rank : c.from-in-Product.result ≡ c.in-Product.rank = search rules in
+    IfErr-weaker c.product.result _ _
+    (more_stops _ _ _ _ _ _ _ _
+    (λ r m l h.
+    subst (λ x. AreRunsOf c.args.ring.now (work_of x) r m l) (sym c.in-Product.is)
+    (subst (λ k. AreRunsOf c.args.ring.now (multiply k c.in-Product.left.now c.in-Product.right.now) r m l) rank h))
+    (λ t h. subst (λ x. AreTrailsOf c.args.ring.now (work_of x) t) (sym c.in-Product.is) h))
+    c.product.ensures.stop
+
+pub returns-in-Quotient-clause-stop : goal.returns-in-Quotient-clause-stop
+returns-in-Quotient-clause-stop g c =
+    let rank : c.from-in-Quotient.result ≡ c.in-Quotient.rank = search rules in
+    IfErr-weaker c.quotient.result _ _
+    (more_stops _ _ _ _ _ _ _ _
+    (λ r m l h.
+    subst (λ x. AreRunsOf c.args.ring.now (work_of x) r m l) (sym c.in-Quotient.is)
+    (subst (λ k. AreRunsOf c.args.ring.now (quotient k c.in-Quotient.list.now c.in-Quotient.f.now) r m l) rank h))
+    (λ t h. absurd h))
+    c.quotient.ensures.stop
+
+pub returns-in-Eliminate-clause-stop : goal.returns-in-Eliminate-clause-stop
+returns-in-Eliminate-clause-stop g c =
+    let rank : c.from-in-Eliminate.result ≡ c.in-Eliminate.rank = search rules in
+    IfErr-weaker c.eliminate.result _ _
+    (more_stops _ _ _ _ _ _ _ _
+    (λ r m l h.
+    subst (λ x. AreRunsOf c.args.ring.now (work_of x) r m l) (sym c.in-Eliminate.is)
+    (subst (λ k. AreRunsOf c.args.ring.now (eliminate k c.in-Eliminate.list.now c.in-Eliminate.k) r m l) rank h))
+    (λ t h. absurd h))
+    c.eliminate.ensures.stop
+
+pub returns-in-Syzygies-clause-stop : goal.returns-in-Syzygies-clause-stop
+returns-in-Syzygies-clause-stop g c =
+    let rank : c.from-in-Syzygies.result ≡ c.in-Syzygies.rank = search rules in
+    IfErr-weaker c.syzygies.result _ _
+    (more_stops _ _ _ _ _ _ _ _
+    (λ r m l h.
+    subst (λ x. AreRunsOf c.args.ring.now (work_of x) r m l) (sym c.in-Syzygies.is)
+    (subst (λ k. AreRunsOf c.args.ring.now (syzygies k c.in-Syzygies.list.now) r m l) rank h))
+    (λ t h. absurd h))
+    c.syzygies.ensures.stop
+
+pub returns-in-Intersect-clause-stop : goal.returns-in-Intersect-clause-stop
+returns-in-Intersect-clause-stop g c =
+    let rank : c.from-in-Intersect.result ≡ c.in-Intersect.rank = search rules in
+    IfErr-weaker c.intersect.result _ _
+    (more_stops _ _ _ _ _ _ _ _
+    (λ r m l h.
+    subst (λ x. AreRunsOf c.args.ring.now (work_of x) r m l) (sym c.in-Intersect.is)
+    (subst (λ k. AreRunsOf c.args.ring.now (intersect k c.in-Intersect.left.now c.in-Intersect.right.now) r m l) rank h))
+    (λ t h. subst (λ x. AreTrailsOf c.args.ring.now (work_of x) t) (sym c.in-Intersect.is) h))
+    c.intersect.ensures.stop
+
+pub returns-in-Saturate-clause-stop : goal.returns-in-Saturate-clause-stop
+returns-in-Saturate-clause-stop g c =
+    let rank : c.from-in-Saturate.result ≡ c.in-Saturate.rank = search rules in
+    IfErr-weaker c.saturate.result _ _
+    (more_stops _ _ _ _ _ _ _ _
+    (λ r m l h.
+    subst (λ x. AreRunsOf c.args.ring.now (work_of x) r m l) (sym c.in-Saturate.is)
+    (subst (λ k. AreRunsOf c.args.ring.now (saturate k c.in-Saturate.list.now c.in-Saturate.f.now) r m l) rank h))
+    (λ t h. subst (λ x. AreTrailsOf c.args.ring.now (work_of x) t) (sym c.in-Saturate.is) h))
+    c.saturate.ensures.stop
+
+pub returns-else-len-gt-MOST_BLOCKS-clause-stop : goal.returns-else-len-gt-MOST_BLOCKS-clause-stop
+returns-else-len-gt-MOST_BLOCKS-clause-stop g c =
+    let rank : c.from-in-Colon.result ≡ c.in-Colon.rank = search rules in
+    IfErr-weaker c.colon.result _ _
+    (more_stops _ _ _ _ _ _ _ _
+    (λ r m l h.
+    subst (λ x. AreRunsOf c.args.ring.now (work_of x) r m l) (sym c.in-Colon.is)
+    (subst (λ k. AreRunsOf c.args.ring.now (colon k c.in-Colon.list.now c.in-Colon.by.now) r m l) rank h))
+    (λ t h. absurd h))
+    c.colon.ensures.stop
+
+pub returns-else-len-gt-MOST_BLOCKS-clause-result : goal.returns-else-len-gt-MOST_BLOCKS-clause-result
+returns-else-len-gt-MOST_BLOCKS-clause-result g c =
+    subst (λ x. IfOk c.colon.result (IsResult c.args.ring.now (work_of x))) (sym c.in-Colon.is) c.colon.ensures.basis

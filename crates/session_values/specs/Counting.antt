@@ -1,0 +1,15 @@
+-- What the calls for the numbers of a value say
+use Rattle.std.specs.Prelude.{List, ⊤, ℕ, ℤ}
+use Rattle.module_vectors.specs.declared.key.Key.{Key}
+use Rattle.module_vectors.specs.declared.ring.Ring.{Ring}
+use Rattle.hilbert_series.specs.Large.{IsLarge}
+use Rattle.hilbert_series.specs.declared.stop.HilbertStop.{HilbertStop}
+use Rattle.hilbert_series.specs.declared.stop.HilbertStop.TheVariants as stops
+use Rattle.session_values.specs.Numbers.{HasManyLeads, IsNumeratorFor}
+
+-- why a reduced basis has no numbers
+abbrev pub NumbersStop : Ring → ℕ → List (List (Key × ℕ)) → HilbertStop → Type 0
+NumbersStop ring rank basis stops.Memory = ⊤
+NumbersStop ring rank basis (stops.Leads k) = HasManyLeads ring rank basis
+NumbersStop ring rank basis stops.Large =
+    (HasManyLeads ring rank basis → ⊥) × ((K : List ℤ) × IsNumeratorFor ring rank basis K × IsLarge K)

@@ -1,0 +1,12 @@
+-- what public clauses cite
+pub mod Names
+pub mod Texts
+pub mod Answers
+pub mod Operations
+pub mod Tasks
+pub mod Held
+pub mod Kept
+pub mod Numbers
+pub mod Counting
+pub mod Resolving
+pub mod Writing

@@ -1,0 +1,169 @@
+// The lines that are printed of values.
+ghost use Rattle.std.specs.Prelude.{◌≡◌, ◌++◌, ◌∷◌, [], OnErr, OnOk, length, take};
+ghost use Rattle.std.specs.Fmt.{signed_decimal};
+ghost use Rattle.formal_sums.specs.FormalSums.{Each};
+ghost use Rattle.module_vectors.specs.Rings.{variables};
+ghost use Rattle.module_vectors.specs.Vectors.{HasVariables};
+ghost use Rattle.poly_text.specs.Texts.{entries_text, list_text, names_of, vector_text};
+ghost use Rattle.poly_text.specs.Writing.{IsFront};
+ghost use Rattle.session_values.specs.Texts.{heading, verdict};
+
+use itoa::Buffer;
+use module_vectors::{NoMemory, Ring, Vect, VectList};
+use poly_text::{push_entries, push_list, push_number, push_vect};
+use std::alloc::Global;
+
+/// Keeps what was written, and after an error only so many bytes as there were before.
+pub fn whole_or_none(
+    out: &mut Vec<u8>,
+    before: usize,
+    written: Result<(), NoMemory>,
+) -> Result<(), NoMemory>
+    ensures same { result ≡ written }
+    ensures ok { OnOk written (out.new.items ≡ out.old.items) }
+    ensures err { OnErr written (out.new.items ≡ take before out.old.items) }
+{
+    if written.is_err() {
+        out.truncate(before);
+    }
+    written
+}
+
+// Appends a word and a blank. After an error what was written so far stands there.
+fn append_word(out: &mut Vec<u8>, word: &[u8]) -> Result<(), NoMemory>
+    ensures ok { OnOk result (out.new.items ≡ out.old.items ++ (word.now ++ 32 ∷ [])) }
+    ensures err { OnErr result (IsFront out.old.items out.new.items) }
+{
+    out.extend_from_slice(word)?;
+    out.push(b' ')?;
+    Ok(())
+}
+
+/// Appends a word, a name and a number. After an error what was written so far stands there.
+pub fn append_heading(
+    out: &mut Vec<u8>,
+    word: &[u8],
+    name: &[u8],
+    count: usize,
+) -> Result<(), NoMemory>
+    ensures ok { OnOk result (out.new.items ≡ out.old.items ++ heading word.now name.now count) }
+    ensures err { OnErr result (IsFront out.old.items out.new.items) }
+{
+    let mut digits = Buffer::new();
+    append_word(out, word)?;
+    append_word(out, name)?;
+    out.extend_from_slice(digits.format(count).as_bytes())?;
+    out.push(b'\n')?;
+    Ok(())
+}
+
+/// Appends a number behind a space. After an error what was written so far stands there.
+pub fn append_number(alloc: Global, out: &mut Vec<u8>, number: i128) -> Result<(), NoMemory>
+    ensures ok { OnOk result (out.new.items ≡ out.old.items ++ (32 ∷ signed_decimal number)) }
+    ensures err { OnErr result (IsFront out.old.items out.new.items) }
+{
+    out.push(b' ')?;
+    match push_number(alloc, out, number) {
+        Ok(()) => Ok(()),
+        Err(_) => Err(NoMemory),
+    }
+}
+
+// Appends a heading and a list. After an error what was written so far stands there.
+fn append_listing(
+    alloc: Global,
+    out: &mut Vec<u8>,
+    word: &[u8],
+    name: &[u8],
+    ring: &Ring,
+    rank: u64,
+    list: &VectList,
+) -> Result<(), NoMemory>
+    requires { Each (λ v. Each (HasVariables (variables ring.now)) v) list.now }
+    ensures ok { OnOk result (out.new.items ≡ out.old.items ++ (heading word.now name.now (length list.now) ++ list_text (names_of ring.now) rank list.now)) }
+    ensures err { OnErr result (IsFront out.old.items out.new.items) }
+{
+    append_heading(out, word, name, list.len())?;
+    match push_list(alloc, out, ring, u128::from(rank), list) {
+        Ok(()) => Ok(()),
+        Err(_) => Err(NoMemory),
+    }
+}
+
+/// Appends a list of a value with its heading. After an error nothing is appended.
+pub fn push_listing(
+    alloc: Global,
+    out: &mut Vec<u8>,
+    word: &[u8],
+    name: &[u8],
+    ring: &Ring,
+    rank: u64,
+    list: &VectList,
+) -> Result<(), NoMemory>
+    requires { Each (λ v. Each (HasVariables (variables ring.now)) v) list.now }
+    ensures ok { OnOk result (out.new.items ≡ out.old.items ++ (heading word.now name.now (length list.now) ++ list_text (names_of ring.now) rank list.now)) }
+    ensures err { OnErr result (out.new.items ≡ out.old.items) }
+{
+    let before = out.len();
+    let written = append_listing(alloc, out, word, name, ring, rank, list);
+    whole_or_none(out, before, written)
+}
+
+/// Appends a vector on a line of its own. After an error nothing is appended.
+pub fn push_line(
+    alloc: Global,
+    out: &mut Vec<u8>,
+    ring: &Ring,
+    rank: u64,
+    v: &Vect,
+) -> Result<(), NoMemory>
+    requires { Each (HasVariables (variables ring.now)) v.now }
+    ensures ok { OnOk result (out.new.items ≡ out.old.items ++ (vector_text (names_of ring.now) rank v.now ++ 10 ∷ [])) }
+    ensures err { OnErr result (out.new.items ≡ out.old.items) }
+{
+    let before = out.len();
+    if push_vect(alloc, out, ring, u128::from(rank), v).is_err() {
+        return Err(NoMemory);
+    }
+    if out.push(b'\n').is_err() {
+        out.truncate(before);
+        return Err(NoMemory);
+    }
+    Ok(())
+}
+
+/// Appends cofactors in brackets, so many, on a line of their own. After an error nothing is appended.
+pub fn push_cofactors(
+    alloc: Global,
+    out: &mut Vec<u8>,
+    ring: &Ring,
+    count: usize,
+    v: &Vect,
+) -> Result<(), NoMemory>
+    requires { Each (HasVariables (variables ring.now)) v.now }
+    ensures ok { OnOk result (out.new.items ≡ out.old.items ++ (entries_text (names_of ring.now) count v.now ++ 10 ∷ [])) }
+    ensures err { OnErr result (out.new.items ≡ out.old.items) }
+{
+    let before = out.len();
+    if push_entries(alloc, out, ring, count as u128, v).is_err() {
+        return Err(NoMemory);
+    }
+    if out.push(b'\n').is_err() {
+        out.truncate(before);
+        return Err(NoMemory);
+    }
+    Ok(())
+}
+
+/// Appends yes or no. After an error nothing is appended.
+pub fn push_verdict(out: &mut Vec<u8>, yes: bool) -> Result<(), NoMemory>
+    ensures ok { OnOk result (out.new.items ≡ out.old.items ++ verdict yes) }
+    ensures err { OnErr result (out.new.items ≡ out.old.items) }
+{
+    if yes {
+        out.extend_from_slice(b"yes\n")?;
+    } else {
+        out.extend_from_slice(b"no\n")?;
+    }
+    Ok(())
+}
