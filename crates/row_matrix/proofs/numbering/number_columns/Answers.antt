@@ -49,3 +49,6 @@ returns g c =
     subst₂ (λ a b. IsPlacing n ring.weights compare keys c.loop-number.columns.items c.loop-number.places.items a b) (take_all i numbers le) (drop_all i numbers le) c.loop-number.invariant in
     placing_end n compare laws ring.weights keys c.loop-number.columns.items c.loop-number.places.items numbers
     (λ k l. subst (λ z. Contains z k) (sym c.deref-number-items.ensures.value) (c.in_ok-numbers.ensures.all k l)) placing
+
+pub sorted_numbers-requires : goal.sorted_numbers-requires
+sorted_numbers-requires g c = c.requires

@@ -73,3 +73,6 @@ returns-clause-span g c =
     subst (λ ks. IfOk c.place_matrix.result (IsPlacedMatrix n ws compare ks (length list) rows)) c.keys-2.ensures.keys c.place_matrix.ensures in
     ok_more (IsPlacedMatrix n ws compare keys (length list) rows) (λ m. HasSameSpan p (sums_of n list) (vectors_of n m.columns m.rows)) c.place_matrix.result
     (λ m h. one_span n ws p domain compare (g.met.F.Frame.laws c.args.frame.now n 0) list keys rows m c.requires c.in_ok-rows.ensures h) placed
+
+pub monic_rows-requires-clause-vectors : goal.monic_rows-requires-clause-vectors
+monic_rows-requires-clause-vectors g c = c.requires

@@ -1,18 +1,47 @@
-use Rattle.std.proofs.Common.{[], ap, get_or, length, rules, subst, sym, ℕ, ◌∙◌, ◌∷◌, ◌≡◌}
+use Rattle.std.proofs.Common.{List, Ordering, [], ap, get_or, length, rules, subst, sym, ℕ, ◌<◌, ◌∙◌, ◌∷◌, ◌≡◌}
 use Rattle.std.proofs.lemmas.List.{get_or_default}
 use Rattle.monomials.specs.Exponents.{unit}
 use Rattle.formal_sums.proofs.Combining.{Each_map}
-use Rattle.formal_sums.specs.FormalSums.{Each}
+use Rattle.formal_sums.specs.FormalSums.{Each, Key as KeyOf}
 use Rattle.monomial_orders.specs.Kept.{IsWeighed}
 use Rattle.monomial_orders.specs.Monomials.{IsMonomial}
 use Rattle.module_vectors.proofs.Scaling.{Each_at}
 use Rattle.module_vectors.specs.Rings.{variables}
-use Rattle.module_vectors.specs.Vectors.{IsTerm, IsVector}
+use Rattle.module_vectors.specs.Vectors.{HasVariables, IsTerm, IsVector}
 use Rattle.module_vectors.specs.declared.key.Key.{Key}
 use Rattle.zp_field.specs.Moduli.{IsInverse}
 use Rattle.row_matrix.proofs.DividedRows.{named_row}
 use Rattle.row_matrix.specs.Rows.{AreKeys}
 use Rattle.row_matrix.proofs.vector_rows.monic_row.Goals as goal
+
+-- the terms of one of the vectors
+terms_at :
+    (n : ℕ) (ws : List ℕ) (p : ℕ) (compare : KeyOf n → KeyOf n → Ordering) (list : List (List (Key × ℕ))) (i : ℕ) (v x : List (Key × ℕ))
+    → Each (IsVector n ws p compare) list → i < length list → v ≡ x → x ≡ get_or list i x → Each (IsTerm n ws p) v
+terms_at n ws p compare list i v x vectors within same is =
+    subst (Each (IsTerm n ws p)) (sym same) (Each_at (IsVector n ws p compare) list i x vectors within is).each
+
+pub multiple_entries-requires-clause-residues : goal.multiple_entries-requires-clause-residues
+multiple_entries-requires-clause-residues g c =
+    let ring = g.F.Frame.over c.args.frame.now in
+    let n = variables ring in
+    let p = ring.modulus.value in
+    let v = c.terms-terms.result.now in
+    let each = terms_at n ring.weights p (g.F.Frame.compare c.args.frame.now n) c.args.list.now c.args.number v c.index-list-number.result
+    c.requires.vectors c.requires.within c.terms-terms.ensures c.index-list-number.is in
+    subst (λ q. Each (λ (u : Key × ℕ). u.1 < q) v) (sym (ap (λ r. r.modulus.value) c.ring.ensures))
+    (Each_map (IsTerm n ring.weights p) (λ (u : Key × ℕ). u.1 < p) v (λ t k. k.reduced) each)
+
+pub multiple_entries-requires-clause-variables : goal.multiple_entries-requires-clause-variables
+multiple_entries-requires-clause-variables g c =
+    let ring = g.F.Frame.over c.args.frame.now in
+    let n = variables ring in
+    let p = ring.modulus.value in
+    let v = c.terms-terms.result.now in
+    let each = terms_at n ring.weights p (g.F.Frame.compare c.args.frame.now n) c.args.list.now c.args.number v c.index-list-number.result
+    c.requires.vectors c.requires.within c.terms-terms.ensures c.index-list-number.is in
+    subst (λ k. Each (HasVariables k) v) (sym c.requires.one.variables)
+    (Each_map (IsTerm n ring.weights p) (HasVariables n) v (λ t k. k.weighed.variables) each)
 
 pub multiple_entries-requires-clause-one : goal.multiple_entries-requires-clause-one
 multiple_entries-requires-clause-one g c =

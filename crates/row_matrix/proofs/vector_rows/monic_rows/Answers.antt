@@ -34,3 +34,6 @@ loop-i-preserved g c =
           w.keys-is (ap (λ a. a.items) w.rows-is) lt (omega (arith, w.if-terms-gt0.false, ap length vector)) v.monomials v.each v.order
     ] in
     record { monomials = m.monomials; each = m.each; order = m.order }
+
+pub monic_row-requires-clause-vectors : goal.monic_row-requires-clause-vectors
+monic_row-requires-clause-vectors g c = c.requires.vectors

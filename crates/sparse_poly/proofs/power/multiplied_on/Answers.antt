@@ -24,3 +24,9 @@ loop-preserved g c =
           c.requires.vector c.requires.polynomial c.loop.invariant.power c.in-Ok.ensures.fits c.in-Ok.ensures.vector c.in-Ok.ensures.polynomial c.in-Ok.ensures.product);
       low = omega arith;
     }
+
+pub mul_in-requires-clause-right : goal.mul_in-requires-clause-right
+mul_in-requires-clause-right g c = c.requires.vector
+
+pub mul_in-requires-clause-right_polynomial : goal.mul_in-requires-clause-right_polynomial
+mul_in-requires-clause-right_polynomial g c = c.requires.polynomial

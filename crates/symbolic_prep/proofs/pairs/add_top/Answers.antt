@@ -76,3 +76,6 @@ returns-then-has_product-clause-top g c =
     let p = c.args.plan.now in
     top_found (variables ring) ring.weights (g.L.Vectors.listed c.args.members.now) p.products.items c.args.pair.now.lcm c.args.member c.in_ok-t.t c.at.result.now
     c.at.ensures c.in_ok-t.ensures (subst (λ xs. Contains xs (c.args.member, c.in_ok-t.t)) c.deref.ensures.value (c.has_product.ensures c.if-has_product.true))
+
+pub add_product-requires-clause-weighed : goal.add_product-requires-clause-weighed
+add_product-requires-clause-weighed g c = c.requires.weighed

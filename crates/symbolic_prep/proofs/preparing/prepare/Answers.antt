@@ -45,3 +45,15 @@ matrix_of-requires-clause-few g c = λ some.
     let there : 0 < length rows = omega (arith, c.in_default.ensures.later.plan.count, some_products (variables c.args.ring.now) (g.L.Vectors.listed c.args.members.now) products c.args.pairs.now some c.in_default.ensures.pairs) in
     c.in_default-close_plan.ensures.sparse (0 ∷ []) (2 * length c.args.pairs.now - 1)
     (sparse_start rows (length c.args.pairs.now) some there count)
+
+pub add_pairs-requires-clause-pairs : goal.add_pairs-requires-clause-pairs
+add_pairs-requires-clause-pairs g c = c.requires.pairs
+
+pub matrix_of-requires-clause-members : goal.matrix_of-requires-clause-members
+matrix_of-requires-clause-members g c = c.requires.members
+
+pub matrix_of-requires-clause-monic : goal.matrix_of-requires-clause-monic
+matrix_of-requires-clause-monic g c = c.requires.monic
+
+pub matrix_of-requires-clause-pairs : goal.matrix_of-requires-clause-pairs
+matrix_of-requires-clause-pairs g c = c.requires.pairs

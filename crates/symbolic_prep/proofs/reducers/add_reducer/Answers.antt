@@ -85,3 +85,12 @@ returns-in-Ok-clause-sparse g c = λ chosen others h.
       sparse_push p.rows.items q.rows.items chosen others planned.rows_more.0 planned.rows_more.1 h
           (not_a_lead n ring.weights list p.keys p.rows.items p.products.items p.led.items (first_column planned.rows_more.0.entries) c.args.cursor c.requires.plan free lead),
     )
+
+pub find_divisor-requires-clause-list : goal.find_divisor-requires-clause-list
+find_divisor-requires-clause-list g c = c.requires.weighed
+
+pub find_divisor-requires-clause-divisors : goal.find_divisor-requires-clause-divisors
+find_divisor-requires-clause-divisors g c = c.requires.divisors
+
+pub add_product-requires-clause-weighed : goal.add_product-requires-clause-weighed
+add_product-requires-clause-weighed g c = c.requires.weighed

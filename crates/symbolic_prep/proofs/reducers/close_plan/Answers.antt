@@ -30,3 +30,6 @@ loop-cursor-preserved g c =
       hashed = e.hashed;
       sparse = λ chosen others s. let o = h.sparse chosen others s in e.sparse o.0 others o.1;
     }
+
+pub add_reducer-requires-clause-weighed : goal.add_reducer-requires-clause-weighed
+add_reducer-requires-clause-weighed g c = c.requires.weighed
