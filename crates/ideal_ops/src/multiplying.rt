@@ -21,6 +21,24 @@ use std::alloc::Global;
 use std::sync::Wait;
 use std::thread::Threads;
 
+// The ring and the vector again.
+fn copy_parts(alloc: Global, ring: &Ring, b: &Vect) -> Result<(Ring, Vect), NoMemory>
+    ensures { IfOk result (λ parts. (parts.0 ≡ ring.now) × (parts.1 ≡ b.now)) }
+{
+    let copied_ring = ring.try_copy(alloc)?;
+    let vector = b.try_copy(alloc)?;
+    Ok((copied_ring, vector))
+}
+
+// The product of this monomial and the first member.
+fn first_product(alloc: Global, s: Mono) -> Result<Vec<(u64, Mono)>, NoMemory>
+    ensures { IfOk result (λ products. products.items ≡ (0, s) ∷ []) }
+{
+    let mut products = Vec::new(alloc);
+    products.push((0, s))?;
+    Ok(products)
+}
+
 // The trail of the product of a monomial of b and one of the member.
 fn trail_of(
     alloc: Global,
@@ -34,11 +52,10 @@ fn trail_of(
         × (r.start ≡ Product) × (r.vector ≡ b.now) × (r.members ≡ member)) }
     ensures step { IfOk result (λ r. (r.products.items ≡ (0, s) ∷ []) × (r.last ≡ t)) }
 {
-    let ring = ring.try_copy(alloc)?;
-    let vector = b.try_copy(alloc)?;
-    let products = vec![in alloc; (0, s)]?;
+    let products = first_product(alloc, s)?;
+    let (copied_ring, vector) = copy_parts(alloc, ring, b)?;
     Ok(KeptTrail {
-        ring,
+        ring: copied_ring,
         rank: 0,
         generators: VectList::new(alloc),
         below: Vec::new(alloc),
@@ -73,6 +90,16 @@ pub(crate) fn stop_of(
     }
 }
 
+// The list of this vector alone.
+fn alone(alloc: Global, c: &Vect) -> Result<VectList, NoMemory>
+    ensures { IfOk result (λ list. list ≡ c.now ∷ []) }
+{
+    let copy = c.try_copy(alloc)?;
+    let mut list = VectList::new(alloc);
+    list.push(copy)?;
+    Ok(list)
+}
+
 // b c, for a polynomial b.
 fn times(alloc: Global, ring: &Ring, b: &Vect, c: &Vect) -> Result<Vect, WorkStop>
     requires b { IsVectorOver ring.now (ring_comparison ring.now) b.now }
@@ -82,8 +109,7 @@ fn times(alloc: Global, ring: &Ring, b: &Vect, c: &Vect) -> Result<Vect, WorkSto
     ensures product { let n = variables ring.now in IfOk result (λ v. StandsFor ring.now v (product (sum_of n b.now) (sum_of n c.now))) }
     ensures stop { IfErr result (WorkStops (IsProductTrail ring.now b.now c.now)) }
 {
-    let mut one = VectList::new(alloc);
-    one.push(c.try_copy(alloc)?)?;
+    let one = alone(alloc, c)?;
     match Vect::combine(alloc, ring, b, &one) {
         Ok(v) => Ok(v),
         Err(stop) => Err(stop_of(alloc, ring, b, one, stop)),
@@ -116,9 +142,8 @@ pub(crate) fn followed(list: VectList, more: VectList) -> Result<VectList, NoMem
     ensures { IfOk result (λ all. all ≡ list ++ more) }
 {
     let mut all = list.into_vec();
-    for v in more.into_vec() {
-        all.push(v)?;
-    }
+    let mut rest = more.into_vec();
+    all.append(&mut rest)?;
     Ok(VectList::from_vec(all))
 }
 

@@ -1,5 +1,5 @@
 // The quotient of a module by a polynomial.
-ghost use Rattle.std.specs.Prelude.{◌≡◌, ◌<◌, ◌≤◌, IfOk, IfErr, OnOk};
+ghost use Rattle.std.specs.Prelude.{◌≡◌, ◌<◌, ◌≤◌, ◌++◌, ◌∷◌, [], IfOk, IfErr, OnOk};
 ghost use Rattle.formal_sums.specs.FormalSums.{Each, IsOfRank, product};
 ghost use Rattle.formal_sums.specs.Combinations.{IsMember};
 ghost use Rattle.operation_laws.specs.Operations.{basis_vector, multiples_of};
@@ -19,6 +19,20 @@ use std::sync::Wait;
 use std::thread::Threads;
 use syzygy_engine::syzygy_run;
 
+// Puts the term behind the others, moved to this position.
+fn push_placed(
+    alloc: Global,
+    term: &(Key, u32),
+    position: u64,
+    terms: &mut Vec<(Key, u32)>,
+) -> Result<(), NoMemory>
+    ensures { OnOk result (terms.new.items ≡ terms.old.items ++ placed position (term.now ∷ [])) }
+{
+    let monomial = term.0.monomial.try_copy(alloc)?;
+    terms.push((Key { position, monomial }, term.1))?;
+    Ok(())
+}
+
 /// The terms, each moved to this position, with room for one more.
 pub(crate) fn placed_terms(
     alloc: Global,
@@ -29,9 +43,7 @@ pub(crate) fn placed_terms(
 {
     let mut terms = Vec::with_capacity(alloc, v.terms().len() + 1)?;
     for term in v.terms() {
-        let mut key = term.0.try_copy(alloc)?;
-        key.position = position;
-        terms.push((key, term.1))?;
+        push_placed(alloc, term, position, &mut terms)?;
     }
     Ok(terms)
 }

@@ -1,5 +1,5 @@
 -- A row that is cleared term by term, and taken out
-use Rattle.std.specs.Prelude.{Contains, Err, Ok, OnOk, Result, nat_eq}
+use Rattle.std.specs.Prelude.{Contains, Err, IfErr, Ok, OnOk, Result, nat_eq}
 use Rattle.std.proofs.Common.{Bool, List, [], ap, ap₂, drop, append-nil, arith, cond, eq-eqb, eqb-true, false, get_or, length, mod-lt, refl, subst, suc}
 use Rattle.std.proofs.Common.{sym, take, true, zero, ℕ, ◌%◌, ◌*◌, ◌++◌, ◌+◌, ◌-◌, ◌<◌, ◌∙◌, ◌∷◌, ◌≡◌}
 use Rattle.std.proofs.lemmas.List.{append_assoc, map-append, take-append-drop, take_more}
@@ -173,6 +173,10 @@ pub clear_stop : (r : ℕ) (w : Terms) (t : CodeKey × ℕ) (f : ℕ) (stop : Ve
     → ClearingStops r w (t ∷ []) stop
 clear_stop r w t f Memory e h = tt
 clear_stop r w t f (Degree a b) e h = ((t, (0, omega arith, refl), e, sym h.1), h.2, h.3)
+
+pub on_err : {X E : Type 0} (r : Result X E) (P Q : E → Type 0) → ((e : E) → P e → Q e) → IfErr r P → IfErr r Q
+on_err (Ok x) P Q f h = tt
+on_err (Err e) P Q f h = f e h
 
 pub stop_of : (r : ℕ) (w v : Terms) (t : CodeKey × ℕ) (stop : VectStop) → Contains v t → ClearingStops r w (t ∷ []) stop → ClearingStops r w v stop
 stop_of r w v t Memory c h = tt

@@ -174,9 +174,6 @@ pub(crate) fn in_own_order(alloc: Global, ring: &Ring, v: &Vect) -> Result<Vect,
     ensures vector { IfOk result (IsVectorOver ring.now (ring_comparison ring.now)) }
     ensures sum { IfOk result (λ u. StandsFor ring.now u (sum_of (variables ring.now) v.now)) }
 {
-    let mut terms = Vec::with_capacity(alloc, v.terms().len())?;
-    for term in v.terms() {
-        terms.push((term.0.try_copy(alloc)?, term.1))?;
-    }
-    Ok(Vect::from_terms(alloc, ring, terms)?)
+    let copy = v.try_copy(alloc)?;
+    Ok(Vect::from_terms(alloc, ring, copy.into_terms())?)
 }

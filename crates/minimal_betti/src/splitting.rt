@@ -1,11 +1,11 @@
 // A constant, its row and its column leave the maps.
-ghost use Rattle.std.specs.Prelude.{◌≡◌, ◌<◌, ◌+◌, [], IfErr, IfOk, OnOk, get_or, length};
+ghost use Rattle.std.specs.Prelude.{◌≡◌, ◌<◌, ◌+◌, ◌∷◌, [], IfErr, IfOk, OnOk, get_or, length};
 ghost use Rattle.minimal_laws.specs.Cancellation.{cleared, without_row};
 ghost use Rattle.module_vectors.specs.Rings.{ring_comparison, variables};
 ghost use Rattle.module_vectors.specs.Vectors.{AreVectorsOver, IsVectorOver, StandsFor, sum_of, sums_of};
-ghost use Rattle.minimal_betti.specs.Carried.{IsFirst, LeadsTo, graded_maps};
+ghost use Rattle.minimal_betti.specs.Carried.{AreOrdered, IsFirst, LeadsTo, graded_maps};
 ghost use Rattle.minimal_betti.specs.Minimising.{CancellationStops};
-ghost use Rattle.minimal_betti.specs.Splitting.{AreSplit, IsOtherPut, IsSplit, IsUnderway, SplittingStops, in_turn};
+ghost use Rattle.minimal_betti.specs.Splitting.{AreSplit, IsFormerLeft, IsNextLeft, IsOtherPut, IsSplit, IsUnderway, SplittingStops, in_turn};
 
 use crate::carried::Carried;
 use crate::clearing::{cleared_vector, vector_without};
@@ -13,7 +13,7 @@ use crate::constants::Constant;
 use crate::leaving::{drop_degree, leave_former, leave_next};
 use crate::placing::one_leaving;
 use crate::stopping::splitting_stop;
-use module_vectors::{Ring, Vect, VectList, WorkStop, lawful_setting};
+use module_vectors::{NoMemory, Ring, Vect, VectList, WorkStop, lawful_setting};
 use std::alloc::Global;
 
 // Column i, which is another, cleared by the constant's column, without its row.
@@ -119,6 +119,24 @@ fn split_map(alloc: Global, ring: &Ring, map: Carried, at: Constant) -> Result<C
     Ok(Carried { columns, degrees })
 }
 
+// The constant's column leaves the rows of the next map, and its row the columns of the former one.
+fn leave_maps(
+    alloc: Global,
+    ring: &Ring,
+    positions: &mut Vec<u32>,
+    done: &mut Vec<Carried>,
+    rest: &mut Vec<Carried>,
+    at: Constant,
+) -> Result<(), NoMemory>
+    requires { AreOrdered ring.now rest.old.items }
+    ensures next { OnOk result (IsNextLeft ring.now (at.column ∷ []) rest.old.items rest.new.items) }
+    ensures former { OnOk result (IsFormerLeft (at.row ∷ []) positions.old.items positions.new.items done.old.items done.new.items) }
+{
+    leave_next(alloc, ring, &one_leaving(alloc, at.column as u64)?, rest)?;
+    leave_former(alloc, &one_leaving(alloc, at.row)?, positions, done)?;
+    Ok(())
+}
+
 /// The constant, its row and its column leave the maps, of which those to come stand with the next one last. It is the first
 /// constant of the map at hand, and those before have none. After an error the maps are lost.
 pub(crate) fn cancel(
@@ -146,7 +164,6 @@ pub(crate) fn cancel(
         Ok(split) => split,
         Err(stop) => return Err(stop),
     };
-    leave_next(alloc, ring, &one_leaving(alloc, at.column as u64)?, rest)?;
-    leave_former(alloc, &one_leaving(alloc, at.row)?, positions, done)?;
+    leave_maps(alloc, ring, positions, done, rest, at)?;
     Ok(split)
 }

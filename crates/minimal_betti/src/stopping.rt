@@ -1,11 +1,11 @@
 // The trail of a column that is not cleared.
-ghost use Rattle.std.specs.Prelude.{◌<◌, ◌≡◌, [], IfOk, OnOk, get_or, length};
+ghost use Rattle.std.specs.Prelude.{◌<◌, ◌≡◌, ◌++◌, ◌∷◌, [], IfOk, OnOk, get_or, length};
 ghost use Rattle.minimal_laws.specs.Cancellation.{component};
 ghost use Rattle.monomial_orders.specs.Kept.{Monomial};
 ghost use Rattle.module_vectors.specs.Rings.{ring_comparison, variables};
 ghost use Rattle.module_vectors.specs.Stops.{HasMonomial, IsTooGreat};
 ghost use Rattle.module_vectors.specs.Vectors.{AreVectorsOver, IsVectorOver, sum_of};
-ghost use Rattle.minimal_betti.specs.Clearing.{ClearingStops, IsKeptInRow, IsMonomialAt};
+ghost use Rattle.minimal_betti.specs.Clearing.{ClearingStops, IsKeptInRow, IsMonomialAt, at_zero};
 ghost use Rattle.minimal_betti.specs.Minimising.{IsClearingTrail};
 ghost use Rattle.minimal_betti.specs.Splitting.{SplittingStops};
 
@@ -16,7 +16,24 @@ use module_vectors::{
 use monomial_orders::Mono;
 use std::alloc::Global;
 
-// Puts the term behind the others, at position 0, where it stands in the row.
+// Puts the term behind the others, at position 0.
+fn push_at_zero(
+    alloc: Global,
+    term: &(Key, u32),
+    terms: &mut Vec<(Key, u32)>,
+) -> Result<(), NoMemory>
+    ensures { OnOk result (terms.new.items ≡ terms.old.items ++ at_zero term.now ∷ []) }
+{
+    let monomial = term.0.monomial.try_copy(alloc)?;
+    let key = Key {
+        position: 0,
+        monomial,
+    };
+    terms.push((key, term.1))?;
+    Ok(())
+}
+
+// The same, where the term stands in the row.
 fn push_in_row(
     alloc: Global,
     row: u64,
@@ -25,14 +42,10 @@ fn push_in_row(
 ) -> Result<(), NoMemory>
     ensures { OnOk result (IsKeptInRow row term.now terms.old.items terms.new.items) }
 {
-    if term.0.position == row {
-        let key = Key {
-            position: 0,
-            monomial: term.0.monomial.try_copy(alloc)?,
-        };
-        terms.push((key, term.1))?;
+    if term.0.position != row {
+        return Ok(());
     }
-    Ok(())
+    push_at_zero(alloc, term, terms)
 }
 
 // The entry of the vector in the row, as a polynomial.
@@ -50,7 +63,26 @@ fn entry_of(alloc: Global, ring: &Ring, row: u64, v: &Vect) -> Result<Vect, NoMe
     Ok(Vect::from_ordered(ring, terms))
 }
 
-// The trail of one product, of the constant's column and a monomial of column i.
+// The product with this index and monomial.
+fn first_product(alloc: Global, index: u64, monomial: Mono) -> Result<Vec<(u64, Mono)>, NoMemory>
+    ensures { IfOk result (λ products. products.items ≡ (index, monomial) ∷ []) }
+{
+    let mut products = Vec::new(alloc);
+    products.push((index, monomial))?;
+    Ok(products)
+}
+
+// The ring and the columns again.
+fn copy_parts(alloc: Global, ring: &Ring, columns: &VectList) -> Result<(Ring, VectList), NoMemory>
+    ensures { IfOk result (λ parts. (parts.0 ≡ ring.now) × (parts.1 ≡ columns.now)) }
+{
+    let copied_ring = ring.try_copy(alloc)?;
+    let members = VectList::copy_of(alloc, columns)?;
+    Ok((copied_ring, members))
+}
+
+// The trail of one product, of the constant's column and a monomial of column i. All copies are made before the parts are put
+// together.
 fn clearing_trail(
     alloc: Global,
     ring: &Ring,
@@ -70,17 +102,17 @@ fn clearing_trail(
     ensures trail { IfOk result (IsClearingTrail ring.now at.column at.row) }
     ensures members { IfOk result (λ t. t.members ≡ columns.now) }
 {
-    let mut products = Vec::new(alloc);
+    let products = first_product(alloc, at.column as u64, factor)?;
     let vector = entry_of(alloc, ring, at.row, &columns.as_slice()[i])?;
-    products.push((at.column as u64, factor))?;
+    let (copied_ring, members) = copy_parts(alloc, ring, columns)?;
     Ok(KeptTrail {
-        ring: ring.try_copy(alloc)?,
+        ring: copied_ring,
         rank: 0,
         generators: VectList::new(alloc),
         below: Vec::new(alloc),
         start: TrailStart::Product,
         vector,
-        members: VectList::copy_of(alloc, columns)?,
+        members,
         products,
         last,
     })

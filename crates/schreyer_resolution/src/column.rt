@@ -223,6 +223,16 @@ fn take_last<F: Frame>(
     }
 }
 
+// The term 1 at the key, with room for so many terms.
+fn first_term(alloc: Global, key: &Key, count: usize) -> Result<Vec<(Key, u32)>, NoMemory>
+    ensures { IfOk result (λ terms. terms.items ≡ (key.now, 1) ∷ []) }
+{
+    let copy = key.try_copy(alloc)?;
+    let mut terms = Vec::with_capacity(alloc, count)?;
+    terms.push((copy, 1))?;
+    Ok(terms)
+}
+
 // The terms of the column: 1 at its lead, and minus the quotients.
 fn column_terms(
     alloc: Global,
@@ -233,8 +243,7 @@ fn column_terms(
     requires { Each (λ q. q.residue < modulus.now.value) quotients.items }
     ensures { IfOk result (λ terms. terms.items ≡ (key.now, 1) ∷ map (negated_term modulus.now.value) quotients.items) }
 {
-    let mut terms = Vec::with_capacity(alloc, quotients.len() + 1)?;
-    terms.push((key.try_copy(alloc)?, 1))?;
+    let mut terms = first_term(alloc, key, quotients.len() + 1)?;
     let mut rest = VecDeque::from_vec(quotients);
     while let Some(quotient) = rest.pop_front() {
         let term = Key {

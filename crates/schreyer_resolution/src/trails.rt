@@ -115,26 +115,27 @@ fn keep_trail<F: Frame>(
     })
 }
 
+// Puts the product with this index and a copy of the monomial behind the others.
+fn push_product(
+    alloc: Global,
+    index: u64,
+    monomial: &Mono,
+    products: &mut Vec<(u64, Mono)>,
+) -> Result<(), NoMemory>
+    ensures { OnOk result (products.new.items ≡ products.old.items ++ (index, monomial.now) ∷ []) }
+{
+    let copy = monomial.try_copy(alloc)?;
+    products.push((index, copy))?;
+    Ok(())
+}
+
 // The key's product.
 fn first_products(alloc: Global, key: &Key) -> Result<Vec<(u64, Mono)>, NoMemory>
     ensures { IfOk result (λ products. products.items ≡ (key.now.position, key.now.monomial) ∷ []) }
 {
     let mut products = Vec::new(alloc);
-    products.push((key.position, key.monomial.try_copy(alloc)?))?;
+    push_product(alloc, key.position, &key.monomial, &mut products)?;
     Ok(products)
-}
-
-// Puts the quotient's product behind the others.
-fn push_product(
-    alloc: Global,
-    quotient: &ScaledProduct,
-    products: &mut Vec<(u64, Mono)>,
-) -> Result<(), NoMemory>
-    ensures { OnOk result (products.new.items ≡ products.old.items ++ unscaled quotient.now ∷ []) }
-{
-    let monomial = quotient.monomial.try_copy(alloc)?;
-    products.push((quotient.index, monomial))?;
-    Ok(())
 }
 
 // The key's product and those of the quotients.
@@ -147,7 +148,7 @@ fn quotient_products(
 {
     let mut products = first_products(alloc, key)?;
     for quotient in quotients {
-        push_product(alloc, quotient, &mut products)?;
+        push_product(alloc, quotient.index, &quotient.monomial, &mut products)?;
     }
     Ok(products)
 }

@@ -1,7 +1,8 @@
 -- The divisors that a division tries
-use Rattle.std.proofs.Common.{Contains, List, [], arith, cond, false, get_or, inl, inr, length, refl, subst, sym, true, ℕ, Bool, ◌+◌, ◌-◌, ◌<◌, ◌∙◌, ◌≡◌, ◌≤◌, ◌⊎◌}
+use Rattle.std.proofs.Common.{Contains, List, [], ap, arith, cond, false, get_or, inl, inr, length, refl, subst, subst₂, sym, true, ℕ, Bool, ◌+◌, ◌++◌, ◌-◌, ◌<◌, ◌∙◌, ◌∷◌, ◌≡◌, ◌≤◌, ◌⊎◌}
 use Rattle.std.proofs.lemmas.Bool.{cases_lt}
-use Rattle.std.proofs.lemmas.List.{get_or_default}
+use Rattle.std.proofs.lemmas.List.{get_or_append_left, get_or_default}
+use Rattle.std.proofs.Math.Seq.{get_or-append_seam}
 use Rattle.formal_sums.specs.FormalSums.{Key}
 use Rattle.orders.specs.KeyOrders.{KeyDivides}
 use Rattle.orders.proofs.KeyOrdering.{KeyDivides_trans}
@@ -127,3 +128,17 @@ enough_are_divisors list divisors indices n by inside least enough =
         (j : ℕ) → (i : ℕ) × Contains indices i × IsDividedAt n list j i
         → (m : ℕ) × (m < length indices) × IsDividedAt n list j (get_or indices m 0)
     go j (i, (m, lt, e), at) = (m, lt, subst (IsDividedAt n list j) (sym (get_or_default indices m 0 i lt ∙ e)) at)
+
+-- what holds of each item so far, by its place, and of the next one
+pub items_more :
+    {X : Type 0} (P : ℕ → X → Type 0) (xs : List X) (y : X) (i : ℕ) → length xs ≡ i
+    → ((j : ℕ) (x : X) → j < i → x ≡ get_or xs j x → P j x) → P i y
+    → (j : ℕ) (x : X) → j < i + 1 → x ≡ get_or (xs ++ y ∷ []) j x → P j x
+items_more {X} P xs y i count h last j x lt is = go (cases_lt j i)
+  where
+    go : (j < i) ⊎ (i ≤ j) → P j x
+    go (inl l) = h j x l (is ∙ get_or_append_left xs (y ∷ []) x j (omega (arith, l, count)))
+    go (inr g) =
+        let at : j ≡ length xs = omega (arith, lt, g, count) in
+        let same : y ≡ x = sym (is ∙ ap (λ z. get_or (xs ++ y ∷ []) z x) at ∙ get_or-append_seam xs y [] x) in
+        subst₂ P (sym (at ∙ count)) same last

@@ -140,6 +140,67 @@ fn has_reduced_lead<F: Frame, L: Vectors>(
     }
 }
 
+// The steps of `reduce_lead`, where these divisors are tried and one of them divides the lead of `v`.
+fn reduce_lead_by<F: Frame, L: Vectors>(
+    alloc: Global,
+    frame: &F,
+    v: &Vect,
+    list: &L,
+    divisors: &[Divisor],
+) -> Result<Reduction, WorkStop>
+    requires vector { IsVectorOver (F.over frame.now) (F.compare frame.now) v.now }
+    requires list { AreVectorsOver (F.over frame.now) (F.compare frame.now) (L.listed list.now) }
+    requires divisors { AreDivisors (variables (F.over frame.now)) (L.listed list.now) divisors.now }
+    ensures quotients { IfOk result (λ r. Each (IsScaledProduct (variables (F.over frame.now)) (F.over frame.now).weights (F.over frame.now).modulus.value
+        (L.listed list.now)) r.quotients.items) }
+    ensures met { let n = variables (F.over frame.now) in IfOk result (λ r. AreMetFrom n (sum_of n v.now) (L.listed list.now) [] r.quotients.items) }
+    ensures bounded { let n = variables (F.over frame.now) in
+        IfOk result (λ r. HaveLeadsUpTo n (F.compare frame.now n) (L.listed list.now) (head_key (sum_of n v.now)) r.quotients.items) }
+    ensures sum { let n = variables (F.over frame.now) in
+        IfOk result (λ r. StandsFor (F.over frame.now) v.now
+        (combination (sums_of n (L.listed list.now)) (cofactors_of n r.quotients.items) ++ sum_of n r.rest)) }
+    ensures rest { IfOk result (λ r. IsVectorOver (F.over frame.now) (F.compare frame.now) r.rest) }
+    ensures reduced { let n = variables (F.over frame.now) in IfOk result (λ r. HasReducedLead (sums_of n (L.listed list.now)) (sum_of n r.rest)) }
+    ensures stop { IfErr result (DivisionStops (F.over frame.now) v.now (L.listed list.now)) }
+{
+    let mut buckets = Buckets::from_run(alloc, Run::from_vect(v.try_copy(alloc)?))?;
+    let mut quotients = Vec::new(alloc);
+    let mut rest = Vec::new(alloc);
+    let mut next = buckets.take_top(alloc, frame)?;
+    loop {
+        match next {
+            None => {
+                return Ok(Reduction {
+                    quotients,
+                    rest: Vect::zero(alloc),
+                });
+            }
+            Some(term) => {
+                advance(
+                    alloc,
+                    frame,
+                    v,
+                    list,
+                    divisors,
+                    term,
+                    &mut buckets,
+                    &mut quotients,
+                    &mut rest,
+                )?;
+                match rest.pop() {
+                    Some(lead) => {
+                        return Ok(Reduction {
+                            quotients,
+                            rest: buckets.behind(alloc, frame, lead)?,
+                        });
+                    }
+                    None => next = buckets.take_top(alloc, frame)?,
+                }
+            }
+        }
+    }
+}
+
 /// Takes products of the list's vectors away from `v` until its lead is divisible by no lead of the list: each time of the first
 /// vector of the list whose lead divides that of what is left, which no clause says. It stops as `reduce` does.
 pub fn reduce_lead<F: Frame, L: Vectors>(
@@ -169,40 +230,5 @@ pub fn reduce_lead<F: Frame, L: Vectors>(
             rest: v.try_copy(alloc)?,
         });
     }
-    let mut buckets = Buckets::from_run(alloc, Run::from_vect(v.try_copy(alloc)?))?;
-    let mut quotients = Vec::new(alloc);
-    let mut rest = Vec::new(alloc);
-    let mut next = buckets.take_top(alloc, frame)?;
-    loop {
-        match next {
-            None => {
-                return Ok(Reduction {
-                    quotients,
-                    rest: Vect::zero(alloc),
-                });
-            }
-            Some(term) => {
-                advance(
-                    alloc,
-                    frame,
-                    v,
-                    list,
-                    &divisors,
-                    term,
-                    &mut buckets,
-                    &mut quotients,
-                    &mut rest,
-                )?;
-                match rest.pop() {
-                    Some(lead) => {
-                        return Ok(Reduction {
-                            quotients,
-                            rest: buckets.behind(alloc, frame, lead)?,
-                        });
-                    }
-                    None => next = buckets.take_top(alloc, frame)?,
-                }
-            }
-        }
-    }
+    reduce_lead_by(alloc, frame, v, list, &divisors)
 }

@@ -22,3 +22,6 @@ returns c = λ G h.
     subst₂ (AreVectorsFor ring) (sym (free_kept c.args.k G (sum_of n c.args.v.now) kept)) (sym c.in_ok-push.ensures.items)
     (vectors_next ring c.args.free.now.items (eliminated c.args.k G) c.in_ok-sorted_vector.field-0 (sum_of n c.args.v.now) h
     c.in_ok-sorted_vector.ensures.vector c.in_ok-sorted_vector.ensures.sum)
+
+pub sorted_vector-requires : goal.sorted_vector-requires
+sorted_vector-requires c = c.requires

@@ -30,3 +30,6 @@ in_front-requires-clause-vector c =
     let items = c.as_slice-v-items.result.now in
     let all = subst (Each (AreTermsOver c.args.ring.now)) (sym c.as_slice-v-items.ensures) c.requires.vectors in
     Each_at (AreTermsOver c.args.ring.now) items c.loop-v.v-index c.v-item.result all c.loop-v-test.true c.v-item.is
+
+pub in_front-requires-clause-front : goal.in_front-requires-clause-front
+in_front-requires-clause-front c = c.requires.front

@@ -38,3 +38,15 @@ pub returns-in-Err-clause-stop : goal.returns-in-Err-clause-stop
 returns-in-Err-clause-stop c =
     let ring = c.args.ring.now in
     c.rest_stop.ensures (with_first (sum_of (variables ring) c.args.v.now)) c.in_ok-u.ensures
+
+pub in_front-requires-clause-front : goal.in_front-requires-clause-front
+in_front-requires-clause-front c = c.requires.front
+
+pub in_front-requires-clause-vector : goal.in_front-requires-clause-vector
+in_front-requires-clause-vector c = c.requires.vector
+
+pub rest_stop-requires-clause-front : goal.rest_stop-requires-clause-front
+rest_stop-requires-clause-front c = c.requires.front
+
+pub rest_stop-requires-clause-variable : goal.rest_stop-requires-clause-variable
+rest_stop-requires-clause-variable c = c.requires.variable

@@ -49,3 +49,9 @@ rest_multiple-requires-clause-vector c =
 pub loop-i-init : goal.loop-i-init
 loop-i-init c =
     subst (AreVectorsFor (front_ring c.args.ring.now) []) (sym c.in_ok-multiples.ensures.items) (vectors_none (front_ring c.args.ring.now))
+
+pub rest_multiple-requires-clause-front : goal.rest_multiple-requires-clause-front
+rest_multiple-requires-clause-front c = c.requires.front
+
+pub rest_multiple-requires-clause-variable : goal.rest_multiple-requires-clause-variable
+rest_multiple-requires-clause-variable c = c.requires.variable

@@ -22,3 +22,12 @@ returns-in-Ok c = λ g h.
     (front_trail ring c.args.front.now p g b c.args.u c.requires.front
     (rest_front ring c.args.front.now c.args.t.now b c.requires.front c.requires.variable c.in-Ok.ensures.vector c.in-Ok.ensures.terms) h)
     c.product_stop.result c.product_stop.ensures
+
+pub rest_vector-requires-clause-front : goal.rest_vector-requires-clause-front
+rest_vector-requires-clause-front c = c.requires.front
+
+pub rest_vector-requires-clause-variable : goal.rest_vector-requires-clause-variable
+rest_vector-requires-clause-variable c = c.requires.variable
+
+pub product_stop-requires-clause-u : goal.product_stop-requires-clause-u
+product_stop-requires-clause-u c = c.requires.u

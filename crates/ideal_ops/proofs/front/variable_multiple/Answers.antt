@@ -28,3 +28,15 @@ pub returns-in-Err-clause-stop : goal.returns-in-Err-clause-stop
 returns-in-Err-clause-stop c =
     let ring = c.args.ring.now in
     c.variable_stop.ensures (with_first (sum_of (variables ring) c.args.v.now)) c.in_ok-u.ensures
+
+pub in_front-requires-clause-front : goal.in_front-requires-clause-front
+in_front-requires-clause-front c = c.requires.front
+
+pub in_front-requires-clause-vector : goal.in_front-requires-clause-vector
+in_front-requires-clause-vector c = c.requires.vector
+
+pub variable_stop-requires-clause-front : goal.variable_stop-requires-clause-front
+variable_stop-requires-clause-front c = c.requires.front
+
+pub variable_stop-requires-clause-variable : goal.variable_stop-requires-clause-variable
+variable_stop-requires-clause-variable c = c.requires.variable

@@ -23,3 +23,18 @@ returns-clause-list c =
     let H = sums_of n c.args.right.now in
     subst (AreVectorsFor (front_ring ring) (intersection_list p F H)) (sym c.in_ok-followed.ensures)
     (vectors_after (front_ring ring) (map times_first F) (map (times_rest p) H) c.in-Ok.first c.in-Ok-rest_multiples.second c.in-Ok.ensures.list c.in-Ok-rest_multiples.ensures.list)
+
+pub variable-requires : goal.variable-requires
+variable-requires c = c.requires.front
+
+pub variable_multiples-requires-clause-front : goal.variable_multiples-requires-clause-front
+variable_multiples-requires-clause-front c = c.requires.front
+
+pub variable_multiples-requires-clause-vectors : goal.variable_multiples-requires-clause-vectors
+variable_multiples-requires-clause-vectors c = c.requires.left
+
+pub rest_multiples-requires-clause-front : goal.rest_multiples-requires-clause-front
+rest_multiples-requires-clause-front c = c.requires.front
+
+pub rest_multiples-requires-clause-vectors : goal.rest_multiples-requires-clause-vectors
+rest_multiples-requires-clause-vectors c = c.requires.right

@@ -33,3 +33,12 @@ returns-clause-stop g c =
     rw c.from-in-Err-reduced.ensures
     (run_stops _ _ _ _ (IsProductRun ring rank left right) (IsTrailOfProducts ring left right) ring rank c.in-Ok.list c.in-Err-reduced.stop
     (refl, refl, c.in-Ok.ensures.list) c.in-Err-reduced.ensures.stop)
+
+pub products-requires-clause-left : goal.products-requires-clause-left
+products-requires-clause-left g c = c.requires.left
+
+pub products-requires-clause-left_positions : goal.products-requires-clause-left_positions
+products-requires-clause-left_positions g c = c.requires.left_positions
+
+pub products-requires-clause-right : goal.products-requires-clause-right
+products-requires-clause-right g c = c.requires.right

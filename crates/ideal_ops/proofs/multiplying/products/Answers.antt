@@ -52,3 +52,6 @@ row-requires-clause-b_positions c =
     let x = c.index-as_slice-i.result in
     let lt : i < length left = subst (λ z. i < z) c.len-i-end.ensures c.loop-i-test.true in
     Each_at (HasPositions 1) left i x c.requires.left_positions lt (c.index-as_slice-i.is ∙ ap (λ z. get_or z i x) c.as_slice.ensures)
+
+pub row-requires-clause-right : goal.row-requires-clause-right
+row-requires-clause-right c = c.requires.right

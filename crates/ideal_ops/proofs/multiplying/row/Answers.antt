@@ -47,3 +47,9 @@ times-requires-clause-c c =
     let x = c.index-as_slice-j.result in
     let lt : j < length right = subst (λ z. j < z) c.len-j-end.ensures c.loop-j-test.true in
     Each_at (IsVectorOver ring (ring_comparison ring)) right j x c.requires.right lt (c.index-as_slice-j.is ∙ ap (λ z. get_or z j x) c.as_slice.ensures)
+
+pub times-requires-clause-b : goal.times-requires-clause-b
+times-requires-clause-b c = c.requires.b
+
+pub times-requires-clause-b_positions : goal.times-requires-clause-b_positions
+times-requires-clause-b_positions c = c.requires.b_positions

@@ -16,3 +16,6 @@ loop-position-preserved c =
     subst₂ (AreVectorsFor ring) (sym (multiples_next j u)) (sym c.in_ok-push.ensures.items)
     (vectors_next ring c.loop-position.list.items (multiples_of j u) c.in_ok-multiple_at.field-0 (product u (basis_vector j)) c.loop-position.invariant
     c.in_ok-multiple_at.ensures.vector c.in_ok-multiple_at.ensures.sum)
+
+pub multiple_at-requires : goal.multiple_at-requires
+multiple_at-requires c = c.requires

@@ -92,3 +92,6 @@ returns-clause-stop g c =
     (run_stops _ _ _ _ (AreQuotientRuns ring rank list f) NoTrail ring rank c.in_ok-parts.parts c.in-Err-reduced.stop
     (record { list = stacked; stand = stand; run = inr (refl, refl, record { kernel = kernel; shown = c.in-Ok.ensures.kernel; members = parts }) })
     c.in-Err-reduced.ensures.stop))
+
+pub as_position-end-requires : goal.as_position-end-requires
+as_position-end-requires g c = c.requires.room

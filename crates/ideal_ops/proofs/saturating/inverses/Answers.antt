@@ -17,3 +17,9 @@ loop-position-preserved c = λ f h.
     subst₂ (AreVectorsFor (front_ring ring))
     (sym (listed_next 0 j (inverse_vector p f) ∙ ap (λ i. done ++ inverse_vector p f i ∷ []) e)) (sym c.in_ok-push.ensures.items)
     (vectors_next (front_ring ring) c.loop-position.list.items done c.in_ok-inverse_at.field-0 (inverse_vector p f j) (c.loop-position.invariant f h) next.vector next.stand)
+
+pub inverse_at-requires-clause-front : goal.inverse_at-requires-clause-front
+inverse_at-requires-clause-front c = c.requires.front
+
+pub inverse_at-requires-clause-w : goal.inverse_at-requires-clause-w
+inverse_at-requires-clause-w c = c.requires.w

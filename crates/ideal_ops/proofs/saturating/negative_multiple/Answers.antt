@@ -36,3 +36,15 @@ turned_stop-requires-clause-u_positions c = front_low c.args.ring.now 1 (c.lawfu
 
 pub turned_stop-requires-clause-stop : goal.turned_stop-requires-clause-stop
 turned_stop-requires-clause-stop c = subst (λ x. ScaledStops x c.args.t.now c.in_ok-u.u c.in-Err.stop) c.minus_one.ensures.value c.in-Err.ensures.stop
+
+pub in_front-requires-clause-front : goal.in_front-requires-clause-front
+in_front-requires-clause-front c = c.requires.front
+
+pub in_front-requires-clause-vector : goal.in_front-requires-clause-vector
+in_front-requires-clause-vector c = c.requires.f
+
+pub turned_stop-requires-clause-front : goal.turned_stop-requires-clause-front
+turned_stop-requires-clause-front c = c.requires.front
+
+pub turned_stop-requires-clause-variable : goal.turned_stop-requires-clause-variable
+turned_stop-requires-clause-variable c = c.requires.variable

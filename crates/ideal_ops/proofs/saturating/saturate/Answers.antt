@@ -62,3 +62,9 @@ returns-clause-stop g c =
     let stand = subst (λ m. AreVectorsFor (front_ring ring) (saturation_list ring.modulus.value m f (sums_of n list)) c.in-Ok.whole) c.as_position-end.ensures c.in-Ok.ensures.list in
     more_stops _ _ _ _ (AreRunsOnFront ring rank c.in-Ok.whole) (AreSaturationRuns ring rank list c.args.f.now) NoTrail (IsTrailOfSaturation ring list c.args.f.now)
     (runs_for ring rank (saturation_list ring.modulus.value rank f (sums_of n list)) c.in-Ok.whole stand) (λ t h. absurd h) c.in-Err-basis_back.stop c.in-Err-basis_back.ensures.stop
+
+pub as_position-end-requires : goal.as_position-end-requires
+as_position-end-requires g c = c.requires.room
+
+pub saturating_list-requires-clause-f_positions : goal.saturating_list-requires-clause-f_positions
+saturating_list-requires-clause-f_positions g c = c.requires.f_positions

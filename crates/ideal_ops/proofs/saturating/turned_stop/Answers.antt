@@ -27,3 +27,12 @@ returns-in-Ok c = λ g h.
     (front_trail ring c.args.front.now g p u one c.requires.front h
     (variable_front ring c.args.front.now c.args.t.now one c.requires.front c.requires.variable c.in-Ok.ensures.vector c.in-Ok.ensures.terms))
     c.product_stop.result c.product_stop.ensures
+
+pub product_stop-requires-clause-b : goal.product_stop-requires-clause-b
+product_stop-requires-clause-b c = c.requires.u
+
+pub product_stop-requires-clause-b_positions : goal.product_stop-requires-clause-b_positions
+product_stop-requires-clause-b_positions c = c.requires.u_positions
+
+pub product_stop-requires-clause-u : goal.product_stop-requires-clause-u
+product_stop-requires-clause-u c = c.in-Ok.ensures.vector

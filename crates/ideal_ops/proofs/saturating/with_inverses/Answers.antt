@@ -22,3 +22,15 @@ returns c = λ f stands.
     let both = vectors_after (front_ring ring) (map with_first F) (listed 0 m (inverse_vector p f)) first second c.in_ok-first.ensures (c.in_ok-second.ensures f stands) in
     if_ok (λ all. all ≡ first ++ second) (AreVectorsFor (front_ring ring) (saturation_list p m f F)) c.followed.result
     (λ all e. subst (AreVectorsFor (front_ring ring) (saturation_list p m f F)) (sym e) both) c.followed.ensures
+
+pub all_in_front-requires-clause-front : goal.all_in_front-requires-clause-front
+all_in_front-requires-clause-front c = c.requires.front
+
+pub all_in_front-requires-clause-vectors : goal.all_in_front-requires-clause-vectors
+all_in_front-requires-clause-vectors c = c.requires.list
+
+pub inverses-requires-clause-front : goal.inverses-requires-clause-front
+inverses-requires-clause-front c = c.requires.front
+
+pub inverses-requires-clause-w : goal.inverses-requires-clause-w
+inverses-requires-clause-w c = c.requires.w

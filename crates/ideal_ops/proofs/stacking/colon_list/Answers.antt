@@ -32,3 +32,18 @@ first_of_block-requires-clause-room c = blocks_room c.args.rank c.len-s.result (
 pub push_block-requires-clause-room : goal.push_block-requires-clause-room
 push_block-requires-clause-room c =
     block_room _ c.args.rank c.len-s.result (length c.args.by.now) c.len-s.ensures c.first_of_block.ensures.low c.requires.room
+
+pub stacked_vector-requires-clause-terms : goal.stacked_vector-requires-clause-terms
+stacked_vector-requires-clause-terms c = c.requires.by
+
+pub stacked_vector-requires-clause-positions : goal.stacked_vector-requires-clause-positions
+stacked_vector-requires-clause-positions c = c.requires.by_positions
+
+pub stacked_vector-requires-clause-room : goal.stacked_vector-requires-clause-room
+stacked_vector-requires-clause-room c = c.requires.room
+
+pub push_block-requires-clause-terms : goal.push_block-requires-clause-terms
+push_block-requires-clause-terms c = c.requires.terms
+
+pub push_block-requires-clause-positions : goal.push_block-requires-clause-positions
+push_block-requires-clause-positions c = c.requires.positions

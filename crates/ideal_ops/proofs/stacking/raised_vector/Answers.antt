@@ -15,3 +15,9 @@ returns-clause-sum c =
     let n = variables c.args.ring.now in
     let whole = c.in_ok-push_raised.ensures ∙ ap (λ z. z ++ raised_terms c.args.by c.args.v.now) c.in_ok-terms.ensures.items in
     subst (λ z. IfOk c.from_terms.result (λ u. StandsFor c.args.ring.now u z)) (ap (λ v. sum_of n v) whole ∙ sum_raised n c.args.by c.args.v.now) c.from_terms.ensures.same
+
+pub push_raised-requires-clause-positions : goal.push_raised-requires-clause-positions
+push_raised-requires-clause-positions c = c.requires.positions
+
+pub push_raised-requires-clause-room : goal.push_raised-requires-clause-room
+push_raised-requires-clause-room c = c.requires.room

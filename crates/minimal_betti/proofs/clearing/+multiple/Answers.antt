@@ -26,3 +26,21 @@ pub returns-clause-sum : goal.returns-clause-sum
 returns-clause-sum t c =
     multiple_halves c.args.ring.now c.args.row c.args.inverse c.args.w.now _ c.args.terms.now _ _ _ _ _
     c.split_at.ensures.front c.split_at.ensures.back c.in-Ok.ensures.sum c.in-Ok-multiple.ensures.sum c.in_ok-sum_of_two.ensures.sum
+
+pub small_multiple-requires-clause-inverse : goal.small_multiple-requires-clause-inverse
+small_multiple-requires-clause-inverse t c = c.requires.inverse
+
+pub small_multiple-requires-clause-column : goal.small_multiple-requires-clause-column
+small_multiple-requires-clause-column t c = c.requires.column
+
+pub small_multiple-requires-clause-terms : goal.small_multiple-requires-clause-terms
+small_multiple-requires-clause-terms t c = c.requires.terms
+
+pub sum_of_two-requires-clause-left : goal.sum_of_two-requires-clause-left
+sum_of_two-requires-clause-left t c = c.in-Ok.ensures.vector
+
+pub sum_of_two-requires-clause-right : goal.sum_of_two-requires-clause-right
+sum_of_two-requires-clause-right t c = c.in-Ok-multiple.ensures.vector
+
+pub returns-clause-vector : goal.returns-clause-vector
+returns-clause-vector t c = c.in_ok-sum_of_two.ensures.vector

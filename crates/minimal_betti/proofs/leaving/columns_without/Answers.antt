@@ -40,3 +40,6 @@ returns c = λ rows h.
     let none : c.loop-v.rest.items ≡ [] = search rules in
     columns_done ring rows c.args.columns c.loop-v.without.items c.loop-v.rest.items c.from_vec.result none c.from_vec.ensures c.loop-v.invariant.vectors
     (c.loop-v.invariant.same rows h)
+
+pub placed_vector-requires-clause-leaving : goal.placed_vector-requires-clause-leaving
+placed_vector-requires-clause-leaving c = c.requires.leaving

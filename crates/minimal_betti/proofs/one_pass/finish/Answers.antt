@@ -28,3 +28,12 @@ loop-next-preserved-in_ok-push-in-Ok c =
           c.in_ok-placed_vector-in-Ok.ensures.vector c.in_ok-push-in-Ok.ensures.items;
       left = left.1;
     }
+
+pub clear_since-requires-clause-steps : goal.clear_since-requires-clause-steps
+clear_since-requires-clause-steps c = c.requires.steps
+
+pub clear_since-requires-clause-numbered : goal.clear_since-requires-clause-numbered
+clear_since-requires-clause-numbered c = c.requires.numbered
+
+pub placed_vector-requires-clause-leaving : goal.placed_vector-requires-clause-leaving
+placed_vector-requires-clause-leaving c = c.requires.leaving

@@ -6,38 +6,38 @@ pub split_map-requires-clause-columns : goal.split_map-requires-clause-columns
 split_map-requires-clause-columns c = ordered_here c.args.ring.now c.args.done.now.items c.args.current
     (reverse c.args.rest.now.items) c.requires.underway.ordered
 
-pub leave_next-requires : goal.leave_next-requires
-leave_next-requires c = record {
-  leaving = (c.args.at.column ∷ [], c.in_ok-one_leaving.ensures);
-  ordered = ordered_rest c.args.ring.now c.args.done.now.items c.args.current c.args.rest.now.items c.requires.underway.ordered;
-}
+pub leave_maps-requires : goal.leave_maps-requires
+leave_maps-requires c = ordered_rest c.args.ring.now c.args.done.now.items c.args.current c.args.rest.now.items c.requires.underway.ordered
+
+pub split_map-requires-clause-first : goal.split_map-requires-clause-first
+split_map-requires-clause-first c = c.requires.first
 
 pub returns-clause-underway : goal.returns-clause-underway
 returns-clause-underway c =
     let ring = c.args.ring.now in
     let above : 1 < ring.modulus.value = (c.lawful_setting.ensures 0).domain.above_one in
     step_underway ring c.args.at c.args.current c.in-Ok.split c.requires.first c.in-Ok.ensures.split (omega (arith, above))
-    c.args.positions.now.items c.leave_former.new.positions.items c.args.done.now.items c.leave_former.new.done.items c.args.rest.now.items
-    c.leave_next.new.rest.items
-    (c.in_ok-leave_former.ensures (c.args.at.row ∷ []) c.in_ok-one_leaving-2.ensures)
-    (c.in_ok-leave_next.ensures (c.args.at.column ∷ []) c.in_ok-one_leaving.ensures) c.requires.underway
+    c.args.positions.now.items c.leave_maps.new.positions.items c.args.done.now.items c.leave_maps.new.done.items c.args.rest.now.items
+    c.leave_maps.new.rest.items
+    c.in_ok-leave_maps.ensures.former
+    c.in_ok-leave_maps.ensures.next c.requires.underway
 
 pub returns-clause-leads : goal.returns-clause-leads
 returns-clause-leads c =
     let ring = c.args.ring.now in
     let above : 1 < ring.modulus.value = (c.lawful_setting.ensures 0).domain.above_one in
     step_leads ring c.args.at c.args.current c.in-Ok.split c.requires.first c.in-Ok.ensures.split (omega (arith, above))
-    c.args.positions.now.items c.leave_former.new.positions.items c.args.done.now.items c.leave_former.new.done.items c.args.rest.now.items
-    c.leave_next.new.rest.items
-    (c.in_ok-leave_former.ensures (c.args.at.row ∷ []) c.in_ok-one_leaving-2.ensures)
-    (c.in_ok-leave_next.ensures (c.args.at.column ∷ []) c.in_ok-one_leaving.ensures) c.requires.underway
+    c.args.positions.now.items c.leave_maps.new.positions.items c.args.done.now.items c.leave_maps.new.done.items c.args.rest.now.items
+    c.leave_maps.new.rest.items
+    c.in_ok-leave_maps.ensures.former
+    c.in_ok-leave_maps.ensures.next c.requires.underway
 
 pub returns-clause-falls : goal.returns-clause-falls
 returns-clause-falls c = step_falls c.args.ring.now c.args.at c.args.current c.in-Ok.split c.requires.first c.in-Ok.ensures.split
 
 pub returns-clause-rest : goal.returns-clause-rest
-returns-clause-rest c = next_count c.args.ring.now (c.args.at.column ∷ []) c.args.rest.now.items c.leave_next.new.rest.items
-    (c.in_ok-leave_next.ensures (c.args.at.column ∷ []) c.in_ok-one_leaving.ensures)
+returns-clause-rest c = next_count c.args.ring.now (c.args.at.column ∷ []) c.args.rest.now.items c.leave_maps.new.rest.items
+    c.in_ok-leave_maps.ensures.next
 
 pub returns-in-Err-clause-stop : goal.returns-in-Err-clause-stop
 returns-in-Err-clause-stop c =

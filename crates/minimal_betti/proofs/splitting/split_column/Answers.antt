@@ -37,3 +37,18 @@ returns-in-Ok-clause-sum c =
     ∙ get_or_default columns c.args.i y [] c.requires.index in
     let h = subst₂ (λ z v. StandsFor ring c.in-Ok.cleared (cleared p c.args.at.row c.args.inverse z (sum_of n v))) w other c.in-Ok.ensures.sum in
     IsSame_trans (IsSame_of p _ _ (c.vector_without.ensures.sum n)) (linear_same (omega (arith, above)) (linear_without_row c.args.at.row) h)
+
+pub splitting_stop-requires-clause-inside : goal.splitting_stop-requires-clause-inside
+splitting_stop-requires-clause-inside c = c.requires.inside
+
+pub splitting_stop-requires-clause-index : goal.splitting_stop-requires-clause-index
+splitting_stop-requires-clause-index c = c.requires.index
+
+pub splitting_stop-requires-clause-apart : goal.splitting_stop-requires-clause-apart
+splitting_stop-requires-clause-apart c = c.requires.apart
+
+pub splitting_stop-requires-clause-columns : goal.splitting_stop-requires-clause-columns
+splitting_stop-requires-clause-columns c = c.requires.columns
+
+pub cleared_vector-requires-clause-inverse : goal.cleared_vector-requires-clause-inverse
+cleared_vector-requires-clause-inverse c = c.requires.inverse

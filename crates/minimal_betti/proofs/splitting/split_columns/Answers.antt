@@ -14,3 +14,12 @@ pub returns-clause-split : goal.returns-clause-split
 returns-clause-split c =
     split_all c.args.ring.now c.args.inverse c.args.at c.args.columns.now c.loop-i.i c.loop-i.others.items c.from_vec.result
     (omega arith) c.from_vec.ensures c.loop-i.invariant
+
+pub push_other-requires-clause-inverse : goal.push_other-requires-clause-inverse
+push_other-requires-clause-inverse c = c.requires.inverse
+
+pub push_other-requires-clause-inside : goal.push_other-requires-clause-inside
+push_other-requires-clause-inside c = c.requires.inside
+
+pub push_other-requires-clause-columns : goal.push_other-requires-clause-columns
+push_other-requires-clause-columns c = c.requires.columns

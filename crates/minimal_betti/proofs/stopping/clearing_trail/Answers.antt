@@ -1,4 +1,4 @@
-use Rattle.std.proofs.Common.{[], ap, get_or, refl, subst, sym, ◌++◌, ◌∙◌, ◌∷◌}
+use Rattle.std.proofs.Common.{[], ap, get_or, refl, subst, sym, ◌∙◌}
 use Rattle.std.proofs.lemmas.List.{get_or_default}
 use Rattle.minimal_laws.specs.Cancellation.{component}
 use Rattle.module_vectors.specs.Rings.{variables}
@@ -19,5 +19,8 @@ returns-clause-trail c =
     clearing_is ring columns c.args.at c.args.i c.in_ok-vector.vector c.args.factor c.args.last _
     c.requires.columns c.requires.inside c.requires.index c.requires.apart c.requires.factor monomial c.in_ok-vector.ensures.vector
     (c.in_ok-vector.ensures.entry ∙ ap (λ z. component row (sum_of n z)) at) c.requires.last c.requires.great
-    c.in_ok-try_copy.ensures refl c.new.ensures c.new-2.ensures.items refl c.vector.view_is c.in_ok-copy_of.ensures
-    (c.in_ok-push.ensures.items ∙ ap (λ z. z ++ (c.args.at.column, c.args.factor) ∷ []) c.new-products.ensures.items) refl
+    c.in_ok-copied_ring.ensures.0 refl c.new.ensures c.new-2.ensures.items refl refl c.in_ok-copied_ring.ensures.1
+    c.in_ok-products.ensures refl
+
+pub returns-clause-members : goal.returns-clause-members
+returns-clause-members c = c.in_ok-copied_ring.ensures.1

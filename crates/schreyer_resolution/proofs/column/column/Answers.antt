@@ -61,3 +61,18 @@ returns-clause-column g c =
     (subst (λ r. items ≡ (key, 1) ∷ map (negated_term r.modulus.value) qs) c.ring.ensures c.in_ok-terms.ensures)
     (subst (λ r. IsVectorOver r (tower_comparison t) w) c.requires.over c.in_ok-made.ensures.vector)
     (subst (λ r. StandsFor r w (sum_of (variables r) items)) c.requires.over c.in_ok-made.ensures.same)
+
+pub divided-requires-clause-vectors : goal.divided-requires-clause-vectors
+divided-requires-clause-vectors g c = c.requires.vectors
+
+pub divided-requires-clause-base : goal.divided-requires-clause-base
+divided-requires-clause-base g c = c.requires.base
+
+pub divided-requires-clause-index : goal.divided-requires-clause-index
+divided-requires-clause-index g c = c.requires.index
+
+pub divided-requires-clause-monomial : goal.divided-requires-clause-monomial
+divided-requires-clause-monomial g c = c.requires.monomial
+
+pub divided-requires-clause-pair : goal.divided-requires-clause-pair
+divided-requires-clause-pair g c = c.requires.pair

@@ -63,3 +63,63 @@ loop-next-preserved g c =
           c.args.key.now c.requires.pair c.advance.new.quotients.items c.advance.new.buckets c.take_top-in-Some.new.self c.in_ok-next-in-Some.next
           c.in_ok-advance-in-Some.ensures.underway c.in_ok-next-in-Some.ensures.runs c.in_ok-next-in-Some.ensures.taken;
     }
+
+pub first_product-requires-clause-vectors : goal.first_product-requires-clause-vectors
+first_product-requires-clause-vectors g c = c.requires.vectors
+
+pub first_product-requires-clause-base : goal.first_product-requires-clause-base
+first_product-requires-clause-base g c = c.requires.base
+
+pub first_product-requires-clause-monomial : goal.first_product-requires-clause-monomial
+first_product-requires-clause-monomial g c = c.requires.monomial
+
+pub first_product-requires-clause-pair : goal.first_product-requires-clause-pair
+first_product-requires-clause-pair g c = c.requires.pair
+
+pub covered_terms-requires-clause-vectors : goal.covered_terms-requires-clause-vectors
+covered_terms-requires-clause-vectors g c = c.requires.vectors
+
+pub covered_terms-requires-clause-index : goal.covered_terms-requires-clause-index
+covered_terms-requires-clause-index g c = c.requires.index
+
+pub advance-requires-clause-vectors : goal.advance-requires-clause-vectors
+advance-requires-clause-vectors g c = c.requires.vectors
+
+pub advance-requires-clause-base : goal.advance-requires-clause-base
+advance-requires-clause-base g c = c.requires.base
+
+pub advance-requires-clause-index : goal.advance-requires-clause-index
+advance-requires-clause-index g c = c.requires.index
+
+pub advance-requires-clause-monomial : goal.advance-requires-clause-monomial
+advance-requires-clause-monomial g c = c.requires.monomial
+
+pub advance-requires-clause-pair : goal.advance-requires-clause-pair
+advance-requires-clause-pair g c = c.requires.pair
+
+pub advance-requires-clause-variables : goal.advance-requires-clause-variables
+advance-requires-clause-variables g c =
+    let ring = g.F.Frame.over c.args.frame.now in
+    let n = variables ring in
+    (subst (IsNext n ring.weights ring.modulus.value (g.F.Frame.compare c.args.frame.now n) c.loop-next.buckets) c.in-Some.is c.loop-next.invariant.next).0
+
+pub advance-requires-clause-reduced : goal.advance-requires-clause-reduced
+advance-requires-clause-reduced g c =
+    let ring = g.F.Frame.over c.args.frame.now in
+    let n = variables ring in
+    (subst (IsNext n ring.weights ring.modulus.value (g.F.Frame.compare c.args.frame.now n) c.loop-next.buckets) c.in-Some.is c.loop-next.invariant.next).1
+
+pub advance-requires-clause-below : goal.advance-requires-clause-below
+advance-requires-clause-below g c =
+    let ring = g.F.Frame.over c.args.frame.now in
+    let n = variables ring in
+    (subst (IsNext n ring.weights ring.modulus.value (g.F.Frame.compare c.args.frame.now n) c.loop-next.buckets) c.in-Some.is c.loop-next.invariant.next).2
+
+pub advance-requires-clause-underway : goal.advance-requires-clause-underway
+advance-requires-clause-underway g c =
+    let ring = g.F.Frame.over c.args.frame.now in
+    let n = variables ring in
+    let compare = g.F.Frame.compare c.args.frame.now in
+    let here = c.loop-next in
+    subst (λ x. IsUnderway ring compare c.args.columns.now c.args.key.now here.quotients.items here.buckets (with_next n x (total n here.buckets)))
+    c.in-Some.is c.loop-next.invariant.underway

@@ -23,3 +23,12 @@ returns g c =
       sum = subst (λ b. IsSame ring.modulus.value (total n c.add.new.self) (total n c.args.buckets.now ++ sum_of n b)) c.from_vect.ensures c.in_ok-add.ensures.sum;
       below = λ k below over. c.in_ok-add.ensures.below k below (subst (λ v. IsOver (g.F.Frame.compare c.args.frame.now n) k (sum_of n v)) (sym c.from_vect.ensures) over);
     }
+
+pub covered_terms-requires-clause-vectors : goal.covered_terms-requires-clause-vectors
+covered_terms-requires-clause-vectors g c = c.requires.vectors
+
+pub covered_terms-requires-clause-index : goal.covered_terms-requires-clause-index
+covered_terms-requires-clause-index g c = c.requires.index
+
+pub covered_terms-requires-clause-vector : goal.covered_terms-requires-clause-vector
+covered_terms-requires-clause-vector g c = c.requires.vector

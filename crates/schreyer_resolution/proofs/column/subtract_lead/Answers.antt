@@ -31,3 +31,12 @@ returns-clause-taken g c =
     same (factor_of_one c.ring.result.now.modulus.value c.args.term.now.1 lead.1 c.requires.nonzero (subst (λ z. c.args.term.now.1 < z) (sym same) c.requires.reduced) (c.requires.monic lead is))
     c.requires.some is c.requires.lead c.neg.ensures.value
     c.in_ok-rest.ensures.vector c.in_ok-rest.ensures.sum c.in_ok-test_degree.ensures.fits c.in_ok-rest.ensures.fits (c.bound_head.ensures n)
+
+pub scaled_tail-requires-clause-variables : goal.scaled_tail-requires-clause-variables
+scaled_tail-requires-clause-variables g c = c.requires.variables
+
+pub scaled_tail-requires-clause-vector : goal.scaled_tail-requires-clause-vector
+scaled_tail-requires-clause-vector g c = c.requires.divisor
+
+pub scaled_tail-requires-clause-some : goal.scaled_tail-requires-clause-some
+scaled_tail-requires-clause-some g c = c.requires.some

@@ -65,3 +65,54 @@ returns-in_ok-push-in-Ok-clause-underway g c =
     (c.in_ok-at.at, c.in_ok-at.monomial) c.in_ok-at.ensures c.put_covered.new.buckets c.in-Ok.rest put.kept put.runs
     (subst (λ v. IsSubtraction n ring.weights ring.modulus.value (compare n) c.in_ok-at.monomial v 0 (c.args.term ∷ []) c.in-Ok.rest c.args.term.1) at c.in-Ok.ensures.taken) put.sifted
     put.sum)
+
+pub next_divisor-requires-clause-vectors : goal.next_divisor-requires-clause-vectors
+next_divisor-requires-clause-vectors g c = c.requires.vectors
+
+pub next_divisor-requires-clause-base : goal.next_divisor-requires-clause-base
+next_divisor-requires-clause-base g c = c.requires.base
+
+pub next_divisor-requires-clause-index : goal.next_divisor-requires-clause-index
+next_divisor-requires-clause-index g c = c.requires.index
+
+pub next_divisor-requires-clause-pair : goal.next_divisor-requires-clause-pair
+next_divisor-requires-clause-pair g c = c.requires.pair
+
+pub next_divisor-requires-clause-variables : goal.next_divisor-requires-clause-variables
+next_divisor-requires-clause-variables g c = c.requires.variables
+
+pub next_divisor-requires-clause-nonzero : goal.next_divisor-requires-clause-nonzero
+next_divisor-requires-clause-nonzero g c = c.requires.nonzero
+
+pub next_divisor-requires-clause-reduced : goal.next_divisor-requires-clause-reduced
+next_divisor-requires-clause-reduced g c = c.requires.reduced
+
+pub next_divisor-requires-clause-below : goal.next_divisor-requires-clause-below
+next_divisor-requires-clause-below g c = c.requires.below
+
+pub later_stop-requires-clause-vectors : goal.later_stop-requires-clause-vectors
+later_stop-requires-clause-vectors g c = c.requires.vectors
+
+pub later_stop-requires-clause-base : goal.later_stop-requires-clause-base
+later_stop-requires-clause-base g c = c.requires.base
+
+pub later_stop-requires-clause-monomial : goal.later_stop-requires-clause-monomial
+later_stop-requires-clause-monomial g c = c.requires.monomial
+
+pub later_stop-requires-clause-pair : goal.later_stop-requires-clause-pair
+later_stop-requires-clause-pair g c = c.requires.pair
+
+pub put_covered-requires-clause-vectors : goal.put_covered-requires-clause-vectors
+put_covered-requires-clause-vectors g c = c.requires.vectors
+
+pub put_covered-requires-clause-index : goal.put_covered-requires-clause-index
+put_covered-requires-clause-index g c = c.requires.index
+
+pub subtract_lead-taken-requires-clause-term_variables : goal.subtract_lead-taken-requires-clause-term_variables
+subtract_lead-taken-requires-clause-term_variables g c = c.requires.variables
+
+pub subtract_lead-taken-requires-clause-nonzero : goal.subtract_lead-taken-requires-clause-nonzero
+subtract_lead-taken-requires-clause-nonzero g c = c.requires.nonzero
+
+pub subtract_lead-taken-requires-clause-reduced : goal.subtract_lead-taken-requires-clause-reduced
+subtract_lead-taken-requires-clause-reduced g c = c.requires.reduced

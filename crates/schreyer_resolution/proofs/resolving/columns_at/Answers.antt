@@ -36,3 +36,15 @@ returns-clause-columns g c =
     let compare = g.F.Frame.compare c.args.frame.now in
     let all : c.loop-key.key-index ≡ length c.args.keys.now = omega arith in
     subst₂ (AreColumnsTo ring compare c.args.columns.now c.args.induced.now c.args.keys.now) all (sym c.from_vec.ensures) c.loop-key.invariant
+
+pub column-requires-clause-vectors : goal.column-requires-clause-vectors
+column-requires-clause-vectors g c = c.requires.vectors
+
+pub column-requires-clause-base : goal.column-requires-clause-base
+column-requires-clause-base g c = c.requires.base
+
+pub column-requires-clause-over : goal.column-requires-clause-over
+column-requires-clause-over g c = c.requires.over
+
+pub column-requires-clause-above : goal.column-requires-clause-above
+column-requires-clause-above g c = c.requires.above

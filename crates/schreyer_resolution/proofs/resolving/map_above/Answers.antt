@@ -22,3 +22,9 @@ returns-then-is_empty-clause-next c =
 pub returns-then-is_empty-clause-stop : goal.returns-then-is_empty-clause-stop
 returns-then-is_empty-clause-stop c =
     subst (λ b. IfErr c.second_map.result (ColumnStops c.args.ring.now b c.args.columns.now)) (sym (none_at_all c.args.below.now c.if-is_empty.ensures)) c.second_map.ensures.stop
+
+pub later_map-requires-clause-maps : goal.later_map-requires-clause-maps
+later_map-requires-clause-maps c = c.requires.maps
+
+pub later_map-requires-clause-top : goal.later_map-requires-clause-top
+later_map-requires-clause-top c = c.requires.top

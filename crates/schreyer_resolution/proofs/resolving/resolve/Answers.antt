@@ -31,3 +31,12 @@ returns-clause-vectors c = subst (AreVectorsThrough c.args.ring.now []) (sym c.i
 
 pub returns-clause-joined : goal.returns-clause-joined
 returns-clause-joined c = subst (λ z. AreJoined c.args.ring.now z c.in_ok-maps.maps.items) c.deref.ensures.value c.in_ok-maps.ensures.joined
+
+pub resolved_maps-requires-clause-vectors : goal.resolved_maps-requires-clause-vectors
+resolved_maps-requires-clause-vectors c = c.requires.vectors
+
+pub resolved_maps-requires-clause-positions : goal.resolved_maps-requires-clause-positions
+resolved_maps-requires-clause-positions c = c.requires.positions
+
+pub resolved_maps-requires-clause-basis : goal.resolved_maps-requires-clause-basis
+resolved_maps-requires-clause-basis c = c.requires.basis

@@ -27,3 +27,15 @@ returns-then-is_empty-clause-positions c = subst (HavePositions c.args.rank) (sy
 
 pub first_maps-requires-clause-some : goal.first_maps-requires-clause-some
 first_maps-requires-clause-some c = some_at_all c.args.reduced.now c.if-is_empty.ensures
+
+pub first_maps-requires-clause-vectors : goal.first_maps-requires-clause-vectors
+first_maps-requires-clause-vectors c = c.requires.vectors
+
+pub first_maps-requires-clause-positions : goal.first_maps-requires-clause-positions
+first_maps-requires-clause-positions c = c.requires.positions
+
+pub first_maps-requires-clause-basis : goal.first_maps-requires-clause-basis
+first_maps-requires-clause-basis c = c.requires.basis
+
+pub complete_maps-requires-clause-positions : goal.complete_maps-requires-clause-positions
+complete_maps-requires-clause-positions c = c.requires.positions

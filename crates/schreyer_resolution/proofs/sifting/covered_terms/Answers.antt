@@ -3,6 +3,7 @@ use Rattle.module_vectors.specs.Rings.{variables}
 use Rattle.module_vectors.specs.Vectors.{IsMonomialOver}
 use Rattle.vector_division.proofs.Looping.{are_weighed}
 use Rattle.vector_division.specs.Progress.{AreWeighed}
+use Rattle.schreyer_resolution.specs.Spans.{IsIndexOf}
 use Rattle.schreyer_resolution.specs.Sifting.{IsSifting, IsTermSifted}
 use Rattle.schreyer_resolution.proofs.Dropping.{next_weighed, sift_next}
 use Rattle.schreyer_resolution.proofs.sifting.covered_terms.Goals as goal
@@ -26,3 +27,6 @@ loop-term-preserved g c =
     sift_next ring (g.F.Frame.compare c.args.frame.now) c.args.columns.now c.args.v c.loop-term.kept.items c.pop_front.new.self.items c.sift_term.new.kept.items c.in-Some.term
     (subst (IsSifting ring (g.F.Frame.compare c.args.frame.now) c.args.columns.now c.args.v c.loop-term.kept.items) c.in-Some.ensures.items c.loop-term.invariant)
     (subst₂ (λ r z. IsTermSifted (variables r) z c.in-Some.term c.loop-term.kept.items c.sift_term.new.kept.items) c.ring-ring.ensures c.as_slice.ensures c.in_ok-sift_term.ensures)
+
+pub sift_term-requires-clause-index : goal.sift_term-requires-clause-index
+sift_term-requires-clause-index g c = subst (λ z. IsIndexOf z c.args.index.now) (sym c.as_slice.ensures) c.requires.index

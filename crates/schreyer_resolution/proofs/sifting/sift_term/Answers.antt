@@ -13,3 +13,9 @@ returns-in_ok-push-in-Some c =
           (subst (IsFoundLast (variables ring) ring.weights c.args.columns.now (key_of (variables ring) c.args.term.0)) c.in-Some.is c.in_ok-last_divisor.ensures),
       c.in_ok-push-in-Some.ensures.items,
     )
+
+pub last_divisor-requires-clause-columns : goal.last_divisor-requires-clause-columns
+last_divisor-requires-clause-columns c = c.requires.columns
+
+pub last_divisor-requires-clause-index : goal.last_divisor-requires-clause-index
+last_divisor-requires-clause-index c = c.requires.index

@@ -14,3 +14,15 @@ keep_trail-requires-clause-chain g c =
       c.in_ok-products.ensures,
       later_chain ring (g.F.Frame.compare c.args.frame.now) rank (c.lawful_setting.ensures rank) cols c.requires.vectors key (key_inside (variables ring) cols key c.requires.pair) c.requires.monomial c.args.quotients.now c.args.failing c.args.last c.requires.failing,
     )
+
+pub keep_trail-requires-clause-vectors : goal.keep_trail-requires-clause-vectors
+keep_trail-requires-clause-vectors g c = c.requires.vectors
+
+pub keep_trail-requires-clause-base : goal.keep_trail-requires-clause-base
+keep_trail-requires-clause-base g c = c.requires.base
+
+pub keep_trail-requires-clause-monomial : goal.keep_trail-requires-clause-monomial
+keep_trail-requires-clause-monomial g c = c.requires.monomial
+
+pub keep_trail-requires-clause-pair : goal.keep_trail-requires-clause-pair
+keep_trail-requires-clause-pair g c = c.requires.pair

@@ -14,3 +14,12 @@ returns-then-not-is_possible g c =
     let no : c.is_possible.result ≡ false = cc in
     let have = Each_map (λ t. IsMonomialOver ring t.0.monomial) (HasVariables n) v (λ t h. h.variables ∙ sym e) c.requires.vector in
     subst (λ m. IsTried m ring.weights v (key_of m key) None) e (c.is_possible.ensures no ring.weights v have c.requires.mark)
+
+pub is_possible-requires : goal.is_possible-requires
+is_possible-requires g c = c.requires.bits
+
+pub quotient_by_lead-requires-clause-key : goal.quotient_by_lead-requires-clause-key
+quotient_by_lead-requires-clause-key g c = c.requires.key
+
+pub quotient_by_lead-requires-clause-vector : goal.quotient_by_lead-requires-clause-vector
+quotient_by_lead-requires-clause-vector g c = c.requires.vector

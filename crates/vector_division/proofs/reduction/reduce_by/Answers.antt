@@ -69,3 +69,50 @@ loop-next-preserved g c =
       kept = kept_taken n ring.weights ring.modulus.value (g.F.Frame.compare c.args.frame.now n) (g.met.F.Frame.laws c.args.frame.now n 0) c.args.v.now (g.L.Vectors.listed c.args.list.now) c.advance.new.quotients.items c.advance.new.rest.items c.advance.new.buckets c.take_top-in-Some.new.self c.in_ok-next-in-Some.next
           c.in_ok-advance-in-Some.ensures.kept c.in_ok-next-in-Some.ensures.runs c.in_ok-next-in-Some.ensures.taken;
     }
+
+pub advance-requires-clause-list : goal.advance-requires-clause-list
+advance-requires-clause-list g c = c.requires.list
+
+pub advance-requires-clause-divisors : goal.advance-requires-clause-divisors
+advance-requires-clause-divisors g c = c.requires.divisors
+
+pub advance-requires-clause-kept : goal.advance-requires-clause-kept
+advance-requires-clause-kept g c =
+    let ring = g.F.Frame.over c.args.frame.now in
+    let n = variables ring in
+    let compare = g.F.Frame.compare c.args.frame.now n in
+    let list = g.L.Vectors.listed c.args.list.now in
+    let here = c.loop-next in
+    subst (λ x. IsSplit n ring.weights ring.modulus.value compare c.args.v.now list here.quotients.items here.rest.items here.buckets
+    (with_next n x (total n here.buckets)))
+    c.in-Some.is c.loop-next.invariant.kept
+
+pub returns-in-None-clause-quotients : goal.returns-in-None-clause-quotients
+returns-in-None-clause-quotients g c = c.loop-next.invariant.kept.underway.quotients
+
+pub returns-in-None-clause-met : goal.returns-in-None-clause-met
+returns-in-None-clause-met g c = c.loop-next.invariant.kept.underway.met
+
+pub returns-in-None-clause-bounded : goal.returns-in-None-clause-bounded
+returns-in-None-clause-bounded g c = c.loop-next.invariant.kept.underway.bounded
+
+pub returns-in-None-clause-rest : goal.returns-in-None-clause-rest
+returns-in-None-clause-rest g c = c.in_ok-from_terms-in-None.ensures.vector
+
+pub advance-requires-clause-variables : goal.advance-requires-clause-variables
+advance-requires-clause-variables g c =
+    let ring = g.F.Frame.over c.args.frame.now in
+    let n = variables ring in
+    (subst (IsNext n ring.weights ring.modulus.value (g.F.Frame.compare c.args.frame.now n) c.loop-next.buckets) c.in-Some.is c.loop-next.invariant.next).0
+
+pub advance-requires-clause-reduced : goal.advance-requires-clause-reduced
+advance-requires-clause-reduced g c =
+    let ring = g.F.Frame.over c.args.frame.now in
+    let n = variables ring in
+    (subst (IsNext n ring.weights ring.modulus.value (g.F.Frame.compare c.args.frame.now n) c.loop-next.buckets) c.in-Some.is c.loop-next.invariant.next).1
+
+pub advance-requires-clause-below : goal.advance-requires-clause-below
+advance-requires-clause-below g c =
+    let ring = g.F.Frame.over c.args.frame.now in
+    let n = variables ring in
+    (subst (IsNext n ring.weights ring.modulus.value (g.F.Frame.compare c.args.frame.now n) c.loop-next.buckets) c.in-Some.is c.loop-next.invariant.next).2
