@@ -64,6 +64,15 @@ chained_more count i hashes earlier last earlier' last' h lt kept at others here
       | inr ne ↦ let lt' : k < i = omega arith in subst (IsLink count k hashes (bucket_at count hashes k)) (sym (kept k lt')) (h.earlier_link k lt')
     ]
 
+-- no hash is chained in buckets that are all empty
+pub chained_none : (count : ℕ) (hashes earlier last : List ℕ) → ((b : ℕ) → get_or last b 0 ≡ 0) → IsChained count 0 hashes earlier last
+chained_none count hashes earlier last h = record {
+  last_all = λ j l. absurd (omega (arith, l));
+  last_link = λ b l. let e = h b in record { within = omega (arith, e); together = λ p. absurd (omega (arith, p, e)) };
+  earlier_all = λ i j l m e. absurd (omega (arith, l));
+  earlier_link = λ i l. absurd (omega (arith, l));
+}
+
 -- the same where both lists are written, by equations
 pub chained_goes :
     (count i at before : ℕ) (hashes earlier last earlier' last' : List ℕ)

@@ -1,5 +1,5 @@
 -- Working out the polynomials of a line
-use Rattle.std.proofs.Common.{◌≡◌, ℕ, zero, suc, ◌+◌, ◌*◌, ◌<◌, ◌≤◌, max, cond, Bool, true, false, List, [], ◌∷◌, ◌++◌, drop, get_or, length, set, take, Option, Some, None, Result, Ok, Err, IfOk, Vec, Global, option_and_then, refl, sym, ap, ap₂, subst, ◌∙◌, arith, add-one, append_assoc, drop-cons, length-append, length-take-le}
+use Rattle.std.proofs.Common.{◌≡◌, ℕ, zero, suc, ◌+◌, ◌*◌, ◌<◌, ◌≤◌, ◌^◌, max, cond, Bool, true, false, List, [], ◌∷◌, ◌++◌, drop, get_or, length, set, take, Option, Some, None, Result, Ok, Err, IfOk, Vec, Global, option_and_then, refl, sym, ap, ap₂, subst, ◌∙◌, arith, add-one, append_assoc, drop-cons, length-append, length-take-le}
 use Rattle.std.proofs.lemmas.List.{append-nil, length-map, map-append}
 use Rattle.std.specs.List.{AllByRecursion, list_all}
 use Rattle.std.specs.Option.{option_map}
@@ -8,7 +8,7 @@ use Rattle.script_tokens.specs.declared.token.Token.{Token}
 use Rattle.poly_grammar.specs.Algebras.{push, top, worth_of_steps, worths}
 use Rattle.poly_grammar.specs.Degrees.{bounded, degrees, formal_degree}
 use Rattle.poly_grammar.specs.Numerals.{text_of, value_of}
-use Rattle.poly_grammar.specs.Steps.{steps}
+use Rattle.poly_grammar.specs.Steps.{numbers_of_steps, steps}
 use Rattle.poly_grammar.specs.Trees.{Poly}
 use Rattle.poly_grammar.specs.declared.step.Step.{Step}
 use Rattle.poly_grammar.specs.declared.step.Step.TheVariants.{Number, Name, Power, Multiply, Add, Subtract, Negate}
@@ -145,6 +145,17 @@ pub worths_go :
     → i < length pieces → v ≡ get_or pieces i v → new ≡ old ++ u ∷ [] → AreWorths ring line (take i pieces) old → IsWorth ring line v.items u → AreWorths ring line (take (i + 1) pieces) new
 worths_go ring line pieces i v old new u lt e f h w =
     subst (λ l. AreWorths ring line l new) (sym (take_item pieces i v lt e)) (subst (λ l. AreWorths ring line (take i pieces ++ v ∷ []) l) (sym f) (worths_push ring line (take i pieces) old v u h w))
+
+-- ---- what working a polynomial out asks of its steps
+module _ (ring : Ring) (line : List ℕ) (v : Vec Step Global) (xs : List Step) (is : xs ≡ v.items) (able : IsWorkable ring line v) where
+  pub worth_by : (x : FormalSum (variables ring)) × (worth_of_steps (polynomials_of ring line) xs ≡ Some x)
+  worth_by = subst (λ l. (x : FormalSum (variables ring)) × (worth_of_steps (polynomials_of ring line) l ≡ Some x)) (sym is) able.worth
+
+  pub degree_by : (d : ℕ) × (worth_of_steps (degrees_of ring line) xs ≡ Some d)
+  degree_by = subst (λ l. (d : ℕ) × (worth_of_steps (degrees_of ring line) l ≡ Some d)) (sym is) able.degree
+
+  pub numerals_by : AllByRecursion (λ t. value_of line t < 2 ^ 128) (numbers_of_steps xs)
+  numerals_by = subst (λ l. AllByRecursion (λ t. value_of line t < 2 ^ 128) (numbers_of_steps l)) (sym is) able.numerals
 
 -- ---- terms moved to a position
 

@@ -1,10 +1,10 @@
 //! What the polynomials of a line are worth: a list of them, or a vector that has them for its entries.
 
-ghost use Rattle.std.specs.Prelude.{◌≡◌, ◌<◌, IfOk, length};
+ghost use Rattle.std.specs.Prelude.{◌≡◌, ◌<◌, ◌++◌, IfOk, OnOk, length};
 ghost use Rattle.std.specs.List.{AllByRecursion};
 ghost use Rattle.module_vectors.specs.Rings.{ring_comparison};
 ghost use Rattle.module_vectors.specs.Vectors.{HasPositions, IsVectorOver};
-ghost use Rattle.script_parse.specs.Tests.{AreVectorWorths, AreWorths, HasEntryTerms, IsWorkable, StandsForEntries, moved_to};
+ghost use Rattle.script_parse.specs.Tests.{AreVectorWorths, AreWorths, HasEntryTerms, IsWorkable, IsWorth, StandsForEntries, moved_to};
 
 use module_vectors::{Key, NoMemory, Ring, Vect, VectList};
 use poly_grammar::Step;
@@ -38,6 +38,26 @@ fn move_terms(position: u64, terms: &mut Vec<(Key, u32)>)
     }
 }
 
+/// Puts the terms of the polynomial that the steps are worth behind the others, moved to this position. The steps are a `Vec`,
+/// since the clauses speak of one.
+fn push_entry(
+    alloc: Global,
+    ring: &Ring,
+    line: &[u8],
+    steps: &Vec<Step>,
+    position: u64,
+    all: &mut Vec<(Key, u32)>,
+) -> Result<(), NoMemory>
+    requires { IsWorkable ring.now line.now steps.now }
+    ensures { OnOk result ((u : _) × (all.new.items ≡ all.old.items ++ moved_to position u) × IsWorth ring.now line.now steps.now.items u) }
+{
+    let value = polynomial_value(alloc, ring, line, steps)?;
+    let mut terms = value.into_terms();
+    move_terms(position, &mut terms);
+    all.append(&mut terms)?;
+    Ok(())
+}
+
 /// The terms of the vector that has these polynomials for its entries, in any order.
 fn entry_terms(
     alloc: Global,
@@ -50,10 +70,7 @@ fn entry_terms(
 {
     let mut all = Vec::new(alloc);
     for i in 0..polynomials.len() {
-        let value = polynomial_value(alloc, ring, line, &polynomials[i])?;
-        let mut terms = value.into_terms();
-        move_terms(i as u64, &mut terms);
-        all.append(&mut terms)?;
+        push_entry(alloc, ring, line, &polynomials[i], i as u64, &mut all)?;
     }
     Ok(all)
 }

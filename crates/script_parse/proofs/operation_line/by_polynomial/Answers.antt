@@ -17,3 +17,6 @@ returns-in-Saturate c = λ w e s.
     saturation_says c.args.ring.now c.args.line.now c.args.polynomials.now c.args.value c.in_ok-name.name c.in-Ok.polynomial
     (record { first = c.in-Some.steps.now; more = _; pieces_are = c.in-Some.ensures.cases.0; workable = c.requires.workable; worth = subst (λ l. IsWorth c.args.ring.now c.args.line.now l c.in-Ok.polynomial) c.deref.ensures.value worth; name_is = c.in_ok-name.ensures })
     w (e ∙ ap (λ d. shapes.Polynomial d c.args.value) c.in-Saturate.is) s
+
+pub name_of-requires : goal.name_of-requires
+name_of-requires c = c.requires.ascii

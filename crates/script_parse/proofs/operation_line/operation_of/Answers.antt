@@ -10,3 +10,6 @@ returns-in-Eliminate c = subst (λ o. IsOperationStated c.args.ring.now c.args.l
 
 pub returns-in-Syzygies : goal.returns-in-Syzygies
 returns-in-Syzygies c = subst (λ o. IsOperationStated c.args.ring.now c.args.line.now o c.args.polynomials.now c.syzygies.result) (sym c.in-Syzygies.is) (c.syzygies.ensures c.args.ring.now c.args.polynomials.now)
+
+pub by_polynomial-requires-clause-workable : goal.by_polynomial-requires-clause-workable
+by_polynomial-requires-clause-workable c = c.requires.workable

@@ -18,3 +18,9 @@ pub returns-in-Lift : goal.returns-in-Lift
 returns-in-Lift c = λ w is.
     lift_says c.args.ring.now c.args.line.now c.args.polynomials.now c.args.value c.in_ok-name.name c.in-Ok.vector c.in_ok-name.ensures c.in-Ok.ensures.vector c.in-Ok.ensures.positions c.in-Ok.ensures.entries w
     (subst (λ d. IsLineOf (heads.Divide d c.args.value) c.args.polynomials.now w) c.in-Lift.is is)
+
+pub name_of-requires : goal.name_of-requires
+name_of-requires c = c.requires.ascii
+
+pub vector_value-requires : goal.vector_value-requires
+vector_value-requires c = c.requires.workable

@@ -31,3 +31,12 @@ pub returns : goal.returns
 returns c = λ w is. line_stated (option_copied c.args.ring) c.in-Some.ring.now c.args.names.now c.args.line.now w c.args.head c.args.polynomials.now (ap option_copied c.in-Some.is) is (sym c.elimination_fits.ensures ∙ c.if-not-elimination_fits.false)
     (sym c.names_known.ensures ∙ c.if-not-names_known.false) (sym c.kinds_right.ensures ∙ c.if-not-kinds_right.false) (sym c.rank_fits.ensures ∙ c.if-not-rank_fits.false) (sym c.in_ok-degrees_fit.ensures ∙ c.if-not-branch.false)
     c.stated.result c.stated.ensures
+
+pub degrees_fit-requires : goal.degrees_fit-requires
+degrees_fit-requires c = c.requires.polynomials
+
+pub stated-requires-clause-written : goal.stated-requires-clause-written
+stated-requires-clause-written c = c.requires.written
+
+pub stated-requires-clause-ascii : goal.stated-requires-clause-ascii
+stated-requires-clause-ascii c = c.requires.ascii

@@ -17,3 +17,18 @@ returns-in-Equal c = subst (λ h. IsStated c.args.ring.now c.args.line.now h c.a
 
 pub returns-in-Change : goal.returns-in-Change
 returns-in-Change c = subst (λ h. IsStated c.args.ring.now c.args.line.now h c.args.polynomials.now c.change_statement.result) (sym c.in-Change.is) (c.change_statement.ensures c.args.ring.now c.args.polynomials.now)
+
+pub show_statement-requires-clause-workable : goal.show_statement-requires-clause-workable
+show_statement-requires-clause-workable c = c.requires.workable
+
+pub ideal_statement-requires-clause-workable : goal.ideal_statement-requires-clause-workable
+ideal_statement-requires-clause-workable c = c.requires.workable
+
+pub module_statement-requires-clause-workable : goal.module_statement-requires-clause-workable
+module_statement-requires-clause-workable c = c.requires.workable
+
+pub let_statement-requires-clause-workable : goal.let_statement-requires-clause-workable
+let_statement-requires-clause-workable c = c.requires.workable
+
+pub divide_statement-requires-clause-workable : goal.divide_statement-requires-clause-workable
+divide_statement-requires-clause-workable c = c.requires.workable
