@@ -16,6 +16,7 @@ use module_vectors::{KeptTrail, Ring, VectList};
 use run_endings::RunStop;
 use std::alloc::Global;
 use std::marker::Model;
+use std::mem::replace;
 use std::sync::Wait;
 use std::thread::Threads;
 use worker_gate::SharedGate;
@@ -159,8 +160,8 @@ impl F4Engine {
         ensures trail { self.new.trail ≡ trail }
     {
         self.stops = self.stops.saturating_add(1);
-        self.state = state;
-        self.trail = trail;
+        drop(replace(&mut self.state, state));
+        drop(replace(&mut self.trail, trail));
     }
 
     // Counts and keeps a run that stopped, unless memory was wanting.
@@ -192,7 +193,7 @@ impl F4Engine {
         requires finished { IsFinished state }
         ensures { Answers self.old self.new state.shared }
     {
-        self.last = Some(state);
+        drop(replace(&mut self.last, Some(state)));
     }
 
     /// The reduced Gröbner basis of the list in a free module of this rank, by descending leads in the ring's own order. It

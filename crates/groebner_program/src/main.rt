@@ -12,21 +12,39 @@ use std::io;
 use std::process::ExitCode;
 use worker_gate::OpenGate;
 
+/// The text of these bytes; the empty text where they are not UTF-8.
+fn text_of(alloc: Global, bytes: Vec<u8>) -> String {
+    match String::from_utf8(bytes) {
+        Ok(text) => text,
+        Err(_) => String::new(alloc),
+    }
+}
+
+/// The word with this number, counted from 0, if it has at most so many bytes.
+fn word_within<E: Env>(
+    env: &E,
+    alloc: Global,
+    i: usize,
+    room: usize,
+) -> Result<Result<String, FillError>, AllocError> {
+    let mut bytes = Vec::new(alloc);
+    bytes.resize(room, 0u8)?;
+    match env.arg(i, &mut bytes) {
+        Ok(len) => {
+            bytes.truncate(len);
+            Ok(Ok(text_of(alloc, bytes)))
+        }
+        Err(error) => Ok(Err(error)),
+    }
+}
+
 /// The word with this number, counted from 0, or `None` behind the last one. A word that is not UTF-8
 /// becomes the empty word.
 fn word_at<E: Env>(env: &E, alloc: Global, i: usize) -> Result<Option<String>, AllocError> {
     let mut room = 256usize;
     for _ in 0..usize::BITS {
-        let mut bytes = Vec::new(alloc);
-        bytes.resize(room, 0u8)?;
-        match env.arg(i, &mut bytes) {
-            Ok(len) => {
-                bytes.truncate(len);
-                return Ok(Some(match String::from_utf8(bytes) {
-                    Ok(word) => word,
-                    Err(_) => String::new(alloc),
-                }));
-            }
+        match word_within(env, alloc, i, room)? {
+            Ok(word) => return Ok(Some(word)),
             Err(FillError::NotPresent) => return Ok(None),
             Err(FillError::TooLong) => room = room.saturating_mul(2),
         }

@@ -16,6 +16,7 @@ use module_vectors::{KeptTrail, Ring, VectList};
 use run_endings::RunStop;
 use std::alloc::Global;
 use std::marker::Model;
+use std::mem::replace;
 use std::sync::Wait;
 use std::thread::Threads;
 
@@ -120,8 +121,8 @@ impl PlainEngine {
         ensures trail { self.new.trail ≡ trail }
     {
         self.stops = self.stops.saturating_add(1);
-        self.state = state;
-        self.trail = trail;
+        drop(replace(&mut self.state, state));
+        drop(replace(&mut self.trail, trail));
     }
 
     // Counts and keeps a run that stopped, unless memory was wanting.

@@ -23,3 +23,9 @@ returns-in-Err-clause-stop g c =
     let run = c.in-Ok.ensures.run in
     subst (λ (sh : Shared). RunStops c.args.pairs 1 sh c.stop_of_rounds.result) (same.shared ∙ run.over)
     (c.stop_of_rounds.ensures.stop c.args.pairs 1 (record { budget = same.budget ∙ run.most; workers_are = same.workers ∙ run.number }))
+
+pub begin-requires-clause-vectors : goal.begin-requires-clause-vectors
+begin-requires-clause-vectors g c = c.requires.vectors
+
+pub begin-requires-clause-positions : goal.begin-requires-clause-positions
+begin-requires-clause-positions g c = c.requires.positions

@@ -1,13 +1,14 @@
-use Rattle.std.proofs.Common.{arith, subst, sym, ◌<◌}
+use Rattle.std.proofs.Common.{arith, subst, subst₂, sym, ◌<◌}
 use Rattle.run_endings.specs.Stops.{IsKeptWhereCounted, IsStop}
-use Rattle.plain_buchberger.specs.Engines.{EngineShown}
+use Rattle.plain_buchberger.specs.Engines.{EngineShown, IsKeptBy}
 use Rattle.plain_buchberger.proofs.engine.PlainEngine.keep.Goals as goal
 
 pub invariant_of-self : goal.invariant_of-self
 invariant_of-self c =
     let more : 0 < c.saturating_add-self-inside.result = omega (arith, c.saturating_add-self-inside.ensures) in
-    record {
+    subst₂ (λ state trail. IsKeptBy (record { pairs = c.self.inside.pairs; stops = c.saturating_add-self-inside.result; state = state; trail = trail }))
+    (sym c.replace.ensures.after) (sym c.replace-2.ensures.after) (record {
       stop = subst (λ (e : EngineShown). IsStop e.pairs 1 c.args.state c.args.trail) (sym c.self.view_is) c.requires.stop;
       counted = subst (IsKeptWhereCounted c.saturating_add-self-inside.result) (sym c.requires.some.1) more;
       left = c.requires.left;
-    }
+    })
