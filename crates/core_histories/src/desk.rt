@@ -6,6 +6,7 @@ use crate::play::{Play, begin};
 use crate::sizes::{measure_jobs, solve_jobs};
 use check_texts::Sheet;
 use std::alloc::Global;
+use std::mem::replace;
 use std::thread::Threads;
 
 /// The texts of a ring and of its generators, each behind the one before and a `;`, the rank, and how many helpers reduce a matrix.
@@ -85,8 +86,9 @@ impl Desk {
     // `begin WORKERS BUDGET`
     fn begin(&mut self, alloc: Global, sheet: &mut Sheet, text: &str) {
         let (workers, budget) = numbers_of(text);
-        self.play = begin(alloc, sheet, &self.input, budget, small(workers), None);
-        write_begun(alloc, sheet, &self.play);
+        let play = begin(alloc, sheet, &self.input, budget, small(workers), None);
+        write_begun(alloc, sheet, &play);
+        drop(replace(&mut self.play, play));
     }
 
     // `take WORKER MOST`, `put WORKER`, `end WORKER`, `stop WORKER`

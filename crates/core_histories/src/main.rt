@@ -37,11 +37,16 @@ fn do_lines<R: Threads + Sync>(
     Ok(())
 }
 
+// Does all lines, from no ring on.
+fn do_all<R: Threads + Sync>(host: &HostRuntime, rt: &R, sheet: &mut Sheet) -> io::Result<()> {
+    let mut desk = Desk::new(host.alloc());
+    do_lines(host, rt, &mut desk, sheet)
+}
+
 // What is written of all lines.
 fn answers<R: Threads + Sync>(host: &HostRuntime, rt: &R) -> io::Result<Sheet> {
-    let mut desk = Desk::new(host.alloc());
     let mut sheet = Sheet::new(host.alloc());
-    do_lines(host, rt, &mut desk, &mut sheet)?;
+    do_all(host, rt, &mut sheet)?;
     Ok(sheet)
 }
 

@@ -270,6 +270,19 @@ fn run_over<R: Threads + Wait + Sync, G: Gate + Sync>(
     told_of(&run(rt, alloc, words, source, sink, gate))
 }
 
+/// Runs a case over its ports: what it writes into the sink, and what is told of its ending.
+fn run_into<R: Threads + Wait + Sync, G: Gate + Sync>(
+    rt: &R,
+    alloc: Global,
+    case: &Case,
+    sink: &mut MemSink,
+    gate: &G,
+) -> Result<Told, Fail> {
+    let words = words_of(alloc, case)?;
+    let mut source = source_of(alloc, case)?;
+    Ok(run_over(rt, alloc, &words, &mut source, sink, gate))
+}
+
 /// Runs a case. Is its text written, and what is told of its ending?
 fn run_case<R: Threads + Wait + Sync, G: Gate + Sync>(
     rt: &R,
@@ -277,10 +290,8 @@ fn run_case<R: Threads + Wait + Sync, G: Gate + Sync>(
     case: &Case,
     gate: &G,
 ) -> Result<(bool, Told), Fail> {
-    let words = words_of(alloc, case)?;
-    let mut source = source_of(alloc, case)?;
     let mut sink = sink_of(alloc, case)?;
-    let told = run_over(rt, alloc, &words, &mut source, &mut sink, gate);
+    let told = run_into(rt, alloc, case, &mut sink, gate)?;
     Ok((sink.bytes() == case.text.as_bytes(), told))
 }
 
@@ -309,10 +320,8 @@ fn ending_at<R: Threads + Wait + Sync>(
 ) -> Result<(usize, u8), Fail> {
     let mut case = faulty(BASIS, read, write, TEXT, plain(0, 0));
     case.words = "p run";
-    let words = words_of(alloc, &case)?;
-    let mut source = source_of(alloc, &case)?;
     let mut sink = sink_of(alloc, &case)?;
-    let told = run_over(rt, alloc, &words, &mut source, &mut sink, &OpenGate);
+    let told = run_into(rt, alloc, &case, &mut sink, &OpenGate)?;
     if TEXT.as_bytes().starts_with(sink.bytes()) {
         Ok((sink.bytes().len(), told.status))
     } else {
