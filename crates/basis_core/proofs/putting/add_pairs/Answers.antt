@@ -23,3 +23,6 @@ returns-clause-queues c =
     queues_known shared ms first (pairs_of c.args.pairs.now.queue) (pairs_of c.add.new.self.queue)
     (subst (λ (l : LeadsShown). QueuesNewPairs (setting_by l.variables l) first (sums_shown l) (pairs_of c.args.pairs.now.queue)
     (pairs_of c.add.new.self.queue)) (returns-clause-leads c) there)
+
+pub lead_keys-requires-clause-first : goal.lead_keys-requires-clause-first
+lead_keys-requires-clause-first c = c.requires.first

@@ -13,3 +13,9 @@ returns-then-is_empty-clause-left c =
       nothing_left shared c.args.members.now.list c.args.row.now c.args.multiple.now qs c.kept.ensures c.requires.over c.in-Ok.ensures.quotients
           c.in-Ok.reduction.rest (sym c.terms.ensures ∙ empty) c.in-Ok.ensures.rest,
     )
+
+pub monic_member-requires-clause-over : goal.monic_member-requires-clause-over
+monic_member-requires-clause-over c = c.requires.over
+
+pub monic_member-requires-clause-monic : goal.monic_member-requires-clause-monic
+monic_member-requires-clause-monic c = c.requires.monic

@@ -34,3 +34,6 @@ returns-clause-earlier c = absurd (c.loop-j.invariant c.requires.some.0 (omega (
 
 pub returns-clause-met : goal.returns-clause-met
 returns-clause-met c = absurd (c.loop-j.invariant c.requires.some.0 (omega (arith, c.requires.some.1)) c.requires.some.2)
+
+pub is_in_product-requires-clause-nonzero : goal.is_in_product-requires-clause-nonzero
+is_in_product-requires-clause-nonzero c = c.requires.nonzero

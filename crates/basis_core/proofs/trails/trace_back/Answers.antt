@@ -59,3 +59,9 @@ loop-pair-preserved c =
       chain = subst₂ (IsChainTo n ws vs all) there (sym longer)
           (chain_before n ws vs all (kept_at all c.loop-pair.at) step (reverse c.loop-pair.chain.items) c.loop-pair.invariant.chain known met);
     }
+
+pub find_pair-requires-clause-nonzero : goal.find_pair-requires-clause-nonzero
+find_pair-requires-clause-nonzero c = c.requires.nonzero
+
+pub find_pair-requires-clause-pairs : goal.find_pair-requires-clause-pairs
+find_pair-requires-clause-pairs c = c.requires.pairs

@@ -15,3 +15,9 @@ returns-clause-numerator c =
     let ws = c.args.weights.now in
     numerator_same (length ws) ws c.args.rank (keys_of (length ws) c.args.leads.now) c.in_ok-sum.sum.items c.without_zeros.result.items
     c.without_zeros.ensures.same c.in_ok-sum.ensures.numerator
+
+pub module_numerator-requires-clause-rank : goal.module_numerator-requires-clause-rank
+module_numerator-requires-clause-rank c = c.requires.rank
+
+pub module_numerator-requires-clause-leads : goal.module_numerator-requires-clause-leads
+module_numerator-requires-clause-leads c = c.requires.leads

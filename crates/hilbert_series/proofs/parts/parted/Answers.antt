@@ -9,3 +9,6 @@ returns c = record {
       c.push_copies-2.new.to.items c.requires.done c.requires.apart c.in_ok-sieve.ensures.ok c.as_slice-3.ensures.value c.as_slice-4.ensures.value
       (c.if-not-are_apart.ensures refl) c.in_ok-both.ensures.items c.in_ok-push_copies.ensures.ok c.as_slice-5.ensures.value c.in_ok-push_copies-2.ensures.ok;
 }
+
+pub sieve-requires-clause-generators : goal.sieve-requires-clause-generators
+sieve-requires-clause-generators c = c.requires.generators

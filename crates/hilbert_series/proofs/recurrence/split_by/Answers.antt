@@ -14,3 +14,21 @@ returns c =
           (search (arith, rules)) c.in_ok-all.ensures.long c.in_ok-all.ensures.items c.in_ok-right.ensures.shorter
           apart c.requires.apart (c.in_ok-left.ensures.apart ms apart c.requires.apart);
     }
+
+pub is_apart-requires-clause-generators : goal.is_apart-requires-clause-generators
+is_apart-requires-clause-generators c = c.requires.done
+
+pub is_apart-requires-clause-monomial : goal.is_apart-requires-clause-monomial
+is_apart-requires-clause-monomial c = c.requires.monomial
+
+pub with_generator-requires-clause-generators : goal.with_generator-requires-clause-generators
+with_generator-requires-clause-generators c = c.requires.generators
+
+pub with_generator-requires-clause-monomial : goal.with_generator-requires-clause-monomial
+with_generator-requires-clause-monomial c = c.requires.monomial
+
+pub quotients-requires-clause-generators : goal.quotients-requires-clause-generators
+quotients-requires-clause-generators c = c.requires.generators
+
+pub quotients-requires-clause-monomial : goal.quotients-requires-clause-monomial
+quotients-requires-clause-monomial c = c.requires.monomial

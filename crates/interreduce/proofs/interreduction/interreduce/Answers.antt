@@ -39,3 +39,6 @@ returns-clause-positions g c = λ rank h.
     let members = c.in_ok-members.members.items in
     let e : c.from_vec.result ≡ reverse members = c.from_vec.ensures ∙ c.reverse.ensures.items in
     subst (Each (HasPositions rank)) (sym e) (reduced_positions ring compare c.lawful_setting.ensures (g.L.Vectors.listed c.args.list.now) c.deref.result.now members c.in_ok-members.ensures.reduced rank h)
+
+pub needed_members-requires : goal.needed_members-requires
+needed_members-requires g c = c.requires.vectors

@@ -17,3 +17,6 @@ reduced_in_turn-requires-clause-divisors g c =
     let list = g.L.Vectors.listed c.args.list.now in
     subst (AreDivisors n list) (sym c.deref-else-is_worth_threads.ensures.value)
     (subst (λ r. IfOk r (λ divisors. AreDivisors n list divisors.items)) c.in_ok-divisors.was (c.divisors_at.ensures n (needed_are_enough n (g.F.Frame.compare c.args.frame.now n) list c.args.kept.now c.requires.needed)))
+
+pub reduced_in_turn-requires-clause-vectors : goal.reduced_in_turn-requires-clause-vectors
+reduced_in_turn-requires-clause-vectors g c = c.requires.vectors

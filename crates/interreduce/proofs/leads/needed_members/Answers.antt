@@ -57,3 +57,6 @@ returns g c =
     let le : length order ≤ i = c.loop-i-test.false in
     let so_far : AreNeededSoFar n compare list order [] c.loop-i.kept.items = subst₂ (λ a b. AreNeededSoFar n compare list a b c.loop-i.kept.items) (take_all i order le) (drop_all i order le) c.loop-i.invariant in
     needed_all n compare list order c.loop-i.kept.items so_far (λ j lt some. subst (λ z. Contains z j) (sym c.deref-i-items.ensures.value) (c.in_ok-order.ensures.all j lt some))
+
+pub by_ascending_lead-requires : goal.by_ascending_lead-requires
+by_ascending_lead-requires g c = c.requires

@@ -27,3 +27,15 @@ returns-clause-stop g c =
     let v = c.args.member.now in
     let d : IsDivisionTrail ring c.in_ok-tail.tail list t = subst (DivisionStops ring c.in_ok-tail.tail list) c.in-Err-Degree.field-0-is c.in-Err-Degree.ensures.stop in
     subst₂ (λ r m. IsDivisionTrail r v m c.in_ok-trail-in-Err-Degree.trail) d.over d.members c.in_ok-trail-in-Err-Degree.ensures
+
+pub tail_of-requires-clause-some : goal.tail_of-requires-clause-some
+tail_of-requires-clause-some g c = c.requires.some
+
+pub tail_of-requires-clause-vector : goal.tail_of-requires-clause-vector
+tail_of-requires-clause-vector g c = c.requires.member
+
+pub with_lead_of-requires-clause-some : goal.with_lead_of-requires-clause-some
+with_lead_of-requires-clause-some g c = c.requires.some
+
+pub with_lead_of-requires-clause-vector : goal.with_lead_of-requires-clause-vector
+with_lead_of-requires-clause-vector g c = c.requires.member

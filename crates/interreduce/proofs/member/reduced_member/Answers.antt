@@ -20,3 +20,9 @@ returns-in-Ok-clause-reduced g c =
     let list = g.L.Vectors.listed c.args.list.now in
     by_list ring compare c.lawful_setting.ensures list c.args.index c.in-Ok.reduced
     (subst (λ w. HasReducedTail ring compare list w c.in-Ok.reduced) c.at.ensures c.in-Ok.ensures.reduced)
+
+pub reduced_by-requires-clause-list : goal.reduced_by-requires-clause-list
+reduced_by-requires-clause-list g c = c.requires.vectors
+
+pub reduced_by-requires-clause-divisors : goal.reduced_by-requires-clause-divisors
+reduced_by-requires-clause-divisors g c = c.requires.divisors

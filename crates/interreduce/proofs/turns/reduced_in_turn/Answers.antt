@@ -18,3 +18,9 @@ loop-index-preserved g c = record {
       (one_more (g.F.Frame.over c.args.frame.now) (g.F.Frame.compare c.args.frame.now) (g.L.Vectors.listed c.args.list.now) (λ j. get_or c.args.indices.now j 0) c.loop-index.members.items
       c.loop-index.index-index c.in-Ok.member c.loop-index.invariant.count c.loop-index.invariant.each c.in-Ok.ensures.reduced k l);
 }
+
+pub reduced_member-requires-clause-divisors : goal.reduced_member-requires-clause-divisors
+reduced_member-requires-clause-divisors g c = c.requires.divisors
+
+pub reduced_member-requires-clause-vectors : goal.reduced_member-requires-clause-vectors
+reduced_member-requires-clause-vectors g c = c.requires.vectors

@@ -62,3 +62,6 @@ converted-requires c =
     (subst (λ z. IsGiven n ring c.args.basis.now leads z) (sym c.deref-4.ensures.value)
     (given n ring c.args.basis.now leads standard (sym ring.weighted) (c.lawful_setting.ensures 1) c.requires
     c.in_ok-leads.ensures.monomials c.in_ok-leads.ensures.leads c.in_ok-standard.ensures.monomials sorted c.in_ok-standard.ensures.ascending c.in_ok-standard.ensures.room few))
+
+pub leads_of-requires : goal.leads_of-requires
+leads_of-requires c = c.requires

@@ -35,3 +35,9 @@ returns c =
     let changed = subst (λ (z : Ring). IsChanged (length z.weights) z (sums_of (length z.weights) basis) (monomials (length z.weights) c.args.standard.now) c.in_ok-members.members.items) c.in_ok-new_ring.ensures c.in_ok-members.ensures in
     subst (IsReducedBasisOf (with_order c.args.order ring) 1 basis) (sym c.from_vec.ensures)
     (answer n ring c.args.order basis c.in_ok-members.members.items c.args.leads.now c.args.standard.now (sym ring.weighted) c.requires lawful' changed)
+
+pub product_forms-requires : goal.product_forms-requires
+product_forms-requires c = c.requires
+
+pub form_of_one-requires : goal.form_of_one-requires
+form_of_one-requires c = c.requires

@@ -48,3 +48,6 @@ returns-clause-multiplied c =
     let n = length ws in
     let le : n ≤ c.loop-i.i = omega arith in
     IsMultiplying_done n ws (monomials n c.args.leads.now) c.loop-i.found.items c.args.at c.loop-i.i c.loop-i.invariant le
+
+pub is_new-requires-clause-leads : goal.is_new-requires-clause-leads
+is_new-requires-clause-leads c = c.requires.leads

@@ -24,3 +24,6 @@ returns c =
     let e = unit_by c.len.result n one.exponents c.len.ensures c.in_ok-one.ensures.ok in
     subst (AreListed n ws L) (sym (c.in_ok-push.ensures.items ∙ ap (λ z. z ++ one ∷ []) c.new-found.ensures.items))
     (AreListed_one n ws L one (subst (IsStandard L) e (c.if-not-is_standard.ensures.0 refl)) (subst (λ k. IsWeighed k ws one) c.len.ensures (c.in_ok-one.ensures.weighed ws)) e c.in_ok-one.ensures.degree)
+
+pub is_standard-requires-clause-leads : goal.is_standard-requires-clause-leads
+is_standard-requires-clause-leads c = c.requires.leads

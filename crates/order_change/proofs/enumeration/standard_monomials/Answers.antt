@@ -42,3 +42,9 @@ returns-clause-few c =
     let le : length xs ≤ at = omega (arith, c.loop-at.invariant.listed.few, c.loop-at-test.false) in
     AreFew_listed n ws L xs c.loop-at.invariant.listed (AreMultiplied_all n L xs at le c.loop-at.invariant.multiplied)
     (λ inf. let t : false ≡ true = c.if-is_infinite.ensures.1 inf in cc)
+
+pub is_infinite-requires : goal.is_infinite-requires
+is_infinite-requires c = c.requires.leads
+
+pub add_multiples-requires-clause-leads : goal.add_multiples-requires-clause-leads
+add_multiples-requires-clause-leads c = c.requires.leads

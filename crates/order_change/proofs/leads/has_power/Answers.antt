@@ -12,3 +12,6 @@ loop-lead-preserved c =
     let i = c.loop-lead.lead-index in
     one_more (λ k. (a : ℕ) → get_or (monomials n c.args.leads.now) k (unit n) ≡ power n c.args.i a → ⊥) i c.loop-lead.invariant
     (λ a e. let t : false ≡ true = c.if-is_power.ensures.1 (a, sym (item_at n c.args.leads.now i g c.loop-lead-test.true c.lead-item.is) ∙ e) in cc)
+
+pub is_power-requires-clause-index : goal.is_power-requires-clause-index
+is_power-requires-clause-index c = c.requires.index

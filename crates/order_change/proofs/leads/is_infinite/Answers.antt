@@ -14,3 +14,6 @@ returns c =
     let n = length c.args.weights.now in
     let le : n ≤ c.loop-i.i = omega arith in
     ((λ t. let q : false ≡ true = t in cc), λ inf. absurd (let lt : inf.0 < c.loop-i.i = (let l = inf.1 in omega (arith, l, le)) in let h = c.loop-i.invariant inf.0 lt in inf.2 h.0 h.1))
+
+pub has_power-requires-clause-leads : goal.has_power-requires-clause-leads
+has_power-requires-clause-leads c = c.requires

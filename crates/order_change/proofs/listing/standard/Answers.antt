@@ -55,3 +55,6 @@ returns-clause-stop c =
     subst (λ L. OrderChangeStops L stop) c.in_ok-leads.ensures.leads
     (subst (λ k. OrderChangeStops (monomials k c.in_ok-leads.leads.items) stop) e
     (subst (λ z. OrderChangeStops (monomials (length ws) z) stop) c.deref.ensures.value c.in-Err.ensures.stop))
+
+pub leads_of-requires : goal.leads_of-requires
+leads_of-requires c = c.requires

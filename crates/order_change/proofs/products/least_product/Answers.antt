@@ -24,3 +24,12 @@ loop-v-preserved c =
           let over : length list ≤ turn i = omega arith in
           subst (IsLeastOf n ws compare o list turn (i + 1)) (sym w.least-is) (least_passed n ws compare o list turn i c.loop-v.least c.loop-v.invariant over)
     ]
+
+pub candidate_of-requires-clause-list : goal.candidate_of-requires-clause-list
+candidate_of-requires-clause-list c = c.requires.list
+
+pub candidate_of-requires-clause-room : goal.candidate_of-requires-clause-room
+candidate_of-requires-clause-room c = c.requires.room
+
+pub candidate_of-requires-clause-turns : goal.candidate_of-requires-clause-turns
+candidate_of-requires-clause-turns c = c.requires.turns

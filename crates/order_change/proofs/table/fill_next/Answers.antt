@@ -63,3 +63,6 @@ returns-in_ok-push-in-Some-clause-more c =
           (let lt = candidate.parent in let t = candidate.turns in omega (arith, lt, t)),
       c.pass.ensures.long,
     )
+
+pub product_form-requires-clause-given : goal.product_form-requires-clause-given
+product_form-requires-clause-given c = c.requires.given

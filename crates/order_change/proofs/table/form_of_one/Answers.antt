@@ -24,3 +24,6 @@ returns c =
     let is = unit_by c.len.result n c.in_ok-one.one.exponents c.len.ensures c.in_ok-one.ensures.ok in
     subst (λ z. IsFormOver n ring c.args.basis.now c.args.standard.now z c.in-Some.form) is
     (subst (λ z. IfSome z (IsFormOver n ring c.args.basis.now c.args.standard.now (exponents_of n c.in_ok-one.one.exponents))) c.in-Some.is c.in_ok-form.ensures.some)
+
+pub known_form-requires-clause-given : goal.known_form-requires-clause-given
+known_form-requires-clause-given c = c.requires

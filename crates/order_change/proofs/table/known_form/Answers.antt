@@ -19,3 +19,6 @@ returns-in-Some-clause-some c =
     let residues : AreResidues ring.modulus.value (length (monomials n standard)) form = subst (λ d. AreResidues ring.modulus.value d form) (sym (length_monomials n standard)) c.in_ok-form.ensures.residues in
     standard_normal (comparison ring.order ring.weights n) (comparison_order ring.order ring.weights n) ring.modulus.value (sums_of n c.args.basis.now) (monomials n standard) (exponents_of n c.args.m.now.exponents) c.in-Some.k form
     (let lt = at.0 in omega (arith, lt, length_monomials n standard)) at.1 residues c.in_ok-form.ensures.at c.in_ok-form.ensures.others
+
+pub lead_form-requires-clause-given : goal.lead_form-requires-clause-given
+lead_form-requires-clause-given c = c.requires.given

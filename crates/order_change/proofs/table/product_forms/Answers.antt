@@ -11,3 +11,6 @@ loop-turns-init c =
     let n = length ring.weights in
     filling_first (comparison ring.order ring.weights n) ring.modulus.value (sums_of n c.args.basis.now) (monomials n c.args.standard.now) c.in_ok-turns.turns c.in_ok-table.table
     (omega (arith, c.in_ok-turns.ensures.long)) c.in_ok-turns.ensures.zeros (omega (arith, c.in_ok-table.ensures.long)) c.in_ok-table.ensures.rows
+
+pub fill_next-requires-clause-given : goal.fill_next-requires-clause-given
+fill_next-requires-clause-given c = c.requires

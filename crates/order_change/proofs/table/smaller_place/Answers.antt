@@ -63,3 +63,6 @@ returns-in-None-clause-none c =
       get_or (monomials n standard) h (unit n),
       ap (times (get_or (monomials n standard) h (unit n))) (c.in_ok-variable.ensures.ok.exponents ∙ variable_power n c.args.j) ∙ g.1 ∙ item_at n standard k b c.requires.index c.index-standard-k.is,
     )
+
+pub position-place-requires-clause-list : goal.position-place-requires-clause-list
+position-place-requires-clause-list c = c.requires.standard

@@ -25,3 +25,6 @@ loop-lead-preserved c =
     let at = item_at n c.args.leads.now k lead c.loop-lead-test.true c.lead-item.is in
     one_more (λ i. Divides (get_or (monomials n c.args.leads.now) i (unit n)) m → get_or (monomials n c.args.leads.now) i (unit n) ≡ m) k c.loop-lead.invariant
     (λ d. at ∙ none (subst (λ z. Divides z m) at d))
+
+pub spare_of-requires-clause-monomial : goal.spare_of-requires-clause-monomial
+spare_of-requires-clause-monomial c = c.requires.monomial

@@ -104,3 +104,15 @@ returns-clause-free c = λ d f chain.
       | inl l ↦ c.loop-c.invariant.free d l f chain
       | inr l ↦ beyond c.loop-c.due c.args.a d (omega (arith, l, c.loop-c-test.false, c.len-count.ensures, c.loop-c.invariant.sizes)) f
     ]
+
+pub gap_of-gap-requires-clause-a : goal.gap_of-gap-requires-clause-a
+gap_of-gap-requires-clause-a c = c.requires.a
+
+pub gap_of-gap-requires-clause-k : goal.gap_of-gap-requires-clause-k
+gap_of-gap-requires-clause-k c = c.requires.k
+
+pub close_one-requires-clause-a : goal.close_one-requires-clause-a
+close_one-requires-clause-a c = c.requires.a
+
+pub close_one-requires-clause-k : goal.close_one-requires-clause-k
+close_one-requires-clause-k c = c.requires.k

@@ -27,3 +27,12 @@ returns-else-divides_lcm c = record {
   closed = λ e d. absurd (false≢true (sym e ∙ d));
   free = λ e d. not_true c.divides_lcm.result c.if-divides_lcm.false (c.divides_lcm.ensures.1 d);
 }
+
+pub divides_lcm-requires-clause-order : goal.divides_lcm-requires-clause-order
+divides_lcm-requires-clause-order c = c.requires.order
+
+pub divides_lcm-requires-clause-within : goal.divides_lcm-requires-clause-within
+divides_lcm-requires-clause-within c = c.requires.within
+
+pub divides_lcm-requires-clause-known : goal.divides_lcm-requires-clause-known
+divides_lcm-requires-clause-known c = c.requires.k

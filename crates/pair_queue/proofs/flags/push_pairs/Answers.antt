@@ -15,3 +15,6 @@ loop-i-preserved c =
           let d = one_more (λ i. are_together G i c.args.j) c.loop-i.i c.args.j x in
           omega (arith, a, b, d);
     }
+
+pub push_pair-requires-clause-known : goal.push_pair-requires-clause-known
+push_pair-requires-clause-known c = c.requires.known

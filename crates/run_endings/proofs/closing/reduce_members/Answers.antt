@@ -25,3 +25,6 @@ returns-in-Ok-clause-basis g c =
     (ap vectors_in c.members-members.ensures.list)
     (subst (λ (x : Shared). Each (HasPositions x.rank) (vectors_in m.list)) c.members-members.ensures.shared (members_positions m.shared m.list c.kept-2.ensures))
     c.in-Ok.ensures.vectors c.in-Ok.ensures.reduced c.in-Ok.ensures.positions
+
+pub trail_of_run-requires-clause-closed : goal.trail_of_run-requires-clause-closed
+trail_of_run-requires-clause-closed g c = c.requires

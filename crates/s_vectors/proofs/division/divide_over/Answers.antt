@@ -88,3 +88,12 @@ divide_vector-requires-clause-top c =
       vector = subst (λ (r : Ring). IsVectorOver r (ring_comparison r) c.in-Ok.vector) c.requires.over c.in-Ok.ensures.vector;
       sum = subst₂ (λ (r : Ring) ps. StandsFor r c.in-Ok.vector (combination (sums_of (variables r) (vectors_in m.list)) (cofactors_of (variables r) ps))) c.requires.over c.deref.ensures.value c.in-Ok.ensures.sum;
     }
+
+pub pair_parts-requires-clause-over : goal.pair_parts-requires-clause-over
+pair_parts-requires-clause-over c = c.requires.over
+
+pub divide_vector-requires-clause-over : goal.divide_vector-requires-clause-over
+divide_vector-requires-clause-over c = c.requires.over
+
+pub divide_vector-requires-clause-pair : goal.divide_vector-requires-clause-pair
+divide_vector-requires-clause-pair c = c.requires.pair

@@ -67,3 +67,9 @@ make_row-requires-clause-divided c =
     let f = c.in-Ok.ensures in
     divided_over c.args.members.now c.args.pair.now c.requires.pair c.args.parts.items c.args.vector.now c.requires.top c.args.ring.now c.in-Ok.reduction.quotients.items c.take_quotients.new.parts.items c.in-Ok.reduction.rest
     c.requires.over c.requires.some c.in_ok-take_quotients.ensures f.quotients f.met f.bounded f.sum f.rest
+
+pub make_row-requires-clause-over : goal.make_row-requires-clause-over
+make_row-requires-clause-over c = c.requires.over
+
+pub make_row-requires-clause-pair : goal.make_row-requires-clause-pair
+make_row-requires-clause-pair c = c.requires.pair

@@ -52,3 +52,9 @@ returns-clause-positions g c =
     (subst (λ m. all_kept (is_from_position m) (sum_of n rest) ≡ true) c.first_mark-mark.ensures (sym (c.is_from.ensures n) ∙ c.if-not-is_from.false))
     c.in_ok-cofactors.cofactors c.scale.new.self c.neg.result c.neg.ensures.value
     (subst (λ m. StandsFor ring c.in_ok-cofactors.cofactors (lowered m (sum_of n rest))) c.first_mark-mark.ensures c.in_ok-cofactors.ensures.sum) c.scale.ensures.multiple c.scale.ensures.vector
+
+pub rest_by_position-requires-clause-vector : goal.rest_by_position-requires-clause-vector
+rest_by_position-requires-clause-vector g c = c.requires.vector
+
+pub first_mark-mark-requires : goal.first_mark-mark-requires
+first_mark-mark-requires g c = c.requires.room

@@ -31,3 +31,12 @@ returns-in-Err-clause-stop c =
     let v = c.args.v.now in
     division_rests ring c.args.by_position.now v v c.args.list.now c.in-Err.stop c.requires.by_position
     (record { vector = already_by_position ring v c.in-Pot.is c.requires.vector; same = IsSame_refl ring.modulus.value (sum_of (variables ring) v) }) c.in-Err.ensures.stop
+
+pub rest_of_copy-requires-clause-by_position : goal.rest_of_copy-requires-clause-by_position
+rest_of_copy-requires-clause-by_position c = c.requires.by_position
+
+pub rest_of_copy-requires-clause-vector : goal.rest_of_copy-requires-clause-vector
+rest_of_copy-requires-clause-vector c = c.requires.vector
+
+pub rest_of_copy-requires-clause-list : goal.rest_of_copy-requires-clause-list
+rest_of_copy-requires-clause-list c = c.requires.list

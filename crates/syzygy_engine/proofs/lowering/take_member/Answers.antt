@@ -13,3 +13,6 @@ returns-clause-stand c = λ G h.
     rw c.in_ok-push.ensures.items
     (subst (StandOneByOne ring _) (sym (kernel_kept c.args.position G (sum_of (variables ring) c.args.v) kept))
     (stand_next ring c.args.kernel.now.items _ c.in_ok-lowered_vector.field-0 _ h c.in_ok-lowered_vector.ensures.sum))
+
+pub lowered_vector-requires-clause-terms : goal.lowered_vector-requires-clause-terms
+lowered_vector-requires-clause-terms c = c.requires

@@ -42,3 +42,9 @@ returns-in-Err-clause-stop g c =
     rw c.from.ensures
     (run_stops _ _ _ _ (IsMarkedRun ring q list) NoTrail c.in_ok-by_position.by_position (q + c.len.result) done c.in-Err.stop
     (c.in_ok-by_position.ensures, ap (λ l. q + l) c.len.ensures, marks) c.in-Err.ensures.stop)
+
+pub marked_list-requires-clause-vectors : goal.marked_list-requires-clause-vectors
+marked_list-requires-clause-vectors g c = c.requires.vectors
+
+pub first_mark-requires : goal.first_mark-requires
+first_mark-requires g c = c.requires.room

@@ -33,3 +33,6 @@ returns-clause-positions g c =
     (kernel_of_run ring c.args.rank c.args.list.now run.0 basis kernel (c.lawful_setting.ensures 0) run.1 run.2
     (subst (λ m. StandOneByOne ring kernel (kernel_of m (sums_of (variables ring) basis))) c.first_mark.ensures c.in_ok-kernel_part.ensures.kernel))
     c.in_ok-kernel_part.ensures.vectors
+
+pub first_mark-requires : goal.first_mark-requires
+first_mark-requires g c = c.requires.room
