@@ -12,12 +12,22 @@ use std::sync::Arc;
 
 /// A vector of a run's module and its cofactors over the run's generators, of which it is the combination: position i
 /// of `cof` has the cofactor of generator i.
-#[derive(Drop)]
 pub struct Member {
     pub shared: Arc<Shared, Global>,
     pub vector: Vect,
     pub cof: Vect,
     pub ghost combined: { IsCombined (arc_value shared).ring (arc_value shared).rank (arc_value shared).generators vector cof } by { IsCombined-prop (arc_value shared).ring (arc_value shared).rank (arc_value shared).generators vector cof },
+}
+
+// By hand, so that each drop of one is a call.
+impl Drop for Member {
+    fn drop(self) {
+        let Member {
+            shared: _,
+            vector: _,
+            cof: _,
+        } = self;
+    }
 }
 
 impl Member {

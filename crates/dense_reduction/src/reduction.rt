@@ -43,7 +43,6 @@ pub struct Own {
 }
 
 /// A row on its way. Its room serves one row after another.
-#[derive(Drop)]
 pub struct Work {
     /// What is left at the columns that are done: columns and residues.
     pub(crate) left: Vec<(u32, u32)>,
@@ -53,6 +52,18 @@ pub struct Work {
     pub(crate) limit: u64,
     /// The rows that were added, each by its number and a factor.
     pub(crate) taken: Vec<(usize, u32)>,
+}
+
+// By hand, so that each drop of one is a call.
+impl Drop for Work {
+    fn drop(self) {
+        let Work {
+            left: _,
+            numbers: _,
+            limit: _,
+            taken: _,
+        } = self;
+    }
 }
 
 /// Room for a row of so many columns. `NoMemory` is the only error.

@@ -23,7 +23,6 @@ use row_matrix::{Row, kept_number};
 use std::alloc::Global;
 
 /// Up to eight rows on their way. The room serves one eight after another.
-#[derive(Drop)]
 pub struct Together {
     /// What is left at the columns that are done: columns and a residue for each of the eight, not all of them 0.
     pub(crate) left: Vec<(u32, [u32; 8])>,
@@ -33,6 +32,18 @@ pub struct Together {
     pub(crate) limit: u64,
     /// The rows that were added, each by its number and a factor for each of the eight.
     pub(crate) taken: Vec<(usize, [u32; 8])>,
+}
+
+// By hand, so that each drop of one is a call.
+impl Drop for Together {
+    fn drop(self) {
+        let Together {
+            left: _,
+            numbers: _,
+            limit: _,
+            taken: _,
+        } = self;
+    }
 }
 
 /// Room for eight rows of so many columns. `NoMemory` is the only error.

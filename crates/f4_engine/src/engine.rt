@@ -24,7 +24,6 @@ use worker_gate::SharedGate;
 /// Buchberger's algorithm by running workers, each of which solves its jobs with helpers. The last run that stopped early is
 /// kept: by its budget of pairs, its state; by a degree above 65,535, a trail and its state, or the trail alone where the
 /// beginning of the run met it. So is the state of the last run that answered.
-#[derive(Drop)]
 pub struct F4Engine {
     pairs: u64,
     workers: u32,
@@ -34,6 +33,22 @@ pub struct F4Engine {
     state: Option<BasisState>,
     trail: Option<KeptTrail>,
     last: Option<BasisState>,
+}
+
+// By hand, so that each drop of one is a call.
+impl Drop for F4Engine {
+    fn drop(self) {
+        let F4Engine {
+            pairs: _,
+            workers: _,
+            helpers: _,
+            gate: _,
+            stops: _,
+            state: _,
+            trail: _,
+            last: _,
+        } = self;
+    }
 }
 
 impl Model for F4Engine {
@@ -147,7 +162,17 @@ impl F4Engine {
         ensures trail { result.1 ≡ self.trail }
         ensures kept { IsKeptBy self }
     {
-        (self.state, self.trail)
+        let F4Engine {
+            pairs: _,
+            workers: _,
+            helpers: _,
+            gate: _,
+            stops: _,
+            state,
+            trail,
+            last: _,
+        } = self;
+        (state, trail)
     }
 
     // Counts a run that stopped, and keeps this of it.

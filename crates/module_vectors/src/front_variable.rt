@@ -50,7 +50,7 @@ fn term_without_front(alloc: Global, term: (Key, u32)) -> Result<(Key, u32), NoM
 {
     let (key, residue) = term;
     let position = key.position;
-    let monomial = key.monomial.without_front(alloc)?;
+    let monomial = key.into_monomial().without_front(alloc)?;
     Ok((Key { position, monomial }, residue))
 }
 

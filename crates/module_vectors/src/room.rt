@@ -6,9 +6,15 @@ use std::alloc::Global;
 
 /// Lists that are needed no more. A sum of products takes them for its own parts and its answer, so that one sum after another
 /// takes little memory from the system.
-#[derive(Drop)]
 pub struct Room {
     lists: Vec<Vec<(Key, u32)>>,
+}
+
+// By hand, so that each drop of one is a call.
+impl Drop for Room {
+    fn drop(self) {
+        let Room { lists: _ } = self;
+    }
 }
 
 impl Room {

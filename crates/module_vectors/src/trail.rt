@@ -18,7 +18,6 @@ pub enum TrailStart {
 }
 
 /// A chain of products of terms and members that leads to one of a degree above 65,535.
-#[derive(Drop)]
 pub struct KeptTrail {
     /// The ring in which the products were made.
     pub ring: Ring,
@@ -35,6 +34,44 @@ pub struct KeptTrail {
     pub products: Vec<(u64, Mono)>,
     /// A monomial of the last product's member, too great for the last t.
     pub last: Mono,
+}
+
+impl KeptTrail {
+    /// The products, and the monomial that is too great for the last of them.
+    pub fn into_chain(self) -> (Vec<(u64, Mono)>, Mono)
+        ensures products { result.0 ≡ self.products }
+        ensures last { result.1 ≡ self.last }
+    {
+        let KeptTrail {
+            ring: _,
+            rank: _,
+            generators: _,
+            below: _,
+            start: _,
+            vector: _,
+            members: _,
+            products,
+            last,
+        } = self;
+        (products, last)
+    }
+}
+
+// By hand, so that each drop of one is a call.
+impl Drop for KeptTrail {
+    fn drop(self) {
+        let KeptTrail {
+            ring: _,
+            rank: _,
+            generators: _,
+            below: _,
+            start: _,
+            vector: _,
+            members: _,
+            products: _,
+            last: _,
+        } = self;
+    }
 }
 
 /// Why a piece of work was not done.

@@ -24,9 +24,15 @@ use std::mem::replace;
 
 /// A vector of a free module over a polynomial ring: its terms, strictly descending in a frame's order, with residues
 /// that are not 0. Contracts see the list of its terms.
-#[derive(Drop)]
 pub struct Vect {
     terms: Vec<(Key, u32)>,
+}
+
+// By hand, so that each drop of one is a call.
+impl Drop for Vect {
+    fn drop(self) {
+        let Vect { terms: _ } = self;
+    }
 }
 
 impl Model for Vect {
@@ -91,7 +97,8 @@ impl Vect {
     pub fn into_terms(self) -> Vec<(Key, u32)>
         ensures { result.items ≡ self }
     {
-        self.terms
+        let Vect { terms } = self;
+        terms
     }
 
     /// The greatest term, or `None` exactly at zero.
@@ -117,7 +124,7 @@ impl Vect {
     {
         let out = Vec::with_capacity(alloc, self.terms.len() + v.terms.len())?;
         let left = replace(&mut self.terms, Vec::new(alloc));
-        self.terms = merge(frame, left, v.terms, out);
+        self.terms = merge(frame, left, v.into_terms(), out);
         Ok(())
     }
 

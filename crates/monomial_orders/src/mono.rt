@@ -25,9 +25,15 @@ const MAX_KEPT: u128 = 4294967295;
 /// A monomial: an exponent for each variable of its ring, and its degree by the ring's weights.
 ///
 /// Contracts see the two. Up to 16 variables need no memory of their own.
-#[derive(Drop)]
 pub struct Mono {
     stored: Stored,
+}
+
+// By hand, so that each drop of one is a call.
+impl Drop for Mono {
+    fn drop(self) {
+        let Mono { stored: _ } = self;
+    }
 }
 
 impl Model for Mono {

@@ -20,11 +20,21 @@ const MAX_VARIABLES: usize = 4294967295;
 
 /// A monomial's exponents at their places, and its degree: 16 places up to 16 variables, else one for each variable. The places
 /// behind the last variable are 0, so that loops go over 16 places however many variables there are.
-#[derive(Drop)]
 pub(crate) struct Stored {
     places: SmallVec<u16, 16>,
     variables: u32,
     degree: u32,
+}
+
+// By hand, so that each drop of one is a call.
+impl Drop for Stored {
+    fn drop(self) {
+        let Stored {
+            places: _,
+            variables: _,
+            degree: _,
+        } = self;
+    }
 }
 
 // So many variables at 16 places. The degree is set later, by `with_degree`.
@@ -89,7 +99,7 @@ impl Stored {
         let Stored {
             places,
             variables,
-            ..
+            degree: _,
         } = self;
         Stored {
             places,

@@ -16,13 +16,25 @@ use std::cmp::Ordering;
 use std::marker::Model;
 
 /// Leads over one ring and rank, in the order of their members. There are as many weights as variables.
-#[derive(Drop)]
 pub(crate) struct Leads {
     order: Order,
     module_order: ModOrder,
     weights: Weights,
     rank: u128,
     keys: Vec<Key>,
+}
+
+// By hand, so that each drop of one is a call.
+impl Drop for Leads {
+    fn drop(self) {
+        let Leads {
+            order: _,
+            module_order: _,
+            weights: _,
+            rank: _,
+            keys: _,
+        } = self;
+    }
 }
 
 impl Model for Leads {

@@ -25,7 +25,6 @@ use std::marker::Model;
 
 /// The pairs of a run: those that are queued, in their order, and those that are out with a worker; and the leads of the
 /// members. Contracts see these three. It knows of each queued pair whether a criterion applies to it.
-#[derive(Drop)]
 pub struct PairQueue {
     leads: Leads,
     queue: Queue,
@@ -34,6 +33,19 @@ pub struct PairQueue {
     waits: Table,
     // Of the queued pairs those to which no criterion applies; what it says of others is not read.
     due: Table,
+}
+
+// By hand, so that each drop of one is a call.
+impl Drop for PairQueue {
+    fn drop(self) {
+        let PairQueue {
+            leads: _,
+            queue: _,
+            out: _,
+            waits: _,
+            due: _,
+        } = self;
+    }
 }
 
 impl Model for PairQueue {

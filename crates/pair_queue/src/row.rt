@@ -8,9 +8,15 @@ use std::alloc::Global;
 use std::marker::Model;
 
 /// A flag for each member, 64 to a word.
-#[derive(Drop)]
 pub(crate) struct Row {
     words: Vec<u64>,
+}
+
+// By hand, so that each drop of one is a call.
+impl Drop for Row {
+    fn drop(self) {
+        let Row { words: _ } = self;
+    }
 }
 
 impl Model for Row {

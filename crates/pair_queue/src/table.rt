@@ -9,11 +9,20 @@ use std::alloc::Global;
 use std::marker::Model;
 
 /// A flag for each pair of members, kept in the rows of both.
-#[derive(Drop)]
 pub(crate) struct Table {
     members: usize,
     // A row for each member, with a flag for each; and what is there for more, where no flag is set.
     rows: Vec<Row>,
+}
+
+// By hand, so that each drop of one is a call.
+impl Drop for Table {
+    fn drop(self) {
+        let Table {
+            members: _,
+            rows: _,
+        } = self;
+    }
 }
 
 impl Model for Table {

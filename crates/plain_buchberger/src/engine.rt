@@ -22,12 +22,23 @@ use std::thread::Threads;
 
 /// Buchberger's algorithm on one thread. The last run that stopped early is kept: by its budget of pairs, its state; by a
 /// degree above 65,535, a trail and its state, or the trail alone where the beginning of the run met it.
-#[derive(Drop)]
 pub struct PlainEngine {
     pairs: u64,
     stops: u64,
     state: Option<BasisState>,
     trail: Option<KeptTrail>,
+}
+
+// By hand, so that each drop of one is a call.
+impl Drop for PlainEngine {
+    fn drop(self) {
+        let PlainEngine {
+            pairs: _,
+            stops: _,
+            state: _,
+            trail: _,
+        } = self;
+    }
 }
 
 impl Model for PlainEngine {
@@ -86,7 +97,13 @@ impl PlainEngine {
         ensures trail { result.1 ≡ self.trail }
         ensures kept { IsKeptBy self }
     {
-        (self.state, self.trail)
+        let PlainEngine {
+            pairs: _,
+            stops: _,
+            state,
+            trail,
+        } = self;
+        (state, trail)
     }
 
     /// The reduced Gröbner basis of the list in a free module of this rank, by descending leads in the ring's own order. It

@@ -138,7 +138,6 @@ fn bucket(count: usize, hash: u64) -> usize
 }
 
 /// Module monomials, each with its number, from 0. No key has two numbers.
-#[derive(Drop)]
 pub struct KeyTable {
     keys: Vec<Key>,
     hashes: Vec<u64>,
@@ -148,6 +147,19 @@ pub struct KeyTable {
     last: Vec<u32>,
     // whether all are keys that their hashes tell
     told: bool,
+}
+
+// By hand, so that each drop of one is a call.
+impl Drop for KeyTable {
+    fn drop(self) {
+        let KeyTable {
+            keys: _,
+            hashes: _,
+            earlier: _,
+            last: _,
+            told: _,
+        } = self;
+    }
 }
 
 impl Model for KeyTable {
@@ -304,7 +316,14 @@ impl KeyTable {
         ensures keys { result.items ≡ self }
         ensures apart { AreApart result.items }
     {
-        self.keys
+        let KeyTable {
+            keys,
+            hashes: _,
+            earlier: _,
+            last: _,
+            told: _,
+        } = self;
+        keys
     }
 
     /// The number of keys.

@@ -8,11 +8,21 @@ use std::alloc::Global;
 use std::marker::Model;
 
 /// The hashes of the keys of terms, in their order, and a position and a degree that are no less than that of each key.
-#[derive(Drop)]
 pub struct TermHashes {
     hashes: Vec<u64>,
     position: u64,
     degree: u128,
+}
+
+// By hand, so that each drop of one is a call.
+impl Drop for TermHashes {
+    fn drop(self) {
+        let TermHashes {
+            hashes: _,
+            position: _,
+            degree: _,
+        } = self;
+    }
 }
 
 impl Model for TermHashes {

@@ -20,10 +20,16 @@ use worker_gate::SharedGate;
 use zp_field::Modulus;
 
 // Rows for the last of so many helpers, each n-th one, and for those before it.
-#[derive(Drop)]
 struct Dealt {
     last: Vec<u64>,
     others: Vec<u64>,
+}
+
+// By hand, so that each drop of one is a call.
+impl Drop for Dealt {
+    fn drop(self) {
+        let Dealt { last: _, others: _ } = self;
+    }
 }
 
 // Deals rows to n helpers in turn, those of the last apart.

@@ -199,10 +199,19 @@ fn keep_rests(
 }
 
 // Room for reductions, of one row or of eight.
-#[derive(Drop)]
 struct Room {
     work: Work,
     together: Together,
+}
+
+// By hand, so that each drop of one is a call.
+impl Drop for Room {
+    fn drop(self) {
+        let Room {
+            work: _,
+            together: _,
+        } = self;
+    }
 }
 
 // Room for rows of so many columns.

@@ -8,10 +8,19 @@ use std::alloc::{AllocError, AllocFailed};
 
 /// Products (k, t) of member k and monomial t, each with a lead that is a pair's least common multiple or a monomial of an
 /// earlier one, and a monomial of the last one's member that is too great for it.
-#[derive(Drop)]
 pub struct GreatProduct {
     pub products: Vec<(u64, Mono)>,
     pub last: Mono,
+}
+
+// By hand, so that each drop of one is a call.
+impl Drop for GreatProduct {
+    fn drop(self) {
+        let GreatProduct {
+            products: _,
+            last: _,
+        } = self;
+    }
 }
 
 /// Why there is no matrix.

@@ -22,7 +22,7 @@ returns-clause-matrix g c =
     let rows = c.in_ok-rows.rows.items in
     let domain : IsDomain p = subst (λ r. IsDomain r.modulus.value) c.ring.ensures c.domain.ensures.domain in
     let placed : IfOk c.place_matrix.result (IsPlacedMatrix n ws compare keys (length list) rows) =
-    subst (λ ks. IfOk c.place_matrix.result (IsPlacedMatrix n ws compare ks (length list) rows)) c.keys-2.ensures.keys c.place_matrix.ensures in
+    subst (λ ks. IfOk c.place_matrix.result (IsPlacedMatrix n ws compare ks (length list) rows)) c.keys.ensures.keys c.place_matrix.ensures in
     ok_more (IsPlacedMatrix n ws compare keys (length list) rows) (IsMatrix n ws p compare) c.place_matrix.result
     (λ m h. is_matrix n ws p domain compare (g.met.F.Frame.laws c.args.frame.now n 0) list keys rows m c.requires c.in_ok-rows.ensures h) placed
 
@@ -38,7 +38,7 @@ returns-clause-rows g c =
     let rows = c.in_ok-rows.rows.items in
     let domain : IsDomain p = subst (λ r. IsDomain r.modulus.value) c.ring.ensures c.domain.ensures.domain in
     let placed : IfOk c.place_matrix.result (IsPlacedMatrix n ws compare keys (length list) rows) =
-    subst (λ ks. IfOk c.place_matrix.result (IsPlacedMatrix n ws compare ks (length list) rows)) c.keys-2.ensures.keys c.place_matrix.ensures in
+    subst (λ ks. IfOk c.place_matrix.result (IsPlacedMatrix n ws compare ks (length list) rows)) c.keys.ensures.keys c.place_matrix.ensures in
     ok_more (IsPlacedMatrix n ws compare keys (length list) rows) (λ m. AreDivided n p list m.rows) c.place_matrix.result
     (λ m h. are_divided n ws p domain compare (g.met.F.Frame.laws c.args.frame.now n 0) list keys rows m c.requires c.in_ok-rows.ensures h) placed
 
@@ -54,7 +54,7 @@ returns-clause-sources g c =
     let rows = c.in_ok-rows.rows.items in
     let domain : IsDomain p = subst (λ r. IsDomain r.modulus.value) c.ring.ensures c.domain.ensures.domain in
     let placed : IfOk c.place_matrix.result (IsPlacedMatrix n ws compare keys (length list) rows) =
-    subst (λ ks. IfOk c.place_matrix.result (IsPlacedMatrix n ws compare ks (length list) rows)) c.keys-2.ensures.keys c.place_matrix.ensures in
+    subst (λ ks. IfOk c.place_matrix.result (IsPlacedMatrix n ws compare ks (length list) rows)) c.keys.ensures.keys c.place_matrix.ensures in
     ok_more (IsPlacedMatrix n ws compare keys (length list) rows) (λ m. Each (IsFromSources n p (sums_of n list) m.columns) m.rows) c.place_matrix.result
     (λ m h. are_from_sources n ws p domain compare (g.met.F.Frame.laws c.args.frame.now n 0) list keys rows m c.requires c.in_ok-rows.ensures h) placed
 
@@ -70,7 +70,7 @@ returns-clause-span g c =
     let rows = c.in_ok-rows.rows.items in
     let domain : IsDomain p = subst (λ r. IsDomain r.modulus.value) c.ring.ensures c.domain.ensures.domain in
     let placed : IfOk c.place_matrix.result (IsPlacedMatrix n ws compare keys (length list) rows) =
-    subst (λ ks. IfOk c.place_matrix.result (IsPlacedMatrix n ws compare ks (length list) rows)) c.keys-2.ensures.keys c.place_matrix.ensures in
+    subst (λ ks. IfOk c.place_matrix.result (IsPlacedMatrix n ws compare ks (length list) rows)) c.keys.ensures.keys c.place_matrix.ensures in
     ok_more (IsPlacedMatrix n ws compare keys (length list) rows) (λ m. HasSameSpan p (sums_of n list) (vectors_of n m.columns m.rows)) c.place_matrix.result
     (λ m h. one_span n ws p domain compare (g.met.F.Frame.laws c.args.frame.now n 0) list keys rows m c.requires c.in_ok-rows.ensures h) placed
 
