@@ -1,7 +1,9 @@
 -- A chain of products from a pair of a job
-use Rattle.std.proofs.Common.{List, [], ap, ap₂, arith, get_or, inl, inr, length, refl, subst, suc, sym, zero, ℕ, ◌+◌, ◌<◌, ◌∙◌, ◌∷◌, ◌≡◌, ◌⊎◌}
+use Rattle.std.proofs.Common.{List, [], ap, ap₂, arith, get_or, inl, inr, length, refl, reverse, subst, suc}
+use Rattle.std.proofs.Common.{sym, zero, ℕ, ◌++◌, ◌+◌, ◌-◌, ◌<◌, ◌∙◌, ◌∷◌, ◌≡◌, ◌⊎◌}
 use Rattle.std.proofs.Common.{◌≤◌}
 use Rattle.std.proofs.lemmas.Bool.{cases_lt}
+use Rattle.std.proofs.lemmas.List.{reverse-append}
 use Rattle.formal_sums.specs.FormalSums.{Each, Key, shift}
 use Rattle.bases.proofs.Meeting.{met_behind}
 use Rattle.bases.specs.Leads.{head_key}
@@ -151,6 +153,35 @@ none_below P all i before here j l = go (cases_lt j i)
     go (inr q) =
         let same : j ≡ i = omega arith in
         λ p. here (subst (λ k. P (kept_at all k)) same p)
+
+-- each product that is there
+pub kept_item : (P : KeptProduct → Type 0) (all : List KeptProduct) (i : ℕ) → Each P all → i < length all → P (kept_at all i)
+kept_item P [] i h l = absurd (omega arith)
+kept_item P (x ∷ all) zero h l = h.0
+kept_item P (x ∷ all) (suc i) h l = kept_item P all i h.1 (omega arith)
+
+-- the last product alone
+pub last_chain :
+    (n : ℕ) (ws : List ℕ) (vs : List (List (CodeKey × ℕ))) (all : List KeptProduct)
+    → Each (IsKeptProduct n ws vs) all → 0 < length all → IsChainTo n ws vs all (kept_at all (length all - 1)) (kept_at all (length all - 1) ∷ [])
+last_chain n ws vs all each some = record {
+  later = [];
+  products = refl;
+  known = (kept_item (IsKeptProduct n ws vs) all (length all - 1) each (omega arith), tt);
+  met = tt;
+  last = refl;
+}
+
+-- the product at hand is put behind the others
+pub pushed_chain :
+    (n : ℕ) (ws : List ℕ) (vs : List (List (CodeKey × ℕ))) (all : List KeptProduct) (at : ℕ) (product : KeptProduct) (old new : List KeptProduct)
+    → at < length all → product ≡ get_or all at product → new ≡ old ++ product ∷ []
+    → IsChainTo n ws vs all (kept_at all at) (kept_at all at ∷ reverse old) → IsChainTo n ws vs all (kept_at all at) (reverse new)
+pushed_chain n ws vs all at product old new lt is pushed h =
+    let there : product ≡ kept_at all at = step_is all at product lt is in
+    let longer : reverse new ≡ kept_at all at ∷ reverse old =
+    ap reverse pushed ∙ reverse-append old (product ∷ []) ∙ ap (λ (s : KeptProduct). s ∷ reverse old) there in
+    subst (IsChainTo n ws vs all (kept_at all at)) (sym longer) h
 
 -- a chain, and a product before it that has the lead of its first one as a key
 pub chain_before :

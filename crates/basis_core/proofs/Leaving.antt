@@ -370,3 +370,11 @@ left_member shared r ms row multiple copy qs rest left v b c d e ec members over
         member_left shared ms row multiple qs members over hq rest left v b c d monic hr hp some iv' rv' inverse' ranked sv' sb' sc',
       ),
     )
+
+-- the residue of a lead is one of the modulus, and not 0
+pub lead_reduced :
+    (shared : Shared) (v : List (CodeKey × ℕ))
+    → 0 < length v → IsVectorOf shared.ring v
+    → (0 < lead_residue v) × (lead_residue v < shared.ring.modulus.value)
+lead_reduced shared [] some h = absurd (omega arith)
+lead_reduced shared (t ∷ v) some h = (h.each.0.nonzero, h.each.0.reduced)

@@ -1,5 +1,5 @@
 -- The trail of a Put: from a pair of the job by the products of the outcome to a step of a row's division
-use Rattle.std.proofs.Common.{Bool, List, false, true, [], ap, append_assoc, arith, cond, get_or, inl, inr, length, length-append, refl, subst, suc}
+use Rattle.std.proofs.Common.{Bool, List, false, true, [], ap, arith, cond, get_or, inl, inr, length, length-append, refl, subst, suc}
 use Rattle.std.proofs.Common.{sym, take, zero, ℕ, ◌++◌, ◌+◌, ◌-◌, ◌<◌, ◌∙◌, ◌∷◌, ◌≡◌, ◌≤◌, ◌⊎◌}
 use Rattle.std.proofs.lemmas.Bool.{cases_lt}
 use Rattle.std.specs.Prelude.{Contains}
@@ -9,7 +9,7 @@ use Rattle.bases.proofs.Meeting.{met_at, turn_from}
 use Rattle.bases.specs.Leads.{head_key}
 use Rattle.monomial_orders.specs.Kept.{Monomial}
 use Rattle.module_vectors.specs.Rings.{variables}
-use Rattle.module_vectors.specs.Trails.{AreMet, HasKey, IsInProduct, IsMet, IsKeptProduct, KeptProduct, no_product, product_lead, kept_at}
+use Rattle.module_vectors.specs.Trails.{AreMet, HasKey, IsInProduct, IsKeptProduct, KeptProduct, no_product, product_lead, kept_at}
 use Rattle.module_vectors.specs.Vectors.{IsMonomialOver, sum_of}
 use Rattle.module_vectors.specs.declared.key.Key.{Key as CodeKey}
 use Rattle.pair_criteria.specs.declared.pair.Pair.{Pair as CodePair}

@@ -11,7 +11,7 @@ use Rattle.bases.specs.Leads.{head_key}
 use Rattle.bases.specs.Representations.{key_lcm}
 use Rattle.module_vectors.specs.Rings.{ring_comparison, variables}
 use Rattle.module_vectors.specs.Stops.{HasMonomial}
-use Rattle.module_vectors.specs.Trails.{AreMet, HasKey, IsChain, IsInProduct, IsOfProduct, IsKeptProduct, KeptProduct, last_product, no_product, product_lead, kept_at}
+use Rattle.module_vectors.specs.Trails.{HasKey, IsChain, IsInProduct, IsOfProduct, IsKeptProduct, KeptProduct, last_product, no_product, product_lead, kept_at}
 use Rattle.module_vectors.specs.Vectors.{IsMonomialOver, IsVectorOver, key_of, sum_of}
 use Rattle.module_vectors.specs.declared.key.Key.{Key as CodeKey}
 use Rattle.module_vectors.specs.declared.trail.KeptTrail.{KeptTrail}

@@ -4,7 +4,7 @@ ghost use Rattle.module_vectors.specs.Rings.{variables};
 ghost use Rattle.basis_steps.specs.Steps.{none_ended};
 ghost use Rattle.basis_core.specs.Answers.{BeginningStops, IsBeginningTrail};
 ghost use Rattle.basis_core.specs.Beginning.{HaveMade, IsUnitMultiple};
-ghost use Rattle.basis_core.specs.Rows.{IsRowTrail};
+ghost use Rattle.basis_core.specs.Rows.{IsRowTrail, RowStops};
 ghost use Rattle.member_products.specs.Generators.{IsVectorOf};
 
 use crate::copies::trail_over;
@@ -84,6 +84,29 @@ fn generator_row(alloc: Global, members: &Members, number: u64) -> Result<Row, N
     })
 }
 
+// The stop of a generator whose row stopped. Where it has no memory for the trail it says so.
+fn beginning_stop(
+    alloc: Global,
+    members: &Members,
+    number: u64,
+    row: &Row,
+    stop: RowStop,
+) -> WorkStop
+    requires known { number < length members.now.shared.generators }
+    requires vector { row.now.vector ≡ get_or members.now.shared.generators number [] }
+    requires makes { HaveMade members.now.shared number members.now.list }
+    requires row { RowStops (variables members.now.shared.ring) members.now.shared.ring.weights members.now.list row.now.vector stop }
+    ensures { BeginningStops (variables members.now.shared.ring) members.now.shared result }
+{
+    match stop {
+        RowStop::Memory => WorkStop::Memory,
+        RowStop::Degree(trail) => match beginning_trail(alloc, members, number, row, trail) {
+            Ok(trail) => WorkStop::Degree(trail),
+            Err(NoMemory) => WorkStop::Memory,
+        },
+    }
+}
+
 // The generator with this number is divided by the members that those before it made.
 fn make_generator(alloc: Global, members: &mut Members, number: u64) -> Result<(), WorkStop>
     requires known { number < length members.old.shared.generators }
@@ -97,11 +120,7 @@ fn make_generator(alloc: Global, members: &mut Members, number: u64) -> Result<(
     let multiple = unit_multiple(alloc, members.ring(), number)?;
     match make_member(alloc, members, &row, &multiple) {
         Ok(()) => Ok(()),
-        Err(RowStop::Memory) => Err(WorkStop::Memory),
-        Err(RowStop::Degree(trail)) => {
-            let trail = beginning_trail(alloc, members, number, &row, trail)?;
-            Err(WorkStop::Degree(trail))
-        }
+        Err(stop) => Err(beginning_stop(alloc, members, number, &row, stop)),
     }
 }
 

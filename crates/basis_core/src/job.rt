@@ -12,11 +12,21 @@ use std::sync::Arc;
 
 /// Pairs of members that a worker is to bring to lcm representations. There is at least one pair; the members are monic,
 /// over one list of generators; each pair is of two of them with leads at one position, and has the lcm of these.
-#[derive(Drop)]
 pub struct Job {
     worker: u32,
     members: Members,
     pairs: Vec<Pair>,
+}
+
+// By hand, so that each drop of one is a call.
+impl Drop for Job {
+    fn drop(self) {
+        let Job {
+            worker: _,
+            members: _,
+            pairs: _,
+        } = self;
+    }
 }
 
 impl Model for Job {

@@ -14,10 +14,19 @@ use std::sync::Arc;
 
 /// Members over one ring, rank and list of generators. A member may stand in several lists at once, as in those of a
 /// state and of its jobs. Contracts see ring, rank and generators, and the members.
-#[derive(Drop)]
 pub struct Members {
     shared: Arc<Shared, Global>,
     handles: Vec<Arc<Member, Global>>,
+}
+
+// By hand, so that each drop of one is a call.
+impl Drop for Members {
+    fn drop(self) {
+        let Members {
+            shared: _,
+            handles: _,
+        } = self;
+    }
 }
 
 impl Model for Members {

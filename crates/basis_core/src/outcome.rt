@@ -9,11 +9,21 @@ use std::marker::Model;
 /// Rows over which, with the members of the job, the job's pairs have lcm representations. The rows are fewer than twice
 /// the pairs, with leads below the job's greatest lcm; each is a sum of products (k, t) of member k and monomial t, with
 /// coefficients, that the outcome lists; each of these begins with a pair of the job or a monomial of an earlier one.
-#[derive(Drop)]
 pub struct Outcome {
     job: Job,
     rows: Vec<Row>,
     products: Vec<(u64, Mono)>,
+}
+
+// By hand, so that each drop of one is a call.
+impl Drop for Outcome {
+    fn drop(self) {
+        let Outcome {
+            job: _,
+            rows: _,
+            products: _,
+        } = self;
+    }
 }
 
 impl Model for Outcome {

@@ -60,10 +60,10 @@ fn divide_vector(alloc: Global, members: &Members, v: &Vect) -> Result<Reduction
     match reduce_lead(alloc, members.ring(), v, members) {
         Ok(reduction) => Ok(reduction),
         Err(WorkStop::Memory) => Err(RowStop::Memory),
-        Err(WorkStop::Degree(trail)) => Err(RowStop::Degree(RowTrail {
-            products: trail.products,
-            last: trail.last,
-        })),
+        Err(WorkStop::Degree(trail)) => {
+            let (products, last) = trail.into_chain();
+            Err(RowStop::Degree(RowTrail { products, last }))
+        }
     }
 }
 

@@ -38,7 +38,6 @@ use std::sync::Arc;
 
 /// The state of a basis run: what never changes in it, its members, the pairs that are queued or out, who has ended, the
 /// stop that is kept, and its history. Workers have the numbers below its number of workers.
-#[derive(Drop)]
 pub struct BasisState {
     budget: u64,
     workers: u32,
@@ -50,6 +49,22 @@ pub struct BasisState {
     stop: Option<StopReason>,
     // Behind its events it has room for the Ends and Stops that may come.
     history: Vec<Event>,
+}
+
+// By hand, so that each drop of one is a call.
+impl Drop for BasisState {
+    fn drop(self) {
+        let BasisState {
+            budget: _,
+            workers: _,
+            members: _,
+            pairs: _,
+            taken: _,
+            ended: _,
+            stop: _,
+            history: _,
+        } = self;
+    }
 }
 
 impl Model for BasisState {

@@ -1,5 +1,5 @@
 // How a Put came to a product of too great a degree.
-ghost use Rattle.std.specs.Prelude.{ℕ, ◌≡◌, ◌<◌, ◌++◌, ◌∷◌, [], IfOk, IfSome, IfNone, OnOk, false, length, take, true};
+ghost use Rattle.std.specs.Prelude.{ℕ, ◌≡◌, ◌<◌, ◌++◌, ◌∷◌, [], IfOk, IfSome, IfNone, OnOk, false, length, reverse, take, true};
 ghost use Rattle.monomials.specs.Exponents.{exponents_of, unit};
 ghost use Rattle.formal_sums.specs.FormalSums.{Each, shift};
 ghost use Rattle.module_vectors.specs.Rings.{variables};
@@ -132,7 +132,39 @@ fn push_product(
     Ok(())
 }
 
-// A chain of products that goes from a pair to the last one, backwards from there.
+// Puts products behind the last one, each the first that has the lead of the one before, until one has the lead of a pair,
+// whose indices it gives.
+fn trace_to_pair(
+    alloc: Global,
+    members: &Members,
+    pairs: &[Pair],
+    one: &Mono,
+    all: &[(u64, Mono)],
+    chain: &mut Vec<(u64, Mono)>,
+) -> Result<(u64, u64), NoMemory>
+    requires nonzero { Each (λ m. 0 < length m.vector) members.now.list }
+    requires variables { length one.now.exponents ≡ variables members.now.shared.ring }
+    requires unit { let n = variables members.now.shared.ring in exponents_of n one.now.exponents ≡ unit n }
+    requires pairs { Each (λ x. IsMonomialOver members.now.shared.ring x.lcm.monomial) pairs.now }
+    requires all { Each (IsKeptProduct (variables members.now.shared.ring) members.now.shared.ring.weights (vectors_in members.now.list)) all.now }
+    requires some { 0 < length all.now }
+    requires traced { AreTraced (variables members.now.shared.ring) (vectors_in members.now.list) pairs.now all.now }
+    requires none { chain.old.items ≡ [] }
+    ensures { let n = variables members.now.shared.ring in IfOk result (λ r.
+        IsTracedTo n members.now.shared.ring.weights (vectors_in members.now.list) pairs.now all.now (reverse chain.new.items) r.0 r.1) }
+{
+    let mut at = all.len() - 1;
+    loop {
+        let product = &all[at];
+        push_product(alloc, chain, product)?;
+        if let Some(pair) = find_pair(members, pairs, one, product) {
+            return Ok((pair.i, pair.j));
+        }
+        at = find_earlier(members, all, at);
+    }
+}
+
+// A chain of products that goes from a pair to the last one.
 fn trace_back(
     alloc: Global,
     members: &Members,
@@ -148,17 +180,24 @@ fn trace_back(
         IsTracedTo n members.now.shared.ring.weights (vectors_in members.now.list) pairs.now all.now r.0.items r.1 r.2) }
 {
     let one = Mono::unit(alloc, all[0].1.variables())?;
-    let mut at = all.len() - 1;
     let mut chain = Vec::new(alloc);
-    push_product(alloc, &mut chain, &all[at])?;
-    loop {
-        if let Some(pair) = find_pair(members, pairs, &one, &all[at]) {
-            chain.reverse();
-            return Ok((chain, pair.i, pair.j));
-        }
-        at = find_earlier(members, all, at);
-        push_product(alloc, &mut chain, &all[at])?;
+    let (i, j) = trace_to_pair(alloc, members, pairs, &one, all, &mut chain)?;
+    chain.reverse();
+    Ok((chain, i, j))
+}
+
+// Appends copies of the products.
+fn push_products(
+    alloc: Global,
+    all: &mut Vec<(u64, Mono)>,
+    products: &[(u64, Mono)],
+) -> Result<(), NoMemory>
+    ensures { OnOk result (all.new.items ≡ all.old.items ++ products.now) }
+{
+    for product in products {
+        push_product(alloc, all, product)?;
     }
+    Ok(())
 }
 
 // The products of the outcome and those of a division behind them.
@@ -170,12 +209,8 @@ fn gather_products(
     ensures { IfOk result (λ all. all.items ≡ products.now ++ taken.now) }
 {
     let mut all = Vec::new(alloc);
-    for product in products {
-        push_product(alloc, &mut all, product)?;
-    }
-    for later in taken {
-        push_product(alloc, &mut all, later)?;
-    }
+    push_products(alloc, &mut all, products)?;
+    push_products(alloc, &mut all, taken)?;
     Ok(all)
 }
 

@@ -18,16 +18,18 @@ use std::alloc::Global;
 use std::thread::Threads;
 
 // The trail of an interreduction, as one of the run.
-fn trail_of_run(alloc: Global, state: &BasisState, trail: KeptTrail) -> Result<KeptTrail, NoMemory>
+fn trail_of_run(
+    alloc: Global,
+    state: &BasisState,
+    mut trail: KeptTrail,
+) -> Result<KeptTrail, NoMemory>
     requires closed { IsClosed state.now }
     requires trail { IsInterreductionTrail state.now.shared.ring (vectors_in state.now.members) trail }
     ensures { IfOk result (IsInterreductionStop state.now) }
 {
-    Ok(KeptTrail {
-        rank: state.shared().rank,
-        generators: VectList::copy_of(alloc, state.generators())?,
-        ..trail
-    })
+    trail.generators = VectList::copy_of(alloc, state.generators())?;
+    trail.rank = state.shared().rank;
+    Ok(trail)
 }
 
 // The reduced list of the members, which are vectors of this ring.

@@ -3,13 +3,12 @@ use Rattle.std.proofs.Common.{List, [], ap, append_assoc, arith, get_or, inl, in
 use Rattle.std.proofs.lemmas.List.{get_or-map, get_or_append_left, length-map}
 use Rattle.monomials.specs.Exponents.{unit}
 use Rattle.formal_sums.proofs.Items.{item_of}
-use Rattle.formal_sums.specs.FormalSums.{Each, Key, coefficient}
+use Rattle.formal_sums.specs.FormalSums.{Each, Key}
 use Rattle.bases.specs.Settings.{IsLawful, Setting}
 use Rattle.module_vectors.specs.Trails.{AreMet, HasKey, IsInProduct, IsMet, KeptProduct, no_product, product_lead}
 use Rattle.module_vectors.specs.Vectors.{IsVector, sum_of, sums_of}
 use Rattle.module_vectors.specs.declared.key.Key.{Key as CodeKey}
 use Rattle.vector_division.proofs.Members.{sums_at}
-use Rattle.vector_division.proofs.Occurring.{occurs}
 use Rattle.basis_steps.proofs.Counting.{is_same_pair-refl}
 use Rattle.basis_steps.proofs.JobProducts.{job_products_from}
 use Rattle.basis_steps.specs.Criteria.{lcm_of}

@@ -15,7 +15,9 @@ use Rattle.module_vectors.specs.declared.product.Product.{Product}
 use Rattle.module_vectors.specs.declared.stop.VectStop.TheVariants.{Degree}
 use Rattle.vector_division.specs.Reductions.{cofactors_of, term_of}
 use Rattle.vector_division.specs.declared.reduction.ScaledProduct.{ScaledProduct}
-use Rattle.s_vectors.specs.Parts.{IsGreatPart, IsGreatProduct, IsPart}
+use Rattle.s_vectors.specs.Parts.{GreatStops, IsGreatPart, IsGreatProduct, IsPart, PartsStop}
+use Rattle.s_vectors.specs.declared.sums.SumStop.{SumStop}
+use Rattle.s_vectors.specs.declared.sums.SumStop.TheVariants.{Memory as SumMemory, Degree as SumDegree}
 
 terms_sum : (n : ℕ) (qs : List ScaledProduct) → sum_of n (map term_of qs) ≡ cofactors_of n qs
 terms_sum n [] = refl
@@ -125,3 +127,10 @@ great_product (y ∷ xs) (suc i) x m lt e h g =
       monomial = r.monomial;
       too_great = r.too_great;
     }
+
+-- the stop of the products is one of the parts
+pub great_stops :
+    (list : List (List (CodeKey × ℕ))) (parts : List ScaledProduct) (xs : List Product)
+    → AreProducts list (map term_of parts) xs → (stop : SumStop) → GreatStops xs stop → PartsStop list parts stop
+great_stops list parts xs a SumMemory h = tt
+great_stops list parts xs a (SumDegree number m) h = great_part list parts xs number m a h

@@ -57,3 +57,8 @@ pub record IsGreatProduct (xs : List Product) (number : ℕ) (m : Monomial) : Ty
   pub place : number ≡ length front
   pub monomial : HasMonomial product.vector.now m
   pub too_great : IsTooGreat product.monomial.now m
+
+-- Degree comes with such a product alone
+abbrev pub GreatStops : List Product → SumStop → Type 0
+GreatStops xs Memory = ⊤
+GreatStops xs (Degree number m) = IsGreatProduct xs number m

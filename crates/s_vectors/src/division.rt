@@ -19,7 +19,7 @@ use crate::stops::{Chain, PairStop, without_residues};
 use crate::sums::{SumStop, sum_of_parts};
 use basis_core::{Members, quotient_products};
 use member_products::Row;
-use module_vectors::{KeptTrail, NoMemory, Ring, Vect, WorkStop};
+use module_vectors::{NoMemory, Ring, Vect, WorkStop};
 use monomial_orders::Mono;
 use pair_criteria::Pair;
 use std::alloc::Global;
@@ -86,7 +86,7 @@ fn stop_of_division(alloc: Global, parts: Vec<ScaledProduct>, stop: WorkStop) ->
     match stop {
         WorkStop::Memory => PairStop::Memory,
         WorkStop::Degree(trail) => {
-            let KeptTrail { products, last, .. } = trail;
+            let (products, last) = trail.into_chain();
             match products_before(alloc, parts, products) {
                 Ok(products) => PairStop::Degree(Chain { products, last }),
                 Err(NoMemory) => PairStop::Memory,
@@ -140,6 +140,30 @@ fn make_row(
     })
 }
 
+// What is left becomes a row unless it is zero.
+fn make_division(
+    alloc: Global,
+    ring: &Ring,
+    members: &Members,
+    pair: &Pair,
+    parts: Vec<ScaledProduct>,
+    vector: Vect,
+) -> Result<Division, NoMemory>
+    requires over { ring.now ≡ members.now.shared.ring }
+    requires pair { AreOfPair members.now pair.now }
+    requires divided { IsDivided members.now pair.now parts.items vector }
+    ensures { IfOk result (IsSolvedPair members.now pair.now) }
+{
+    members.kept();
+    if vector.terms().is_empty() {
+        return Ok(Division {
+            products: without_residues(alloc, parts)?,
+            row: None,
+        });
+    }
+    make_row(alloc, ring, members, pair, parts, vector)
+}
+
 // Divides the S-vector, the sum of these two parts, which is not zero.
 fn divide_vector(
     alloc: Global,
@@ -163,14 +187,33 @@ fn divide_vector(
         Err(stop) => return Err(stop_of_division(alloc, parts, stop)),
     };
     take_quotients(&ring.modulus, &mut parts, reduction.quotients)?;
-    if reduction.rest.terms().is_empty() {
+    let division = make_division(alloc, ring, members, pair, parts, reduction.rest)?;
+    Ok(division)
+}
+
+// Divides the S-vector, the sum of these two parts, unless it is zero.
+fn divide_top(
+    alloc: Global,
+    ring: &Ring,
+    members: &Members,
+    pair: &Pair,
+    parts: Vec<ScaledProduct>,
+    vector: &Vect,
+) -> Result<Division, PairStop>
+    requires over { ring.now ≡ members.now.shared.ring }
+    requires pair { AreOfPair members.now pair.now }
+    requires top { IsTopVector members.now pair.now parts.items vector.now }
+    ensures solved { IfOk result (IsSolvedPair members.now pair.now) }
+    ensures stop { let n = variables ring.now in IfErr result (PairStops n ring.now.weights members.now.list (key_of n pair.now.lcm)) }
+{
+    members.kept();
+    if vector.terms().is_empty() {
         return Ok(Division {
             products: without_residues(alloc, parts)?,
             row: None,
         });
     }
-    let division = make_row(alloc, ring, members, pair, parts, reduction.rest)?;
-    Ok(division)
+    divide_vector(alloc, ring, members, pair, parts, vector)
 }
 
 // The S-vector of the pair, divided: `ring` is that of the members.
@@ -187,17 +230,10 @@ fn divide_over(
 {
     members.kept();
     let parts = pair_parts(alloc, ring, members, pair)?;
-    let vector = match sum_of_parts(alloc, ring, &parts, members) {
-        Ok(vector) => vector,
-        Err(stop) => return Err(stop_of_sum(alloc, parts, stop)),
-    };
-    if vector.terms().is_empty() {
-        return Ok(Division {
-            products: without_residues(alloc, parts)?,
-            row: None,
-        });
+    match sum_of_parts(alloc, ring, &parts, members) {
+        Ok(vector) => divide_top(alloc, ring, members, pair, parts, &vector),
+        Err(stop) => Err(stop_of_sum(alloc, parts, stop)),
     }
-    divide_vector(alloc, ring, members, pair, parts, &vector)
 }
 
 /// Divides the pair's S-vector by the members, greatest term first. What is left becomes a row with the products that

@@ -32,16 +32,19 @@ pub(crate) fn pair_parts(
     ensures { IfOk result (λ parts. ArePairParts (variables ring.now) ring.now.weights ring.now.modulus.value
         (vectors_in members.now.list) pair.now parts.items) }
 {
-    let left = ScaledProduct {
-        index: pair.i,
-        residue: 1,
-        monomial: factor_of(alloc, ring, &pair.lcm, members.at(pair.i as usize))?,
-    };
+    let left = factor_of(alloc, ring, &pair.lcm, members.at(pair.i as usize))?;
+    let right = factor_of(alloc, ring, &pair.lcm, members.at(pair.j as usize))?;
     ring.modulus.domain();
-    let right = ScaledProduct {
-        index: pair.j,
-        residue: ring.modulus.neg(1),
-        monomial: factor_of(alloc, ring, &pair.lcm, members.at(pair.j as usize))?,
-    };
-    Ok(vec![in alloc; left, right]?)
+    Ok(vec![in alloc;
+        ScaledProduct {
+            index: pair.i,
+            residue: 1,
+            monomial: left,
+        },
+        ScaledProduct {
+            index: pair.j,
+            residue: ring.modulus.neg(1),
+            monomial: right,
+        },
+    ]?)
 }

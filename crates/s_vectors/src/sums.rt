@@ -2,12 +2,12 @@
 ghost use Rattle.std.specs.Prelude.{◌≡◌, ◌<◌, ◌↔◌, IsTrue, IfOk, IfErr, IfNone, IfSome, length, map};
 ghost use Rattle.formal_sums.specs.FormalSums.{Each};
 ghost use Rattle.formal_sums.specs.Combinations.{combination};
-ghost use Rattle.module_vectors.specs.Products.{AreProducts};
+ghost use Rattle.module_vectors.specs.Products.{AreProducts, sum_of_products};
 ghost use Rattle.module_vectors.specs.Rings.{ring_comparison, variables};
 ghost use Rattle.module_vectors.specs.Stops.{Fits, HasMonomial, IsTooGreat};
-ghost use Rattle.module_vectors.specs.Vectors.{AreVectorsOver, IsVectorOver, StandsFor, sums_of};
+ghost use Rattle.module_vectors.specs.Vectors.{AreVectorsOver, IsMonomialOver, IsVectorOver, StandsFor, sums_of};
 ghost use Rattle.vector_division.specs.Reductions.{cofactors_of, term_of};
-ghost use Rattle.s_vectors.specs.Parts.{IsGreatProduct, IsPart, PartsStop};
+ghost use Rattle.s_vectors.specs.Parts.{GreatStops, IsGreatProduct, IsPart, PartsStop};
 ghost use Rattle.s_vectors.specs.declared.sums.SumStop.TheVariants.{Memory};
 
 use module_vectors::{NoMemory, Product, Ring, Vect, VectStop, Vectors};
@@ -97,6 +97,35 @@ fn find_product<'a>(products: &[Product<'a>]) -> Option<(usize, &'a Mono)>
     None
 }
 
+// The stop by a product of too great a degree, which there must be.
+fn great_stop(alloc: Global, products: &[Product<'_>]) -> SumStop
+    requires { Each (λ x. Fits x.monomial.now x.vector.now) products.now → ⊥ }
+    ensures { GreatStops products.now result }
+{
+    match find_product(products) {
+        Some((number, monomial)) => match monomial.try_copy(alloc) {
+            Ok(monomial) => SumStop::Degree(number, monomial),
+            Err(monomial_orders::NoMemory) => SumStop::Memory,
+        },
+        None => unreachable!(),
+    }
+}
+
+// The sum of these products.
+fn sum_products(alloc: Global, ring: &Ring, products: &[Product<'_>]) -> Result<Vect, SumStop>
+    requires factors { Each (λ x. (x.residue < ring.now.modulus.value) × IsMonomialOver ring.now x.monomial.now) products.now }
+    requires vectors { Each (λ x. IsVectorOver ring.now (ring_comparison ring.now) x.vector.now) products.now }
+    ensures vector { IfOk result (IsVectorOver ring.now (ring_comparison ring.now)) }
+    ensures sum { IfOk result (λ v. StandsFor ring.now v (sum_of_products (variables ring.now) products.now)) }
+    ensures stop { IfErr result (GreatStops products.now) }
+{
+    match Vect::sum_of_products(alloc, ring, products) {
+        Ok(v) => Ok(v),
+        Err(VectStop::Memory) => Err(SumStop::Memory),
+        Err(VectStop::Degree(_, _)) => Err(great_stop(alloc, products)),
+    }
+}
+
 /// The sum of the parts' products, each of residue, monomial and the vector of the list with the part's index.
 pub(crate) fn sum_of_parts<L: Vectors>(
     alloc: Global,
@@ -112,12 +141,5 @@ pub(crate) fn sum_of_parts<L: Vectors>(
     ensures stop { IfErr result (PartsStop (L.listed list.now) parts.now) }
 {
     let products = products_of(alloc, parts, list)?;
-    match Vect::sum_of_products(alloc, ring, &products) {
-        Ok(v) => Ok(v),
-        Err(VectStop::Memory) => Err(SumStop::Memory),
-        Err(VectStop::Degree(_, _)) => match find_product(&products) {
-            Some((number, monomial)) => { Err(SumStop::Degree(number, monomial.try_copy(alloc)?)) }
-            None => unreachable!(),
-        },
-    }
+    sum_products(alloc, ring, &products)
 }

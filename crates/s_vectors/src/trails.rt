@@ -29,14 +29,17 @@ pub(crate) fn keep_trail(
     let shared = job.shared();
     let members = job.members();
     members.kept();
+    let ring = shared.ring.try_copy(alloc)?;
+    let generators = VectList::copy_of(alloc, &shared.generators)?;
+    let vectors = VectList::copy_of(alloc, members)?;
     Ok(KeptTrail {
-        ring: shared.ring.try_copy(alloc)?,
+        ring,
         rank: shared.rank,
-        generators: VectList::copy_of(alloc, &shared.generators)?,
+        generators,
         below: Vec::new(alloc),
         start: TrailStart::Pair(pair.i, pair.j),
         vector: Vect::zero(alloc),
-        members: VectList::copy_of(alloc, members)?,
+        members: vectors,
         products: chain.products,
         last: chain.last,
     })

@@ -1,9 +1,11 @@
-use Rattle.std.proofs.Common.{subst, sym}
+use Rattle.std.proofs.Common.{[], get_or, subst, sym, ◌≡◌}
+use Rattle.module_vectors.specs.Rings.{variables}
 use Rattle.module_vectors.specs.declared.ring.Ring.{Ring}
 use Rattle.member_products.specs.Generators.{IsVectorOf}
 use Rattle.basis_core.proofs.Starting.{generator_member, made_monic, made_more}
 use Rattle.basis_core.specs.Beginning.{HaveMade, IsUnitMultiple}
 use Rattle.basis_core.specs.Members.{MembersShown}
+use Rattle.basis_core.specs.Rows.{RowStops}
 use Rattle.basis_core.proofs.beginning.make_generator.Goals as goal
 
 pub make_member-requires-clause-over : goal.make_member-requires-clause-over
@@ -26,6 +28,16 @@ returns-in-Ok-clause-makes c =
     (subst (λ (x : Ring). IsUnitMultiple x c.args.number c.in_ok-multiple.multiple) c.ring.ensures c.in_ok-multiple.ensures.unit)
     r.1 r.2
 
-pub beginning_trail-requires-clause-makes : goal.beginning_trail-requires-clause-makes
-beginning_trail-requires-clause-makes c =
-    subst (λ (l : MembersShown). HaveMade l.shared c.args.number l.list) (sym c.in-Err-Degree.ensures.err) c.requires.makes
+pub beginning_stop-requires-clause-makes : goal.beginning_stop-requires-clause-makes
+beginning_stop-requires-clause-makes c =
+    subst (λ (l : MembersShown). HaveMade l.shared c.args.number l.list) (sym c.in-Err.ensures.err) c.requires.makes
+
+pub beginning_stop-requires-clause-vector : goal.beginning_stop-requires-clause-vector
+beginning_stop-requires-clause-vector c =
+    subst (λ (l : MembersShown). c.in_ok-row.row.vector ≡ get_or l.shared.generators c.args.number []) (sym c.in-Err.ensures.err) c.in_ok-row.ensures.vector
+
+pub beginning_stop-requires-clause-row : goal.beginning_stop-requires-clause-row
+beginning_stop-requires-clause-row c =
+    subst (λ (l : MembersShown). RowStops (variables l.shared.ring) l.shared.ring.weights l.list c.in_ok-row.row.vector c.in-Err.stop)
+    (sym c.in-Err.ensures.err)
+    c.in-Err.ensures.stop

@@ -19,3 +19,6 @@ returns-clause-queues c =
     (λ i. (pairs_of (c.new-pairs.ensures.queue i), length ((c.new-pairs.ensures.leads i).keys))) c.in_ok-add.ensures.queues in
     queues_known c.args.members.now.shared c.args.members.now.list 0 [] new
     (subst (λ (l : LeadsShown). QueuesNewPairs (setting_by l.variables l) 0 (sums_shown l) [] new) (returns-clause-leads c) there)
+
+pub lead_keys-requires-clause-monic : goal.lead_keys-requires-clause-monic
+lead_keys-requires-clause-monic c = c.requires

@@ -1,4 +1,7 @@
-use Rattle.std.proofs.Common.{subst, ℕ}
+use Rattle.std.proofs.Common.{subst, sym, ℕ}
+use Rattle.formal_sums.specs.FormalSums.{Each}
+use Rattle.monomial_orders.specs.Kept.{IsWeighed}
+use Rattle.module_vectors.specs.declared.key.Key.{Key as CodeKey}
 use Rattle.basis_steps.specs.Queues.{QueuesNewPairs}
 use Rattle.pair_queue.specs.Leads.{LeadsShown, setting_of as setting_by, sums_shown}
 use Rattle.basis_core.specs.Jobs.{pairs_of}
@@ -26,3 +29,11 @@ returns-clause-queues c =
 
 pub lead_keys-requires-clause-first : goal.lead_keys-requires-clause-first
 lead_keys-requires-clause-first c = c.requires.first
+
+pub lead_keys-requires-clause-monic : goal.lead_keys-requires-clause-monic
+lead_keys-requires-clause-monic c = c.requires.monic
+
+pub add-requires : goal.add-requires
+add-requires c =
+    subst (λ (l : LeadsShown). Each (λ (k : CodeKey). IsWeighed l.variables l.weights k.monomial) c.in_ok-keys.keys.items)
+    (sym c.requires.leads) c.in_ok-keys.ensures.weighed

@@ -51,5 +51,6 @@ pub returns-in-Err-Degree-clause-stop : goal.returns-in-Err-Degree-clause-stop
 returns-in-Err-Degree-clause-stop c =
     let ms = c.args.members.now.list in
     let t = c.in-Err-Degree.trail in
-    subst (λ (x : Ring). IsRowTrail (variables x) x.weights ms c.args.v.now t.products.items t.last) c.ring.ensures
-    (vector_trail c.ring.result.now ms c.args.v.now t c.in-Err-Degree.field-0 c.in-Err-Degree.field-0-is c.in-Err-Degree.ensures.stop)
+    rw (c.into_chain-products.ensures.products, c.into_chain-products.ensures.last)
+    (subst (λ (x : Ring). IsRowTrail (variables x) x.weights ms c.args.v.now t.products.items t.last) c.ring.ensures
+    (vector_trail c.ring.result.now ms c.args.v.now t c.in-Err-Degree.field-0 c.in-Err-Degree.field-0-is c.in-Err-Degree.ensures.stop))

@@ -1,13 +1,37 @@
-use Rattle.std.proofs.Common.{List, subst, sym}
+use Rattle.std.proofs.Common.{List, subst, sym, ◌<◌}
 use Rattle.module_vectors.specs.declared.ring.Ring.{Ring}
 use Rattle.member_products.specs.Generators.{IsVectorOf}
 use Rattle.vector_division.specs.declared.reduction.ScaledProduct.{ScaledProduct}
-use Rattle.basis_core.proofs.Leaving.{left_member}
-use Rattle.basis_core.specs.RowDivision.{AreRowProducts}
+use Rattle.basis_core.proofs.Leaving.{lead_reduced, left_member}
+use Rattle.basis_core.specs.RowDivision.{AreRowProducts, AreRowQuotients, lead_residue}
 use Rattle.basis_core.proofs.row_division.monic_member.Goals as goal
+
+pub divide_products-requires-clause-over : goal.divide_products-requires-clause-over
+divide_products-requires-clause-over c = record { vector = c.requires.over.vector; products = c.requires.over.products }
+
+pub divide_products-requires-clause-quotients : goal.divide_products-requires-clause-quotients
+divide_products-requires-clause-quotients c =
+    subst (AreRowQuotients c.args.members.now.shared c.args.members.now.list c.args.row.now.vector) (sym c.deref.ensures.value) c.requires.quotients
+
+pub invert_lead-inverse-requires-clause-nonzero : goal.invert_lead-inverse-requires-clause-nonzero
+invert_lead-inverse-requires-clause-nonzero c = (lead_reduced c.args.members.now.shared c.args.reduction.rest c.requires.some c.requires.rest.vector).0
+
+pub invert_lead-inverse-requires-clause-reduced : goal.invert_lead-inverse-requires-clause-reduced
+invert_lead-inverse-requires-clause-reduced c =
+    subst (λ (x : Ring). lead_residue c.args.reduction.rest < x.modulus.value) (sym c.ring-ring.ensures)
+    (lead_reduced c.args.members.now.shared c.args.reduction.rest c.requires.some c.requires.rest.vector).1
 
 pub scale-requires-clause-vector : goal.scale-requires-clause-vector
 scale-requires-clause-vector c = subst (λ (x : Ring). IsVectorOf x c.args.reduction.rest) (sym c.ring-ring.ensures) c.requires.rest.vector
+
+pub scale-requires-clause-factor : goal.scale-requires-clause-factor
+scale-requires-clause-factor c = c.invert_lead-inverse.ensures.inverse.below
+
+pub scale-requires-2-clause-factor : goal.scale-requires-2-clause-factor
+scale-requires-2-clause-factor c = c.invert_lead-inverse.ensures.inverse.below
+
+pub scale-requires-3-clause-factor : goal.scale-requires-3-clause-factor
+scale-requires-3-clause-factor c = c.invert_lead-inverse.ensures.inverse.below
 
 pub scale-requires-2-clause-vector : goal.scale-requires-2-clause-vector
 scale-requires-2-clause-vector c =

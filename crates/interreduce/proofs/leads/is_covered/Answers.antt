@@ -1,11 +1,29 @@
-use Rattle.std.proofs.Common.{IsTrue, arith, false, get_or, length, refl, sym, true, ◌<◌, ◌↔◌, ◌∙◌, ◌≡◌, ◌≤◌}
+use Rattle.std.proofs.Common.{IsTrue, [], false, get_or, length, refl, sym, true, ◌<◌, ◌↔◌, ◌∙◌, ◌≡◌, ◌≤◌}
 use Rattle.std.proofs.lemmas.List.{get_or_default}
 use Rattle.orders.specs.KeyOrders.{KeyDivides}
 use Rattle.module_vectors.proofs.Scaling.{Each_more}
+use Rattle.module_vectors.proofs.SumsOfProducts.{Each_member}
 use Rattle.module_vectors.specs.Trails.{lead_at}
 use Rattle.interreduce.proofs.Choosing.{found, none_found}
 use Rattle.interreduce.proofs.Leading.{divides_at}
 use Rattle.interreduce.proofs.leads.is_covered.Goals as goal
+
+pub lead_key-multiple-requires-clause-index : goal.lead_key-multiple-requires-clause-index
+lead_key-multiple-requires-clause-index g c = c.requires.multiple
+
+pub lead_key-multiple-requires-clause-some : goal.lead_key-multiple-requires-clause-some
+lead_key-multiple-requires-clause-some g c = c.requires.some
+
+pub loop-i-init : goal.loop-i-init
+loop-i-init g c = λ n vars. tt
+
+pub lead_key-divisor-requires-clause-index : goal.lead_key-divisor-requires-clause-index
+lead_key-divisor-requires-clause-index g c =
+    Each_member (λ i. i < length (g.L.Vectors.listed c.args.list.now)) c.args.kept.now c.loop-i.i-index 0 c.requires.divisors c.loop-i-test.true
+
+pub lead_key-divisor-requires-clause-some : goal.lead_key-divisor-requires-clause-some
+lead_key-divisor-requires-clause-some g c =
+    Each_member (λ i. 0 < length (get_or (g.L.Vectors.listed c.args.list.now) i [])) c.args.kept.now c.loop-i.i-index 0 c.requires.leads c.loop-i-test.true
 
 pub key_divides-requires : goal.key_divides-requires
 key_divides-requires g c =
@@ -17,7 +35,7 @@ returns-then-key_divides g c = λ n vars.
     let list = g.L.Vectors.listed c.args.list.now in
     let kept = c.args.kept.now in
     let i = c.loop-i.i-index in
-    let lt : i < length kept = omega arith in
+    let lt : i < length kept = c.loop-i-test.true in
     let a = c.lead_key-divisor.ensures n vars in
     let b = c.lead_key-multiple.ensures n vars in
     found n list kept c.args.j i lt ((divides_at n (lead_at n list (get_or kept i 0)) (lead_at n list c.args.j) c.lead_key-divisor.result.now c.lead_key-multiple.result.now true a.0 a.1 b.0 c.if-key_divides.ensures).0 refl)
@@ -27,7 +45,7 @@ loop-i-preserved g c = λ n vars.
     let list = g.L.Vectors.listed c.args.list.now in
     let kept = c.args.kept.now in
     let i = c.loop-i.i-index in
-    let lt : i < length kept = omega arith in
+    let lt : i < length kept = c.loop-i-test.true in
     let a = c.lead_key-divisor.ensures n vars in
     let b = c.lead_key-multiple.ensures n vars in
     let told : IsTrue false ↔ KeyDivides (lead_at n list (get_or kept i 0)) (lead_at n list c.args.j) = divides_at n (lead_at n list (get_or kept i 0)) (lead_at n list c.args.j) c.lead_key-divisor.result.now c.lead_key-multiple.result.now false a.0 a.1 b.0 c.if-key_divides.ensures in
@@ -36,5 +54,5 @@ loop-i-preserved g c = λ n vars.
 
 pub returns : goal.returns
 returns g c = λ n vars.
-    let le : length c.args.kept.now ≤ c.loop-i.i-index = omega arith in
+    let le : length c.args.kept.now ≤ c.loop-i.i-index = c.loop-i-test.false in
     none_found n (g.L.Vectors.listed c.args.list.now) c.args.kept.now c.args.j c.loop-i.i-index le (c.loop-i.invariant n vars)

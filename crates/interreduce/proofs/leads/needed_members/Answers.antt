@@ -1,4 +1,4 @@
-use Rattle.std.proofs.Common.{[], arith, drop, false, get_or, length, refl, subst, subst₂, sym, take, true, ◌++◌, ◌+◌, ◌<◌, ◌∷◌, ◌≡◌, ◌≤◌}
+use Rattle.std.proofs.Common.{[], drop, false, get_or, length, refl, subst, subst₂, sym, take, true, ◌++◌, ◌+◌, ◌<◌, ◌∷◌, ◌≡◌, ◌≤◌}
 use Rattle.std.proofs.lemmas.List.{drop_all, drop_more, get_or_default, take_all}
 use Rattle.std.specs.Prelude.{Contains}
 use Rattle.formal_sums.specs.FormalSums.{Each}
@@ -7,8 +7,8 @@ use Rattle.module_vectors.proofs.SumsOfProducts.{Each_member}
 use Rattle.module_vectors.specs.Rings.{variables}
 use Rattle.vector_division.proofs.Looping.{have_variables}
 use Rattle.vector_division.specs.Progress.{HaveVariables}
-use Rattle.interreduce.specs.Leads.{AreNeededSoFar, HaveLeads, IsCoveredBy}
-use Rattle.interreduce.proofs.Choosing.{needed_all, needed_push, needed_skip}
+use Rattle.interreduce.specs.Leads.{AreNeededSoFar, HaveLeads, IsCoveredBy, Rises}
+use Rattle.interreduce.proofs.Choosing.{needed_all, needed_push, needed_skip, needed_start}
 use Rattle.interreduce.proofs.leads.needed_members.Goals as goal
 use Rattle.interreduce.proofs.leads.needed_members.Goals.{then-not-is_covered+in_ok-push, else-not-is_covered}
 
@@ -27,7 +27,7 @@ loop-i-preserved g c =
     let list = g.L.Vectors.listed c.args.list.now in
     let order = c.deref-i-items.result.now in
     let i = c.loop-i.i-index in
-    let lt : i < length order = omega arith in
+    let lt : i < length order = c.loop-i-test.true in
     let x = get_or order i 0 in
     let vars : HaveVariables n list = have_variables n ring.weights ring.modulus.value compare list c.requires in
     let so_far : AreNeededSoFar n compare list (take i order) (x ∷ drop (i + 1) order) c.loop-i.kept.items = subst (λ z. AreNeededSoFar n compare list (take i order) z c.loop-i.kept.items) (drop_more order i 0 lt) c.loop-i.invariant in
@@ -60,3 +60,32 @@ returns g c =
 
 pub by_ascending_lead-requires : goal.by_ascending_lead-requires
 by_ascending_lead-requires g c = c.requires
+
+pub loop-i-init : goal.loop-i-init
+loop-i-init g c =
+    let n = variables (g.F.Frame.over c.args.frame.now) in
+    let compare = g.F.Frame.compare c.args.frame.now n in
+    let list = g.L.Vectors.listed c.args.list.now in
+    let order = c.deref-i-items.result.now in
+    subst (AreNeededSoFar n compare list [] order) (sym c.new-kept.ensures.items)
+    (needed_start n compare list order (subst (Rises n compare list) (sym c.deref-i-items.ensures.value) c.in_ok-order.ensures.rises))
+
+pub is_covered-requires-clause-divisors : goal.is_covered-requires-clause-divisors
+is_covered-requires-clause-divisors g c =
+    subst (Each (λ j. j < length (g.L.Vectors.listed c.args.list.now))) (sym c.deref.ensures.value) c.loop-i.invariant.within
+
+pub is_covered-requires-clause-multiple : goal.is_covered-requires-clause-multiple
+is_covered-requires-clause-multiple g c =
+    let list = g.L.Vectors.listed c.args.list.now in
+    Each_member (λ j. j < length list) c.deref-i-items.result.now c.loop-i.i-index 0
+    (subst (Each (λ j. j < length list)) (sym c.deref-i-items.ensures.value) c.in_ok-order.ensures.within) c.loop-i-test.true
+
+pub is_covered-requires-clause-leads : goal.is_covered-requires-clause-leads
+is_covered-requires-clause-leads g c =
+    subst (HaveLeads (g.L.Vectors.listed c.args.list.now)) (sym c.deref.ensures.value) c.loop-i.invariant.leads
+
+pub is_covered-requires-clause-some : goal.is_covered-requires-clause-some
+is_covered-requires-clause-some g c =
+    let list = g.L.Vectors.listed c.args.list.now in
+    Each_member (λ j. 0 < length (get_or list j [])) c.deref-i-items.result.now c.loop-i.i-index 0
+    (subst (HaveLeads list) (sym c.deref-i-items.ensures.value) c.in_ok-order.ensures.leads) c.loop-i-test.true

@@ -1,5 +1,6 @@
 use Rattle.std.proofs.Common.{[], ap, get_or, length, subst, sym, ◌++◌, ◌+◌, ◌<◌, ◌∙◌, ◌∷◌, ◌≡◌}
 use Rattle.std.proofs.lemmas.List.{length_push}
+use Rattle.module_vectors.proofs.SumsOfProducts.{Each_member}
 use Rattle.module_vectors.specs.Vectors.{IsVectorOver}
 use Rattle.interreduce.specs.Members.{HasReducedTail, IsReducedMember}
 use Rattle.interreduce.proofs.Earlier.{by_earlier}
@@ -38,3 +39,21 @@ pub reduced_by-requires-clause-divisors : goal.reduced_by-requires-clause-diviso
 reduced_by-requires-clause-divisors g c =
     let n = variables (g.F.Frame.over c.args.frame.now) in
     subst (AreDivisors n c.loop-index.reduced) (sym c.deref.ensures.value) (c.in_ok-divisors.ensures n)
+
+pub at-requires : goal.at-requires
+at-requires g c =
+    Each_member (λ i. i < length (g.L.Vectors.listed c.args.list.now)) c.args.kept.now c.loop-index.index-index 0
+    c.requires.needed.within c.loop-index-test.true
+
+pub reduced_by-requires-clause-some : goal.reduced_by-requires-clause-some
+reduced_by-requires-clause-some g c =
+    subst (λ v. 0 < length v) (sym c.at.ensures)
+    (Each_member (λ i. 0 < length (get_or (g.L.Vectors.listed c.args.list.now) i [])) c.args.kept.now c.loop-index.index-index 0 c.requires.needed.leads
+    c.loop-index-test.true)
+
+pub reduced_by-requires-clause-member : goal.reduced_by-requires-clause-member
+reduced_by-requires-clause-member g c =
+    let over = IsVectorOver (g.F.Frame.over c.args.frame.now) (g.F.Frame.compare c.args.frame.now) in
+    let list = g.L.Vectors.listed c.args.list.now in
+    subst over (sym c.at.ensures) (Each_member over list (get_or c.args.kept.now c.loop-index.index-index 0) [] c.requires.vectors
+    (Each_member (λ i. i < length list) c.args.kept.now c.loop-index.index-index 0 c.requires.needed.within c.loop-index-test.true))

@@ -1,4 +1,5 @@
-use Rattle.std.proofs.Common.{[], get_or, rules, subst, sym}
+use Rattle.std.proofs.Common.{[], get_or, length, rules, subst, sym, ◌<◌}
+use Rattle.module_vectors.proofs.SumsOfProducts.{Each_member}
 use Rattle.interreduce.specs.Members.{IsReducedMember}
 use Rattle.interreduce.proofs.Gathering.{one_more, stopped_in_turn}
 use Rattle.interreduce.proofs.turns.reduced_in_turn.Goals as goal
@@ -24,3 +25,12 @@ reduced_member-requires-clause-divisors g c = c.requires.divisors
 
 pub reduced_member-requires-clause-vectors : goal.reduced_member-requires-clause-vectors
 reduced_member-requires-clause-vectors g c = c.requires.vectors
+
+pub reduced_member-requires-clause-index : goal.reduced_member-requires-clause-index
+reduced_member-requires-clause-index g c =
+    Each_member (λ i. i < length (g.L.Vectors.listed c.args.list.now)) c.args.indices.now c.loop-index.index-index 0 c.requires.indices c.loop-index-test.true
+
+pub reduced_member-requires-clause-some : goal.reduced_member-requires-clause-some
+reduced_member-requires-clause-some g c =
+    Each_member (λ i. 0 < length (get_or (g.L.Vectors.listed c.args.list.now) i [])) c.args.indices.now c.loop-index.index-index 0 c.requires.leads
+    c.loop-index-test.true

@@ -1,7 +1,6 @@
-use Rattle.std.proofs.Common.{[], subst, subst₂, sym, ◌∙◌, ◌∷◌, ◌≡◌}
+use Rattle.std.proofs.Common.{subst, subst₂, sym}
 use Rattle.formal_sums.specs.Combinations.{combination}
 use Rattle.formal_sums.specs.FormalSums.{Each}
-use Rattle.monomial_orders.specs.Kept.{IsWeighed}
 use Rattle.module_vectors.specs.Rings.{ring_comparison, variables}
 use Rattle.module_vectors.specs.Vectors.{AreVectorsOver, IsVectorOver, StandsFor, key_of, sums_of}
 use Rattle.module_vectors.specs.declared.ring.Ring.{Ring}
@@ -12,14 +11,9 @@ use Rattle.basis_steps.specs.States.{vectors}
 use Rattle.basis_core.proofs.Tracking.{vectors_over}
 use Rattle.basis_core.specs.Jobs.{HasLcm, pair_of}
 use Rattle.basis_core.specs.Members.{members_of, setting_of}
-use Rattle.basis_core.specs.Outcomes.{products_of}
 use Rattle.basis_core.specs.Rows.{vectors_in}
-use Rattle.s_vectors.proofs.Leaving.{divided_zero, first_steps}
-use Rattle.s_vectors.proofs.Lists.{empty_list}
-use Rattle.s_vectors.proofs.Solved.{solved_zero}
-use Rattle.s_vectors.specs.Divided.{IsDivided, IsTopVector}
+use Rattle.s_vectors.proofs.Leaving.{first_steps}
 use Rattle.s_vectors.specs.Parts.{ArePairParts, PartsStop}
-use Rattle.s_vectors.specs.Solutions.{IsSolved}
 use Rattle.s_vectors.specs.PairProducts.{PairStops}
 use Rattle.s_vectors.proofs.division.divide_over.Goals as goal
 
@@ -57,29 +51,8 @@ returns-in-Err-clause-stop c =
     (c.stop_of_sum.ensures n m.shared.ring.weights m.list (key_of n x.lcm) (first_steps m x c.requires.pair c.in_ok-parts.parts.items two)
     (subst (λ ps. PartsStop (vectors_in m.list) ps c.in-Err.stop) c.deref.ensures.value c.in-Err.ensures.stop))
 
-pub returns-then-is_empty-clause-solved : goal.returns-then-is_empty-clause-solved
-returns-then-is_empty-clause-solved c =
-    let m = c.args.members.now in
-    let x = c.args.pair.now in
-    let n = variables m.shared.ring in
-    let parts = c.in_ok-parts.parts.items in
-    let none : c.in-Ok.vector ≡ [] = sym c.terms.ensures ∙ empty_list c.terms.result.now (sym c.is_empty.ensures ∙ c.if-is_empty.true) in
-    let top : IsTopVector m x parts c.in-Ok.vector = record {
-      two = subst (λ (r : Ring). ArePairParts (variables r) r.weights r.modulus.value (vectors_in m.list) x parts) c.requires.over c.in_ok-parts.ensures;
-      vector = subst (λ (r : Ring). IsVectorOver r (ring_comparison r) c.in-Ok.vector) c.requires.over c.in-Ok.ensures.vector;
-      sum = subst₂ (λ (r : Ring) ps. StandsFor r c.in-Ok.vector (combination (sums_of (variables r) (vectors_in m.list)) (cofactors_of (variables r) ps))) c.requires.over c.deref.ensures.value c.in-Ok.ensures.sum;
-    } in
-    let d : IsDivided m x parts [] = divided_zero m x c.requires.pair parts c.in-Ok.vector top none in
-    record {
-      over = tt;
-      weighed = subst (Each (λ t. IsWeighed n m.shared.ring.weights t.1)) (sym c.in_ok-without_residues.ensures) d.products.weighed;
-      solved =
-          subst (λ ts. IsSolved (setting_of n m.shared) (vectors (members_of n m.list)) (pair_of x ∷ []) [] (products_of n ts)) (sym c.in_ok-without_residues.ensures)
-          (solved_zero m x c.requires.pair c.kept.ensures parts d);
-    }
-
-pub divide_vector-requires-clause-top : goal.divide_vector-requires-clause-top
-divide_vector-requires-clause-top c =
+pub divide_top-requires-clause-top : goal.divide_top-requires-clause-top
+divide_top-requires-clause-top c =
     let m = c.args.members.now in
     let x = c.args.pair.now in
     let parts = c.in_ok-parts.parts.items in
@@ -92,8 +65,8 @@ divide_vector-requires-clause-top c =
 pub pair_parts-requires-clause-over : goal.pair_parts-requires-clause-over
 pair_parts-requires-clause-over c = c.requires.over
 
-pub divide_vector-requires-clause-over : goal.divide_vector-requires-clause-over
-divide_vector-requires-clause-over c = c.requires.over
+pub divide_top-requires-clause-over : goal.divide_top-requires-clause-over
+divide_top-requires-clause-over c = c.requires.over
 
-pub divide_vector-requires-clause-pair : goal.divide_vector-requires-clause-pair
-divide_vector-requires-clause-pair c = c.requires.pair
+pub divide_top-requires-clause-pair : goal.divide_top-requires-clause-pair
+divide_top-requires-clause-pair c = c.requires.pair

@@ -1,22 +1,12 @@
-use Rattle.std.proofs.Common.{[], ap, arith, length, subst, sym, ◌<◌, ◌∙◌, ◌∷◌, ◌≡◌}
+use Rattle.std.proofs.Common.{ap, arith, length, subst, sym, ◌<◌}
 use Rattle.formal_sums.proofs.Combining.{Each_map}
-use Rattle.formal_sums.specs.FormalSums.{Each}
-use Rattle.monomial_orders.specs.Kept.{IsWeighed}
 use Rattle.module_vectors.specs.Rings.{ring_comparison, variables}
 use Rattle.module_vectors.specs.Vectors.{AreVectorsOver, IsVectorOver, key_of}
 use Rattle.module_vectors.specs.declared.ring.Ring.{Ring}
 use Rattle.basis_core.proofs.Tracking.{vectors_over}
-use Rattle.basis_core.specs.Jobs.{pair_of}
-use Rattle.basis_steps.specs.States.{vectors}
-use Rattle.basis_core.specs.Members.{members_of, setting_of}
-use Rattle.basis_core.specs.Outcomes.{products_of}
 use Rattle.basis_core.specs.Rows.{vectors_in}
 use Rattle.vector_division.specs.Divisions.{DivisionStops}
 use Rattle.s_vectors.proofs.Leaving.{divided_over, first_steps, keys_met}
-use Rattle.s_vectors.proofs.Lists.{empty_list}
-use Rattle.s_vectors.proofs.Solved.{solved_zero}
-use Rattle.s_vectors.specs.Divided.{IsDivided}
-use Rattle.s_vectors.specs.Solutions.{IsSolved}
 use Rattle.s_vectors.specs.PairProducts.{PairStops}
 use Rattle.s_vectors.proofs.division.divide_vector.Goals as goal
 
@@ -43,33 +33,14 @@ returns-in-Err-clause-stop c =
 pub take_quotients-requires : goal.take_quotients-requires
 take_quotients-requires c = Each_map _ _ c.in-Ok.reduction.quotients.items (λ q i. i.reduced) c.in-Ok.ensures.quotients
 
-pub returns-then-is_empty-clause-solved : goal.returns-then-is_empty-clause-solved
-returns-then-is_empty-clause-solved c =
-    let m = c.args.members.now in
-    let x = c.args.pair.now in
-    let n = variables m.shared.ring in
-    let f = c.in-Ok.ensures in
-    let none : c.in-Ok.reduction.rest ≡ [] = sym c.terms.ensures ∙ empty_list c.terms.result.now (sym c.is_empty.ensures ∙ c.if-is_empty.true) in
-    let d : IsDivided m x c.take_quotients.new.parts.items [] =
-    subst (IsDivided m x c.take_quotients.new.parts.items) none
-    (divided_over m x c.requires.pair c.args.parts.items c.args.vector.now c.requires.top c.args.ring.now c.in-Ok.reduction.quotients.items c.take_quotients.new.parts.items c.in-Ok.reduction.rest
-    c.requires.over c.requires.some c.in_ok-take_quotients.ensures f.quotients f.met f.bounded f.sum f.rest) in
-    record {
-      over = tt;
-      weighed = subst (Each (λ t. IsWeighed n m.shared.ring.weights t.1)) (sym c.in_ok-without_residues.ensures) d.products.weighed;
-      solved =
-          subst (λ ts. IsSolved (setting_of n m.shared) (vectors (members_of n m.list)) (pair_of x ∷ []) [] (products_of n ts)) (sym c.in_ok-without_residues.ensures)
-          (solved_zero m x c.requires.pair c.kept.ensures c.take_quotients.new.parts.items d);
-    }
-
-pub make_row-requires-clause-divided : goal.make_row-requires-clause-divided
-make_row-requires-clause-divided c =
+pub make_division-requires-clause-divided : goal.make_division-requires-clause-divided
+make_division-requires-clause-divided c =
     let f = c.in-Ok.ensures in
     divided_over c.args.members.now c.args.pair.now c.requires.pair c.args.parts.items c.args.vector.now c.requires.top c.args.ring.now c.in-Ok.reduction.quotients.items c.take_quotients.new.parts.items c.in-Ok.reduction.rest
     c.requires.over c.requires.some c.in_ok-take_quotients.ensures f.quotients f.met f.bounded f.sum f.rest
 
-pub make_row-requires-clause-over : goal.make_row-requires-clause-over
-make_row-requires-clause-over c = c.requires.over
+pub make_division-requires-clause-over : goal.make_division-requires-clause-over
+make_division-requires-clause-over c = c.requires.over
 
-pub make_row-requires-clause-pair : goal.make_row-requires-clause-pair
-make_row-requires-clause-pair c = c.requires.pair
+pub make_division-requires-clause-pair : goal.make_division-requires-clause-pair
+make_division-requires-clause-pair c = c.requires.pair

@@ -8,6 +8,24 @@ use Rattle.vector_division.proofs.Looping.{are_weighed}
 use Rattle.s_vectors.proofs.TopParts.{factor_divides, factor_some, left_divides, left_within, minus_one, right_divides, right_within, top_part}
 use Rattle.s_vectors.proofs.pairs.pair_parts.Goals as goal
 
+pub at-requires : goal.at-requires
+at-requires c =
+    let n = variables c.args.ring.now in
+    let m = c.args.members.now in
+    left_within n m.shared m.list c.args.pair.now c.requires.monic c.requires.real c.requires.lcm
+
+pub at-requires-2 : goal.at-requires-2
+at-requires-2 c =
+    let n = variables c.args.ring.now in
+    let m = c.args.members.now in
+    right_within n m.shared m.list c.args.pair.now c.requires.monic c.requires.real c.requires.lcm
+
+pub factor_of-requires-clause-lcm : goal.factor_of-requires-clause-lcm
+factor_of-requires-clause-lcm c = c.requires.lcm.weighed
+
+pub factor_of-requires-2-clause-lcm : goal.factor_of-requires-2-clause-lcm
+factor_of-requires-2-clause-lcm c = c.requires.lcm.weighed
+
 pub factor_of-requires-clause-some : goal.factor_of-requires-clause-some
 factor_of-requires-clause-some c =
     let n = variables c.args.ring.now in
@@ -60,10 +78,11 @@ returns c =
     let x = c.args.pair.now in
     let list = vectors_in c.args.members.now.list in
     record {
-      left = record { index = x.i; residue = 1; monomial = c.in_ok-factor_of.field-0 };
-      right = record { index = x.j; residue = c.neg.result; monomial = c.in_ok-factor_of-2.field-0 };
+      left = record { index = x.i; residue = 1; monomial = c.in_ok-left.left };
+      right = record { index = x.j; residue = c.neg.result; monomial = c.in_ok-right.right };
       two = c.in_ok-vec.ensures.items;
-      first = top_part n c.args.ring.now.weights list x.lcm x.i 1 c.at.result.now _ c.at.ensures c.in_ok-factor_of.ensures refl refl;
-      second = top_part n c.args.ring.now.weights list x.lcm x.j (c.args.ring.now.modulus.value - 1) c.at-2.result.now _ c.at-2.ensures c.in_ok-factor_of-2.ensures refl
+      first = top_part n c.args.ring.now.weights list x.lcm x.i 1 c.at.result.now _ c.at.ensures c.in_ok-left.ensures refl refl;
+      second = top_part n c.args.ring.now.weights list x.lcm x.j (c.args.ring.now.modulus.value - 1) c.at-2.result.now _ c.at-2.ensures
+          c.in_ok-right.ensures refl
           (minus_one c.args.ring.now.modulus.value c.neg.result c.domain.ensures.above_one c.neg.ensures.value);
     }

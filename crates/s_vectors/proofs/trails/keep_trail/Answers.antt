@@ -14,8 +14,8 @@ returns c =
     job_trail j c.args.number x _ c.kept.ensures
     (subst₂ (λ (s : Shared) (l : List Tracked). Each (IsTracked s) l) c.members-members.ensures.shared c.members-members.ensures.list c.kept-2.ensures)
     c.requires.known is (c.requires.chain x is)
-    (c.in_ok-try_copy.ensures ∙ ap (λ (s : CodeShared). s.ring) c.deref.ensures ∙ ap (λ (s : Shared). s.ring) c.shared-shared.ensures)
-    (ap (λ (s : CodeShared). s.rank) c.deref-2.ensures ∙ ap (λ (s : Shared). s.rank) c.shared-shared.ensures)
-    (c.in_ok-copy_of.ensures ∙ ap (λ (s : CodeShared). s.generators) c.deref-3.ensures ∙ ap (λ (s : Shared). s.generators) c.shared-shared.ensures)
+    (c.in_ok-ring.ensures ∙ ap (λ (s : CodeShared). s.ring) c.deref.ensures ∙ ap (λ (s : Shared). s.ring) c.shared-shared.ensures)
+    (ap (λ (s : CodeShared). s.rank) c.deref-3.ensures ∙ ap (λ (s : Shared). s.rank) c.shared-shared.ensures)
+    (c.in_ok-generators.ensures ∙ ap (λ (s : CodeShared). s.generators) c.deref-2.ensures ∙ ap (λ (s : Shared). s.generators) c.shared-shared.ensures)
     c.new.ensures.items refl c.zero.ensures
-    (c.in_ok-copy_of-2.ensures ∙ ap vectors_in c.members-members.ensures.list)
+    (c.in_ok-vectors.ensures ∙ ap vectors_in c.members-members.ensures.list)

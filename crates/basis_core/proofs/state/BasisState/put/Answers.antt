@@ -17,7 +17,7 @@ use Rattle.basis_core.proofs.AfterPut.{HasPut, after_put, outcome_of, put_kept, 
 use Rattle.basis_core.proofs.Logging.{puts_more}
 use Rattle.basis_core.proofs.Unchanged.{unchanged_kept}
 use Rattle.basis_core.proofs.state.BasisState.put.Goals as goal
-use Rattle.basis_core.proofs.state.BasisState.put.Goals.{After-drop-outcome-inside-5}
+use Rattle.basis_core.proofs.state.BasisState.put.Goals.{After-drop-outcome}
 
 pub add_members-requires-clause-monic : goal.add_members-requires-clause-monic
 add_members-requires-clause-monic c =
@@ -49,7 +49,7 @@ returns-in-Err-clause-stop c =
 
 -- what the calls came to
 has_put :
-    (c : After-drop-outcome-inside-5)
+    (c : After-drop-outcome)
     → HasPut (variables_of (shown c.self.inside)) (shown c.self.inside) c.args.outcome c.add_members.new.members.list
     (pairs_of c.give_back.new.self.queue) c.give_back.new.self.out c.push_reserved.new.self.items
 has_put c =

@@ -22,6 +22,12 @@ take-requires-clause-taken c =
     let s : Shown = shown c.self.inside in
     (replayed_holds (variables_of s) s c.domain.ensures c.self.invariant.some c.self.invariant.replays).within_budget
 
+pub take-requires-clause-workers : goal.take-requires-clause-workers
+take-requires-clause-workers c = c.self.invariant.some
+
+pub keep_stop-requires : goal.keep_stop-requires
+keep_stop-requires c = subst (λ (z : Shown). z.stop ≡ None) (sym c.self.view_is) c.requires.unstopped
+
 pub answer-requires-clause-job : goal.answer-requires-clause-job
 answer-requires-clause-job c = λ some.
     let i : Inside = c.self.inside in
