@@ -1,5 +1,5 @@
 // Lists of generators.
-ghost use Rattle.std.specs.Prelude.{◌≡◌, ◌≤◌, IfOk, IfSome, IsTrue, List, length, map, suc, ◌∷◌};
+ghost use Rattle.std.specs.Prelude.{◌≡◌, ◌≤◌, ◌++◌, ◌∷◌, [], IfOk, IfSome, IsTrue, List, OnOk, length, map, suc};
 ghost use Rattle.monomials.specs.Exponents.{Exponents, exponents_of, quotient};
 ghost use Rattle.monomial_counts.specs.Counts.{has_divisor};
 ghost use Rattle.monomial_orders.specs.Kept.{IsWeighed};
@@ -54,6 +54,14 @@ pub(crate) fn without_multiples(
     without_earlier_multiples(alloc, weights, list)
 }
 
+/// Puts a copy of the monomial at the end.
+pub(crate) fn push_copy(alloc: Global, to: &mut Vec<Mono>, m: &Mono) -> Result<(), NoMemory>
+    ensures ok { OnOk result (to.new.items ≡ to.old.items ++ (m.now ∷ [])) }
+{
+    to.push(m.try_copy(alloc)?)?;
+    Ok(())
+}
+
 /// The generators that p does not divide, and p.
 pub(crate) fn with_generator(
     alloc: Global,
@@ -70,10 +78,10 @@ pub(crate) fn with_generator(
         → AreApart n ms list.now → AreApart n ms v.items) }
 {
     let mut all = Vec::with_capacity(alloc, list.len())?;
-    all.push(p.try_copy(alloc)?)?;
+    push_copy(alloc, &mut all, p)?;
     for generator in list {
         if !p.divides(generator) {
-            all.push(generator.try_copy(alloc)?)?;
+            push_copy(alloc, &mut all, generator)?;
         }
     }
     Ok(all)

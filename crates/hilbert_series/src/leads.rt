@@ -16,12 +16,22 @@ use std::alloc::Global;
 const MOST_LEADS: u64 = 120;
 
 /// A Hilbert series over n variables, by its numerator: the coefficients, the constant first. The numerator 0 has none.
-#[derive(Debug, Drop)]
+#[derive(Debug)]
 pub struct Series {
     /// The number of variables.
     pub n: usize,
     /// The numerator's coefficients.
     pub coefficients: Vec<i128>,
+}
+
+// By hand, so that each drop of one is a call.
+impl Drop for Series {
+    fn drop(self) {
+        let Series {
+            n: _,
+            coefficients: _,
+        } = self;
+    }
 }
 
 /// How many leads stand at position i.

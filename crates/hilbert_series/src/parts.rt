@@ -2,7 +2,7 @@
 ghost use Rattle.std.specs.Prelude.{◌++◌, ◌∷◌, ◌≡◌, [], IfOk, IfSome, IsTrue, OnOk, if◌then◌else◌, length};
 ghost use Rattle.hilbert_series.specs.Generators.{AreApart, AreGenerators, IsParted, IsSieved, monomials};
 
-use crate::generators::is_apart;
+use crate::generators::{is_apart, push_copy};
 use monomial_orders::{Mono, NoMemory, Weights};
 use std::alloc::Global;
 
@@ -69,14 +69,6 @@ fn all_meet(list: &[Mono], marks: &[bool]) -> bool {
         }
     }
     true
-}
-
-/// Puts a copy of the monomial at the end.
-fn push_copy(alloc: Global, to: &mut Vec<Mono>, m: &Mono) -> Result<(), NoMemory>
-    ensures ok { OnOk result (to.new.items ≡ to.old.items ++ (m.now ∷ [])) }
-{
-    to.push(m.try_copy(alloc)?)?;
-    Ok(())
 }
 
 /// Puts copies of the monomials at the end.

@@ -9,6 +9,7 @@ ghost use Rattle.schreyer_resolution.specs.Resolved.{AreJoined, columns_of, degr
 ghost use Rattle.minimal_betti.specs.Carried.{AreCarried, AreOrdered, AreOwn, HasNone, LeadsTo, graded_map, graded_maps};
 ghost use Rattle.minimal_betti.specs.Graded.{AreMapsOver, IsGradedResolution, graded_of};
 ghost use Rattle.minimal_betti.specs.Minimising.{CancellationStops, IsCancellationOf};
+ghost use Rattle.minimal_betti.specs.Passing.{IsPassed};
 ghost use Rattle.minimal_betti.specs.Placing.{ArePlacesAfter};
 ghost use Rattle.minimal_betti.specs.Splitting.{IsFormerLeft, IsNextLeft, IsUnderway, all_removed, in_turn};
 ghost use Rattle.minimal_betti.specs.declared.carried.Carried.{Carried as CarriedMap};
@@ -87,8 +88,35 @@ fn leave(
     leave_next(alloc, ring, &passed.indices, rest)?;
     Ok(Carried {
         degrees: kept_items(alloc, &passed.indices, degrees)?,
-        columns: passed.columns,
+        columns: passed.into_columns(),
     })
+}
+
+// The map at hand after a pass over it, which changed nothing where it made no step.
+fn leave_passed(
+    alloc: Global,
+    ring: &Ring,
+    positions: &mut Vec<u32>,
+    done: &mut Vec<Carried>,
+    current: Carried,
+    passed: Passed,
+    rest: &mut Vec<Carried>,
+) -> Result<Carried, NoMemory>
+    requires passed { IsPassed ring.now current.columns passed }
+    requires underway { IsUnderway ring.now positions.old.items done.old.items (in_turn done.old.items current rest.old.items) }
+    ensures underway { IfOk result (λ m. IsUnderway ring.now positions.new.items done.new.items (in_turn done.new.items m rest.new.items)) }
+    ensures none { IfOk result (λ m. HasNone ring.now.modulus.value (sums_of (variables ring.now) m.columns)) }
+    ensures leads { IfOk result (λ m. LeadsTo ring.now.modulus.value
+        (graded_maps ring.now positions.old.items (in_turn done.old.items current rest.old.items))
+        (graded_maps ring.now positions.new.items (in_turn done.new.items m rest.new.items))) }
+    ensures rest { OnOk result (length rest.new.items ≡ length rest.old.items) }
+{
+    lawful_setting(ring);
+    if passed.rows.count == 0 {
+        return Ok(current);
+    }
+    let left = leave(alloc, ring, positions, done, current.degrees, passed, rest)?;
+    Ok(left)
 }
 
 // The map at hand when its constants have left. Where a product's degree is too great, they leave by steps, which give the trail.
@@ -112,12 +140,10 @@ fn cancelled_map(
 {
     lawful_setting(ring);
     match pass(alloc, ring, &current.degrees, current.columns.as_slice()) {
-        Ok(passed) => {
-            if passed.rows.count == 0 {
-                return Ok(current);
-            }
-            Ok(leave(alloc, ring, positions, done, current.degrees, passed, rest)?)
-        }
+        Ok(passed) => match leave_passed(alloc, ring, positions, done, current, passed, rest) {
+            Ok(map) => Ok(map),
+            Err(_) => Err(WorkStop::Memory),
+        },
         Err(VectStop::Memory) => Err(WorkStop::Memory),
         Err(VectStop::Degree(_, _)) => {
             cancelled_by_steps(alloc, ring, positions, done, current, rest)

@@ -175,5 +175,5 @@ pub(crate) fn in_own_order(alloc: Global, ring: &Ring, v: &Vect) -> Result<Vect,
     ensures sum { IfOk result (λ u. StandsFor ring.now u (sum_of (variables ring.now) v.now)) }
 {
     let copy = v.try_copy(alloc)?;
-    Ok(Vect::from_terms(alloc, ring, copy.into_terms())?)
+    Vect::from_terms(alloc, ring, copy.into_terms())
 }

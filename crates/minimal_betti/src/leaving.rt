@@ -12,6 +12,7 @@ use crate::placing::{Leaving, kept_items, placed_vector};
 use module_vectors::{NoMemory, Ring, Vect, VectList};
 use std::alloc::Global;
 use std::collections::VecDeque;
+use std::mem::replace;
 
 /// The degree leaves, where there is one.
 pub(crate) fn drop_degree(degrees: &mut Vec<u32>, at: u64)
@@ -45,9 +46,12 @@ fn columns_without(
 fn fewer_columns(alloc: Global, leaving: &Leaving, map: Carried) -> Result<Carried, NoMemory>
     ensures { (rows : List ℕ) → ArePlacesAfter rows leaving.now → IfOk result (IsFewer rows map) }
 {
+    let Carried { columns, degrees } = map;
+    let degrees = kept_items(alloc, leaving, degrees)?;
+    let columns = kept_items(alloc, leaving, columns.into_vec())?;
     Ok(Carried {
-        columns: VectList::from_vec(kept_items(alloc, leaving, map.columns.into_vec())?),
-        degrees: kept_items(alloc, leaving, map.degrees)?,
+        columns: VectList::from_vec(columns),
+        degrees,
     })
 }
 
@@ -65,7 +69,8 @@ pub(crate) fn leave_former(
         Some(last) => done.push(fewer_columns(alloc, leaving, last)?)?,
         None => {
             let all = Vec::from_slice(alloc, positions)?;
-            *positions = kept_items(alloc, leaving, all)?;
+            let kept = kept_items(alloc, leaving, all)?;
+            drop(replace(positions, kept));
         }
     }
     Ok(())

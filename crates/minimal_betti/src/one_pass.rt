@@ -25,11 +25,35 @@ pub(crate) struct Met {
 }
 
 /// The columns that are left, and the rows and the columns that leave.
-#[derive(Drop)]
 pub(crate) struct Passed {
     pub columns: VectList,
     pub rows: Leaving,
     pub indices: Leaving,
+}
+
+// By hand, so that each drop of one is a call.
+impl Drop for Passed {
+    fn drop(self) {
+        let Passed {
+            columns: _,
+            rows: _,
+            indices: _,
+        } = self;
+    }
+}
+
+impl Passed {
+    /// The columns alone.
+    pub(crate) fn into_columns(self) -> VectList
+        ensures { result ≡ self.columns }
+    {
+        let Passed {
+            columns,
+            rows: _,
+            indices: _,
+        } = self;
+        columns
+    }
 }
 
 // Keeps the column with this number, or where it has a constant makes a step of its first one.
@@ -154,6 +178,33 @@ fn finish(
     Ok(VectList::from_vec(columns))
 }
 
+// The met columns after all steps, with the rows and the columns that leave.
+fn finish_pass(
+    alloc: Global,
+    ring: &Ring,
+    table: &StepTable,
+    met: Vec<Met>,
+) -> Result<Passed, VectStop>
+    requires steps { Each (IsStepOver ring.now) table.now.steps.items }
+    requires numbered { AreNumbered table.now.numbers.items 0 table.now.steps.items }
+    requires met { Each (IsMetOver ring.now table.now.steps.items) met.items }
+    ensures rows { IfOk result (λ p. LeaveNumbered table.now.numbers.items p.rows) }
+    ensures indices { IfOk result (λ p. ArePlacesAfter (indices_in_turn 0 met.items) p.indices) }
+    ensures finished { IfOk result (λ p. (rows : List ℕ) → ArePlacesAfter rows p.rows
+        → AreFinished ring.now table.now.steps.items rows met.items p.columns) }
+{
+    let rows = leaving_rows(alloc, &table.numbers)?;
+    let indices = leaving_columns(alloc, &met)?;
+    match finish(alloc, ring, table, &rows, met) {
+        Ok(columns) => Ok(Passed {
+            columns,
+            rows,
+            indices,
+        }),
+        Err(stop) => Err(stop),
+    }
+}
+
 // A copy of the column with this number.
 fn column_copy(alloc: Global, columns: &[Vect], number: usize) -> Result<Vect, NoMemory>
     requires { number < length columns.now }
@@ -194,14 +245,5 @@ pub(crate) fn pass(
             Err(stop) => return Err(stop),
         }
     }
-    let rows = leaving_rows(alloc, &table.numbers)?;
-    let indices = leaving_columns(alloc, &met)?;
-    match finish(alloc, ring, &table, &rows, met) {
-        Ok(columns) => Ok(Passed {
-            columns,
-            rows,
-            indices,
-        }),
-        Err(stop) => Err(stop),
-    }
+    finish_pass(alloc, ring, &table, met)
 }

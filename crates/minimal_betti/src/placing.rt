@@ -11,10 +11,19 @@ use std::collections::VecDeque;
 
 /// Rows, or columns, that leave: for each of the first numbers the place that is left to it, or none where it leaves, and how many
 /// leave. No number behind the table leaves.
-#[derive(Drop)]
 pub(crate) struct Leaving {
     pub places: Vec<Option<u64>>,
     pub count: u64,
+}
+
+// By hand, so that each drop of one is a call.
+impl Drop for Leaving {
+    fn drop(self) {
+        let Leaving {
+            places: _,
+            count: _,
+        } = self;
+    }
 }
 
 /// The position that is left to one when the row leaves.
@@ -102,11 +111,9 @@ fn put(leaving: &Leaving, term: (Key, u32), left: &mut Vec<(Key, u32)>) -> Resul
         → OnOk result (left.new.items ≡ left.old.items ++ placed rows (term ∷ [])) }
 {
     if let Some(position) = place_of(leaving, term.0.position) {
-        let key = Key {
-            position,
-            monomial: term.0.monomial,
-        };
-        left.push((key, term.1))?;
+        let mut moved = term;
+        moved.0.position = position;
+        left.push(moved)?;
     }
     Ok(())
 }

@@ -164,6 +164,8 @@ pub(crate) fn cancel(
         Ok(split) => split,
         Err(stop) => return Err(stop),
     };
-    leave_maps(alloc, ring, positions, done, rest, at)?;
-    Ok(split)
+    match leave_maps(alloc, ring, positions, done, rest, at) {
+        Ok(()) => Ok(split),
+        Err(_) => Err(WorkStop::Memory),
+    }
 }

@@ -24,10 +24,19 @@ pub(crate) struct Step {
 }
 
 /// The steps so far, and at each row the number of its step.
-#[derive(Drop)]
 pub(crate) struct StepTable {
     pub steps: Vec<Step>,
     pub numbers: Vec<u64>,
+}
+
+// By hand, so that each drop of one is a call.
+impl Drop for StepTable {
+    fn drop(self) {
+        let StepTable {
+            steps: _,
+            numbers: _,
+        } = self;
+    }
 }
 
 // The number of the row's step.

@@ -19,10 +19,16 @@ pub(crate) struct Span {
 }
 
 /// The marks of a map's columns, and the span of each position.
-#[derive(Drop)]
 pub(crate) struct LeadIndex {
     pub(crate) marks: Vec<Mark>,
     pub(crate) spans: Vec<Span>,
+}
+
+// By hand, so that each drop of one is a call.
+impl Drop for LeadIndex {
+    fn drop(self) {
+        let LeadIndex { marks: _, spans: _ } = self;
+    }
 }
 
 impl LeadIndex {

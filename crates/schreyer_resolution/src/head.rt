@@ -21,7 +21,6 @@ pub(crate) const MAX_DEGREE: u128 = 1 << 100;
 
 /// Where the leads of the maps take a position: the position and the monomial at the bottom, the monomial's degree, and
 /// the positions on the way, the lowest first.
-#[derive(Drop)]
 pub(crate) struct Head {
     pub(crate) position: u64,
     pub(crate) exponents: Vec<u64>,
@@ -29,11 +28,29 @@ pub(crate) struct Head {
     pub(crate) way: Vec<u64>,
 }
 
+// By hand, so that each drop of one is a call.
+impl Drop for Head {
+    fn drop(self) {
+        let Head {
+            position: _,
+            exponents: _,
+            degree: _,
+            way: _,
+        } = self;
+    }
+}
+
 /// The heads of the positions of one map's cofactors, and that of all later positions.
-#[derive(Drop)]
 pub(crate) struct Heads {
     pub(crate) each: Vec<Head>,
     pub(crate) past: Head,
+}
+
+// By hand, so that each drop of one is a call.
+impl Drop for Heads {
+    fn drop(self) {
+        let Heads { each: _, past: _ } = self;
+    }
 }
 
 impl Heads {

@@ -25,10 +25,19 @@ pub struct Map {
 
 /// A resolution: the degrees of the positions at step 0, and the maps, the one into these positions first. The rows of each
 /// further map are the columns of the one before.
-#[derive(Drop)]
 pub struct Resolution {
     pub positions: Vec<u32>,
     pub maps: Vec<Map>,
+}
+
+// By hand, so that each drop of one is a call.
+impl Drop for Resolution {
+    fn drop(self) {
+        let Resolution {
+            positions: _,
+            maps: _,
+        } = self;
+    }
 }
 
 // The degree of a row, 0 past the end.

@@ -1,7 +1,7 @@
-use Rattle.std.proofs.Common.{arith, length}
+use Rattle.std.proofs.Common.{arith, length, subst, subst₂, sym}
 use Rattle.hilbert_laws.specs.Numerators.{plus}
 use Rattle.hilbert_laws.specs.Shifting.{shifted}
-use Rattle.hilbert_series.specs.Generators.{HaveSameCoefficients, IsNumeratorWith, IsSplit, monomials}
+use Rattle.hilbert_series.specs.Generators.{AreApart, AreGenerators, HaveSameCoefficients, IsNumeratorWith, IsSplit, monomials}
 use Rattle.hilbert_series.proofs.Lists.{numerator_split, slice_small_with, some_holds, split_of_slice}
 use Rattle.hilbert_series.proofs.Loops.{ok_more}
 use Rattle.hilbert_series.proofs.recurrence.+by_steps.Goals as goal
@@ -52,3 +52,51 @@ returns t c =
           c.as_slice-5.ensures.value c.as_slice-6.ensures.value same)
           c.plus_shifted.ensures.sum;
     }
+
+pub by_generators-requires-clause-generators : goal.by_generators-requires-clause-generators
+by_generators-requires-clause-generators t c = c.requires.generators
+
+pub by_generators-requires-clause-few : goal.by_generators-requires-clause-few
+by_generators-requires-clause-few t c = c.requires.few
+
+pub by_generators-requires-clause-apart : goal.by_generators-requires-clause-apart
+by_generators-requires-clause-apart t c = c.requires.apart
+
+pub by_generators-requires-clause-start : goal.by_generators-requires-clause-start
+by_generators-requires-clause-start t c = c.requires.start
+
+pub by_generators-requires-in_default-2-clause-generators : goal.by_generators-requires-in_default-2-clause-generators
+by_generators-requires-in_default-2-clause-generators t c = c.requires.generators
+
+pub by_generators-requires-in_default-2-clause-few : goal.by_generators-requires-in_default-2-clause-few
+by_generators-requires-in_default-2-clause-few t c = c.requires.few
+
+pub by_generators-requires-in_default-2-clause-apart : goal.by_generators-requires-in_default-2-clause-apart
+by_generators-requires-in_default-2-clause-apart t c = c.requires.apart
+
+pub by_generators-requires-in_default-2-clause-start : goal.by_generators-requires-in_default-2-clause-start
+by_generators-requires-in_default-2-clause-start t c = c.requires.start
+
+pub parted-requires-clause-done : goal.parted-requires-clause-done
+parted-requires-clause-done t c = subst (AreGenerators (length c.args.weights.now) c.args.weights.now) (sym c.as_slice.ensures.value) c.requires.done
+
+pub parted-requires-clause-generators : goal.parted-requires-clause-generators
+parted-requires-clause-generators t c =
+    subst (AreGenerators (length c.args.weights.now) c.args.weights.now) (sym c.as_slice-2.ensures.value) c.requires.generators
+
+pub parted-requires-clause-apart : goal.parted-requires-clause-apart
+parted-requires-clause-apart t c =
+    let n = length c.args.weights.now in
+    subst₂ (λ ds gs. AreApart n (monomials n ds) gs) (sym c.as_slice.ensures.value) (sym c.as_slice-2.ensures.value) c.requires.apart
+
+pub split-requires-clause-done : goal.split-requires-clause-done
+split-requires-clause-done t c = subst (AreGenerators (length c.args.weights.now) c.args.weights.now) (sym c.as_slice-3.ensures.value) c.requires.done
+
+pub split-requires-clause-generators : goal.split-requires-clause-generators
+split-requires-clause-generators t c =
+    subst (AreGenerators (length c.args.weights.now) c.args.weights.now) (sym c.as_slice-4.ensures.value) c.requires.generators
+
+pub split-requires-clause-apart : goal.split-requires-clause-apart
+split-requires-clause-apart t c =
+    let n = length c.args.weights.now in
+    subst₂ (λ ds gs. AreApart n (monomials n ds) gs) (sym c.as_slice-3.ensures.value) (sym c.as_slice-4.ensures.value) c.requires.apart

@@ -37,3 +37,10 @@ clear_since-requires-clause-numbered c = c.requires.numbered
 
 pub placed_vector-requires-clause-leaving : goal.placed_vector-requires-clause-leaving
 placed_vector-requires-clause-leaving c = c.requires.leaving
+
+pub clear_since-requires-clause-vector : goal.clear_since-requires-clause-vector
+clear_since-requires-clause-vector c =
+    (subst (Each (IsMetOver c.args.ring.now c.args.table.now.steps.items)) c.in-Some.ensures.items c.loop-next.invariant.left).0.0
+
+pub placed_vector-requires-clause-vector : goal.placed_vector-requires-clause-vector
+placed_vector-requires-clause-vector c = c.in-Ok.ensures.vector

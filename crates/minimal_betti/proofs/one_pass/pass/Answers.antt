@@ -1,10 +1,11 @@
-use Rattle.std.proofs.Common.{[], ap, arith, get_or, length, subst, sym, ◌≤◌, ◌∙◌}
+use Rattle.std.proofs.Common.{Err, List, Ok, Result, [], ap, arith, get_or, length, subst, sym, ℕ, ◌≤◌, ◌∙◌}
+use Rattle.std.specs.Prelude.{IfOk}
 use Rattle.std.proofs.lemmas.List.{get_or_default, get_or_past}
 use Rattle.module_vectors.proofs.Scaling.{Each_at}
 use Rattle.module_vectors.specs.Rings.{ring_comparison, variables}
 use Rattle.module_vectors.specs.Vectors.{IsVectorOver, StandsFor, sum_of}
 use Rattle.vector_division.proofs.Members.{sums_at}
-use Rattle.minimal_betti.specs.Passing.{AreNumbered, LeaveNumbered, cleared_all, indices_in_turn}
+use Rattle.minimal_betti.specs.Passing.{AreFinished, AreNumbered, IsPassed, LeaveNumbered, cleared_all, indices_in_turn}
 use Rattle.minimal_betti.specs.Placing.{ArePlacesAfter}
 use Rattle.minimal_betti.proofs.ByDegree.{order_is}
 use Rattle.minimal_betti.proofs.Passes.{AreMet, free_here, meet_more, met_start, number_inside, others_first, pass_all}
@@ -77,8 +78,21 @@ loop-k-preserved c =
       others = c.in_ok-sort_column-in-Ok.ensures.others;
     }
 
-pub returns-in-Ok-finish : goal.returns-in-Ok-finish
-returns-in-Ok-finish c =
+pub finish_pass-requires-clause-steps : goal.finish_pass-requires-clause-steps
+finish_pass-requires-clause-steps c = c.loop-k.invariant.met.steps_over
+
+pub finish_pass-requires-clause-numbered : goal.finish_pass-requires-clause-numbered
+finish_pass-requires-clause-numbered c = c.loop-k.invariant.numbered
+
+pub finish_pass-requires-clause-met : goal.finish_pass-requires-clause-met
+finish_pass-requires-clause-met c = c.loop-k.invariant.met.over
+
+if_all : {X E : Type 0} (r : Result X E) (A B C Q : X → Type 0) → ((x : X) → A x → B x → C x → Q x) → IfOk r A → IfOk r B → IfOk r C → IfOk r Q
+if_all (Ok x) A B C Q f a b c = f x a b c
+if_all (Err e) A B C Q f a b c = tt
+
+pub returns : goal.returns
+returns c =
     let ring = c.args.ring.now in
     let columns = c.args.columns.now in
     let steps = c.loop-k.table.steps.items in
@@ -87,8 +101,9 @@ returns-in-Ok-finish c =
     let le : length c.in_ok-order.order.items ≤ k = omega arith in
     let is = order_is c.args.degrees.now (length columns) c.in_ok-order.order.items c.in_ok-order.ensures in
     let h = subst (λ z. AreMet ring columns z k steps met) is c.loop-k.invariant.met in
-    pass_all ring (c.lawful_setting.ensures 0) columns c.requires.graded.0 c.args.degrees.now c.requires.graded.1 k steps met h
-    (subst (λ z. length z ≤ k) is le) _
-    c.loop-k.table.numbers.items c.loop-k.invariant.numbered c.loop-k.invariant.others (omega arith)
-    (subst (λ z. LeaveNumbered z c.in_ok-rows.rows) c.deref.ensures.value c.in_ok-rows.ensures) c.in-Ok-finish.ensures
-    (subst (λ z. ArePlacesAfter (indices_in_turn 0 z) c.in_ok-indices.indices) c.deref-2.ensures.value c.in_ok-indices.ensures)
+    let few : length steps ≤ 18446744073709551615 = omega arith in
+    if_all c.finish_pass.result (λ p. LeaveNumbered c.loop-k.table.numbers.items p.rows) (λ p. ArePlacesAfter (indices_in_turn 0 met) p.indices)
+    (λ p. (rows : List ℕ) → ArePlacesAfter rows p.rows → AreFinished ring steps rows met p.columns) (IsPassed ring columns)
+    (λ p rows indices finished. pass_all ring (c.lawful_setting.ensures 0) columns c.requires.graded.0 c.args.degrees.now c.requires.graded.1 k steps met h
+    (subst (λ z. length z ≤ k) is le) p c.loop-k.table.numbers.items c.loop-k.invariant.numbered c.loop-k.invariant.others few rows finished indices)
+    c.finish_pass.ensures.rows c.finish_pass.ensures.indices c.finish_pass.ensures.finished

@@ -1,4 +1,4 @@
-use Rattle.std.proofs.Common.{[], ap, get_or, subst, subst₂, sym, ◌++◌, ◌∙◌}
+use Rattle.std.proofs.Common.{[], ap, get_or, length, subst, subst₂, sym, ◌++◌, ◌<◌, ◌∙◌}
 use Rattle.std.proofs.lemmas.List.{get_or_default}
 use Rattle.module_vectors.specs.Rings.{variables}
 use Rattle.module_vectors.specs.Stops.{ScaledStops}
@@ -57,3 +57,8 @@ returns-in-Ok-clause-product g c =
       vector = c.in-Ok.ensures.vector;
       is = subst₂ (λ z v. StandsFor ring c.add_scaled.new.self (sum_of n z ++ scale 1 (exponents_of n key.monomial.exponents) (sum_of n v))) c.zero-product.ensures at c.in-Ok.ensures.sum;
     }
+
+pub bounds-as_slice-key : goal.bounds-as_slice-key
+bounds-as_slice-key g c =
+    subst (λ l. c.args.key.now.position < length l) (sym c.as_slice.ensures)
+    (key_inside (variables (g.F.Frame.over c.args.frame.now)) c.args.columns.now c.args.key.now c.requires.pair)

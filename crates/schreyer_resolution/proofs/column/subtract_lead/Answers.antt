@@ -1,4 +1,4 @@
-use Rattle.std.proofs.Common.{ap, get_or, subst, sym, ◌<◌, ◌∙◌, ◌≡◌}
+use Rattle.std.proofs.Common.{ap, get_or, length, subst, sym, ◌<◌, ◌∙◌, ◌≡◌}
 use Rattle.std.proofs.lemmas.Result.{err_from_is_err_and}
 use Rattle.module_vectors.specs.Rings.{variables}
 use Rattle.vector_division.proofs.Cancelling.{lead_degree, subtraction_of_lead, tail_stops}
@@ -40,3 +40,12 @@ scaled_tail-requires-clause-vector g c = c.requires.divisor
 
 pub scaled_tail-requires-clause-some : goal.scaled_tail-requires-clause-some
 scaled_tail-requires-clause-some g c = c.requires.some
+
+pub neg-requires : goal.neg-requires
+neg-requires g c = subst (λ r. c.args.term.now.1 < r.modulus.value) (sym c.ring.ensures) c.requires.reduced
+
+pub scaled_tail-requires-clause-factor : goal.scaled_tail-requires-clause-factor
+scaled_tail-requires-clause-factor g c = subst (λ r. c.neg.result < r.modulus.value) c.ring.ensures c.neg.ensures.small
+
+pub bounds-terms-0 : goal.bounds-terms-0
+bounds-terms-0 g c = subst (λ z. 0 < length z) (sym c.terms.ensures) c.requires.some

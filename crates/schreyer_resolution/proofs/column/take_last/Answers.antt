@@ -1,12 +1,13 @@
-use Rattle.std.proofs.Common.{[], ap, get_or, subst, sym, ◌∷◌, ◌∙◌}
+use Rattle.std.proofs.Common.{[], ap, get_or, length, subst, sym, ◌<◌, ◌∷◌, ◌∙◌}
 use Rattle.std.proofs.lemmas.List.{get_or_default}
 use Rattle.module_vectors.specs.Rings.{variables}
-use Rattle.module_vectors.specs.Vectors.{key_of}
+use Rattle.module_vectors.specs.Vectors.{IsVectorOver, key_of}
 use Rattle.vector_division.specs.Progress.{IsSubtraction}
 use Rattle.vector_division.specs.Runs.{total}
 use Rattle.schreyer_resolution.specs.Chains.{IsFailing}
 use Rattle.schreyer_resolution.specs.Columns.{IsUnderway}
 use Rattle.schreyer_resolution.proofs.Dividing.{failing_is, one_first, rest_below, underway_next}
+use Rattle.schreyer_resolution.proofs.LeastLeads.{each_at}
 use Rattle.schreyer_resolution.proofs.column.take_last.Goals as goal
 
 pub subtract_lead-taken-requires-clause-monic : goal.subtract_lead-taken-requires-clause-monic
@@ -116,3 +117,26 @@ subtract_lead-taken-requires-clause-nonzero g c = c.requires.nonzero
 
 pub subtract_lead-taken-requires-clause-reduced : goal.subtract_lead-taken-requires-clause-reduced
 subtract_lead-taken-requires-clause-reduced g c = c.requires.reduced
+
+pub next_divisor-requires-clause-underway : goal.next_divisor-requires-clause-underway
+next_divisor-requires-clause-underway g c =
+    let ring = g.F.Frame.over c.args.frame.now in
+    let n = variables ring in
+    subst (λ q. IsUnderway ring (g.F.Frame.compare c.args.frame.now) c.args.columns.now c.args.key.now q c.args.buckets.now
+    ((key_of n c.args.term.0, c.args.term.1) ∷ total n c.args.buckets.now))
+    (sym c.deref.ensures.value) c.requires.underway
+
+pub bounds-as_slice-at : goal.bounds-as_slice-at
+bounds-as_slice-at g c = subst (λ l. c.in_ok-at.at < length l) (sym c.as_slice.ensures) c.in_ok-at.ensures.0.index
+
+pub subtract_lead-taken-requires-clause-variables : goal.subtract_lead-taken-requires-clause-variables
+subtract_lead-taken-requires-clause-variables g c = c.in_ok-at.ensures.0.variables
+
+pub subtract_lead-taken-requires-clause-divisor : goal.subtract_lead-taken-requires-clause-divisor
+subtract_lead-taken-requires-clause-divisor g c =
+    let x = c.index-as_slice-at.result in
+    each_at (IsVectorOver (g.F.Frame.over c.args.frame.now) (g.F.Frame.compare c.args.frame.now)) c.args.columns.now x c.requires.vectors
+    (c.in_ok-at.at, c.in_ok-at.ensures.0.index, sym (c.index-as_slice-at.is ∙ ap (λ l. get_or l c.in_ok-at.at x) c.as_slice.ensures))
+
+pub put_covered-requires-clause-vector : goal.put_covered-requires-clause-vector
+put_covered-requires-clause-vector g c = c.in-Ok.ensures.taken.vector

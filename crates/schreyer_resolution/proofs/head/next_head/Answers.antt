@@ -1,5 +1,6 @@
-use Rattle.std.proofs.Common.{[], ap, arith, refl, subst, ◌++◌, ◌∙◌, ◌∷◌}
-use Rattle.std.proofs.lemmas.List.{take_all}
+use Rattle.std.proofs.Common.{[], ap, arith, get_or, refl, subst, sym, ◌++◌, ◌∙◌, ◌∷◌}
+use Rattle.std.proofs.lemmas.List.{get_or_default, take_all}
+use Rattle.module_vectors.proofs.Scaling.{take_item}
 use Rattle.module_vectors.specs.Rings.{variables}
 use Rattle.schreyer_resolution.specs.Heads.{AreSums}
 use Rattle.schreyer_resolution.proofs.Heading.{next_is}
@@ -16,3 +17,14 @@ returns c = λ maps F i heads lead.
     (subst (λ z. AreSums n c.args.exponents.now z c.in_ok-exponents.exponents.items) c.deref.ensures.value c.in_ok-exponents.ensures.sums) refl
     (c.in_ok-push-2.ensures.items ∙ ap (λ w. w ++ p ∷ []) (c.loop-place.invariant ∙ take_all c.loop-place.place-index items (omega arith) ∙ c.deref-place-items.ensures.value))
     c.in_ok-exponents.ensures.degree c.in_ok-exponents.ensures.low
+
+pub loop-place-init : goal.loop-place-init
+loop-place-init c = c.new-way.ensures.items
+
+pub loop-place-preserved : goal.loop-place-preserved
+loop-place-preserved c =
+    let items = c.deref-place-items.result.now in
+    let i = c.loop-place.place-index in
+    let lt = c.loop-place-test.true in
+    c.in_ok-push.ensures.items ∙ ap (λ w. w ++ get_or items i 0 ∷ []) c.loop-place.invariant
+    ∙ sym (take_item items i (get_or items i 0) lt (get_or_default items i 0 (get_or items i 0) lt))

@@ -12,3 +12,6 @@ loop-v-preserved c =
 pub returns : goal.returns
 returns c =
     c.loop-v.invariant ∙ ap (degrees_of c.args.ring.now c.args.rows.now) (take_all c.loop-v.v-index c.as_slice-v-items.result.now (omega arith) ∙ c.as_slice-v-items.ensures)
+
+pub loop-v-init : goal.loop-v-init
+loop-v-init c = c.in_ok-degrees.ensures.items

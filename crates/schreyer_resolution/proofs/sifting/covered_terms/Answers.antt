@@ -1,11 +1,11 @@
-use Rattle.std.proofs.Common.{subst, subst₂, sym}
+use Rattle.std.proofs.Common.{subst, subst₂, sym, ◌∙◌}
 use Rattle.module_vectors.specs.Rings.{variables}
 use Rattle.module_vectors.specs.Vectors.{IsMonomialOver}
 use Rattle.vector_division.proofs.Looping.{are_weighed}
 use Rattle.vector_division.specs.Progress.{AreWeighed}
 use Rattle.schreyer_resolution.specs.Spans.{IsIndexOf}
 use Rattle.schreyer_resolution.specs.Sifting.{IsSifting, IsTermSifted}
-use Rattle.schreyer_resolution.proofs.Dropping.{next_weighed, sift_next}
+use Rattle.schreyer_resolution.proofs.Dropping.{next_weighed, sift_next, sift_start}
 use Rattle.schreyer_resolution.proofs.sifting.covered_terms.Goals as goal
 
 pub sift_term-requires-clause-key : goal.sift_term-requires-clause-key
@@ -30,3 +30,11 @@ loop-term-preserved g c =
 
 pub sift_term-requires-clause-index : goal.sift_term-requires-clause-index
 sift_term-requires-clause-index g c = subst (λ z. IsIndexOf z c.args.index.now) (sym c.as_slice.ensures) c.requires.index
+
+pub loop-term-init : goal.loop-term-init
+loop-term-init g c =
+    let ring = g.F.Frame.over c.args.frame.now in
+    let compare = g.F.Frame.compare c.args.frame.now in
+    let all = c.from_vec-rest.ensures.items ∙ c.into_terms.ensures in
+    subst (λ z. IsSifting ring compare c.args.columns.now c.args.v z c.from_vec-rest.result.items) (sym c.new-kept.ensures.items)
+    (sift_start ring compare c.args.columns.now c.args.v c.from_vec-rest.result.items all c.requires.vector)
