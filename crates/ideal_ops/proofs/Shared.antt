@@ -1,5 +1,7 @@
 -- What the operations share: lists that stand for formal sums, and bases of the vectors with a property
-use Rattle.std.proofs.Common.{List, Option, [], ap, arith, get_or, length, refl, subst, suc, sym, take, zero, ℕ, ◌++◌, ◌+◌, ◌<◌, ◌∙◌, ◌∷◌, ◌≡◌}
+use Rattle.std.proofs.Common.{List, Option, [], ap, arith, get_or, length, refl, subst, suc, sym, take}
+use Rattle.std.proofs.Common.{zero, ℕ, ◌++◌, ◌+◌, ◌<◌, ◌∙◌, ◌∷◌, ◌≡◌, ap₂, append_assoc}
+use Rattle.std.proofs.lemmas.List.{take_more}
 use Rattle.std.specs.Prelude.{◌↔◌}
 use Rattle.formal_sums.proofs.Combining.{Each_map, IsMember_itself}
 use Rattle.formal_sums.proofs.OfRank.{IsOfRank_of}
@@ -156,3 +158,11 @@ take_next n items i x lt e =
     go [] i lt e = absurd (omega arith)
     go (y ∷ ys) zero lt e = ap (λ z. sum_of n z ∷ []) (sym e)
     go (y ∷ ys) (suc i) lt e = ap (λ z. sum_of n y ∷ z) (go ys i (omega arith) e)
+
+-- one vector more of a list behind another
+pub one_more :
+    (left items old new : List Terms) (i : ℕ) (x y : Terms) → i < length items → x ≡ get_or items i x → new ≡ old ++ y ∷ [] → y ≡ x
+    → old ≡ left ++ take i items → new ≡ left ++ take (i + 1) items
+one_more left items old new i x y lt is e same h =
+    let next : take (i + 1) items ≡ take i items ++ x ∷ [] = take_more items i x lt ∙ ap (λ z. take i items ++ z ∷ []) (sym is) in
+    e ∙ ap₂ (λ l z. l ++ z ∷ []) h same ∙ append_assoc left (take i items) (x ∷ []) ∙ ap (λ l. left ++ l) (sym next)

@@ -20,17 +20,24 @@ use std::sync::Wait;
 use std::thread::Threads;
 use syzygy_engine::syzygy_run;
 
+/// The monomial at position 0, as a list of terms.
+pub(crate) fn one_term(alloc: Global, monomial: Mono) -> Result<Vec<(Key, u32)>, NoMemory>
+    ensures { IfOk result (λ terms. terms.items ≡ (record { position = 0; monomial = monomial }, 1) ∷ []) }
+{
+    let mut terms = Vec::with_capacity(alloc, 1)?;
+    let position = 0;
+    terms.push_reserved((Key { position, monomial }, 1));
+    Ok(terms)
+}
+
 // The polynomial 1.
 fn one(alloc: Global, ring: &Ring) -> Result<Vect, NoMemory>
     ensures vector { IfOk result (IsVectorOver ring.now (ring_comparison ring.now)) }
     ensures sum { IfOk result (λ u. StandsFor ring.now u (basis_vector 0)) }
 {
     ring.modulus.domain();
-    let key = Key {
-        position: 0,
-        monomial: Mono::unit(alloc, ring.vars.len())?,
-    };
-    let terms = vec![in alloc; (key, 1)]?;
+    let monomial = Mono::unit(alloc, ring.vars.len())?;
+    let terms = one_term(alloc, monomial)?;
     Vect::from_terms(alloc, ring, terms)
 }
 

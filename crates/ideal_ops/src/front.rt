@@ -12,6 +12,7 @@ ghost use Rattle.ideal_ops.specs.FrontVariable.{IsFrontTrail, IsFrontTrailOf, Is
 ghost use Rattle.ideal_ops.specs.Products.{IsProductTrail, WorkStops};
 ghost use Rattle.ideal_ops.specs.Runs.{AreVectorsFor};
 
+use crate::colons::one_term;
 use crate::multiplying::stop_of;
 use module_vectors::{Key, NoMemory, Ring, Vect, VectList, VectStop, WorkStop};
 use monomial_orders::Mono;
@@ -86,11 +87,9 @@ pub(crate) fn variable_vector(alloc: Global, front: &Ring, t: &Mono) -> Result<V
     ensures terms { IfOk result (λ b. b ≡ (record { position = 0; monomial = t.now }, 1) ∷ []) }
 {
     front.modulus.domain();
-    let key = Key {
-        position: 0,
-        monomial: t.try_copy(alloc)?,
-    };
-    Ok(Vect::from_ordered(front, vec![in alloc; (key, 1)]?))
+    let monomial = t.try_copy(alloc)?;
+    let terms = one_term(alloc, monomial)?;
+    Ok(Vect::from_ordered(front, terms))
 }
 
 /// The residue of -1.
@@ -103,6 +102,31 @@ pub(crate) fn minus_one(ring: &Ring) -> u32
     ring.modulus.value() - 1
 }
 
+// The first monomial with the coefficient and the second with 1, as a list of terms.
+fn two_terms(
+    alloc: Global,
+    first: Mono,
+    coefficient: u32,
+    second: Mono,
+) -> Result<Vec<(Key, u32)>, NoMemory>
+    ensures { IfOk result (λ terms. terms.items
+        ≡ (record { position = 0; monomial = first }, coefficient) ∷ (record { position = 0; monomial = second }, 1) ∷ []) }
+{
+    let mut terms = Vec::with_capacity(alloc, 2)?;
+    let position = 0;
+    let first_key = Key {
+        position,
+        monomial: first,
+    };
+    terms.push_reserved((first_key, coefficient));
+    let second_key = Key {
+        position,
+        monomial: second,
+    };
+    terms.push_reserved((second_key, 1));
+    Ok(terms)
+}
+
 // The polynomial 1 - t.
 fn rest_vector(alloc: Global, _ring: &Ring, front: &Ring, t: &Mono) -> Result<Vect, NoMemory>
     requires front { front.now ≡ front_ring _ring.now }
@@ -111,15 +135,9 @@ fn rest_vector(alloc: Global, _ring: &Ring, front: &Ring, t: &Mono) -> Result<Ve
     ensures terms { IfOk result (IsRestOf _ring.now t.now) }
 {
     front.modulus.domain();
-    let first = Key {
-        position: 0,
-        monomial: t.try_copy(alloc)?,
-    };
-    let second = Key {
-        position: 0,
-        monomial: Mono::unit(alloc, front.vars.len())?,
-    };
-    let terms = vec![in alloc; (first, minus_one(front)), (second, 1)]?;
+    let first = t.try_copy(alloc)?;
+    let second = Mono::unit(alloc, front.vars.len())?;
+    let terms = two_terms(alloc, first, minus_one(front), second)?;
     Ok(Vect::from_ordered(front, terms))
 }
 

@@ -1,7 +1,8 @@
 -- Items of a list of monomials
 use Rattle.std.proofs.Common.{IsTrue, List, [], ap, arith, get_or, inl, inr, length, refl, subst, suc, sym, zero, ℕ, ◌++◌, ◌+◌, ◌<◌, ◌∙◌, ◌∷◌, ◌≡◌, ◌≤◌, ◌⊎◌, ◌↔◌, Bool, false, true}
 use Rattle.std.proofs.lemmas.Bool.{cases_lt}
-use Rattle.std.proofs.lemmas.List.{get_or-map}
+use Rattle.std.proofs.Common.{length-append}
+use Rattle.std.proofs.lemmas.List.{get_or-map, get_or_append_left, get_or_push}
 use Rattle.monomials.specs.Exponents.{Divides, Exponents, cons, exponents_of, times, unit}
 use Rattle.formal_sums.proofs.WeightedSums.{key_cases}
 use Rattle.monomial_orders.specs.Kept.{IsWeighed, Monomial}
@@ -71,6 +72,17 @@ one_more P i h here k lt = go (cases_lt k i)
     go : (k < i) ⊎ (i ≤ k) → P k
     go (inl l) = h k l
     go (inr g) = let e : i ≡ k = omega arith in subst P e here
+
+-- what holds of a list's items, and of one more behind them
+pub one_more_item :
+    (f : ℕ → ℕ) (old new : List ℕ) (x i : ℕ) → new ≡ old ++ x ∷ [] → length old ≡ i → ((k : ℕ) → k < i → get_or old k 0 ≡ f k) → x ≡ f i
+    → (length new ≡ i + 1) × ((k : ℕ) → k < i + 1 → get_or new k 0 ≡ f k)
+one_more_item f old new x i e long h is = (
+  ap length e ∙ length-append old (x ∷ []) ∙ ap (λ n. n + 1) long,
+  one_more (λ k. get_or new k 0 ≡ f k) i
+      (λ k lt. ap (λ l. get_or l k 0) e ∙ get_or_append_left old (x ∷ []) 0 k (subst (λ n. k < n) (sym long) lt) ∙ h k lt)
+      (ap (λ l. get_or l i 0) e ∙ get_or_push old x 0 i long ∙ is),
+)
 
 -- equality by the ring's number of variables
 pub equal_by :

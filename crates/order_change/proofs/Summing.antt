@@ -1,5 +1,5 @@
 -- Multiples of forms, added one place after another
-use Rattle.std.proofs.Common.{List, ap₂, arith, inl, inr, length, subst, sym, ℕ, ◌*◌, ◌+◌, ◌<◌, ◌∙◌, ◌≡◌, ◌≤◌, ◌⊎◌}
+use Rattle.std.proofs.Common.{List, ap₂, arith, inl, inr, subst, sym, ℕ, ◌*◌, ◌+◌, ◌<◌, ◌∙◌, ◌≡◌, ◌≤◌, ◌⊎◌}
 use Rattle.std.proofs.lemmas.Bool.{cases_lt}
 use Rattle.std.specs.Prelude.{slice_index}
 use Rattle.residues.proofs.Congruences.{IsCongruent_of, IsCongruent_trans}

@@ -39,10 +39,19 @@ pub(crate) struct Change {
 }
 
 /// A form without the rows, and the combination of the new standard monomials that is left.
-#[derive(Drop)]
 struct Rest {
     form: Form,
     combination: Form,
+}
+
+// By hand, so that each drop of one is a call.
+impl Drop for Rest {
+    fn drop(self) {
+        let Rest {
+            form: _,
+            combination: _,
+        } = self;
+    }
 }
 
 // What is left of the form of one more monomial without the rows, which are of those before it.

@@ -14,11 +14,21 @@ use zp_field::Modulus;
 
 /// The residues of a normal form, one for each standard monomial, and between which indices they stand: the others are 0. Contracts see
 /// their list.
-#[derive(Drop)]
 pub(crate) struct Form {
     residues: Vec<u32>,
     low: usize,
     high: usize,
+}
+
+// By hand, so that each drop of one is a call.
+impl Drop for Form {
+    fn drop(self) {
+        let Form {
+            residues: _,
+            low: _,
+            high: _,
+        } = self;
+    }
 }
 
 impl Model for Form {

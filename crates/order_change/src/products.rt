@@ -23,9 +23,15 @@ pub(crate) struct Candidate {
 }
 
 /// For each variable the index of the item whose turn it is. Contracts see the list of indices.
-#[derive(Drop)]
 pub(crate) struct Turns {
     indices: Vec<usize>,
+}
+
+// By hand, so that each drop of one is a call.
+impl Drop for Turns {
+    fn drop(self) {
+        let Turns { indices: _ } = self;
+    }
 }
 
 impl Model for Turns {

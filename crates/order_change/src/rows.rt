@@ -14,11 +14,21 @@ use zp_field::Modulus;
 
 /// Residues over the standard monomials of the old order, with 1 at the pivot, at which later rows are 0, and the same vector by its
 /// residues over those of the new order.
-#[derive(Drop)]
 pub(crate) struct Row {
     pub(crate) form: Form,
     pub(crate) combination: Form,
     pub(crate) pivot: usize,
+}
+
+// By hand, so that each drop of one is a call.
+impl Drop for Row {
+    fn drop(self) {
+        let Row {
+            form: _,
+            combination: _,
+            pivot: _,
+        } = self;
+    }
 }
 
 /// Takes multiples of the rows away until the form is 0 at each pivot, and the same multiples of their combinations.

@@ -23,9 +23,15 @@ use zp_field::Modulus;
 
 /// The first rows of the multiplication matrix of a variable: the normal forms of its products with the first standard monomials
 /// (Faugère, Gianni, Lazard, Mora 1993, section 3). Contracts see the list of rows.
-#[derive(Drop)]
 pub(crate) struct Matrix {
     rows: Vec<Form>,
+}
+
+// By hand, so that each drop of one is a call.
+impl Drop for Matrix {
+    fn drop(self) {
+        let Matrix { rows: _ } = self;
+    }
 }
 
 impl Model for Matrix {
@@ -37,9 +43,15 @@ impl Model for Matrix {
 }
 
 /// The matrix of each variable. Contracts see the list of their lists of rows.
-#[derive(Drop)]
 pub(crate) struct Table {
     matrices: Vec<Matrix>,
+}
+
+// By hand, so that each drop of one is a call.
+impl Drop for Table {
+    fn drop(self) {
+        let Table { matrices: _ } = self;
+    }
 }
 
 impl Model for Table {

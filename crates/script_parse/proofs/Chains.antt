@@ -198,3 +198,34 @@ table_more_by names names' hashes hashes' earlier earlier' last name hash at bef
     let r : before ≡ get_or last (bucket_of (length last) hash) 0 = b ∙ get_or_default last at before 0 lt ∙ ap (λ x. get_or last x 0) e in
     let base = table_more names hashes earlier last name hash h is lacks (subst (λ x. x < length last) e lt) in
     rw (k, hs, es, e, r, t) base
+
+-- of a table of n names
+module _ (names : List (List ℕ)) (n : ℕ) (hashes earlier last : List ℕ) (table : IsTable names hashes earlier last) (sized : length names ≡ n) where
+  -- where the chain of a bucket begins
+  pub chain_begins : (b hash : ℕ) → b ≡ bucket_of (length last) hash → b < length last → IsLink (length last) n hashes (bucket_of (length last) hash)
+      (get_or last b 0)
+  chain_begins b hash is lt =
+      subst (λ m. IsLink (length last) m hashes (bucket_of (length last) hash) (get_or last b 0)) sized
+      (subst (λ k. IsLink (length last) (length names) hashes k (get_or last b 0)) is (table.chained.last_link b lt))
+
+  -- all names of the bucket stand before that
+  pub chain_has_all :
+      (b hash j : ℕ) → b ≡ bucket_of (length last) hash → get_or last b 0 ≤ j → j < n → bucket_at (length last) hashes j ≡ bucket_of (length last) hash → ⊥
+  chain_has_all b hash j is le lt e =
+      let here : j < get_or last (bucket_at (length last) hashes j) 0 = table.chained.last_all j (subst (λ m. j < m) (sym sized) lt) in
+      let same : get_or last (bucket_at (length last) hashes j) 0 ≡ get_or last b 0 = ap (λ k. get_or last k 0) (e ∙ sym is) in
+      omega (arith, here, same, le)
+
+  -- a link that is not 0 is one to a name
+  pub link_within : (link : ℕ) → 0 < link → link ≤ n → (link - 1 < n) × (link - 1 < length hashes) × (link - 1 < length earlier)
+  link_within link some le =
+      let all : length hashes ≡ length names = ap length table.hashed ∙ length-map names hash_of in
+      let lt : link - 1 < n = omega (arith, some, le) in
+      (lt, subst (λ m. link - 1 < m) (sym (all ∙ sized)) lt, subst (λ m. link - 1 < m) (sym (table.lengths ∙ sized)) lt)
+
+  -- the next link is a lower one
+  pub link_falls : (link : ℕ) → 0 < link → link ≤ n → get_or earlier (link - 1) 0 < link
+  link_falls link some le =
+      let lt : link - 1 < length names = subst (λ m. link - 1 < m) (sym sized) (link_within link some le).0 in
+      let next : get_or earlier (link - 1) 0 ≤ link - 1 = (table.chained.earlier_link (link - 1) lt).within in
+      omega (arith, next, some)

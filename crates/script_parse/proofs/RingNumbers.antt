@@ -1,11 +1,12 @@
 -- The numbers of a ring line
 use Rattle.std.proofs.Common.{◌≡◌, ◌+◌, ◌<◌, ◌≤◌, ◌^◌, inl, inr, Bool, false, nat_eq, ℕ, zero, suc, List, [], ◌∷◌, ◌++◌, get_or, length, map, take, Some, refl, sym, ap, ap₂, subst, ◌∙◌, arith}
 use Rattle.std.proofs.lemmas.Bool.{eqb-false}
-use Rattle.std.specs.Prelude.{Contains}
+use Rattle.std.specs.Global.{Global}
+use Rattle.std.specs.Prelude.{Contains, String, string_bytes}
 use Rattle.script_tokens.specs.declared.token.Token.{Token}
 use Rattle.poly_grammar.specs.Numerals.{value_of}
 use Rattle.monomial_orders.specs.Kept.{AreWeights}
-use Rattle.std.proofs.lemmas.List.{take_more}
+use Rattle.std.proofs.lemmas.List.{get_or_default, map-append, take_more}
 use Rattle.script_parse.specs.Refusals.{HasOtherWeights, IsOutside}
 use Rattle.script_parse.specs.Statements.{weights_stated}
 use Rattle.script_parse.specs.Tests.{AreListedWeights, IsGood}
@@ -21,6 +22,14 @@ not_outside last k pos le (inr lt) = omega arith
 within : (last k : ℕ) → (IsOutside last k → ⊥) → 0 < k
 within last zero h = absurd (h (inl refl))
 within last (suc k) h = omega arith
+
+-- one more name
+pub one_more_name :
+    (f : Token → List ℕ) (ts : List Token) (i : ℕ) (d : Token) (old new : List (String Global)) (name : String Global) → i < length ts → new ≡ old ++ name ∷ []
+    → string_bytes name ≡ f (get_or ts i d) → map string_bytes old ≡ map f (take i ts) → map string_bytes new ≡ map f (take (i + 1) ts)
+one_more_name f ts i d old new name lt e is h =
+    ap (map string_bytes) e ∙ map-append string_bytes old (name ∷ []) ∙ ap₂ (λ l x. l ++ x ∷ []) h is
+    ∙ sym (ap (map f) (take_more ts i d lt) ∙ map-append f (take i ts) (get_or ts i d ∷ []))
 
 -- one more weight
 weighed_push : (line : List ℕ) (ts : List Token) (ws : List ℕ) (t : Token) (w : ℕ) → AreListedWeights line ts ws → w ≡ value_of line t → (IsOutside 255 w → ⊥) → AreListedWeights line (ts ++ t ∷ []) (ws ++ w ∷ [])
@@ -56,6 +65,12 @@ weighed_fit line [] ws t h c out = omega (arith, c.1)
 weighed_fit line (s ∷ ts) [] t h c out = absurd h
 weighed_fit line (s ∷ ts) (w ∷ ws) t h (zero, lt, is) out = h.1 (subst (IsOutside 255) (sym (h.0 ∙ ap (value_of line) is)) out)
 weighed_fit line (s ∷ ts) (w ∷ ws) t h (suc i, lt, is) out = weighed_fit line ts ws t h.2 (i, omega (arith, lt), is) out
+
+-- a number that is outside
+pub outside_weight :
+    (line : List ℕ) (ts : List Token) (i : ℕ) (d : Token) → i < length ts → IsOutside 255 (value_of line (get_or ts i d)) → (t : Token) × Contains ts t ×
+    IsOutside 255 (value_of line t)
+outside_weight line ts i d lt out = (get_or ts i d, (i, lt, get_or_default ts i (get_or ts i d) d lt), out)
 
 -- no weights are stated
 pub no_weights : (line : List ℕ) (n : ℕ) (ts : List Token) (ws : List ℕ) → ts ≡ [] → ws ≡ weights_stated line n [] → IsGood (weights_stated line n ts) (HasOtherWeights line n ts) (Some ws)

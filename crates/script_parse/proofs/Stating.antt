@@ -25,6 +25,7 @@ use Rattle.script_parse.specs.declared.form.Division.TheVariants.{Lift, Member, 
 use Rattle.script_parse.specs.declared.form.Head.{Head}
 use Rattle.script_parse.specs.declared.form.Head.TheVariants as heads
 use Rattle.script_parse.specs.declared.named.NameInfo.{NameInfo}
+use Rattle.script_parse.specs.declared.operands.ByPolynomial.{ByPolynomial}
 use Rattle.script_parse.specs.declared.operands.ByPolynomial.TheVariants.{Quotient, Saturate}
 use Rattle.script_parse.specs.declared.operands.Operands.TheVariants as shapes
 use Rattle.script_parse.specs.declared.operation.Operation.TheVariants as operations
@@ -258,6 +259,15 @@ divisor_of ring line pieces value name u p d s =
     let head : d.first.items ≡ steps p = cc in
     let one = subst (λ l. AllByRecursion (IsWorkable ring line) l) d.pieces_are d.workable in
     polynomial_of ring line p d.first u head one.0 d.worth
+
+-- an operation by a polynomial has one
+pub polynomial_there :
+    (pieces : List (Vec Step Global)) (word : ByPolynomial) (value : Token) (w : WrittenOperation) → operands_of w ≡ shapes.Polynomial word value → map
+    (λ v. v.items) pieces ≡ map steps (operation_polys w)
+    → length pieces ≡ 0 → ⊥
+polynomial_there (v ∷ pieces) word value w e s none = omega (arith, none)
+polynomial_there [] word value (of_polynomial other t p) e s none = cc
+polynomial_there [] word value _ e s none = cc
 
 pub quotient_says :
     (ring : Ring) (line : List ℕ) (pieces : List (Vec Step Global)) (value : Token) (name : _) (u : List (Key × ℕ)) → Divides ring line pieces value (string_bytes name) u

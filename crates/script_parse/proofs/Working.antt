@@ -157,6 +157,11 @@ module _ (ring : Ring) (line : List ℕ) (v : Vec Step Global) (xs : List Step) 
   pub numerals_by : AllByRecursion (λ t. value_of line t < 2 ^ 128) (numbers_of_steps xs)
   numerals_by = subst (λ l. AllByRecursion (λ t. value_of line t < 2 ^ 128) (numbers_of_steps l)) (sym is) able.numerals
 
+-- the first of those that can be worked out
+pub first_workable : (ring : Ring) (line : List ℕ) (pieces more : List (Vec Step Global)) (v : Vec Step Global) → pieces ≡ v ∷ more → AllByRecursion
+    (IsWorkable ring line) pieces → IsWorkable ring line v
+first_workable ring line pieces more v e able = let all = subst (λ l. AllByRecursion (IsWorkable ring line) l) e able in all.0
+
 -- ---- terms moved to a position
 
 abbrev moved : ℕ → Key × ℕ → Key × ℕ

@@ -38,7 +38,6 @@ fn bucket(count: usize, hash: u64) -> usize
 
 /// The values that have a name, in the order in which the names were first given. No name stands twice, and a value is
 /// found by a hash of its name. Contracts see the list.
-#[derive(Drop)]
 pub struct NameTable {
     infos: Vec<NameInfo>,
     hashes: Vec<u64>,
@@ -46,6 +45,18 @@ pub struct NameTable {
     earlier: Vec<usize>,
     // for each bucket 1 and the place of its last value, or 0
     last: Vec<usize>,
+}
+
+// By hand, so that each drop of one is a call.
+impl Drop for NameTable {
+    fn drop(self) {
+        let NameTable {
+            infos: _,
+            hashes: _,
+            earlier: _,
+            last: _,
+        } = self;
+    }
 }
 
 impl Model for NameTable {

@@ -6,11 +6,22 @@ ghost use Rattle.script_parse.specs.Refusals.{length_named, rank_named};
 use crate::name_table::NameTable;
 
 /// What is known of a value: its name, its rank, and the length of its stored list.
-#[derive(Debug, Drop)]
+#[derive(Debug)]
 pub struct NameInfo {
     pub name: String,
     pub rank: u64,
     pub length: u64,
+}
+
+// By hand, so that each drop of one is a call.
+impl Drop for NameInfo {
+    fn drop(self) {
+        let NameInfo {
+            name: _,
+            rank: _,
+            length: _,
+        } = self;
+    }
 }
 
 /// The rank of the value with this name; none exactly where there is no such value.

@@ -26,7 +26,6 @@ pub enum OrderName {
 }
 
 /// A ring line as it is written.
-#[derive(Drop)]
 pub struct RingForm {
     pub modulus: Token,
     /// The names of its variables, of which there is one at least.
@@ -36,6 +35,19 @@ pub struct RingForm {
     pub top: bool,
     /// The numbers of its weights, none where it has no `weights`.
     pub weights: Vec<Token>,
+}
+
+// By hand, so that each drop of one is a call.
+impl Drop for RingForm {
+    fn drop(self) {
+        let RingForm {
+            modulus: _,
+            names: _,
+            order: _,
+            top: _,
+            weights: _,
+        } = self;
+    }
 }
 
 /// The token of the kind that stands first, and what stands behind it.

@@ -46,3 +46,15 @@ returns-clause-apart g c = λ no.
     settle (λ same. no ((returns-clause-equal g c).1 same))
     (same_or_apart ring rank left right c.in-Ok.first c.in-Ok-reduced.second (c.lawful_setting.ensures rank)
     c.requires.left_positions c.requires.right_positions c.in-Ok.ensures.basis c.in-Ok-reduced.ensures.basis)
+
+pub reduced-requires-clause-vectors : goal.reduced-requires-clause-vectors
+reduced-requires-clause-vectors g c = c.requires.left
+
+pub reduced-requires-clause-positions : goal.reduced-requires-clause-positions
+reduced-requires-clause-positions g c = c.requires.left_positions
+
+pub reduced-requires-2-clause-vectors : goal.reduced-requires-2-clause-vectors
+reduced-requires-2-clause-vectors g c = c.requires.right
+
+pub reduced-requires-2-clause-positions : goal.reduced-requires-2-clause-positions
+reduced-requires-2-clause-positions g c = c.requires.right_positions

@@ -7,6 +7,7 @@ use Rattle.module_vectors.proofs.Scaling.{Each_at}
 use Rattle.module_vectors.specs.Vectors.{AreTermsOver, sum_of, sums_of}
 use Rattle.ideal_ops.specs.Runs.{AreVectorsFor}
 use Rattle.ideal_ops.proofs.Shared.{take_next, vectors_next, vectors_none}
+use Rattle.std.proofs.lemmas.List.{take_all}
 use Rattle.ideal_ops.proofs.components.first_parts.Goals as goal
 
 pub loop-v-preserved : goal.loop-v-preserved
@@ -30,3 +31,9 @@ first_part-requires c =
     let items = c.as_slice-v-items.result.now in
     let all = subst (Each (AreTermsOver c.args.ring.now)) (sym c.as_slice-v-items.ensures) c.requires in
     Each_at (AreTermsOver c.args.ring.now) items c.loop-v.v-index c.v-item.result all c.loop-v-test.true c.v-item.is
+
+pub returns : goal.returns
+returns c =
+    let ring = c.args.ring.now in
+    subst₂ (λ items l. AreVectorsFor ring (map (first_components c.args.rank) (sums_of (variables ring) items)) l)
+    (take_all c.loop-v.v-index c.as_slice-v-items.result.now c.loop-v-test.false ∙ c.as_slice-v-items.ensures) (sym c.from_vec.ensures) c.loop-v.invariant

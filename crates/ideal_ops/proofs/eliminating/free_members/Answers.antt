@@ -6,6 +6,8 @@ use Rattle.module_vectors.specs.Rings.{variables}
 use Rattle.module_vectors.specs.Vectors.{AreTermsOver, sums_of}
 use Rattle.ideal_ops.specs.Runs.{AreVectorsFor}
 use Rattle.ideal_ops.proofs.Shared.{take_next, vectors_none}
+use Rattle.std.proofs.Common.{subst₂, ◌∙◌}
+use Rattle.std.proofs.lemmas.List.{take_all}
 use Rattle.ideal_ops.proofs.eliminating.free_members.Goals as goal
 
 pub loop-v-init : goal.loop-v-init
@@ -27,3 +29,9 @@ loop-v-preserved c =
     subst (λ z. AreVectorsFor ring (eliminated c.args.k z) c.take_free.new.free.items)
     (sym (take_next n items i c.v-item.result c.loop-v-test.true c.v-item.is))
     (c.in_ok-take_free.ensures (sums_of n (take i items)) c.loop-v.invariant)
+
+pub returns : goal.returns
+returns c =
+    let ring = c.args.ring.now in
+    subst₂ (λ items l. AreVectorsFor ring (eliminated c.args.k (sums_of (variables ring) items)) l)
+    (take_all c.loop-v.v-index c.as_slice-v-items.result.now c.loop-v-test.false ∙ c.as_slice-v-items.ensures) (sym c.from_vec.ensures) c.loop-v.invariant

@@ -8,6 +8,7 @@ use Rattle.module_vectors.proofs.Scaling.{Each_at}
 use Rattle.module_vectors.specs.Vectors.{AreTermsOver, sum_of, sums_of}
 use Rattle.ideal_ops.specs.Runs.{AreVectorsFor}
 use Rattle.ideal_ops.proofs.Shared.{take_next, vectors_next, vectors_none}
+use Rattle.std.proofs.lemmas.List.{take_all}
 use Rattle.ideal_ops.proofs.front.all_in_front.Goals as goal
 
 pub loop-v-preserved : goal.loop-v-preserved
@@ -33,3 +34,10 @@ in_front-requires-clause-vector c =
 
 pub in_front-requires-clause-front : goal.in_front-requires-clause-front
 in_front-requires-clause-front c = c.requires.front
+
+pub returns : goal.returns
+returns c =
+    let ring = c.args.ring.now in
+    let n = variables ring in
+    subst₂ (λ xs l. AreVectorsFor (front_ring ring) (map with_first (sums_of n xs)) l)
+    (take_all c.loop-v.v-index c.as_slice-v-items.result.now c.loop-v-test.false ∙ c.as_slice-v-items.ensures) (sym c.from_vec.ensures) c.loop-v.invariant

@@ -1,4 +1,4 @@
-use Rattle.std.proofs.Common.{[], ap, get_or, length, map, subst, subst₂, sym, take, ◌<◌, ◌∙◌, ◌∷◌}
+use Rattle.std.proofs.Common.{[], ap, get_or, length, map, subst, subst₂, sym, take, ◌<◌, ◌∙◌, ◌∷◌, ◌≤◌}
 use Rattle.std.proofs.lemmas.List.{get_or_default, map-append}
 use Rattle.operation_laws.specs.Operations.{times_rest, with_first}
 use Rattle.module_vectors.specs.FrontVariables.{front_ring}
@@ -9,6 +9,7 @@ use Rattle.ideal_ops.specs.FrontVariable.{IsFrontTrail, IsFrontTrailOf, rest_pol
 use Rattle.ideal_ops.specs.Runs.{AreVectorsFor}
 use Rattle.ideal_ops.proofs.Multiplied.{more_trails}
 use Rattle.ideal_ops.proofs.Shared.{take_next, vectors_next, vectors_none}
+use Rattle.std.proofs.lemmas.List.{take_all}
 use Rattle.ideal_ops.proofs.front.rest_multiples.Goals as goal
 
 pub returns-in-Err-clause-stop : goal.returns-in-Err-clause-stop
@@ -55,3 +56,14 @@ rest_multiple-requires-clause-front c = c.requires.front
 
 pub rest_multiple-requires-clause-variable : goal.rest_multiple-requires-clause-variable
 rest_multiple-requires-clause-variable c = c.requires.variable
+
+pub returns-clause-list : goal.returns-clause-list
+returns-clause-list c =
+    let ring = c.args.ring.now in
+    let n = variables ring in
+    let all = take_all c.loop-i.i c.args.list.now (subst (λ z. z ≤ c.loop-i.i) c.len-i-end.ensures c.loop-i-test.false) in
+    subst₂ (λ xs l. AreVectorsFor (front_ring ring) (map (times_rest {n = n} ring.modulus.value) (sums_of n xs)) l) all (sym c.from_vec.ensures)
+    c.loop-i.invariant
+
+pub bounds-as_slice-i : goal.bounds-as_slice-i
+bounds-as_slice-i c = subst (λ l. c.loop-i.i < length l) (sym c.as_slice.ensures) (subst (λ z. c.loop-i.i < z) c.len-i-end.ensures c.loop-i-test.true)

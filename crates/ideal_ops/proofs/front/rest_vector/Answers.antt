@@ -12,15 +12,15 @@ from_ordered-requires c =
     let ring = c.args._ring.now in
     let front = c.args.front.now in
     let t = c.args.t.now in
-    let one = c.in_ok-unit.field-0 in
+    let one = c.in_ok-second.second in
     let m = c.minus_one.result in
-    let is = subst (λ z. IsMonomial z (unit z) one.exponents) c.len.ensures c.in_ok-unit.ensures.ok in
+    let is = subst (λ z. IsMonomial z (unit z) one.exponents) c.len.ensures c.in_ok-second.ensures.ok in
     let whole : c.in_ok-terms.terms.items ≡ (record { position = 0; monomial = t }, m) ∷ (record { position = 0; monomial = one }, 1) ∷ [] =
-    c.in_ok-terms.ensures.items ∙ ap (λ x. (record { position = 0; monomial = x }, m) ∷ (record { position = 0; monomial = one }, 1) ∷ []) c.in_ok-try_copy.ensures.ok in
+    c.in_ok-terms.ensures ∙ ap (λ x. (record { position = 0; monomial = x }, m) ∷ (record { position = 0; monomial = one }, 1) ∷ []) c.in_ok-first.ensures.ok in
     subst (λ l. IsVectorOver front (ring_comparison front) l) (sym whole)
     (rest_over ring front t one m c.requires.front c.requires.variable (subst (λ r. 1 < r.modulus.value) c.requires.front c.domain.ensures.above_one)
     (c.minus_one.ensures.value ∙ ap (λ r. r.modulus.value - 1) c.requires.front) is
-    (λ ws. subst (λ z. IsWeighed z ws one) c.len.ensures (c.in_ok-unit.ensures.weighed ws)))
+    (λ ws. subst (λ z. IsWeighed z ws one) c.len.ensures (c.in_ok-second.ensures.weighed ws)))
 
 pub returns-clause-vector : goal.returns-clause-vector
 returns-clause-vector c =
@@ -32,10 +32,10 @@ returns-clause-terms c =
     let ring = c.args._ring.now in
     let front = c.args.front.now in
     let t = c.args.t.now in
-    let one = c.in_ok-unit.field-0 in
+    let one = c.in_ok-second.second in
     let m = c.minus_one.result in
-    let is = subst (λ z. IsMonomial z (unit z) one.exponents) c.len.ensures c.in_ok-unit.ensures.ok in
+    let is = subst (λ z. IsMonomial z (unit z) one.exponents) c.len.ensures c.in_ok-second.ensures.ok in
     let whole : c.in_ok-terms.terms.items ≡ (record { position = 0; monomial = t }, m) ∷ (record { position = 0; monomial = one }, 1) ∷ [] =
-    c.in_ok-terms.ensures.items ∙ ap (λ x. (record { position = 0; monomial = x }, m) ∷ (record { position = 0; monomial = one }, 1) ∷ []) c.in_ok-try_copy.ensures.ok in
+    c.in_ok-terms.ensures ∙ ap (λ x. (record { position = 0; monomial = x }, m) ∷ (record { position = 0; monomial = one }, 1) ∷ []) c.in_ok-first.ensures.ok in
     rest_is ring front t one m c.from_ordered.result c.requires.front (c.minus_one.ensures.value ∙ ap (λ r. r.modulus.value - 1) c.requires.front) is
     (c.from_ordered.ensures ∙ whole)

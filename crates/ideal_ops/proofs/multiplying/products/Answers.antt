@@ -1,4 +1,4 @@
-use Rattle.std.proofs.Common.{[], ap, get_or, length, map, subst, subst₂, sym, take, ◌<◌, ◌∙◌}
+use Rattle.std.proofs.Common.{[], ap, get_or, length, map, subst, subst₂, sym, take, ◌<◌, ◌∙◌, ◌≤◌}
 use Rattle.std.proofs.lemmas.List.{get_or_default}
 use Rattle.formal_sums.specs.FormalSums.{product}
 use Rattle.operation_laws.specs.Operations.{products_of}
@@ -9,6 +9,7 @@ use Rattle.ideal_ops.specs.Products.{IsTrailOfProducts, IsTrailOfRow}
 use Rattle.ideal_ops.specs.Runs.{AreVectorsFor}
 use Rattle.ideal_ops.proofs.Multiplied.{more_trails, products_next, vectors_after}
 use Rattle.ideal_ops.proofs.Shared.{take_next}
+use Rattle.std.proofs.lemmas.List.{take_all}
 use Rattle.ideal_ops.proofs.multiplying.products.Goals as goal
 
 pub returns-in-Err-clause-stop : goal.returns-in-Err-clause-stop
@@ -55,3 +56,13 @@ row-requires-clause-b_positions c =
 
 pub row-requires-clause-right : goal.row-requires-clause-right
 row-requires-clause-right c = c.requires.right
+
+pub returns-clause-list : goal.returns-clause-list
+returns-clause-list c =
+    let ring = c.args.ring.now in
+    let n = variables ring in
+    let all = take_all c.loop-i.i c.args.left.now (subst (λ z. z ≤ c.loop-i.i) c.len-i-end.ensures c.loop-i-test.false) in
+    subst (λ xs. AreVectorsFor ring (products_of (sums_of n xs) (sums_of n c.args.right.now)) c.loop-i.list) all c.loop-i.invariant
+
+pub bounds-as_slice-i : goal.bounds-as_slice-i
+bounds-as_slice-i c = subst (λ l. c.loop-i.i < length l) (sym c.as_slice.ensures) (subst (λ z. c.loop-i.i < z) c.len-i-end.ensures c.loop-i-test.true)

@@ -1,4 +1,4 @@
-use Rattle.std.proofs.Common.{[], ap, get_or, length, map, subst, subst₂, sym, take, ◌<◌, ◌∙◌, ◌∷◌}
+use Rattle.std.proofs.Common.{[], ap, get_or, length, map, subst, subst₂, sym, take, ◌<◌, ◌∙◌, ◌∷◌, ◌≤◌}
 use Rattle.std.proofs.lemmas.List.{get_or_default}
 use Rattle.std.proofs.lemmas.List.{map-append}
 use Rattle.formal_sums.specs.FormalSums.{product}
@@ -9,6 +9,7 @@ use Rattle.ideal_ops.specs.Products.{IsProductTrail, IsTrailOfRow}
 use Rattle.ideal_ops.specs.Runs.{AreVectorsFor}
 use Rattle.ideal_ops.proofs.Multiplied.{more_trails}
 use Rattle.ideal_ops.proofs.Shared.{take_next, vectors_next, vectors_none}
+use Rattle.std.proofs.lemmas.List.{take_all}
 use Rattle.ideal_ops.proofs.multiplying.row.Goals as goal
 
 pub returns-in-Err-clause-stop : goal.returns-in-Err-clause-stop
@@ -53,3 +54,13 @@ times-requires-clause-b c = c.requires.b
 
 pub times-requires-clause-b_positions : goal.times-requires-clause-b_positions
 times-requires-clause-b_positions c = c.requires.b_positions
+
+pub returns-clause-list : goal.returns-clause-list
+returns-clause-list c =
+    let ring = c.args.ring.now in
+    let n = variables ring in
+    let all = take_all c.loop-j.j c.args.right.now (subst (λ z. z ≤ c.loop-j.j) c.len-j-end.ensures c.loop-j-test.false) in
+    subst₂ (λ xs l. AreVectorsFor ring (map (product (sum_of n c.args.b.now)) (sums_of n xs)) l) all (sym c.from_vec.ensures) c.loop-j.invariant
+
+pub bounds-as_slice-j : goal.bounds-as_slice-j
+bounds-as_slice-j c = subst (λ l. c.loop-j.j < length l) (sym c.as_slice.ensures) (subst (λ z. c.loop-j.j < z) c.len-j-end.ensures c.loop-j-test.true)

@@ -6,6 +6,7 @@ use Rattle.ideal_ops.specs.Runs.{AreVectorsFor}
 use Rattle.ideal_ops.proofs.Room.{block_room, blocks_room}
 use Rattle.ideal_ops.proofs.Shared.{vectors_next, vectors_none}
 use Rattle.ideal_ops.proofs.Stacked.{blocks_step}
+use Rattle.std.proofs.Common.{arith, subst₂, ◌≡◌}
 use Rattle.ideal_ops.proofs.stacking.colon_list.Goals as goal
 
 pub loop-j-preserved : goal.loop-j-preserved
@@ -47,3 +48,13 @@ push_block-requires-clause-terms c = c.requires.terms
 
 pub push_block-requires-clause-positions : goal.push_block-requires-clause-positions
 push_block-requires-clause-positions c = c.requires.positions
+
+pub returns : goal.returns
+returns c =
+    let ring = c.args.ring.now in
+    let n = variables ring in
+    let rank = c.args.rank in
+    let by = c.args.by.now in
+    let all : c.loop-j.j ≡ length by = omega (arith, c.len-s.ensures, c.loop-j-test.false) in
+    subst₂ (λ m l. AreVectorsFor ring (stacked rank 0 (sums_of n by) ∷ blocks rank 0 m (sums_of n c.args.list.now)) l) all (sym c.from_vec.ensures)
+    c.loop-j.invariant

@@ -2,6 +2,8 @@ use Rattle.std.proofs.Common.{[], ap, ap₂, append_assoc, arith, get_or, length
 use Rattle.module_vectors.specs.declared.key.Key.{Key as CodeKey}
 use Rattle.syzygy_engine.proofs.Standing.{Terms}
 use Rattle.ideal_ops.specs.Components.{raised_terms}
+use Rattle.std.proofs.Common.{append-nil, sym}
+use Rattle.std.proofs.lemmas.List.{take_all}
 use Rattle.ideal_ops.proofs.stacking.push_raised.Goals as goal
 
 -- one more term behind
@@ -27,3 +29,12 @@ loop-term-preserved c =
     c.in_ok-push.ensures.items
     ∙ ap₂ (λ xs (key : CodeKey). xs ++ (record { position = by + x.0.position; monomial = key.monomial }, x.1) ∷ []) c.loop-term.invariant c.in_ok-key.ensures.ok
     ∙ raised_next by c.args.terms.now.items c.terms-term-items.result.now c.loop-term.term-index x c.loop-term-test.true c.term-item.is
+
+pub loop-term-init : goal.loop-term-init
+loop-term-init c = sym (append-nil c.args.terms.now.items)
+
+pub returns : goal.returns
+returns c =
+    c.loop-term.invariant
+    ∙ ap (λ l. c.args.terms.now.items ++ raised_terms c.args.by l) (take_all c.loop-term.term-index c.terms-term-items.result.now c.loop-term-test.false ∙
+    c.terms-term-items.ensures)

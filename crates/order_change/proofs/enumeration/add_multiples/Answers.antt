@@ -3,7 +3,7 @@ use Rattle.monomials.specs.Exponents.{exponents_of}
 use Rattle.order_change.specs.Lists.{IsNew, monomials}
 use Rattle.order_change.proofs.Listed.{IsMultiplying_done, IsMultiplying_push, IsMultiplying_skip, many}
 use Rattle.order_change.specs.Lists.{IsMultiplying}
-use Rattle.order_change.proofs.enumeration.add_multiples.Goals.{then-is_new+else-len-ge-MOST+in_ok-push, else-is_new+in-Heap-1, else-is_new+in-Inline-1}
+use Rattle.order_change.proofs.enumeration.add_multiples.Goals.{then-is_new+else-len-ge-MOST+in_ok-push, else-is_new}
 use Rattle.order_change.proofs.enumeration.add_multiples.Goals as goal
 
 pub returns-then-len-ge-MOST-clause-stop : goal.returns-then-len-ge-MOST-clause-stop
@@ -32,11 +32,7 @@ loop-i-preserved c =
           (subst (λ z. IsMultiplying n ws L z at (i + 1)) (sym w.in_ok-push.ensures.items)
           (IsMultiplying_push n ws L xs at i m y c.loop-i.invariant is c.in_ok-product.ensures.weighed c.in_ok-product.ensures.degree (omega (arith, w.len.ensures, w.if-len-ge-MOST.false))
           (subst (λ z. IsNew L (monomials n z) (exponents_of n y.exponents)) c.deref.ensures.value (w.if-is_new.ensures.0 refl)) c.in_ok-product.ensures.product))
-      | else-is_new+in-Heap-1 w ↦
-          subst (λ z. IsMultiplying n ws L z.items at (i + 1)) (sym w.found-is)
-          (IsMultiplying_skip n ws L xs at i m y c.loop-i.invariant is
-          (λ new. let t : false ≡ true = w.if-is_new.ensures.1 (subst (λ z. IsNew L (monomials n z) (exponents_of n y.exponents)) (sym c.deref.ensures.value) new) in cc) c.in_ok-product.ensures.product)
-      | else-is_new+in-Inline-1 w ↦
+      | else-is_new w ↦
           subst (λ z. IsMultiplying n ws L z.items at (i + 1)) (sym w.found-is)
           (IsMultiplying_skip n ws L xs at i m y c.loop-i.invariant is
           (λ new. let t : false ≡ true = w.if-is_new.ensures.1 (subst (λ z. IsNew L (monomials n z) (exponents_of n y.exponents)) (sym c.deref.ensures.value) new) in cc) c.in_ok-product.ensures.product)

@@ -1,7 +1,8 @@
 use Rattle.std.proofs.Common.{ap, subst, ◌∙◌}
 use Rattle.script_parse.specs.Tests.{IsWorth}
 use Rattle.script_parse.specs.declared.operands.Operands.TheVariants as shapes
-use Rattle.script_parse.proofs.Stating.{quotient_says, saturation_says}
+use Rattle.script_parse.proofs.Stating.{polynomial_there, quotient_says, saturation_says}
+use Rattle.script_parse.proofs.Working.{degree_by, first_workable, numerals_by, worth_by}
 use Rattle.script_parse.proofs.operation_line.by_polynomial.Goals as goal
 
 pub returns-in-Quotient : goal.returns-in-Quotient
@@ -20,3 +21,22 @@ returns-in-Saturate c = λ w e s.
 
 pub name_of-requires : goal.name_of-requires
 name_of-requires c = c.requires.ascii
+
+pub unreachable-requires : goal.unreachable-requires
+unreachable-requires c =
+    polynomial_there c.args.polynomials.now c.args.word c.args.value c.requires.written.0 c.requires.written.1 c.requires.written.2 c.in_default.ensures.cases
+
+pub polynomial_value-requires-clause-worth : goal.polynomial_value-requires-clause-worth
+polynomial_value-requires-clause-worth c =
+    let able = first_workable c.args.ring.now c.args.line.now c.args.polynomials.now _ c.in-Some.steps.now c.in-Some.ensures.cases.0 c.requires.workable in
+    worth_by c.args.ring.now c.args.line.now c.in-Some.steps.now c.deref.result.now c.deref.ensures.value able
+
+pub polynomial_value-requires-clause-degree : goal.polynomial_value-requires-clause-degree
+polynomial_value-requires-clause-degree c =
+    let able = first_workable c.args.ring.now c.args.line.now c.args.polynomials.now _ c.in-Some.steps.now c.in-Some.ensures.cases.0 c.requires.workable in
+    degree_by c.args.ring.now c.args.line.now c.in-Some.steps.now c.deref.result.now c.deref.ensures.value able
+
+pub polynomial_value-requires-clause-numerals : goal.polynomial_value-requires-clause-numerals
+polynomial_value-requires-clause-numerals c =
+    let able = first_workable c.args.ring.now c.args.line.now c.args.polynomials.now _ c.in-Some.steps.now c.in-Some.ensures.cases.0 c.requires.workable in
+    numerals_by c.args.ring.now c.args.line.now c.in-Some.steps.now c.deref.result.now c.deref.ensures.value able
