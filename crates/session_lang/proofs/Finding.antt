@@ -4,7 +4,7 @@ use Rattle.std.proofs.lemmas.Option.{none-some}
 use Rattle.formal_sums.proofs.Combining.{Each_map}
 use Rattle.formal_sums.specs.FormalSums.{Each}
 use Rattle.module_vectors.specs.Rings.{ring_comparison, variables}
-use Rattle.module_vectors.specs.Vectors.{AreVectorsOver, HasVariables}
+use Rattle.module_vectors.specs.Vectors.{AreVectorsOver, HasVariables, IsVectorOver}
 use Rattle.module_vectors.specs.declared.key.Key.{Key}
 use Rattle.module_vectors.specs.declared.ring.Ring.{Ring}
 use Rattle.script_parse.specs.declared.named.NameInfo.{NameInfo}
@@ -65,11 +65,15 @@ module _ (before : State) (ring : Option Ring) (infos : List NameInfo) (stored :
   pub as_many_after : (i : ℕ) (after : List Held) → length infos ≡ length stored → Keeps stored i after → length infos ≡ length after
   as_many_after i after same k = same ∙ sym (ap length k.written ∙ length_written stored i k.item)
 
--- vectors over a ring have its variables
+-- a vector over a ring has its variables
+pub of_variables : (ring : Ring) (v : List (Key × ℕ)) → IsVectorOver ring (ring_comparison ring) v → Each (HasVariables (variables ring)) v
+of_variables ring v h = Each_map _ _ v (λ t x. x.weighed.variables) h.each
+
+-- the same of a list of vectors
 pub listed : (ring : Ring) (list : List (List (Key × ℕ))) → AreVectorsOver ring (ring_comparison ring) list
     → Each (λ v. Each (HasVariables (variables ring)) v) list
 listed ring [] h = tt
-listed ring (v ∷ list) h = (Each_map _ _ v (λ t x. x.weighed.variables) h.0.each, listed ring list h.1)
+listed ring (v ∷ list) h = (of_variables ring v h.0, listed ring list h.1)
 
 -- a name that stands at a place
 pub some_info : (infos : List NameInfo) (i : ℕ) → i < length infos → NameInfo

@@ -1,3 +1,4 @@
+mod Appended
 mod Reading
 mod Finding
 mod Making

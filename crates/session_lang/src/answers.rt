@@ -1,8 +1,12 @@
 // The answers that the reduced bases of values give.
-ghost use Rattle.std.specs.Prelude.{◌≡◌, ◌<◌, ◌≤◌, ◌++◌, Bool, IfErr, IsSome, List, OnErr, OnOk, get_or, length, ℕ, string_bytes};
+ghost use Rattle.std.specs.Prelude.{◌≡◌, ◌<◌, ◌≤◌, ◌++◌, Bool, Err, IfErr, IsSome, List, Ok, OnErr, OnOk, get_or, length, ℕ, string_bytes};
 ghost use Rattle.groebner_iface.specs.Calls.{CallStops, NoTrail};
 ghost use Rattle.groebner_iface.specs.Runs.{IsReducedBasisOf};
 ghost use Rattle.script_parse.specs.declared.named.NameInfo.{NameInfo as NameValue};
+ghost use Rattle.module_vectors.specs.Rings.{ring_comparison};
+ghost use Rattle.module_vectors.specs.Vectors.{IsVectorOver};
+ghost use Rattle.groebner_iface.specs.declared.stop.OpStop.TheVariants as causes;
+ghost use Rattle.session_values.specs.Answers as asked;
 ghost use Rattle.session_values.specs.Answers.{Decides, IsAnswer, IsOneModule};
 ghost use Rattle.session_lang.specs.Asking.{AnswerStops, IsAskedOver, asked_of};
 ghost use Rattle.session_values.specs.Held.{Held};
@@ -11,7 +15,7 @@ ghost use Rattle.session_lang.specs.Parts.{IsRunAt, IsRunAtEither, IsRunToKeep, 
 ghost use Rattle.session_lang.specs.Stops.{IsTrailOf};
 
 use groebner_iface::{Groebner, OpStop};
-use module_vectors::{Ring, Vect, VectList};
+use module_vectors::{NoMemory, Ring, Vect, VectList};
 use script_parse::{NameInfo, NameTable};
 use session_values::{
     Stored, forget, is_one_module, keep_basis, normal_form, push_line, push_listing, push_sizes,
@@ -34,6 +38,65 @@ pub enum Question<'a> {
     Member(&'a Vect),
 }
 
+// What became of a text that was to be appended.
+fn appended(written: Result<(), NoMemory>) -> Result<(), OpStop>
+    ensures ok { OnOk written (result ≡ Ok tt) }
+    ensures err { OnErr written (result ≡ Err causes.Memory) }
+{
+    match written {
+        Ok(()) => Ok(()),
+        Err(_) => Err(OpStop::Memory),
+    }
+}
+
+// Appends the normal form of a vector. After an error nothing is appended.
+fn push_normal_form(
+    alloc: Global,
+    out: &mut Vec<u8>,
+    ring: &Ring,
+    info: &NameInfo,
+    basis: &VectList,
+    v: &Vect,
+) -> Result<(), OpStop>
+    requires basis { (list : List _) × IsReducedBasisOf ring.now info.now.rank list basis.now }
+    requires vector { IsVectorOver ring.now (ring_comparison ring.now) v.now }
+    ensures text { OnOk result ((list : List _) → IsReducedBasisOf ring.now info.now.rank list basis.now
+        → (kept : Bool) → (text : List ℕ)
+        × IsAnswer ring.now (record { name = string_bytes info.now.name; rank = info.now.rank; list = list; kept = kept }) (asked.normal_form v.now) text
+        × (out.new.items ≡ out.old.items ++ text)) }
+    ensures unwritten { OnErr result (out.new.items ≡ out.old.items) }
+    ensures stop { IfErr result (AnswerStops ring.now (asked.normal_form v.now) basis.now) }
+{
+    match normal_form(alloc, ring, v, basis) {
+        Ok(rest) => appended(push_line(alloc, out, ring, info.rank, &rest)),
+        Err(stop) => Err(OpStop::from(stop)),
+    }
+}
+
+// Appends whether a vector is in the value. After an error nothing is appended.
+fn push_membership(
+    alloc: Global,
+    out: &mut Vec<u8>,
+    ring: &Ring,
+    info: &NameInfo,
+    basis: &VectList,
+    v: &Vect,
+) -> Result<(), OpStop>
+    requires basis { (list : List _) × IsReducedBasisOf ring.now info.now.rank list basis.now }
+    requires vector { IsVectorOver ring.now (ring_comparison ring.now) v.now }
+    ensures text { OnOk result ((list : List _) → IsReducedBasisOf ring.now info.now.rank list basis.now
+        → (kept : Bool) → (text : List ℕ)
+        × IsAnswer ring.now (record { name = string_bytes info.now.name; rank = info.now.rank; list = list; kept = kept }) (asked.member v.now) text
+        × (out.new.items ≡ out.old.items ++ text)) }
+    ensures unwritten { OnErr result (out.new.items ≡ out.old.items) }
+    ensures stop { IfErr result (AnswerStops ring.now (asked.member v.now) basis.now) }
+{
+    match normal_form(alloc, ring, v, basis) {
+        Ok(rest) => appended(push_verdict(out, rest.terms().is_empty())),
+        Err(stop) => Err(OpStop::from(stop)),
+    }
+}
+
 /// Appends the answer. After an error nothing is appended.
 pub fn push_answer(
     alloc: Global,
@@ -53,24 +116,13 @@ pub fn push_answer(
     ensures stop { IfErr result (AnswerStops ring.now (asked_of question.entry) basis.now) }
 {
     match question {
-        Question::Basis => Ok(push_listing(
-            alloc,
-            out,
-            b"gb",
-            info.name.as_bytes(),
-            ring,
-            info.rank,
-            basis,
-        )?),
-        Question::Sizes => Ok(push_sizes(out, info.name.as_bytes(), basis.as_slice())?),
-        Question::NormalForm(v) => {
-            let rest = normal_form(alloc, ring, v, basis)?;
-            Ok(push_line(alloc, out, ring, info.rank, &rest)?)
+        Question::Basis => {
+            let name = info.name.as_bytes();
+            appended(push_listing(alloc, out, b"gb", name, ring, info.rank, basis))
         }
-        Question::Member(v) => {
-            let rest = normal_form(alloc, ring, v, basis)?;
-            Ok(push_verdict(out, rest.terms().is_empty())?)
-        }
+        Question::Sizes => appended(push_sizes(out, info.name.as_bytes(), basis.as_slice())),
+        Question::NormalForm(v) => push_normal_form(alloc, out, ring, info, basis, v),
+        Question::Member(v) => push_membership(alloc, out, ring, info, basis, v),
     }
 }
 

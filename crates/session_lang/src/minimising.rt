@@ -1,5 +1,6 @@
 // Minimal resolutions of values, and what is read off them.
-ghost use Rattle.std.specs.Prelude.{◌≡◌, ◌++◌, IfErr, IfOk, List, OnErr, OnOk, false, true, ℕ};
+ghost use Rattle.std.specs.Fmt.{signed_decimal};
+ghost use Rattle.std.specs.Prelude.{◌≡◌, ◌++◌, ◌∷◌, [], IfErr, IfOk, List, OnErr, OnOk, false, true, ℕ};
 ghost use Rattle.formal_sums.specs.FormalSums.{Each};
 ghost use Rattle.groebner_iface.specs.Runs.{IsReducedBasisOf};
 ghost use Rattle.minimal_betti.specs.Tables.{IsTable};
@@ -16,7 +17,7 @@ use minimal_betti::{Entry, invariants, minimal, table};
 use module_vectors::{NoMemory, Ring, Vect, VectList, WorkStop, lawful_setting};
 use schreyer_resolution::{Resolution, resolve};
 use script_parse::{Kind, NameInfo};
-use session_values::{append_number, append_resolution, whole_or_none};
+use session_values::{append_number, append_resolution, append_word, whole_or_none};
 use std::alloc::Global;
 
 /// The projective dimension and the regularity of a value; -1 and 0 of one that has no table.
@@ -125,13 +126,9 @@ fn append_entry(out: &mut Vec<u8>, entry: &Entry) -> Result<(), NoMemory>
     ensures err { OnErr result (IsFront out.old.items out.new.items) }
 {
     let mut digits = Buffer::new();
-    out.extend_from_slice(digits.format(entry.step).as_bytes())?;
-    out.push(b' ')?;
-    out.extend_from_slice(digits.format(entry.degree).as_bytes())?;
-    out.push(b' ')?;
-    out.extend_from_slice(digits.format(entry.count).as_bytes())?;
-    out.push(b'\n')?;
-    Ok(())
+    append_word(out, digits.format(entry.step).as_bytes(), b' ')?;
+    append_word(out, digits.format(entry.degree).as_bytes(), b' ')?;
+    append_word(out, digits.format(entry.count).as_bytes(), b'\n')
 }
 
 // Appends a table. After an error what was written so far stands there.
@@ -193,8 +190,20 @@ fn measures_of(entries: &[Entry]) -> Measures
     }
 }
 
+// Appends what was measured, to the end of its line. After an error what was written so far stands there.
+fn append_measures(alloc: Global, out: &mut Vec<u8>, measures: Measures) -> Result<(), NoMemory>
+    ensures ok { OnOk result (out.new.items
+        ≡ out.old.items ++ 32 ∷ (signed_decimal measures.dimension ++ 32 ∷ (signed_decimal measures.regularity ++ 10 ∷ []))) }
+    ensures err { OnErr result (IsFront out.old.items out.new.items) }
+{
+    append_number(alloc, out, measures.dimension)?;
+    append_number(alloc, out, measures.regularity)?;
+    out.push(b'\n')?;
+    Ok(())
+}
+
 // Appends the name and what was measured. After an error what was written so far stands there.
-fn append_measures(
+fn append_regularity(
     alloc: Global,
     out: &mut Vec<u8>,
     name: &[u8],
@@ -205,10 +214,7 @@ fn append_measures(
 {
     out.extend_from_slice(b"reg ")?;
     out.extend_from_slice(name)?;
-    append_number(alloc, out, measures.dimension)?;
-    append_number(alloc, out, measures.regularity)?;
-    out.push(b'\n')?;
-    Ok(())
+    append_measures(alloc, out, measures)
 }
 
 /// Appends the projective dimension and the regularity of a value with this reduced basis, or says that they are refused. After an error,
@@ -234,7 +240,7 @@ pub fn push_regularity(
     };
     let measures = measures_of(&entries);
     let before = out.len();
-    let written = append_measures(alloc, out, info.name.as_bytes(), measures);
+    let written = append_regularity(alloc, out, info.name.as_bytes(), measures);
     match whole_or_none(out, before, written) {
         Ok(()) => Ok(Step::Done),
         Err(_) => Err(WorkStop::Memory),

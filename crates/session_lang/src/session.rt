@@ -35,11 +35,21 @@ struct Operand<'a> {
 
 /// What is kept from line to line: the ring, once one is stated, and the values by name. Contracts see of a value its
 /// name, its rank, its list as it was typed or as an operation gave it, and whether its reduced basis is kept.
-#[derive(Drop)]
 pub struct Session {
     ring: Option<Ring>,
     names: NameTable,
     stored: Vec<Stored>,
+}
+
+// By hand, so that each drop of one is a call.
+impl Drop for Session {
+    fn drop(self) {
+        let Session {
+            ring: _,
+            names: _,
+            stored: _,
+        } = self;
+    }
 }
 
 // What became of the line for which a call was made.

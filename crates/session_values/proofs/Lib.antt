@@ -1,4 +1,5 @@
 pub mod Values
+pub mod Appending
 mod DegreeLines
 mod Dividing
 mod Leading

@@ -22,5 +22,6 @@ pub use operations::{Task, operate, rank_of_result};
 pub use sizes::push_sizes;
 pub use stored::Stored;
 pub use texts::{
-    append_number, push_cofactors, push_line, push_listing, push_verdict, whole_or_none,
+    append_number, append_word, push_cofactors, push_line, push_listing, push_verdict,
+    whole_or_none,
 };

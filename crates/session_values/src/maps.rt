@@ -7,7 +7,7 @@ ghost use Rattle.poly_text.specs.Writing.{IsFront};
 ghost use Rattle.session_values.specs.Resolving.{columns_text, counts_text, map_line, map_text};
 ghost use Rattle.session_values.specs.Writing.{AreOverVariables, resolution_written, written_maps};
 
-use crate::texts::{append_heading, push_cofactors};
+use crate::texts::{append_heading, append_word, push_cofactors};
 use itoa::Buffer;
 use module_vectors::{NoMemory, Ring, VectList};
 use schreyer_resolution::{Map, Resolution};
@@ -40,11 +40,8 @@ fn append_counts(out: &mut Vec<u8>, rows: u64, columns: usize) -> Result<(), NoM
     ensures err { OnErr result (IsFront out.old.items out.new.items) }
 {
     let mut digits = Buffer::new();
-    out.extend_from_slice(digits.format(rows).as_bytes())?;
-    out.push(b' ')?;
-    out.extend_from_slice(digits.format(columns).as_bytes())?;
-    out.push(b'\n')?;
-    Ok(())
+    append_word(out, digits.format(rows).as_bytes(), b' ')?;
+    append_word(out, digits.format(columns).as_bytes(), b'\n')
 }
 
 // Appends the line before a map's columns. After an error what was written so far stands there.
@@ -59,8 +56,7 @@ fn append_map_line(
 {
     let mut digits = Buffer::new();
     out.extend_from_slice(b"map ")?;
-    out.extend_from_slice(digits.format(number).as_bytes())?;
-    out.push(b' ')?;
+    append_word(out, digits.format(number).as_bytes(), b' ')?;
     append_counts(out, rows, columns)
 }
 

@@ -16,7 +16,6 @@ use poly_text::push_number;
 use std::alloc::Global;
 
 /// The Hilbert numbers of a value, read off its reduced basis.
-#[derive(Drop)]
 pub struct Numbers {
     /// The numerator.
     pub series: Series,
@@ -24,6 +23,17 @@ pub struct Numbers {
     pub dimension: i128,
     /// The degree.
     pub degree: i128,
+}
+
+// By hand, so that each drop of one is a call.
+impl Drop for Numbers {
+    fn drop(self) {
+        let Numbers {
+            series: _,
+            dimension: _,
+            degree: _,
+        } = self;
+    }
 }
 
 // The first keys of the vectors.

@@ -3,7 +3,7 @@ ghost use Rattle.std.specs.Prelude.{◌≡◌, ◌++◌, OnErr, OnOk, codes, len
 ghost use Rattle.poly_text.specs.Writing.{IsFront};
 ghost use Rattle.session_values.specs.Texts.{degree_count, degree_line, degree_lines, greatest_degree, heading, lead_degree};
 
-use crate::texts::{append_heading, whole_or_none};
+use crate::texts::{append_heading, append_word, whole_or_none};
 use itoa::Buffer;
 use module_vectors::{NoMemory, Vect};
 
@@ -52,11 +52,8 @@ fn append_degree(out: &mut Vec<u8>, list: &[Vect], degree: u128) -> Result<(), N
         return Ok(());
     }
     let mut digits = Buffer::new();
-    out.extend_from_slice(digits.format(degree).as_bytes())?;
-    out.push(b' ')?;
-    out.extend_from_slice(digits.format(count).as_bytes())?;
-    out.push(b'\n')?;
-    Ok(())
+    append_word(out, digits.format(degree).as_bytes(), b' ')?;
+    append_word(out, digits.format(count).as_bytes(), b'\n')
 }
 
 /// Appends how many leads have each degree, the degrees ascending. After an error what was written so far stands there.

@@ -16,10 +16,16 @@ pub enum Basis {
 }
 
 /// A value's list as it was given, and its reduced basis once it is known. Contracts see both as lists.
-#[derive(Drop)]
 pub struct Stored {
     list: VectList,
     basis: Basis,
+}
+
+// By hand, so that each drop of one is a call.
+impl Drop for Stored {
+    fn drop(self) {
+        let Stored { list: _, basis: _ } = self;
+    }
 }
 
 impl Model for Stored {

@@ -29,13 +29,13 @@ pub fn whole_or_none(
     written
 }
 
-// Appends a word and a blank. After an error what was written so far stands there.
-fn append_word(out: &mut Vec<u8>, word: &[u8]) -> Result<(), NoMemory>
-    ensures ok { OnOk result (out.new.items ≡ out.old.items ++ (word.now ++ 32 ∷ [])) }
+/// Appends a word and the byte that ends it. After an error what was written so far stands there.
+pub fn append_word(out: &mut Vec<u8>, word: &[u8], end: u8) -> Result<(), NoMemory>
+    ensures ok { OnOk result (out.new.items ≡ out.old.items ++ (word.now ++ end ∷ [])) }
     ensures err { OnErr result (IsFront out.old.items out.new.items) }
 {
     out.extend_from_slice(word)?;
-    out.push(b' ')?;
+    out.push(end)?;
     Ok(())
 }
 
@@ -50,11 +50,9 @@ pub fn append_heading(
     ensures err { OnErr result (IsFront out.old.items out.new.items) }
 {
     let mut digits = Buffer::new();
-    append_word(out, word)?;
-    append_word(out, name)?;
-    out.extend_from_slice(digits.format(count).as_bytes())?;
-    out.push(b'\n')?;
-    Ok(())
+    append_word(out, word, b' ')?;
+    append_word(out, name, b' ')?;
+    append_word(out, digits.format(count).as_bytes(), b'\n')
 }
 
 /// Appends a number behind a space. After an error what was written so far stands there.

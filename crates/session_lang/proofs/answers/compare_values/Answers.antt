@@ -111,3 +111,18 @@ returns-in-Err-compare_with-clause-stop g c = λ d e.
     c.in-Ok.ensures.same.0 c.in-Ok.ensures.same.1
     (more_stops _ _ _ _ _ _ _ _ (λ r m l h. inr (slice_set c.args.stored.now.items c.args.places.0 c.keep_basis.new.stored, keeps, h)) (no_trail NoTrail)
     c.in-Err-compare_with.stop (c.in-Err-compare_with.ensures.stop d e))
+
+pub compare_with-requires-clause-within : goal.compare_with-requires-clause-within
+compare_with-requires-clause-within g c κs within = c.requires.within
+
+pub compare_with-requires-clause-rank : goal.compare_with-requires-clause-rank
+compare_with-requires-clause-rank g c κs within = c.requires.rank
+
+pub returns-in-Ok-compare_with-clause-sound : goal.returns-in-Ok-compare_with-clause-sound
+returns-in-Ok-compare_with-clause-sound g c = c.in-Ok-compare_with.ensures.sound
+
+pub returns-in-Ok-compare_with-clause-same : goal.returns-in-Ok-compare_with-clause-same
+returns-in-Ok-compare_with-clause-same g c =
+    let first = c.in-Ok.ensures.same in
+    let second = c.in-Ok-compare_with.ensures.same in
+    (second.0 ∙ first.0, second.1 ∙ first.1)

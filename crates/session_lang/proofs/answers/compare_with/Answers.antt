@@ -4,7 +4,7 @@ use Rattle.groebner_iface.specs.Stops.{op_stop_of_run}
 use Rattle.groebner_iface.specs.Calls.{NoTrail}
 use Rattle.session_values.specs.Kept.{AreSound, IsSound}
 use Rattle.session_values.specs.Texts.{verdict}
-use Rattle.session_lang.proofs.KeptValues.{at_place, at_written, compared, decided, undone, written_lists}
+use Rattle.session_lang.proofs.KeptValues.{at_place, at_written, compared, decided, undone, written_bases, written_lists}
 use Rattle.groebner_iface.proofs.CallingRuns.{more_stops}
 use Rattle.session_lang.proofs.Stopping.{no_trail, placed_run, run_fails}
 use Rattle.session_values.proofs.Values.{as_many, kept_sound, sound_at}
@@ -112,3 +112,15 @@ returns-in-Err-push_verdict-clause-as_before g c =
     let below : c.args.places.1 < length c.args.stored.now.items = omega (arith, c.requires.within.1, same) in
     undone c.args.stored.now.items c.args.places.1 c.index_mut.result.now c.index.result.now c.keep_basis.new.stored c.index_mut-in-Err-push_verdict.result.now c.forget.new.stored c.lacks_basis-fresh.result
     below c.index_mut.ensures.value c.index.ensures c.lacks_basis-fresh.ensures c.in-Ok.ensures.list c.in-Ok.ensures.known c.index_mut-in-Err-push_verdict.ensures.value c.forget.ensures.fresh c.forget.ensures.known
+
+pub basis-requires : goal.basis-requires
+basis-requires g c =
+    let item = c.index-2.result.now in
+    subst (λ s. IsSome s.basis) (sym c.index-2.ensures)
+    (written_bases c.args.stored.now.items c.args.places.1 c.args.places.0 c.keep_basis.new.stored item c.in-Ok.ensures.kept (c.requires.first item))
+
+pub returns-in-Ok-push_verdict-clause-same : goal.returns-in-Ok-push_verdict-clause-same
+returns-in-Ok-push_verdict-clause-same g c = c.in-Ok.ensures.same
+
+pub returns-in-Err-push_verdict-clause-stop : goal.returns-in-Err-push_verdict-clause-stop
+returns-in-Err-push_verdict-clause-stop g c = λ d e. c.in-Ok.ensures.same

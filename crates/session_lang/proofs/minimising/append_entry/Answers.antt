@@ -1,36 +1,27 @@
-use Rattle.std.proofs.lemmas.Result.{err_from_is_err_and}
+use Rattle.std.proofs.Common.{◌∙◌}
 use Rattle.poly_text.proofs.Writing.{begins_more}
+use Rattle.session_values.proofs.Appending.{err_behind, line_of_three, on_err}
 use Rattle.session_lang.proofs.minimising.append_entry.Goals as goal
 
-pub returns-in_err-push-2-clause-err : goal.returns-in_err-push-2-clause-err
-returns-in_err-push-2-clause-err c =
-    let p = err_from_is_err_and c.from_residual-in_err-push-2.result c.from_residual-in_err-push-2.ensures.1 in
-    let out = c.args.out.now.items in
-    let step = c.push.new.self.items in
-    let front = begins_more out c.extend_from_slice.new.self.items step _ (_, c.in_ok-extend_from_slice.ensures.items) c.in_ok-push.ensures.items in
-    rw (p.1, c.in_err-push-2.ensures.items)
-    (begins_more out step c.extend_from_slice-2.new.self.items _ front c.in_ok-extend_from_slice-2.ensures.items)
+pub returns-in_err-append_word-clause-err : goal.returns-in_err-append_word-clause-err
+returns-in_err-append_word-clause-err c = on_err c.from_residual.result c.in_err-append_word.ensures.err
 
-pub returns-in_err-extend_from_slice-3-clause-err : goal.returns-in_err-extend_from_slice-3-clause-err
-returns-in_err-extend_from_slice-3-clause-err c =
-    let p = err_from_is_err_and c.from_residual-in_err-extend_from_slice-3.result c.from_residual-in_err-extend_from_slice-3.ensures.1 in
-    let out = c.args.out.now.items in
-    let step = c.push.new.self.items in
-    let digits = c.extend_from_slice-2.new.self.items in
-    let front = begins_more out c.extend_from_slice.new.self.items step _ (_, c.in_ok-extend_from_slice.ensures.items) c.in_ok-push.ensures.items in
-    rw (p.1, c.in_err-extend_from_slice-3.ensures.items)
-    (begins_more out digits c.push-2.new.self.items _ (begins_more out step digits _ front c.in_ok-extend_from_slice-2.ensures.items)
-    c.in_ok-push-2.ensures.items)
+pub returns-in_err-append_word-2-clause-err : goal.returns-in_err-append_word-2-clause-err
+returns-in_err-append_word-2-clause-err c =
+    let more = c.in_err-append_word-2.ensures.err in
+    on_err c.from_residual-in_err-append_word-2.result (begins_more c.args.out.now.items c.append_word.new.out.items c.append_word-2.new.out.items more.0
+    (_, c.in_ok-append_word.ensures.ok) more.1)
 
-pub returns-in_err-push-3-clause-err : goal.returns-in_err-push-3-clause-err
-returns-in_err-push-3-clause-err c =
-    let p = err_from_is_err_and c.from_residual-in_err-push-3.result c.from_residual-in_err-push-3.ensures.1 in
-    let out = c.args.out.now.items in
-    let step = c.push.new.self.items in
-    let digits = c.extend_from_slice-2.new.self.items in
-    let degree = c.push-2.new.self.items in
-    let front = begins_more out c.extend_from_slice.new.self.items step _ (_, c.in_ok-extend_from_slice.ensures.items) c.in_ok-push.ensures.items in
-    let counted = begins_more out step digits _ front c.in_ok-extend_from_slice-2.ensures.items in
-    rw (p.1, c.in_err-push-3.ensures.items)
-    (begins_more out degree c.extend_from_slice-3.new.self.items _ (begins_more out digits degree _ counted c.in_ok-push-2.ensures.items)
-    c.in_ok-extend_from_slice-3.ensures.items)
+pub returns-clause-err : goal.returns-clause-err
+returns-clause-err c =
+    let more = begins_more c.args.out.now.items c.append_word.new.out.items c.append_word-2.new.out.items _ (_, c.in_ok-append_word.ensures.ok)
+    c.in_ok-append_word-2.ensures.ok in
+    err_behind c.args.out.now.items c.append_word-2.new.out.items c.append_word-3.new.out.items c.append_word-3.result more c.append_word-3.ensures.err
+
+pub returns-clause-ok : goal.returns-clause-ok
+returns-clause-ok c =
+    line_of_three c.args.out.now.items c.append_word.new.out.items c.append_word-2.new.out.items c.append_word-3.new.out.items
+    c.as_bytes.result.now c.as_bytes-2.result.now c.as_bytes-3.result.now _ _ _ 32 32 10 c.append_word-3.result
+    (c.as_bytes.ensures.value ∙ c.format.ensures.text) (c.as_bytes-2.ensures.value ∙ c.format-2.ensures.text)
+    (c.as_bytes-3.ensures.value ∙ c.format-3.ensures.text)
+    c.in_ok-append_word.ensures.ok c.in_ok-append_word-2.ensures.ok c.append_word-3.ensures.ok

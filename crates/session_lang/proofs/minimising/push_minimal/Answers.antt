@@ -14,3 +14,12 @@ returns-in-Ok-whole_or_none-clause-reports c = λ list positions reduced kept. (
   minimal_shown c.args.ring.now c.args.info.now list c.args.basis.now kept c.in-Ok.resolution reduced c.in-Ok.ensures.cancelled,
   search rules,
 )
+
+pub minimal_of-requires-clause-basis : goal.minimal_of-requires-clause-basis
+minimal_of-requires-clause-basis c = c.requires
+
+pub minimal_of-requires-clause-homogeneous : goal.minimal_of-requires-clause-homogeneous
+minimal_of-requires-clause-homogeneous c = c.is_inhomogeneous.ensures.none c.if-is_inhomogeneous.false
+
+pub returns-in-Err-clause-stop : goal.returns-in-Err-clause-stop
+returns-in-Err-clause-stop c = c.in-Err.ensures.stop

@@ -22,3 +22,12 @@ returns-in-Ok-whole_or_none-clause-reports c = λ list positions reduced kept.
       },
       search rules,
     )
+
+pub table_of-requires-clause-basis : goal.table_of-requires-clause-basis
+table_of-requires-clause-basis c = c.requires
+
+pub table_of-requires-clause-homogeneous : goal.table_of-requires-clause-homogeneous
+table_of-requires-clause-homogeneous c = c.is_inhomogeneous.ensures.none c.if-is_inhomogeneous.false
+
+pub returns-in-Err-clause-stop : goal.returns-in-Err-clause-stop
+returns-in-Err-clause-stop c = c.in-Err.ensures.stop

@@ -1,19 +1,17 @@
-use Rattle.std.proofs.lemmas.Result.{err_from_is_err_and}
-use Rattle.poly_text.proofs.Writing.{begins_more}
+use Rattle.std.proofs.Common.{◌∙◌}
+use Rattle.session_values.proofs.Appending.{err_behind, line_of_two, on_err}
 use Rattle.session_values.proofs.maps.append_counts.Goals as goal
 
-pub returns-in_err-extend_from_slice-2-clause-err : goal.returns-in_err-extend_from_slice-2-clause-err
-returns-in_err-extend_from_slice-2-clause-err c =
-    let p = err_from_is_err_and c.from_residual-in_err-extend_from_slice-2.result c.from_residual-in_err-extend_from_slice-2.ensures.1 in
-    rw (p.1, c.in_err-extend_from_slice-2.ensures.items)
-    (begins_more c.args.out.now.items c.extend_from_slice.new.self.items c.push.new.self.items _ (_, c.in_ok-extend_from_slice.ensures.items)
-    c.in_ok-push.ensures.items)
+pub returns-in_err-append_word-clause-err : goal.returns-in_err-append_word-clause-err
+returns-in_err-append_word-clause-err c = on_err c.from_residual.result c.in_err-append_word.ensures.err
 
-pub returns-in_err-push-2-clause-err : goal.returns-in_err-push-2-clause-err
-returns-in_err-push-2-clause-err c =
-    let p = err_from_is_err_and c.from_residual-in_err-push-2.result c.from_residual-in_err-push-2.ensures.1 in
-    let front =
-    begins_more c.args.out.now.items c.extend_from_slice.new.self.items c.push.new.self.items _ (_, c.in_ok-extend_from_slice.ensures.items)
-    c.in_ok-push.ensures.items in
-    rw (p.1, c.in_err-push-2.ensures.items)
-    (begins_more c.args.out.now.items c.push.new.self.items c.extend_from_slice-2.new.self.items _ front c.in_ok-extend_from_slice-2.ensures.items)
+pub returns-clause-err : goal.returns-clause-err
+returns-clause-err c =
+    err_behind c.args.out.now.items c.append_word.new.out.items c.append_word-2.new.out.items c.append_word-2.result (_, c.in_ok-append_word.ensures.ok)
+    c.append_word-2.ensures.err
+
+pub returns-clause-ok : goal.returns-clause-ok
+returns-clause-ok c =
+    line_of_two c.args.out.now.items c.append_word.new.out.items c.append_word-2.new.out.items c.as_bytes.result.now c.as_bytes-2.result.now _ _ 32 10
+    c.append_word-2.result (c.as_bytes.ensures.value ∙ c.format.ensures.text) (c.as_bytes-2.ensures.value ∙ c.format-2.ensures.text)
+    c.in_ok-append_word.ensures.ok c.append_word-2.ensures.ok

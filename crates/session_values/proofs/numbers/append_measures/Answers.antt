@@ -1,17 +1,19 @@
-use Rattle.std.proofs.lemmas.Result.{err_from_is_err_and}
 use Rattle.poly_text.proofs.Writing.{begins_more}
+use Rattle.session_values.proofs.Appending.{on_err}
 use Rattle.session_values.proofs.numbers.append_measures.Goals as goal
+
+pub returns-in_err-append_measure-clause-err : goal.returns-in_err-append_measure-clause-err
+returns-in_err-append_measure-clause-err c = on_err c.from_residual.result c.in_err-append_measure.ensures.err
 
 pub returns-in_err-append_measure-2-clause-err : goal.returns-in_err-append_measure-2-clause-err
 returns-in_err-append_measure-2-clause-err c =
-    let p = err_from_is_err_and c.from_residual-in_err-append_measure-2.result c.from_residual-in_err-append_measure-2.ensures.1 in
     let more = c.in_err-append_measure-2.ensures.err in
-    rw p.1
+    on_err c.from_residual-in_err-append_measure-2.result
     (begins_more c.args.out.now.items c.append_measure.new.out.items c.append_measure-2.new.out.items more.0 (_, c.in_ok-append_measure.ensures.ok) more.1)
 
 pub returns-in_err-push-clause-err : goal.returns-in_err-push-clause-err
 returns-in_err-push-clause-err c =
-    let p = err_from_is_err_and c.from_residual-in_err-push.result c.from_residual-in_err-push.ensures.1 in
-    rw (p.1, c.in_err-push.ensures.items)
+    on_err c.from_residual-in_err-push.result
+    (rw c.in_err-push.ensures.items
     (begins_more c.args.out.now.items c.append_measure.new.out.items c.append_measure-2.new.out.items _ (_, c.in_ok-append_measure.ensures.ok)
-    c.in_ok-append_measure-2.ensures.ok)
+    c.in_ok-append_measure-2.ensures.ok))

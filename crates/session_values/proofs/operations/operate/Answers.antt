@@ -1,4 +1,4 @@
-use Rattle.std.proofs.Common.{IfOk, rules, subst, sym, ◌≡◌}
+use Rattle.std.proofs.Common.{IfOk, subst, sym}
 use Rattle.std.proofs.lemmas.Result.{IfErr-weaker}
 use Rattle.session_values.specs.Operations.{AreRunsOf, AreTrailsOf, IsResult, colon, eliminate, intersect, multiply, quotient, saturate, sum, syzygies}
 use Rattle.session_values.specs.Tasks.{work_of}
@@ -7,7 +7,7 @@ use Rattle.session_values.proofs.operations.operate.Goals as goal
 
 pub returns-in-Sum-clause-stop : goal.returns-in-Sum-clause-stop
 returns-in-Sum-clause-stop g c =
-    let rank : c.from.result ≡ c.in-Sum.rank = search rules in
+    let rank = c.from.ensures in
     IfErr-weaker c.sum.result _ _
     (more_stops _ _ _ _ _ _ _ _
     (λ r m l h.
@@ -18,7 +18,7 @@ returns-in-Sum-clause-stop g c =
 
 pub returns-in-Product-clause-stop : goal.returns-in-Product-clause-stop
 returns-in-Product-clause-stop g c =
-    let rank : c.from-in-Product.result ≡ c.in-Product.rank = search rules in
+    let rank = c.from-in-Product.ensures in
     IfErr-weaker c.product.result _ _
     (more_stops _ _ _ _ _ _ _ _
     (λ r m l h.
@@ -29,7 +29,7 @@ returns-in-Product-clause-stop g c =
 
 pub returns-in-Quotient-clause-stop : goal.returns-in-Quotient-clause-stop
 returns-in-Quotient-clause-stop g c =
-    let rank : c.from-in-Quotient.result ≡ c.in-Quotient.rank = search rules in
+    let rank = c.from-in-Quotient.ensures in
     IfErr-weaker c.quotient.result _ _
     (more_stops _ _ _ _ _ _ _ _
     (λ r m l h.
@@ -40,7 +40,7 @@ returns-in-Quotient-clause-stop g c =
 
 pub returns-in-Eliminate-clause-stop : goal.returns-in-Eliminate-clause-stop
 returns-in-Eliminate-clause-stop g c =
-    let rank : c.from-in-Eliminate.result ≡ c.in-Eliminate.rank = search rules in
+    let rank = c.from-in-Eliminate.ensures in
     IfErr-weaker c.eliminate.result _ _
     (more_stops _ _ _ _ _ _ _ _
     (λ r m l h.
@@ -51,7 +51,7 @@ returns-in-Eliminate-clause-stop g c =
 
 pub returns-in-Syzygies-clause-stop : goal.returns-in-Syzygies-clause-stop
 returns-in-Syzygies-clause-stop g c =
-    let rank : c.from-in-Syzygies.result ≡ c.in-Syzygies.rank = search rules in
+    let rank = c.from-in-Syzygies.ensures in
     IfErr-weaker c.syzygies.result _ _
     (more_stops _ _ _ _ _ _ _ _
     (λ r m l h.
@@ -62,7 +62,7 @@ returns-in-Syzygies-clause-stop g c =
 
 pub returns-in-Intersect-clause-stop : goal.returns-in-Intersect-clause-stop
 returns-in-Intersect-clause-stop g c =
-    let rank : c.from-in-Intersect.result ≡ c.in-Intersect.rank = search rules in
+    let rank = c.from-in-Intersect.ensures in
     IfErr-weaker c.intersect.result _ _
     (more_stops _ _ _ _ _ _ _ _
     (λ r m l h.
@@ -73,7 +73,7 @@ returns-in-Intersect-clause-stop g c =
 
 pub returns-in-Saturate-clause-stop : goal.returns-in-Saturate-clause-stop
 returns-in-Saturate-clause-stop g c =
-    let rank : c.from-in-Saturate.result ≡ c.in-Saturate.rank = search rules in
+    let rank = c.from-in-Saturate.ensures in
     IfErr-weaker c.saturate.result _ _
     (more_stops _ _ _ _ _ _ _ _
     (λ r m l h.
@@ -84,7 +84,7 @@ returns-in-Saturate-clause-stop g c =
 
 pub returns-else-len-gt-MOST_BLOCKS-clause-stop : goal.returns-else-len-gt-MOST_BLOCKS-clause-stop
 returns-else-len-gt-MOST_BLOCKS-clause-stop g c =
-    let rank : c.from-in-Colon.result ≡ c.in-Colon.rank = search rules in
+    let rank = c.from-in-Colon.ensures in
     IfErr-weaker c.colon.result _ _
     (more_stops _ _ _ _ _ _ _ _
     (λ r m l h.
@@ -96,3 +96,38 @@ returns-else-len-gt-MOST_BLOCKS-clause-stop g c =
 pub returns-else-len-gt-MOST_BLOCKS-clause-result : goal.returns-else-len-gt-MOST_BLOCKS-clause-result
 returns-else-len-gt-MOST_BLOCKS-clause-result g c =
     subst (λ x. IfOk c.colon.result (IsResult c.args.ring.now (work_of x))) (sym c.in-Colon.is) c.colon.ensures.basis
+
+pub returns-in-Sum-clause-result : goal.returns-in-Sum-clause-result
+returns-in-Sum-clause-result g c =
+    subst (λ x. IfOk c.sum.result (IsResult c.args.ring.now (work_of x))) (sym c.in-Sum.is)
+    (subst (λ k. IfOk c.sum.result (IsResult c.args.ring.now (sum k c.in-Sum.left.now c.in-Sum.right.now))) c.from.ensures c.sum.ensures.basis)
+
+pub returns-in-Product-clause-result : goal.returns-in-Product-clause-result
+returns-in-Product-clause-result g c =
+    subst (λ x. IfOk c.product.result (IsResult c.args.ring.now (work_of x))) (sym c.in-Product.is)
+    (subst (λ k. IfOk c.product.result (IsResult c.args.ring.now (multiply k c.in-Product.left.now c.in-Product.right.now))) c.from-in-Product.ensures
+    c.product.ensures.basis)
+
+pub returns-in-Intersect-clause-result : goal.returns-in-Intersect-clause-result
+returns-in-Intersect-clause-result g c =
+    subst (λ x. IfOk c.intersect.result (IsResult c.args.ring.now (work_of x))) (sym c.in-Intersect.is)
+    (subst (λ k. IfOk c.intersect.result (IsResult c.args.ring.now (intersect k c.in-Intersect.left.now c.in-Intersect.right.now)))
+    c.from-in-Intersect.ensures c.intersect.ensures.basis)
+
+pub returns-in-Quotient-clause-result : goal.returns-in-Quotient-clause-result
+returns-in-Quotient-clause-result g c =
+    subst (λ x. IfOk c.quotient.result (IsResult c.args.ring.now (work_of x))) (sym c.in-Quotient.is)
+    (subst (λ k. IfOk c.quotient.result (IsResult c.args.ring.now (quotient k c.in-Quotient.list.now c.in-Quotient.f.now))) c.from-in-Quotient.ensures
+    c.quotient.ensures.basis)
+
+pub returns-in-Saturate-clause-result : goal.returns-in-Saturate-clause-result
+returns-in-Saturate-clause-result g c =
+    subst (λ x. IfOk c.saturate.result (IsResult c.args.ring.now (work_of x))) (sym c.in-Saturate.is)
+    (subst (λ k. IfOk c.saturate.result (IsResult c.args.ring.now (saturate k c.in-Saturate.list.now c.in-Saturate.f.now))) c.from-in-Saturate.ensures
+    c.saturate.ensures.basis)
+
+pub returns-in-Eliminate-clause-result : goal.returns-in-Eliminate-clause-result
+returns-in-Eliminate-clause-result g c =
+    subst (λ x. IfOk c.eliminate.result (IsResult c.args.ring.now (work_of x))) (sym c.in-Eliminate.is)
+    (subst (λ k. IfOk c.eliminate.result (IsResult c.args.ring.now (eliminate k c.in-Eliminate.list.now c.in-Eliminate.k))) c.from-in-Eliminate.ensures
+    c.eliminate.ensures.basis)

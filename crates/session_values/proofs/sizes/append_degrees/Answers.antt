@@ -1,5 +1,6 @@
 use Rattle.std.proofs.Common.{arith, flat_map, subst, sym, ◌++◌, ◌+◌, ◌∙◌, ◌≡◌}
 use Rattle.std.specs.List.{range_with_len}
+use Rattle.poly_text.proofs.Writing.{begins_more}
 use Rattle.session_values.proofs.DegreeLines.{lines_more}
 use Rattle.session_values.specs.Texts.{degree_line, greatest_degree}
 use Rattle.session_values.proofs.sizes.append_degrees.Goals as goal
@@ -17,3 +18,13 @@ returns-in-Ok-append_degree-clause-ok c =
     let wrote = subst (λ d. c.append_degree-2.new.out.items ≡ c.loop-degree.out.items ++ degree_line c.args.list.now d) (sym is) c.in-Ok-append_degree.ensures.ok in
     subst (λ d. c.append_degree-2.new.out.items ≡ c.args.out.now.items ++ flat_map (degree_line c.args.list.now) (range_with_len 0 (d + 1))) last
     (lines_more (degree_line c.args.list.now) c.args.out.now.items c.loop-degree.out.items c.append_degree-2.new.out.items c.loop-degree.degree c.loop-degree.invariant wrote)
+
+pub returns-in-Err-clause-err : goal.returns-in-Err-clause-err
+returns-in-Err-clause-err c =
+    let more = c.in-Err.ensures.err in
+    begins_more c.args.out.now.items c.loop-degree.out.items c.append_degree.new.out.items more.0 (_, c.loop-degree.invariant) more.1
+
+pub returns-in-Err-append_degree-clause-err : goal.returns-in-Err-append_degree-clause-err
+returns-in-Err-append_degree-clause-err c =
+    let more = c.in-Err-append_degree.ensures.err in
+    begins_more c.args.out.now.items c.loop-degree.out.items c.append_degree-2.new.out.items more.0 (_, c.loop-degree.invariant) more.1

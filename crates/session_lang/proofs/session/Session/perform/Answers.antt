@@ -119,3 +119,81 @@ compare-requires-after_bounds g c κs within = subst (IsFit c.args.self.now) c.i
 
 pub returns-in-Equal-clause-performed : goal.returns-in-Equal-clause-performed
 returns-in-Equal-clause-performed g c = performed_as c.in-Equal.is c.compare.ensures.performed
+
+pub returns-in-Let-clause-later : goal.returns-in-Let-clause-later
+returns-in-Let-clause-later g c = c.make.ensures.later
+
+pub returns-in-Let-clause-settings : goal.returns-in-Let-clause-settings
+returns-in-Let-clause-settings g c = c.make.ensures.settings
+
+pub returns-in-Gb-clause-later : goal.returns-in-Gb-clause-later
+returns-in-Gb-clause-later g c = c.ask.ensures.later
+
+pub returns-in-Gb-clause-settings : goal.returns-in-Gb-clause-settings
+returns-in-Gb-clause-settings g c = c.ask.ensures.settings
+
+pub returns-in-Size-clause-later : goal.returns-in-Size-clause-later
+returns-in-Size-clause-later g c = c.ask-in-Size.ensures.later
+
+pub returns-in-Size-clause-settings : goal.returns-in-Size-clause-settings
+returns-in-Size-clause-settings g c = c.ask-in-Size.ensures.settings
+
+pub returns-in-NormalForm-clause-later : goal.returns-in-NormalForm-clause-later
+returns-in-NormalForm-clause-later g c = c.ask-in-NormalForm.ensures.later
+
+pub returns-in-NormalForm-clause-settings : goal.returns-in-NormalForm-clause-settings
+returns-in-NormalForm-clause-settings g c = c.ask-in-NormalForm.ensures.settings
+
+pub returns-in-Member-clause-later : goal.returns-in-Member-clause-later
+returns-in-Member-clause-later g c = c.ask-in-Member.ensures.later
+
+pub returns-in-Member-clause-settings : goal.returns-in-Member-clause-settings
+returns-in-Member-clause-settings g c = c.ask-in-Member.ensures.settings
+
+pub returns-in-Lift-clause-later : goal.returns-in-Lift-clause-later
+returns-in-Lift-clause-later g c = c.lift.ensures.later
+
+pub returns-in-Lift-clause-settings : goal.returns-in-Lift-clause-settings
+returns-in-Lift-clause-settings g c = c.lift.ensures.settings
+
+pub returns-in-Hilbert-clause-later : goal.returns-in-Hilbert-clause-later
+returns-in-Hilbert-clause-later g c = c.report.ensures.later
+
+pub returns-in-Hilbert-clause-settings : goal.returns-in-Hilbert-clause-settings
+returns-in-Hilbert-clause-settings g c = c.report.ensures.settings
+
+pub returns-in-Resolution-clause-later : goal.returns-in-Resolution-clause-later
+returns-in-Resolution-clause-later g c = c.report-in-Resolution.ensures.later
+
+pub returns-in-Resolution-clause-settings : goal.returns-in-Resolution-clause-settings
+returns-in-Resolution-clause-settings g c = c.report-in-Resolution.ensures.settings
+
+pub returns-in-Minimal-clause-later : goal.returns-in-Minimal-clause-later
+returns-in-Minimal-clause-later g c = c.report-in-Minimal.ensures.later
+
+pub returns-in-Minimal-clause-settings : goal.returns-in-Minimal-clause-settings
+returns-in-Minimal-clause-settings g c = c.report-in-Minimal.ensures.settings
+
+pub returns-in-Betti-clause-later : goal.returns-in-Betti-clause-later
+returns-in-Betti-clause-later g c = c.report-in-Betti.ensures.later
+
+pub returns-in-Betti-clause-settings : goal.returns-in-Betti-clause-settings
+returns-in-Betti-clause-settings g c = c.report-in-Betti.ensures.settings
+
+pub returns-in-Regularity-clause-later : goal.returns-in-Regularity-clause-later
+returns-in-Regularity-clause-later g c = c.report-in-Regularity.ensures.later
+
+pub returns-in-Regularity-clause-settings : goal.returns-in-Regularity-clause-settings
+returns-in-Regularity-clause-settings g c = c.report-in-Regularity.ensures.settings
+
+pub returns-in-Change-clause-later : goal.returns-in-Change-clause-later
+returns-in-Change-clause-later g c = c.report-in-Change.ensures.later
+
+pub returns-in-Change-clause-settings : goal.returns-in-Change-clause-settings
+returns-in-Change-clause-settings g c = c.report-in-Change.ensures.settings
+
+pub returns-in-Equal-clause-later : goal.returns-in-Equal-clause-later
+returns-in-Equal-clause-later g c = c.compare.ensures.later
+
+pub returns-in-Equal-clause-settings : goal.returns-in-Equal-clause-settings
+returns-in-Equal-clause-settings g c = c.compare.ensures.settings

@@ -1,0 +1,26 @@
+use Rattle.std.proofs.Common.{refl, ◌∙◌}
+use Rattle.poly_text.proofs.Writing.{begins_more}
+use Rattle.session_values.proofs.Appending.{err_behind, line_of_three, on_err}
+use Rattle.session_values.proofs.texts.append_heading.Goals as goal
+
+pub returns-in_err-append_word-clause-err : goal.returns-in_err-append_word-clause-err
+returns-in_err-append_word-clause-err c = on_err c.from_residual.result c.in_err-append_word.ensures.err
+
+pub returns-in_err-append_word-2-clause-err : goal.returns-in_err-append_word-2-clause-err
+returns-in_err-append_word-2-clause-err c =
+    let more = c.in_err-append_word-2.ensures.err in
+    on_err c.from_residual-in_err-append_word-2.result
+    (begins_more c.args.out.now.items c.append_word.new.out.items c.append_word-2.new.out.items more.0 (_, c.in_ok-append_word.ensures.ok) more.1)
+
+pub returns-clause-err : goal.returns-clause-err
+returns-clause-err c =
+    let front =
+    begins_more c.args.out.now.items c.append_word.new.out.items c.append_word-2.new.out.items _ (_, c.in_ok-append_word.ensures.ok)
+    c.in_ok-append_word-2.ensures.ok in
+    err_behind c.args.out.now.items c.append_word-2.new.out.items c.append_word-3.new.out.items c.append_word-3.result front c.append_word-3.ensures.err
+
+pub returns-clause-ok : goal.returns-clause-ok
+returns-clause-ok c =
+    line_of_three c.args.out.now.items c.append_word.new.out.items c.append_word-2.new.out.items c.append_word-3.new.out.items c.args.word.now c.args.name.now
+    c.as_bytes.result.now _ _ _ 32 32 10 c.append_word-3.result refl refl (c.as_bytes.ensures.value ∙ c.format.ensures.text) c.in_ok-append_word.ensures.ok
+    c.in_ok-append_word-2.ensures.ok c.append_word-3.ensures.ok
