@@ -9,4 +9,5 @@ mod Runs
 mod Shown
 mod Steps
 mod Texts
+mod Told
 mod Whole

@@ -7,3 +7,4 @@ pub mod Scripts
 pub mod Stops
 -- what private clauses cite
 pub mod Parts
+pub mod Told

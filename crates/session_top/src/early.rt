@@ -1,4 +1,6 @@
 // What is refused, and why a run does not come to the end of its script.
+ghost use Rattle.std.specs.Prelude.{◌≡◌};
+
 use basis_core::BasisState;
 use module_vectors::KeptTrail;
 use script_parse::Kind;
@@ -12,10 +14,27 @@ pub enum Refusal {
 
 /// What is kept of a stop: a state at a stop by the budget of pairs; a trail at one by the degree, and a state too where it
 /// came in a run that had begun.
-#[derive(Drop)]
 pub struct Kept {
     pub state: Option<BasisState>,
     pub trail: Option<KeptTrail>,
+}
+
+// By hand, so that each drop of one is a call.
+impl Kept {
+    /// The state and the trail, without taking memory.
+    pub fn into_parts(self) -> (Option<BasisState>, Option<KeptTrail>)
+        ensures state { result.0 ≡ self.state }
+        ensures trail { result.1 ≡ self.trail }
+    {
+        let Kept { state, trail } = self;
+        (state, trail)
+    }
+}
+
+impl Drop for Kept {
+    fn drop(self) {
+        let Kept { state: _, trail: _ } = self;
+    }
 }
 
 /// Why a run did not come to the end of its script.

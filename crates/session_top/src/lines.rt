@@ -142,12 +142,22 @@ fn stop_at_division<K: Sink>(sink: &mut K, number: u32, trail: KeptTrail) -> Ear
 }
 
 /// What a run of lines works with from line to line.
-#[derive(Drop)]
 pub struct Desk {
     engine: F4Engine,
     session: Session,
     /// Where the text of a line is made.
     out: Vec<u8>,
+}
+
+// By hand, so that each drop of one is a call.
+impl Drop for Desk {
+    fn drop(self) {
+        let Desk {
+            engine: _,
+            session: _,
+            out: _,
+        } = self;
+    }
 }
 
 /// A desk at which nothing has a name yet, whose basis runs are as the request says, by workers and helpers that pass this gate.

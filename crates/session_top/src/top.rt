@@ -7,10 +7,10 @@ ghost use Rattle.command_words.specs.declared.words.Command.TheVariants.{Run};
 ghost use Rattle.session_top.specs.Limits.{limits_of};
 ghost use Rattle.session_top.specs.Meaning.{Done};
 ghost use Rattle.session_top.specs.Scripts.{script_before, script_behind, script_left, script_to_come};
-ghost use Rattle.session_top.specs.Stops.{stop_status};
+ghost use Rattle.session_top.specs.Told.{RunTold, ended_as, plain};
 ghost use Rattle.session_top.specs.Run.{Meant, MeantRefused, ReadCut, WriteCut, MemoryCut, ScriptStops, StoppedByDegree, StoppedByPairs, WordsEnd, IsComplete};
 
-use crate::early::{Early, Kept};
+use crate::early::Early;
 use crate::generated::do_generated;
 use crate::lines::do_lines;
 use basis_core::BasisState;
@@ -24,7 +24,6 @@ use std::thread::Threads;
 use worker_gate::{Gate, SharedGate};
 
 /// How a run ended.
-#[derive(Drop)]
 pub struct Ended {
     /// 0: all lines were done and, of a script that is read, the input was read to its end. 1: a line was refused, or the script
     /// is too long. 2: the words are not of the form. 3: a read failed. 4: a write failed. 5: memory
@@ -44,12 +43,21 @@ pub struct Ended {
     pub trail: Option<KeptTrail>,
 }
 
+// By hand, so that each drop of one is a call.
+impl Drop for Ended {
+    fn drop(self) {
+        let Ended {
+            status: _,
+            line: _,
+            kept: _,
+            trail: _,
+        } = self;
+    }
+}
+
 /// An ending with this status and line, of which nothing is kept.
 fn plain_ending(status: u8, line: u32) -> Ended
-    ensures status { result.status ≡ status }
-    ensures line { result.line ≡ line }
-    ensures kept { result.kept ≡ None }
-    ensures trail { result.trail ≡ None }
+    ensures { result ≡ plain status line }
 {
     Ended {
         status,
@@ -59,21 +67,25 @@ fn plain_ending(status: u8, line: u32) -> Ended
     }
 }
 
-/// The ending of a line that stopped: status 7 with a trail, and else 6.
-fn stop_ending(line: u32, kept: Kept) -> Ended
-    ensures status { result.status ≡ stop_status kept.trail }
-    ensures line { result.line ≡ line }
-    ensures kept { result.kept ≡ kept.state }
-    ensures trail { result.trail ≡ kept.trail }
-    ensures least { 6 ≤ result.status }
-    ensures most { result.status ≤ 7 }
-    ensures only { result.status ≢ 7 → result.trail ≡ None }
+/// How a run of a script is told.
+fn ending_of(run: Result<(), Early>) -> Ended
+    ensures { result ≡ ended_as run }
 {
-    Ended {
-        status: if kept.trail.is_some() { 7 } else { 6 },
-        line,
-        kept: kept.state,
-        trail: kept.trail,
+    match run {
+        Ok(()) => plain_ending(0, 0),
+        Err(Early::Refused(line)) => plain_ending(1, line),
+        Err(Early::ReadFault) => plain_ending(3, 0),
+        Err(Early::WriteFault) => plain_ending(4, 0),
+        Err(Early::NoMemory(line)) => plain_ending(5, line),
+        Err(Early::Stopped(line, kept)) => {
+            let (kept, trail) = kept.into_parts();
+            Ended {
+                status: if trail.is_some() { 7 } else { 6 },
+                line,
+                kept,
+                trail,
+            }
+        }
     }
 }
 
@@ -102,6 +114,28 @@ fn run_script<R: Threads + Wait + Sync, S: Source, K: Sink>(
         Command::Run => do_lines(rt, alloc, request, gate, source, sink),
         Command::Large(seed) => do_generated(rt, alloc, request, gate, seed, sink),
     }
+}
+
+/// Does what a request asks for, and tells how it ended.
+fn run_request<R: Threads + Wait + Sync, S: Source, K: Sink>(
+    rt: &R,
+    alloc: Global,
+    request: Request,
+    gate: SharedGate,
+    source: &mut S,
+    sink: &mut K,
+) -> Ended
+    requires workers { 0 < request.workers }
+    requires helpers { 0 < request.helpers }
+    ensures told { RunTold (script_before request.command (S.left source.old)) (script_behind request.command (S.left source.new))
+        (K.taken sink.old) (K.taken sink.new) (limits_of request) result }
+    ensures read { result.status ≡ 3 → Rose (S.faults source.old) (S.faults source.new) }
+    ensures write { result.status ≡ 4 → Rose (K.faults sink.old) (K.faults sink.new) }
+    ensures unread { (request.command ≡ Run → ⊥) → source.new ≡ source.old }
+{
+    // A script has one meaning, because each line has one result.
+    one_result();
+    ending_of(run_script(rt, alloc, request, gate, source, sink))
 }
 
 /// Runs the script that the source gives, or with the command `large` the generated script of its seed, as the words ask, and
@@ -173,24 +207,12 @@ pub fn run<R: Threads + Wait + Sync, S: Source, K: Sink, G: Gate + Sync>(
         → IsComplete (script_to_come (map string_bytes words.now) (S.left source.old)) (script_left (map string_bytes words.now) (S.left source.new))
         (K.taken sink.old) (K.taken sink.new) result.status result.line }
 {
-    let request = match read_words(alloc, words) {
-        Ok(request) => request,
-        Err(WordStop::Memory) => return plain_ending(5, 0),
-        Err(WordStop::Words) => {
-            return match write_all_to(sink, b"error words\n") {
-                Ok(()) => plain_ending(2, 0),
-                Err(_) => plain_ending(4, 0),
-            };
-        }
-    };
-    // A script has one meaning, because each line has one result.
-    one_result();
-    match run_script(rt, alloc, request, gate.shared(), source, sink) {
-        Ok(()) => plain_ending(0, 0),
-        Err(Early::Refused(line)) => plain_ending(1, line),
-        Err(Early::ReadFault) => plain_ending(3, 0),
-        Err(Early::WriteFault) => plain_ending(4, 0),
-        Err(Early::NoMemory(line)) => plain_ending(5, line),
-        Err(Early::Stopped(line, kept)) => stop_ending(line, kept),
+    match read_words(alloc, words) {
+        Ok(request) => run_request(rt, alloc, request, gate.shared(), source, sink),
+        Err(WordStop::Memory) => plain_ending(5, 0),
+        Err(WordStop::Words) => match write_all_to(sink, b"error words\n") {
+            Ok(()) => plain_ending(2, 0),
+            Err(_) => plain_ending(4, 0),
+        },
     }
 }
