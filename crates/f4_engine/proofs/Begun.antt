@@ -22,7 +22,7 @@ use Rattle.basis_core.specs.Logs.{by, log, notes_from, number_at_beginning}
 use Rattle.basis_lock.proofs.Acting.{acts_of_events, runs_ended, runs_stop_kept}
 use Rattle.basis_lock.proofs.May.{own_same}
 use Rattle.run_endings.specs.Endings.{IsBudgetStop}
-use Rattle.run_endings.specs.Stops.{OfState}
+use Rattle.run_endings.specs.Stops.{IsRunBy, OfState, RunStops}
 use Rattle.run_endings.specs.declared.stop.RunStop.{RunStop}
 use Rattle.run_endings.specs.declared.stop.RunStop.TheVariants as run_stops
 use Rattle.f4_engine.specs.Runs.{IsNew}
@@ -102,3 +102,14 @@ of_state P s (run_stops.Degree t trail) e h = subst P (sym e) h
 pub state_stopped : {A : Type 0} (P : Shown → Type 0) (s : Shown) (r : Result A RunStop) → IfErr r (OfState (λ t. t ≡ s)) → P s → IfErr r (OfState P)
 state_stopped P s (Ok t) e h = tt
 state_stopped P s (Err stop) e h = of_state P s stop e h
+
+-- the workers leave a run with the budget and the number of workers that it began with
+pub left_by : (shared : Shared) (pairs workers : ℕ) (s t : Shown) → IsRunOf shared pairs workers s → IsRunBy s.budget s.workers t → IsRunBy pairs workers t
+left_by shared pairs workers s t run by = record { budget = by.budget ∙ run.most; workers_are = by.workers_are ∙ run.number }
+
+-- a stop of the closing is one of the run
+pub closing_stops :
+    {A : Type 0} (pairs workers : ℕ) (shared : Shared) (s : Shown) (r : Result A RunStop) → s.shared ≡ shared → IsRunBy pairs workers s
+    → IfErr r (λ stop. (pairs workers : ℕ) → IsRunBy pairs workers s → RunStops pairs workers s.shared stop) → IfErr r (RunStops pairs workers shared)
+closing_stops pairs workers shared s (Ok t) over by h = tt
+closing_stops pairs workers shared s (Err stop) over by h = subst (λ (sh : Shared). RunStops pairs workers sh stop) over (h pairs workers by)

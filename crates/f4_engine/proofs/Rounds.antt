@@ -1,5 +1,6 @@
 -- What a worker's seat tells after each call of a round
 use Rattle.std.proofs.Common.{Bool, List, [], ap, arith, false, get_or, inl, inr, length, length-append, refl, subst, sym, take, true, ℕ, ◌++◌, ◌+◌, ◌<◌, ◌∙◌, ◌∷◌, ◌≡◌, ◌≤◌, ◌⊎◌}
+use Rattle.std.specs.Prelude.{MatchBool}
 use Rattle.module_vectors.specs.declared.trail.KeptTrail.{KeptTrail}
 use Rattle.module_vectors.specs.declared.trail.WorkStop.{WorkStop}
 use Rattle.module_vectors.specs.declared.trail.WorkStop.TheVariants as works
@@ -25,7 +26,7 @@ use Rattle.basis_lock.specs.Acts.{Act, Asked, HandedIn, Stopped, Took, act_of, a
 use Rattle.basis_lock.specs.Calls.{Finishes, HandsIn, HasGivenSeen, IsHold, IsWorkStopSeen, MayFinish, MayHandIn, MayReport, MayTakeJob, Reports, TakesJob, own}
 use Rattle.basis_core.specs.Logs.{Base, End, Noted, Put, Stop, Take, base, by, log, members_after}
 use Rattle.basis_core.proofs.Logging.{members_told, take_whole}
-use Rattle.f4_engine.specs.Workers.{AreDone, HasJob, HasNone, IsSameWorker, IsWorking, MayGiveUp}
+use Rattle.f4_engine.specs.Workers.{AreDone, HasDone, HasJob, HasNone, IsFresh, IsSameWorker, IsWorking, MayGiveUp, RoundEnds}
 
 -- the last Take gave its job
 given_last : (es : List Noted) (w : ℕ) (skipped job : List Pair) → HasGivenSeen (es ++ (Take w skipped job ∷ [])) job
@@ -265,3 +266,31 @@ job_trail_seen b v job (works.Degree t) has h =
 
 pub known_same : (b : Base) (v w : View Noted Base) → IsSameWorker v w → v.worker < b.workers → w.worker < b.workers
 known_same b v w h k = subst (λ n. n < b.workers) (sym h.0) k
+
+-- a worker is done after a round that ends it
+pub worker_done :
+    (b : Base) (x : ℕ) (u v w : View Noted Base) (ended : Bool)
+    → IsFresh x u → IsSameWorker u v → RoundEnds b v w ended → ended ≡ true → HasDone x w
+worker_done b x u v w ended fresh same ends is =
+    let all = same_twice u v w same ends.0 in
+    record {
+      number = all.0 ∙ fresh.number;
+      done = subst (λ (k : Bool). MatchBool k (AreDone (own w)) (IsWorking b w)) is ends.1;
+      olds = all.1 ∙ fresh.olds;
+    }
+
+-- a worker that is fresh works
+pub fresh_works : (b : Base) (x : ℕ) (v : View Noted Base) → IsFresh x v → x < b.workers → IsWorking b v
+fresh_works b x v fresh known = record {
+  known = subst (λ k. k < b.workers) (sym fresh.number) known;
+  works = ap (λ (es : List Noted). has_ended (acts_of es)) fresh.mine;
+  free = ap (λ (es : List Noted). held_after [] (acts_of es)) fresh.mine;
+  unstopped = ap (λ (es : List Noted). has_stop (acts_of es)) fresh.mine;
+}
+
+-- a worker works on after a round that does not end it
+pub worker_goes_on :
+    (b : Base) (u v w : View Noted Base) (ended : Bool)
+    → IsSameWorker u v → RoundEnds b v w ended → ended ≡ false → IsSameWorker u w × IsWorking b w
+worker_goes_on b u v w ended same ends is =
+    (same_twice u v w same ends.0, subst (λ (k : Bool). MatchBool k (AreDone (own w)) (IsWorking b w)) is ends.1)
