@@ -3,6 +3,7 @@ use Rattle.std.proofs.Common.{◌≡◌, ℕ, ◌+◌, List, ◌++◌, length, t
 use Rattle.std.proofs.lemmas.List.{length-append, take-append-le}
 use Rattle.std.proofs.Math.Seq.{take-append-add}
 use Rattle.std.proofs.KnownBytes.{Appends-trans}
+use Rattle.std.specs.Result.{IsErrAnd}
 use Rattle.std.specs.declared.option.Option.{Option}
 use Rattle.std.specs.Io.KnownBytes.{Appends}
 use Rattle.byte_ports.specs.Causes.{AppendsFront}
@@ -53,3 +54,14 @@ front_two a b c one two (Err e) first front = front_after a b c one two first fr
 pub all_three : {T E : Type 0} (a b c d : Option (List ℕ)) (one two three : List ℕ) (r : Result T E) → Appends a b one → Appends b c two → OnOk r (Appends c d three)
     → OnOk r (Appends a d (one ++ (two ++ three)))
 all_three a b c d one two three r first second then = all_two a b d one (two ++ three) r first (all_two b c d two three r second then)
+
+-- the same where what was written third is that text
+pub all_both : {T E : Type 0} (a b c d : Option (List ℕ)) (one two three written : List ℕ) (r : Result T E) → Appends a b one → Appends b c two
+    → written ≡ three → OnOk r (Appends c d written) → OnOk r (Appends a d (one ++ (two ++ three)))
+all_both a b c d one two three written r first second same then =
+    all_three a b c d one two three r first second (subst (λ w. OnOk r (Appends c d w)) same then)
+
+-- where the result is an error no text was written whole
+pub no_text : {T E : Type 0} (r : Result T E) (Q : E → Type 0) (P : Type 0) → IsErrAnd r Q → OnOk r P
+no_text (Ok x) Q P h = absurd h
+no_text (Err e) Q P h = tt

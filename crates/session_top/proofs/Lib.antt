@@ -5,6 +5,7 @@ mod Endings
 mod GeneratedLines
 mod Going
 mod Goings
+mod Risings
 mod Runs
 mod Shown
 mod Steps

@@ -1,8 +1,30 @@
-use Rattle.std.proofs.Common.{Err, ap, ◌∙◌, refl, arith}
-use Rattle.byte_ports.specs.Lines.{Reading}
+use Rattle.std.proofs.Common.{◌≡◌, ◌<◌, ◌≤◌, ◌+◌, ℕ, Fits, List, Result, Ok, Err, ap, ◌∙◌, refl, arith, w32}
+use Rattle.std.specs.declared.option.Option.{Option}
+use Rattle.byte_ports.specs.Lines.{IsNextLine, Reading}
+use Rattle.session_values.specs.Names.{State}
+use Rattle.session_top.specs.declared.TheConstants.{SCRIPT_LIMIT}
+use Rattle.session_top.specs.declared.early.Early.{Early}
+use Rattle.session_top.proofs.Going.{Going}
 use Rattle.session_top.proofs.Goings.{going_starts, going_more, going_cut}
+use Rattle.session_top.proofs.Risings.{le_self, le_then, no_read_of_memory, no_write_of_memory, rose_later, same_error}
 use Rattle.session_top.proofs.Runs.{end_done, last_result_done, last_result_stops, line_stops, long_stops, no_fault_of_refusal, no_fault_of_result}
 use Rattle.session_top.proofs.lines.do_all.Goals as goal
+
+-- a line of all room fits
+never_full : (a b t u : Option (List ℕ)) (r : Reading) (n : ℕ) (s : State) (capacity : ℕ)
+    → Going a b t u r n s → SCRIPT_LIMIT ≤ capacity → capacity < r.room → ⊥
+never_full a b t u r n s capacity so enough full = omega (arith, so.room)
+
+-- the number of the next line fits
+number_fits : (a b t u : Option (List ℕ)) (r : Reading) (n : ℕ) (s : State) → Going a b t u r n s → Fits w32 (n + 1)
+number_fits a b t u r n s so = omega (arith, so.room, so.few)
+
+-- a line takes room
+takes_room : (b c : Option (List ℕ)) (r q : Reading) (line : List ℕ) → IsNextLine r q b c line → q.room < r.room
+takes_room b c r q line next = omega (arith, next.counts)
+
+no_fault_of_end : (early : Early) → ◌≡◌ {A = Result Unit Early} (Ok tt) (Err early) → ⊥
+no_fault_of_end early e = cc
 
 pub loop-next-init : goal.loop-next-init
 loop-next-init g c = record {
@@ -10,8 +32,8 @@ loop-next-init g c = record {
   is_open = ap (λ (r : Reading). r.is_open) c.requires.lines;
   capacity = c.requires.line;
   limits = refl;
-  read_later = omega arith;
-  write_later = omega arith;
+  read_later = le_self _;
+  write_later = le_self _;
 }
 
 pub loop-next-preserved : goal.loop-next-preserved
@@ -19,10 +41,10 @@ loop-next-preserved g c = record {
   going = going_more _ _ _ _ _ _ _ _ _ _ _ _ _ c.loop-next.invariant.going (rw c.in-Line.is at c.in-Ok.ensures.answer)
       (rw c.deref.ensures.value at c.in-Ok-do_line.ensures.done.1) c.in-Ok-do_line.ensures.done.2;
   is_open = rw c.in-Line.is at c.in-Ok.ensures.is_open;
-  capacity = omega (arith, c.loop-next.invariant.capacity, c.in-Ok.ensures.capacity);
+  capacity = le_then _ _ _ c.loop-next.invariant.capacity c.in-Ok.ensures.capacity;
   limits = c.in-Ok-do_line.ensures.limits ∙ c.loop-next.invariant.limits;
-  read_later = omega (arith, c.loop-next.invariant.read_later, c.in-Ok.ensures.cause.later);
-  write_later = omega (arith, c.loop-next.invariant.write_later, c.in-Ok-do_line.ensures.later);
+  read_later = le_then _ _ _ c.loop-next.invariant.read_later c.in-Ok.ensures.cause.later;
+  write_later = le_then _ _ _ c.loop-next.invariant.write_later c.in-Ok-do_line.ensures.later;
 }
 
 pub returns-in-Err-clause-stops : goal.returns-in-Err-clause-stops
@@ -55,7 +77,7 @@ returns-in-Err-Fault-clause-stops g c =
 pub returns-in-Err-Memory-clause-stops : goal.returns-in-Err-Memory-clause-stops
 returns-in-Err-Memory-clause-stops g c =
     let full = (rw c.in-Err-Memory.field-0-is at c.in-Err-Memory.ensures.memory) refl in
-    absurd (omega (arith, full, c.loop-next.invariant.capacity, c.loop-next.invariant.going.room))
+    absurd (never_full _ _ _ _ _ _ _ _ c.loop-next.invariant.going c.loop-next.invariant.capacity full)
 
 pub returns-in-Err-clause-read : goal.returns-in-Err-clause-read
 returns-in-Err-clause-read g c fault = absurd (no_fault_of_result _ _ _ _ _ _ (Err c.in-Err.early) c.in-Err.ensures.stops fault)
@@ -65,3 +87,81 @@ returns-in-Last-clause-read g c fault = absurd (no_fault_of_result _ _ _ _ _ _ c
 
 pub returns-in-Long-clause-read : goal.returns-in-Long-clause-read
 returns-in-Long-clause-read g c fault = absurd (no_fault_of_refusal _ _ _ c.refuse.result c.refuse.ensures.says fault)
+
+pub overflow_add-number : goal.overflow_add-number
+overflow_add-number g c = number_fits _ _ _ _ _ _ _ c.loop-next.invariant.going
+
+pub overflow_add-number-in-Last : goal.overflow_add-number-in-Last
+overflow_add-number-in-Last g c = number_fits _ _ _ _ _ _ _ c.loop-next.invariant.going
+
+pub loop-next-smaller : goal.loop-next-smaller
+loop-next-smaller g c = takes_room _ _ _ _ _ (rw c.in-Line.is at c.in-Ok.ensures.answer)
+
+pub returns-in-Err-Fault-clause-read_later : goal.returns-in-Err-Fault-clause-read_later
+returns-in-Err-Fault-clause-read_later g c = le_then _ _ _ c.loop-next.invariant.read_later c.in-Err-Fault.ensures.cause.later
+
+pub returns-in-Err-Fault-clause-write_later : goal.returns-in-Err-Fault-clause-write_later
+returns-in-Err-Fault-clause-write_later g c = c.loop-next.invariant.write_later
+
+pub returns-in-Err-Memory-clause-done : goal.returns-in-Err-Memory-clause-done
+returns-in-Err-Memory-clause-done g c = tt
+
+pub returns-in-Err-Memory-clause-read : goal.returns-in-Err-Memory-clause-read
+returns-in-Err-Memory-clause-read g c fault = absurd (no_read_of_memory _ fault)
+
+pub returns-in-Err-Memory-clause-write : goal.returns-in-Err-Memory-clause-write
+returns-in-Err-Memory-clause-write g c fault = absurd (no_write_of_memory _ fault)
+
+pub returns-in-Err-Memory-clause-read_later : goal.returns-in-Err-Memory-clause-read_later
+returns-in-Err-Memory-clause-read_later g c = le_then _ _ _ c.loop-next.invariant.read_later c.in-Err-Memory.ensures.cause.later
+
+pub returns-in-Err-Memory-clause-write_later : goal.returns-in-Err-Memory-clause-write_later
+returns-in-Err-Memory-clause-write_later g c = c.loop-next.invariant.write_later
+
+pub returns-in-Err-clause-done : goal.returns-in-Err-clause-done
+returns-in-Err-clause-done g c = tt
+
+pub returns-in-Err-clause-write : goal.returns-in-Err-clause-write
+returns-in-Err-clause-write g c fault = rose_later _ _ _ c.loop-next.invariant.write_later (c.in-Err.ensures.write fault)
+
+pub returns-in-Err-clause-read_later : goal.returns-in-Err-clause-read_later
+returns-in-Err-clause-read_later g c = le_then _ _ _ c.loop-next.invariant.read_later c.in-Ok.ensures.cause.later
+
+pub returns-in-Err-clause-write_later : goal.returns-in-Err-clause-write_later
+returns-in-Err-clause-write_later g c = le_then _ _ _ c.loop-next.invariant.write_later c.in-Err.ensures.later
+
+pub returns-in-Last-clause-write : goal.returns-in-Last-clause-write
+returns-in-Last-clause-write g c fault = rose_later _ _ _ c.loop-next.invariant.write_later (c.do_line-in-Last.ensures.write fault)
+
+pub returns-in-Last-clause-read_later : goal.returns-in-Last-clause-read_later
+returns-in-Last-clause-read_later g c = le_then _ _ _ c.loop-next.invariant.read_later c.in-Ok.ensures.cause.later
+
+pub returns-in-Last-clause-write_later : goal.returns-in-Last-clause-write_later
+returns-in-Last-clause-write_later g c = le_then _ _ _ c.loop-next.invariant.write_later c.do_line-in-Last.ensures.later
+
+pub returns-in-End-clause-stops : goal.returns-in-End-clause-stops
+returns-in-End-clause-stops g c = tt
+
+pub returns-in-End-clause-read : goal.returns-in-End-clause-read
+returns-in-End-clause-read g c fault = absurd (no_fault_of_end _ fault)
+
+pub returns-in-End-clause-write : goal.returns-in-End-clause-write
+returns-in-End-clause-write g c fault = absurd (no_fault_of_end _ fault)
+
+pub returns-in-End-clause-read_later : goal.returns-in-End-clause-read_later
+returns-in-End-clause-read_later g c = le_then _ _ _ c.loop-next.invariant.read_later c.in-Ok.ensures.cause.later
+
+pub returns-in-End-clause-write_later : goal.returns-in-End-clause-write_later
+returns-in-End-clause-write_later g c = c.loop-next.invariant.write_later
+
+pub returns-in-Long-clause-done : goal.returns-in-Long-clause-done
+returns-in-Long-clause-done g c = tt
+
+pub returns-in-Long-clause-write : goal.returns-in-Long-clause-write
+returns-in-Long-clause-write g c fault = rose_later _ _ _ c.loop-next.invariant.write_later (c.refuse.ensures.write (same_error _ _ fault))
+
+pub returns-in-Long-clause-read_later : goal.returns-in-Long-clause-read_later
+returns-in-Long-clause-read_later g c = le_then _ _ _ c.loop-next.invariant.read_later c.in-Ok.ensures.cause.later
+
+pub returns-in-Long-clause-write_later : goal.returns-in-Long-clause-write_later
+returns-in-Long-clause-write_later g c = le_then _ _ _ c.loop-next.invariant.write_later c.refuse.ensures.later
