@@ -2,6 +2,8 @@ mod Shared
 mod Free
 mod Witness
 mod Dividing
+mod ModuloRuns
+mod SyzygyAnswers
 mod Multiplied
 mod FrontBases
 mod OneMoreVariable

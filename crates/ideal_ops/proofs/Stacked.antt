@@ -1,37 +1,32 @@
--- Vectors in blocks of positions, and the colon
+-- Vectors in blocks of positions, and the runs of a colon
 use Rattle.std.proofs.Common.{Err, IfErr, List, Ok, Option, Result, [], ap, append-nil, append_assoc, ap₂, arith, get_or, length, map, refl, subst, subst₂, suc, sym, take, zero, ℕ, ◌*◌, ◌++◌, ◌+◌, ◌<◌, ◌∙◌, ◌∷◌, ◌≡◌}
 use Rattle.std.proofs.lemmas.List.{get_or_default, length-map, length-take-le, map-append}
 use Rattle.monomials.specs.Exponents.{exponents_of}
-use Rattle.formal_sums.proofs.Combining.{Each_map, IsMember_same, IsMember_through}
-use Rattle.formal_sums.proofs.OfRank.{HasRank_kept, IsSame_kept, kept}
-use Rattle.formal_sums.proofs.Sameness.{IsSame_sym}
+use Rattle.formal_sums.proofs.Combining.{IsMember_through}
+use Rattle.formal_sums.proofs.OfRank.{kept}
 use Rattle.formal_sums.proofs.WeightedSums.{Each_append}
-use Rattle.formal_sums.specs.Combinations.{IsMember, IsSyzygy}
-use Rattle.formal_sums.specs.FormalSums.{Each, FormalSum, HasRank, IsOfRank, IsSame, product}
+use Rattle.formal_sums.specs.Combinations.{IsMember}
+use Rattle.formal_sums.specs.FormalSums.{Each, FormalSum, IsOfRank, product}
 use Rattle.bases.proofs.Leading.{positive}
 use Rattle.bases.specs.Settings.{IsLawful}
 use Rattle.syzygy_laws.specs.Syzygies.{raised}
-use Rattle.operation_laws.proofs.Colon.{colon_from, colon_to}
-use Rattle.operation_laws.proofs.Linear.{Each_at, IsSame_linear}
+use Rattle.operation_laws.proofs.Linear.{Each_at}
 use Rattle.operation_laws.proofs.More.{all_of_rank}
-use Rattle.operation_laws.proofs.Multiply.{IsLinear_product_left}
-use Rattle.operation_laws.proofs.Running.{blocks_rank, stacked_rank}
-use Rattle.operation_laws.specs.Operations.{basis_vector, blocks, first_components, stacked}
+use Rattle.operation_laws.specs.Operations.{basis_vector, blocks, stacked}
 use Rattle.module_vectors.specs.Rings.{ring_comparison, setting, variables}
 use Rattle.module_vectors.specs.Vectors.{AreTermsOver, HasPositions, IsVectorOver, StandsFor, sum_of, sums_of}
 use Rattle.module_vectors.specs.declared.ring.Ring.{Ring}
 use Rattle.groebner_iface.specs.Calls.{CallStops, NoTrail}
 use Rattle.groebner_iface.specs.Runs.{IsReducedBasisOf, StoppedRun}
 use Rattle.groebner_iface.specs.declared.stop.OpStop.{OpStop}
-use Rattle.syzygy_engine.specs.Kernels.{IsKernelOf}
-use Rattle.syzygy_engine.proofs.Generated.{lawful_at}
 use Rattle.syzygy_engine.proofs.Marks.{sum-append}
 use Rattle.syzygy_engine.proofs.Standing.{Terms, ranks_of_positions, stand_module}
 use Rattle.groebner_iface.proofs.CallingRuns.{more_stops}
 use Rattle.ideal_ops.specs.Answers.{IsBasisOfThose}
-use Rattle.ideal_ops.specs.Components.{AreColonRuns, AreComponentRuns, raised_terms}
+use Rattle.ideal_ops.specs.Components.{AreColonRuns, raised_terms}
+use Rattle.ideal_ops.specs.Modulo.{AreModuloRuns}
 use Rattle.ideal_ops.specs.Runs.{AreVectorsFor, IsRunFor}
-use Rattle.ideal_ops.proofs.Dividing.{kernel_all, kernel_syzygies, member_rank, members_of_parts, parts_positions}
+use Rattle.ideal_ops.proofs.Dividing.{member_rank}
 use Rattle.ideal_ops.proofs.Shared.{members_of_run, own_basis, positions_for, take_next, vectors_next}
 
 -- ---- terms
@@ -90,21 +85,13 @@ block_step ring i k items old new x u G lt is e h vector sum =
 
 -- one block more
 pub blocks_step :
-    (ring : Ring) (rank j first : ℕ) (S : FormalSum (variables ring)) (F : List (FormalSum (variables ring))) (all : List Terms) → first ≡ rank * j
-    → AreVectorsFor ring (S ∷ blocks rank 0 j F ++ map (raised first) F) all → AreVectorsFor ring (S ∷ blocks rank 0 (j + 1) F) all
-blocks_step ring rank j first S F all at h =
+    (ring : Ring) (rank j first : ℕ) (F : List (FormalSum (variables ring))) (all : List Terms) → first ≡ rank * j
+    → AreVectorsFor ring (blocks rank 0 j F ++ map (raised first) F) all → AreVectorsFor ring (blocks rank 0 (j + 1) F) all
+blocks_step ring rank j first F all at h =
     let next : j + 1 ≡ suc j = omega arith in
     let from : rank * j ≡ 0 + rank * j = omega arith in
     let whole = ap (λ z. blocks rank 0 z F) next ∙ blocks_next rank 0 j F ∙ ap (λ z. blocks rank 0 j F ++ map (raised z) F) (sym (at ∙ from)) in
-    subst (λ B. AreVectorsFor ring (S ∷ B) all) (sym whole) h
-
--- the same list, where the rank is told as a position
-pub at_rank :
-    (ring : Ring) (rank end : ℕ) (list by done : List Terms) → end ≡ rank
-    → AreVectorsFor ring (stacked end 0 (sums_of (variables ring) by) ∷ blocks end 0 (length by) (sums_of (variables ring) list)) done
-    → AreVectorsFor ring (stacked rank 0 (sums_of (variables ring) by) ∷ blocks rank 0 (length by) (sums_of (variables ring) list)) done
-at_rank ring rank end list by done e h =
-    subst (λ m. AreVectorsFor ring (stacked m 0 (sums_of (variables ring) by) ∷ blocks m 0 (length by) (sums_of (variables ring) list)) done) e h
+    subst (λ B. AreVectorsFor ring B all) (sym whole) h
 
 -- ---- a list has a vector or none
 
@@ -125,8 +112,8 @@ stops_of_none ring rank list by old new kept kept' e (Err stop) h =
 
 pub runs_of_some :
     (ring : Ring) (rank : ℕ) (list by : List Terms) → 0 < length by → (r : Ring) (m : ℕ) (l : List Terms)
-    → AreComponentRuns ring (rank * length by) 1
-    (stacked rank 0 (sums_of (variables ring) by) ∷ blocks rank 0 (length by) (sums_of (variables ring) list)) r m l
+    → AreModuloRuns ring (rank * length by)
+    (stacked rank 0 (sums_of (variables ring) by) ∷ []) (blocks rank 0 (length by) (sums_of (variables ring) list)) r m l
     → AreColonRuns ring rank list by r m l
 runs_of_some ring rank list [] lt r m l h = absurd (omega (arith, lt))
 runs_of_some ring rank list (c ∷ by) lt r m l h = h
@@ -164,89 +151,3 @@ colon_of_none ring list [] answer e h = record {
   members = λ v. (λ a. ((h.members v).0 a, tt), λ b. (h.members v).1 b.0);
 }
 colon_of_none ring list (c ∷ by) answer e h = absurd (omega (arith, e))
-
-module _ (ring : Ring) (rank : ℕ) (list by stacked_list : List Terms) (lawful : IsLawful (setting ring (variables ring) (ring_comparison ring (variables ring)) 0))
-    (low : Each (HasPositions rank) list) (by_low : Each (HasPositions rank) by)
-    (stand : AreVectorsFor ring (stacked rank 0 (sums_of (variables ring) by) ∷ blocks rank 0 (length by) (sums_of (variables ring) list)) stacked_list) where
-  abbrev n : ℕ
-  n = variables ring
-
-  abbrev p : ℕ
-  p = ring.modulus.value
-
-  pos : 0 < ring.modulus.value
-  pos = positive (setting ring (variables ring) (ring_comparison ring (variables ring)) 0) lawful
-
-  abbrev F : List (FormalSum (variables ring))
-  F = sums_of n list
-
-  abbrev C : List (FormalSum (variables ring))
-  C = sums_of n by
-
-  abbrev L : List (FormalSum (variables ring))
-  L = stacked rank 0 C ∷ blocks rank 0 (length by) F
-
-  f_ranks : Each (HasRank rank) (sums_of (variables ring) list)
-  f_ranks = ranks_of_positions n rank list low
-
-  c_ranks : Each (HasRank rank) (sums_of (variables ring) by)
-  c_ranks = ranks_of_positions n rank by by_low
-
-  count : length (sums_of (variables ring) by) ≡ length by
-  count = length-map by (λ v. sum_of n v)
-
-  pub colon_positions : Each (HasPositions (rank * length by)) stacked_list
-  colon_positions =
-      let q = rank * length by in
-      let e : rank * length C ≡ q = ap (λ s. rank * s) count in
-      positions_for ring q (lawful_at ring q lawful) stacked_list L stand
-      (stacked_rank rank 0 C q (omega (arith, e)) c_ranks, blocks_rank rank 0 (length by) F q (omega arith) f_ranks)
-
-  -- what a polynomial takes into the module, one that is the same takes there too
-  same_takes :
-      (u w : FormalSum (variables ring)) → IsSame ring.modulus.value u w
-      → Each (λ c. IsMember ring.modulus.value (sums_of (variables ring) list) (product u c)) (sums_of (variables ring) by)
-      → Each (λ c. IsMember ring.modulus.value (sums_of (variables ring) list) (product w c)) (sums_of (variables ring) by)
-  same_takes u w e =
-      Each_map (λ c. IsMember p F (product u c)) (λ c. IsMember p F (product w c)) C
-      (λ c h. IsMember_same F (product u c) (product w c) (IsSame_linear pos (λ x. product x c) (IsLinear_product_left c) u w e) h)
-
-  pub basis_of_colon :
-      (kernel parts answer : List Terms) → IsKernelOf ring (rank * length by) stacked_list kernel
-      → AreVectorsFor ring (map (first_components 1) (sums_of (variables ring) kernel)) parts → IsReducedBasisOf ring 1 parts answer
-      → IsBasisOfThose ring 1 (λ v. IsOfRank ring.modulus.value 1 v
-      × Each (λ c. IsMember ring.modulus.value (sums_of (variables ring) list) (product v c)) (sums_of (variables ring) by)) answer
-  basis_of_colon kernel parts answer shown firsts run = record {
-    basis = own_basis ring 1 (lawful_at ring 1 lawful) parts answer (parts_positions ring 1 lawful kernel parts firsts) run;
-    members = λ v. (
-      λ a.
-          let r = member_rank p 1 (sums_of n answer) (ranks_of_positions n 1 answer run.positions) v a in
-          let e = IsSame_kept 1 v r in
-          let k = IsMember_same (sums_of n answer) v (kept 1 v) (IsSame_sym e) a in
-          (r, same_takes (kept 1 v) v e (colon_to pos rank F f_ranks C c_ranks K syzygies all (kept 1 v) (HasRank_kept 1 v) ((members_of_parts ring 1 lawful kernel parts answer firsts run (kept 1 v)).0 k))),
-      λ h.
-          let e = IsSame_kept 1 v h.0 in
-          IsMember_same (sums_of n answer) (kept 1 v) v e
-          ((members_of_parts ring 1 lawful kernel parts answer firsts run (kept 1 v)).1
-          (colon_from pos rank F f_ranks C c_ranks K syzygies all (kept 1 v) (HasRank_kept 1 v) (same_takes v (kept 1 v) (IsSame_sym e) h.1))),
-    );
-  }
-    where
-      K : List (FormalSum (variables ring))
-      K = sums_of n kernel
-
-      syzygies :
-          Each (IsSyzygy ring.modulus.value (stacked rank 0 (sums_of (variables ring) by)
-          ∷ blocks rank 0 (length (sums_of (variables ring) by)) (sums_of (variables ring) list))) (sums_of (variables ring) kernel)
-      syzygies =
-          subst (λ s. Each (IsSyzygy p (stacked rank 0 C ∷ blocks rank 0 s F)) (sums_of n kernel)) (sym count)
-          (kernel_syzygies ring 1 lawful (rank * length by) L stacked_list kernel colon_positions stand.stand shown)
-
-      all :
-          (a : FormalSum (variables ring))
-          → IsSyzygy ring.modulus.value (stacked rank 0 (sums_of (variables ring) by)
-          ∷ blocks rank 0 (length (sums_of (variables ring) by)) (sums_of (variables ring) list)) a
-          → IsMember ring.modulus.value (sums_of (variables ring) kernel) a
-      all =
-          subst (λ s. (a : FormalSum n) → IsSyzygy p (stacked rank 0 C ∷ blocks rank 0 s F) a → IsMember p (sums_of n kernel) a) (sym count)
-          (kernel_all ring 1 lawful (rank * length by) L stacked_list kernel colon_positions stand.stand shown)

@@ -1,5 +1,6 @@
 pub mod Answers
 pub mod Runs
+pub mod Modulo
 pub mod Components
 pub mod Products
 pub mod FrontVariable

@@ -10,15 +10,15 @@ ghost use Rattle.ideal_ops.specs.Answers.{IsBasisOfThose};
 ghost use Rattle.ideal_ops.specs.Components.{AreColonRuns};
 ghost use Rattle.ideal_ops.specs.Runs.{AreVectorsFor, IsRunFor};
 
-use crate::components::{as_position, first_parts};
-use crate::stacking::colon_list;
+use crate::modulo::kernel_modulo;
+use crate::stacking::{block_list, stacked_list};
 use groebner_iface::{Groebner, OpStop};
 use module_vectors::{Key, NoMemory, Ring, Vect, VectList, lawful_setting};
 use monomial_orders::Mono;
 use std::alloc::Global;
 use std::sync::Wait;
 use std::thread::Threads;
-use syzygy_engine::syzygy_run;
+use syzygy_engine::{by_position, first_mark};
 
 /// The monomial at position 0, as a list of terms.
 pub(crate) fn one_term(alloc: Global, monomial: Mono) -> Result<Vec<(Key, u32)>, NoMemory>
@@ -81,8 +81,9 @@ fn rank_of_blocks(rank: u128, s: usize) -> u128
 }
 
 /// The reduced basis of the polynomials v with v c in the module of the list for each vector c of `by`, all of this rank:
-/// a run with marks on the vectors of `by` one below the other and the list in each block, and one on the first components
-/// of the syzygies that it shows (UAG chapter 5, section 3). By no vectors, one run, on the polynomial 1.
+/// the syzygies of the vectors of `by` one below the other modulo the list in each block, by one run, position over term,
+/// on these vectors with one mark and the blocks without (UAG chapter 5, section 3). By no vectors, one run, on the
+/// polynomial 1.
 ///
 /// `Pairs` and `Degree` are those of one of the runs, which the engine counted and kept; `Memory` where there is none;
 /// `Trail` never.
@@ -112,21 +113,14 @@ pub fn colon<R: Threads + Wait + Sync, B: Groebner>(
         return all_polynomials(rt, alloc, engine, ring);
     }
     lawful_setting(ring);
-    let stacked = colon_list(alloc, ring, as_position(rank), list, by)?;
-    let kernel = match syzygy_run(
-        rt,
-        alloc,
-        engine,
-        ring,
-        rank_of_blocks(rank, by.len()),
-        &stacked,
-    ) {
-        Ok(kernel) => kernel,
-        Err(stop) => return Err(stop),
-    };
-    let parts = first_parts(alloc, ring, &kernel, 1)?;
-    match engine.reduced(rt, alloc, ring, 1, &parts) {
+    let s = by.len();
+    let end = first_mark(rank);
+    let over = by_position(alloc, ring)?;
+    let heads = stacked_list(alloc, ring, end, by)?;
+    let members = block_list(alloc, &over, end, s, list)?;
+    let whole = rank_of_blocks(rank, s);
+    match kernel_modulo(rt, alloc, engine, ring, &over, whole, &heads, members) {
         Ok(basis) => Ok(basis),
-        Err(stop) => Err(OpStop::from(stop)),
+        Err(stop) => Err(stop),
     }
 }

@@ -1,18 +1,20 @@
 //! Operations on ideals and modules, over any engine that computes reduced Gröbner bases.
 //!
 //! Each operation is one run or two: a list is made, and where the answer is part of its basis, the members that have the
-//! property, or the components of syzygies, are run again in the ring's own order (IVA chapter 3, section 1 and chapter 4,
-//! section 3; UAG chapter 5, section 3).
+//! property are run again in the ring's own order (IVA chapter 3, section 1 and chapter 4, section 3). Quotient and colon
+//! are syzygies of one list modulo another: only the one gets marks, and what the basis has behind them is the answer, but
+//! for a second run where the ring's order is term over position and there are more marks than one (UAG chapter 5,
+//! section 3).
 #![tactic(auto)]
 
 mod adding;
 mod back;
 mod colons;
 mod comparing;
-mod components;
 mod eliminating;
 mod front;
 mod intersecting;
+mod modulo;
 mod multiplying;
 mod quotients;
 mod saturating;

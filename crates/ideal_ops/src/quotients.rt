@@ -10,14 +10,14 @@ ghost use Rattle.ideal_ops.specs.Answers.{IsBasisOfThose};
 ghost use Rattle.ideal_ops.specs.Components.{AreQuotientRuns, placed};
 ghost use Rattle.ideal_ops.specs.Runs.{AreVectorsFor};
 
-use crate::adding::joined;
-use crate::components::{as_position, first_parts};
+use crate::modulo::kernel_modulo;
+use crate::sorting::sorted_list;
 use groebner_iface::{Groebner, OpStop};
 use module_vectors::{Key, NoMemory, Ring, Vect, VectList, lawful_setting};
 use std::alloc::Global;
 use std::sync::Wait;
 use std::thread::Threads;
-use syzygy_engine::syzygy_run;
+use syzygy_engine::{by_position, first_mark};
 
 // Puts the term behind the others, moved to this position.
 fn push_placed(
@@ -69,8 +69,9 @@ fn multiples(alloc: Global, ring: &Ring, rank: u64, f: &Vect) -> Result<VectList
     Ok(VectList::from_vec(list))
 }
 
-/// The reduced basis of the vectors v of this rank with f v in the module of the list: a run on f e_1 to f e_m and the list
-/// with marks, and one on the first m components of the syzygies that it shows (UAG chapter 5, section 3).
+/// The reduced basis of the vectors v of this rank with f v in the module of the list: the syzygies of f e_1 to f e_m
+/// modulo the list, by a run, position over term, on these with a mark each and the list without, and where the ring's
+/// order is term over position and the rank above 1, one on what vanishes before the marks (UAG chapter 5, section 3).
 ///
 /// `Pairs` and `Degree` are those of one of the runs, which the engine counted and kept; `Memory` where there is none;
 /// `Trail` never.
@@ -97,16 +98,11 @@ pub fn quotient<R: Threads + Wait + Sync, B: Groebner>(
     ensures settings { B.settings engine.new ≡ B.settings engine.old }
 {
     lawful_setting(ring);
-    let end = as_position(rank);
-    let first = multiples(alloc, ring, end, f)?;
-    let stacked = joined(alloc, &first, list)?;
-    let kernel = match syzygy_run(rt, alloc, engine, ring, rank, &stacked) {
-        Ok(kernel) => kernel,
-        Err(stop) => return Err(stop),
-    };
-    let parts = first_parts(alloc, ring, &kernel, end)?;
-    match engine.reduced(rt, alloc, ring, rank, &parts) {
+    let over = by_position(alloc, ring)?;
+    let heads = multiples(alloc, ring, first_mark(rank), f)?;
+    let members = sorted_list(alloc, &over, list)?;
+    match kernel_modulo(rt, alloc, engine, ring, &over, rank, &heads, members) {
         Ok(basis) => Ok(basis),
-        Err(stop) => Err(OpStop::from(stop)),
+        Err(stop) => Err(stop),
     }
 }

@@ -15,7 +15,6 @@ ghost use Rattle.ideal_ops.specs.Products.{WorkStops};
 ghost use Rattle.ideal_ops.specs.Runs.{AreVectorsFor};
 
 use crate::back::basis_back;
-use crate::components::as_position;
 use crate::front::{all_in_front, in_front, minus_one, product_stop, variable, variable_vector};
 use crate::multiplying::followed;
 use crate::quotients::placed_terms;
@@ -25,6 +24,7 @@ use monomial_orders::Mono;
 use std::alloc::Global;
 use std::sync::Wait;
 use std::thread::Threads;
+use syzygy_engine::first_mark;
 
 // The stop of t u for a polynomial u, as that of u times t, with its trail.
 fn turned_stop(
@@ -216,7 +216,7 @@ pub fn saturate<R: Threads + Wait + Sync, B: Groebner>(
 {
     lawful_setting(ring);
     let front = ring.with_front_variable(alloc)?;
-    let end = as_position(rank);
+    let end = first_mark(rank);
     let whole = match saturating_list(alloc, ring, &front, end, list, f) {
         Ok(whole) => whole,
         Err(stop) => return Err(OpStop::from(stop)),

@@ -1,5 +1,5 @@
 // Vectors in blocks of positions, as many to a block as the rank: one below the other, or a list in each block.
-ghost use Rattle.std.specs.Prelude.{◌≡◌, ◌<◌, ◌≤◌, ◌+◌, ◌*◌, ◌++◌, ◌∷◌, List, IfOk, OnOk, length, map};
+ghost use Rattle.std.specs.Prelude.{◌≡◌, ◌<◌, ◌≤◌, ◌+◌, ◌*◌, ◌++◌, ◌∷◌, [], List, IfOk, OnOk, length, map};
 ghost use Rattle.formal_sums.specs.FormalSums.{Each, FormalSum};
 ghost use Rattle.syzygy_laws.specs.Syzygies.{raised};
 ghost use Rattle.operation_laws.specs.Operations.{blocks, stacked};
@@ -118,25 +118,37 @@ fn push_block(
     Ok(())
 }
 
-/// The vectors of `by` one below the other, and behind them the members of the list in each block.
-pub(crate) fn colon_list(
+/// The vectors of `by` one below the other, alone in a list.
+pub(crate) fn stacked_list(
     alloc: Global,
     ring: &Ring,
     rank: u64,
-    list: &VectList,
     by: &VectList,
 ) -> Result<VectList, NoMemory>
-    requires terms { Each (AreTermsOver ring.now) list.now }
-    requires positions { Each (HasPositions rank) list.now }
     requires by { Each (AreTermsOver ring.now) by.now }
     requires by_positions { Each (HasPositions rank) by.now }
     requires room { rank * length by.now < 9223372036854775808 }
-    ensures { let n = variables ring.now in
-        IfOk result (AreVectorsFor ring.now (stacked rank 0 (sums_of n by.now) ∷ blocks rank 0 (length by.now) (sums_of n list.now))) }
+    ensures { let n = variables ring.now in IfOk result (AreVectorsFor ring.now (stacked rank 0 (sums_of n by.now) ∷ [])) }
 {
-    let s = by.len();
-    let mut all = Vec::with_capacity(alloc, list.len().saturating_mul(s).saturating_add(1))?;
-    all.push(stacked_vector(alloc, ring, rank, by)?)?;
+    let mut list = Vec::with_capacity(alloc, 1)?;
+    list.push(stacked_vector(alloc, ring, rank, by)?)?;
+    Ok(VectList::from_vec(list))
+}
+
+/// The members of the list in each of s blocks.
+pub(crate) fn block_list(
+    alloc: Global,
+    ring: &Ring,
+    rank: u64,
+    s: usize,
+    list: &VectList,
+) -> Result<VectList, NoMemory>
+    requires terms { Each (AreTermsOver ring.now) list.now }
+    requires positions { Each (HasPositions rank) list.now }
+    requires room { rank * s < 9223372036854775808 }
+    ensures { let n = variables ring.now in IfOk result (AreVectorsFor ring.now (blocks rank 0 s (sums_of n list.now))) }
+{
+    let mut all = Vec::with_capacity(alloc, list.len().saturating_mul(s))?;
     for j in 0..s {
         push_block(
             alloc,

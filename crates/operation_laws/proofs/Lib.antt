@@ -12,6 +12,10 @@ pub mod More
 pub mod RunFacts
 pub mod Plain
 pub mod RankFacts
+pub mod Behind
 pub mod Parts
+pub mod OneMark
 pub mod Dividing
 pub mod Lifting
+pub mod OneMarkRuns
+pub mod OnePosition

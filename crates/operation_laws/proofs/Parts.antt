@@ -1,103 +1,38 @@
 -- The two parts of a reduced basis of a marked list, position over term: first components, and kernel
-use Rattle.std.proofs.Common.{Bool, Equal, Greater, Less, List, Ordering, [], ap, append-nil, ap₂, arith, cond, false, get_or, inl, inr, length, refl, subst, suc, sym, true, ℕ, ◌*◌, ◌++◌, ◌+◌, ◌-◌, ◌<◌, ◌∙◌, ◌∷◌, ◌≡◌, ◌≤◌, ◌⊎◌}
+use Rattle.std.proofs.Common.{Bool, Equal, Greater, Less, List, Ordering, [], ap, append-nil, ap₂, arith, cond, false, get_or, inl, inr, length, refl, subst, suc, sym, true, ℕ, ◌*◌, ◌++◌, ◌+◌, ◌<◌, ◌∙◌, ◌∷◌, ◌≡◌, ◌≤◌, ◌⊎◌}
 use Rattle.std.proofs.lemmas.Bool.Decides.{nat_tests}
 use Rattle.std.proofs.lemmas.Bool.{cases_lt}
-use Rattle.std.specs.Ordering.{nat_cmp, ordering_then}
-use Rattle.std.specs.Prelude.{nat_le, nat_lt, ◌↔◌}
+use Rattle.std.specs.Ordering.{nat_cmp}
+use Rattle.std.specs.Prelude.{nat_lt, ◌↔◌}
 use Rattle.residues.proofs.Congruences.{IsCongruent_of, IsCongruent_sym, IsCongruent_trans}
 use Rattle.residues.specs.Residues.{IsCongruent}
 use Rattle.monomials.specs.Exponents.{Exponents, unit}
-use Rattle.formal_sums.proofs.Combining.{Each_map, IsMember_itself, IsMember_same, IsMember_scale}
-use Rattle.formal_sums.proofs.OfRank.{IsMember_of, IsOfRank_member, IsOfRank_of, IsSyzygy_member, coefficient_past}
+use Rattle.formal_sums.proofs.Combining.{Each_map, IsMember_same, IsMember_scale}
+use Rattle.formal_sums.proofs.OfRank.{IsMember_of, IsOfRank_member, IsOfRank_of, coefficient_past}
 use Rattle.formal_sums.proofs.Sameness.{IsSame_of, IsSame_refl}
 use Rattle.formal_sums.proofs.WeightedSums.{coefficient-append, indicator_other}
 use Rattle.formal_sums.specs.Combinations.{IsMember, IsSyzygy, combination}
-use Rattle.formal_sums.specs.FormalSums.{Each, FormalSum, HasRank, Key, coefficient, indicator, scale, shift}
-use Rattle.orders.proofs.Lexicographic.{nat_cmp-add, nat_cmp-equal, nat_cmp-less, then_less}
+use Rattle.formal_sums.specs.FormalSums.{Each, FormalSum, HasRank, Key, coefficient, indicator, scale}
+use Rattle.orders.proofs.Lexicographic.{nat_cmp-equal, nat_cmp-less, then_less}
 use Rattle.orders.specs.KeyOrders.{Descends, KeyDivides, pot}
 use Rattle.orders.specs.MonomialOrders.{IsMonomialOrder}
-use Rattle.bases.proofs.Leading.{IsLead_of_monic, one_not_zero, positive}
+use Rattle.bases.proofs.Leading.{IsLead_of_monic, positive}
 use Rattle.bases.specs.Bases.{IsCovered, IsReducedBasis}
 use Rattle.bases.specs.Leads.{IsLead, IsMonicLead, IsNormal, head_key, leads}
 use Rattle.bases.specs.Settings.{IsLawful, Setting}
-use Rattle.division_laws.proofs.Keeping.{IsDownClosed_position}
-use Rattle.division_laws.specs.Elimination.{is_from_position}
-use Rattle.syzygy_laws.proofs.Marking.{IsMember_raised, coefficient-raised, combination-marked, raised_none}
+use Rattle.syzygy_laws.proofs.Marking.{combination-marked, raised_none}
 use Rattle.syzygy_laws.specs.Syzygies.{marked, raised}
 use Rattle.syzygy_laws.proofs.Choosing.{Choice, choice, get_or-map, length-map}
-use Rattle.syzygy_laws.proofs.KernelParts.{all_kept_normal, raised_lowered}
-use Rattle.operation_laws.proofs.Linear.{Each_at, Each_to_map, IsMember_each, IsMember_linear}
+use Rattle.operation_laws.proofs.Behind.{behind_covered, behind_exact, behind_reduced, lt_of, place_apart}
+use Rattle.operation_laws.proofs.RankFacts.{marked_rank}
+use Rattle.operation_laws.proofs.Linear.{Each_at, IsMember_each, IsMember_linear}
 use Rattle.operation_laws.proofs.More.{picked_rank}
-use Rattle.operation_laws.proofs.Plain.{marked_run}
+use Rattle.operation_laws.proofs.OneMark.{syzygies_exact}
 use Rattle.operation_laws.proofs.Quotient.{IsLinear_picked, lt_false, lt_true, picked-append, picked-scale, picked_all, picked_none}
-use Rattle.operation_laws.proofs.Running.{lawful_position, syzygy_run}
+use Rattle.operation_laws.proofs.Running.{lawful_position, through}
 use Rattle.operation_laws.specs.Lifts.{first_parts_of, led_before}
-use Rattle.syzygy_laws.specs.Kernels.{all_kept, kept_list, kernel_of, lowered, pot_setting}
+use Rattle.syzygy_laws.specs.Kernels.{kernel_of, pot_setting}
 use Rattle.operation_laws.specs.Operations.{first_components, picked}
-
-le_true : (a b : ℕ) → a ≤ b → nat_le a b ≡ true
-le_true a b h = grind (arith, nat_tests)
-
-lt_of : (a b : ℕ) → nat_lt a b ≡ true → a < b
-lt_of a b e = grind (arith, nat_tests)
-
--- different places of a choice
-place_apart : (f : ℕ → ℕ) (m : ℕ) → ((i j : ℕ) → i < j → j < m → f i < f j) → (i j : ℕ) → i < m → j < m → (i ≡ j → ⊥) → f i ≡ f j → ⊥
-place_apart f m rising i j h k ne e = go (cases i j)
-  where
-    cases : (i j : ℕ) → (i < j) ⊎ ((j < i) ⊎ (i ≡ j))
-    cases i j = grind arith
-
-    go : (i < j) ⊎ ((j < i) ⊎ (i ≡ j)) → ⊥
-    go (inl lt) = let q = rising i j lt k in omega (arith, q, e)
-    go (inr (inl lt)) = let q = rising j i lt h in omega (arith, q, e)
-    go (inr (inr d)) = ne d
-
--- ---- raised vectors
-raised_head : {n : ℕ} (q : ℕ) (h : FormalSum n) → (h ≡ [] → ⊥) → head_key (raised q h) ≡ (q + (head_key h).0, (head_key h).1)
-raised_head q [] ne = absurd (ne refl)
-raised_head q (t ∷ v) ne = refl
-
-unraise : {n : ℕ} (q : ℕ) (x y : Key n) → ◌≡◌ {A = Key n} (q + x.0, x.1) (q + y.0, y.1) → x ≡ y
-unraise q x y e = ap₂ (λ a b. (a, b)) (let z : q + x.0 ≡ q + y.0 = ap (λ k. k.0) e in omega (arith, z)) (ap (λ k. k.1) e)
-
-module _ {n : ℕ} (monomials : Exponents n → Exponents n → Ordering) (q : ℕ) where
-  compare_raised : (k l : Key n) → pot monomials (q + k.0, k.1) (q + l.0, l.1) ≡ pot monomials k l
-  compare_raised k l = ap (λ x. ordering_then x (monomials k.1 l.1)) (nat_cmp-add q l.0 k.0)
-
-  descends_raised : (h : FormalSum n) → Descends (pot monomials) (raised q h) → Descends (pot monomials) h
-  descends_raised [] d = tt
-  descends_raised (t ∷ v) d = (
-    Each_map _ (λ u. pot monomials t.0 u.0 ≡ Greater) v (λ u e. sym (compare_raised t.0 u.0) ∙ e) (Each_to_map (λ u. pot monomials (q + t.0.0, t.0.1) u.0 ≡ Greater) (λ u. ((q + u.0.0, u.0.1), u.1)) v d.0),
-    descends_raised v d.1,
-  )
-
-  module _ (S : Setting n) (r m : ℕ) where
-    normal_raised : (h : FormalSum n) → IsNormal (pot_setting S.weights S.modulus r monomials) (raised q h) → IsNormal (pot_setting S.weights S.modulus m monomials) h
-    normal_raised h a = record {
-      descends = descends_raised h a.descends;
-      residues = Each_to_map (λ t. (0 < t.1) × (t.1 < S.modulus)) (λ u. ((q + u.0.0, u.0.1), u.1)) h a.residues;
-    }
-
-    monic_raised : (h : FormalSum n) (k : Key n) → IsMonicLead (pot_setting S.weights S.modulus r monomials) (raised q h) (q + k.0, k.1) → IsMonicLead (pot_setting S.weights S.modulus m monomials) h k
-    monic_raised h k a = record {
-      one = IsCongruent_trans (IsCongruent_of S.modulus _ _ (sym (coefficient-raised q h k))) a.one;
-      above = λ l lt. IsCongruent_trans (IsCongruent_of S.modulus _ _ (sym (coefficient-raised q h l))) (a.above (q + l.0, l.1) (compare_raised k l ∙ lt));
-    }
-
-    lead_raised : (a : FormalSum n) (k : Key n) → IsLead (pot_setting S.weights S.modulus m monomials) a k → IsLead (pot_setting S.weights S.modulus r monomials) (raised q a) (q + k.0, k.1)
-    lead_raised a k lead = record {
-      nonzero = λ z. lead.nonzero (IsCongruent_trans (IsCongruent_of S.modulus _ _ (sym (coefficient-raised q a k))) z);
-      above = λ l lt. over l lt (cases_lt l.0 q);
-    }
-      where
-        over : (l : Key n) → pot monomials (q + k.0, k.1) l ≡ Less → (l.0 < q) ⊎ (q ≤ l.0) → IsCongruent S.modulus (coefficient (raised q a) l) 0
-        over l lt (inl h) = IsCongruent_of S.modulus _ 0 (raised_none q a l h)
-        over l lt (inr h) =
-            let x : Key n = (l.0 - q, l.1) in
-            let e : (q + x.0, x.1) ≡ l = ap (λ i. (i, l.1)) (omega (arith, h)) in
-            let s : pot monomials k x ≡ Less = sym (compare_raised k x) ∙ ap (pot monomials (q + k.0, k.1)) e ∙ lt in
-            IsCongruent_trans (IsCongruent_of S.modulus _ _ (ap (coefficient (raised q a)) (sym e) ∙ coefficient-raised q a x)) (lead.above x s)
 
 -- ---- first components
 coefficient_first : {n : ℕ} (q : ℕ) (v : FormalSum n) (k : Key n) → k.0 < q → coefficient (first_components q v) k ≡ coefficient v k
@@ -157,96 +92,17 @@ module _ {n : ℕ} (S : Setting n) (monomials : Exponents n → Exponents n → 
     (reduced : IsReducedBasis (pot_setting S.weights S.modulus (q + length F) monomials) (marked q 0 F) G) where
   -- the kernel part has exactly the syzygies
   pub kernel_exact : (a : FormalSum n) → IsMember S.modulus (kernel_of q G) a ↔ IsSyzygy S.modulus F a
-  kernel_exact a =
-      let s = syzygy_run S monomials q F G lawful o f_ranks (marked_run S monomials q F G lawful o f_ranks reduced) in
-      (IsSyzygy_member (positive S lawful) F (kernel_of q G) (Each_at (IsSyzygy S.modulus F) [] (kernel_of q G) s.0) a, s.1 a)
-
-  chosen : Choice (all_kept (is_from_position q)) [] G (kept_list (is_from_position q) G)
-  chosen = choice (all_kept (is_from_position q)) [] G
-
-  in_kept : (i : ℕ) → i < length (kernel_of q G) → i < length (kept_list (is_from_position q) G)
-  in_kept i lt = subst (λ m. i < m) (length-map (lowered q) (kept_list (is_from_position q) G)) lt
-
-  at_place : (i j : ℕ) → get_or (kept_list (is_from_position q) G) i [] ≡ get_or G j [] → all_kept (is_from_position q) (get_or G j []) ≡ true → raised q (get_or (kernel_of q G) i []) ≡ get_or G j []
-  at_place i j e passes = ap (raised q) (get_or-map (lowered q) [] (kept_list (is_from_position q) G) i ∙ ap (lowered q) e) ∙ raised_lowered q (get_or G j []) passes
-
-  raised_at : (i : ℕ) → i < length (kernel_of q G) → raised q (get_or (kernel_of q G) i []) ≡ get_or G (chosen.place i) []
-  raised_at i lt = at_place i (chosen.place i) (chosen.same i (in_kept i lt)) (chosen.passes i (in_kept i lt))
-
-  place_in : (i : ℕ) → i < length (kernel_of q G) → chosen.place i < length G
-  place_in i lt = chosen.inside i (in_kept i lt)
-
-  lead_at : (i j : ℕ) → j < length G → raised q (get_or (kernel_of q G) i []) ≡ get_or G j [] → leads G j ≡ (q + (leads (kernel_of q G) i).0, (leads (kernel_of q G) i).1)
-  lead_at i j lt e = ap head_key (sym e) ∙ raised_head q (get_or (kernel_of q G) i []) ne
-    where
-      ne : get_or (kernel_of q G) i [] ≡ [] → ⊥
-      ne z =
-          let empty : get_or G j [] ≡ [] = sym e ∙ ap (raised q) z in
-          one_not_zero S lawful (IsCongruent_sym (subst (λ g. IsCongruent S.modulus (coefficient g (leads G j)) 1) empty (reduced.reduced.monic j lt).one))
+  kernel_exact a = through (behind_exact S monomials q (length F) (marked q 0 F) G lawful o (marked_rank q F f_ranks) reduced a) (syzygies_exact (positive S lawful) q F f_ranks a)
 
   -- the kernel part is the reduced basis of the syzygies
   pub kernel_reduced : IsReducedBasis (pot_setting S.weights S.modulus (length F) monomials) (kernel_of q G) (kernel_of q G)
-  kernel_reduced = record {
-    reduced = record {
-      basis = record { members = IsMember_itself S.modulus (kernel_of q G); covers = covers };
-      normal = λ i lt. normal_raised monomials q S (q + length F) (length F) (get_or (kernel_of q G) i []) (subst (IsNormal T) (sym (raised_at i lt)) (reduced.reduced.normal (chosen.place i) (place_in i lt)));
-      monic = monic;
-      apart = apart;
-    };
-    descends = λ i j lt h.
-        let hi : i < length (kernel_of q G) = omega (arith, lt, h) in
-        sym (compare_raised monomials q (leads (kernel_of q G) i) (leads (kernel_of q G) j)) ∙ ap₂ (pot monomials) (sym (head i hi)) (sym (head j h))
-        ∙ reduced.descends (chosen.place i) (chosen.place j) (chosen.rising i j lt (in_kept j h)) (place_in j h);
-  }
-    where
-      T : Setting n
-      T = pot_setting S.weights S.modulus (q + length F) monomials
-
-      head : (i : ℕ) → i < length (kernel_of q G) → leads G (chosen.place i) ≡ (q + (leads (kernel_of q G) i).0, (leads (kernel_of q G) i).1)
-      head i lt = lead_at i (chosen.place i) (place_in i lt) (raised_at i lt)
-
-      monic : (i : ℕ) → i < length (kernel_of q G) → IsMonicLead (pot_setting S.weights S.modulus (length F) monomials) (get_or (kernel_of q G) i []) (leads (kernel_of q G) i)
-      monic i lt =
-          monic_raised monomials q S (q + length F) (length F) (get_or (kernel_of q G) i []) (leads (kernel_of q G) i)
-          (subst (λ k. IsMonicLead T (raised q (get_or (kernel_of q G) i [])) k) (head i lt) (subst (λ g. IsMonicLead T g (leads G (chosen.place i))) (sym (raised_at i lt)) (reduced.reduced.monic (chosen.place i) (place_in i lt))))
-
-      kernel_lead : (i : ℕ) → i < length (kernel_of q G) → IsLead (pot_setting S.weights S.modulus (length F) monomials) (get_or (kernel_of q G) i []) (leads (kernel_of q G) i)
-      kernel_lead i lt = IsLead_of_monic (pot_setting S.weights S.modulus (length F) monomials) (lawful_position monomials (length F) S o lawful) (monic i lt)
-
-      apart : (i j : ℕ) (k : Key n) → i < length (kernel_of q G) → j < length (kernel_of q G) → (i ≡ j → ⊥) → KeyDivides (leads (kernel_of q G) j) k → IsCongruent S.modulus (coefficient (get_or (kernel_of q G) i []) k) 0
-      apart i j k hi hj ne d =
-          IsCongruent_trans (IsCongruent_of S.modulus _ _ (sym (coefficient-raised q (get_or (kernel_of q G) i []) k) ∙ ap (λ g. coefficient g (q + k.0, k.1)) (raised_at i hi)))
-          (reduced.reduced.apart (chosen.place i) (chosen.place j) (q + k.0, k.1) (place_in i hi) (place_in j hj)
-          (place_apart chosen.place (length (kept_list (is_from_position q) G)) chosen.rising i j (in_kept i hi) (in_kept j hj) ne)
-          (d.0, ap (shift d.0) (head j hj) ∙ ap (λ x. (q + x.0, x.1)) d.1))
-
-      covers : (a : FormalSum n) (k : Key n) → IsMember S.modulus (kernel_of q G) a → IsLead (pot_setting S.weights S.modulus (length F) monomials) a k → IsCovered (pot_setting S.weights S.modulus (length F) monomials) (kernel_of q G) k
-      covers a k m lead = found (reduced.reduced.basis.covers (raised q a) (q + k.0, k.1) (IsMember_raised q F a ((kernel_exact a).0 m)) (lead_raised monomials q S (q + length F) (length F) a k lead))
-        where
-          found : IsCovered T G (q + k.0, k.1) → IsCovered (pot_setting S.weights S.modulus (length F) monomials) (kernel_of q G) k
-          found (j, lt, first, d) =
-              let z : (leads G j).0 ≡ q + k.0 = ap (λ x. x.0) d.1 in
-              let passes : all_kept (is_from_position q) (get_or G j []) ≡ true =
-              all_kept_normal (pot_setting S.weights S.modulus (q + length F) monomials) (is_from_position q) (lawful_position monomials (q + length F) S o lawful) (IsDownClosed_position (pot_setting S.weights S.modulus (q + length F) monomials) monomials q refl) (get_or G j []) (reduced.reduced.normal j lt)
-              (le_true q (leads G j).0 (omega (arith, z))) in
-              let c = chosen.all j lt passes in
-              let h = lead_at c.0 j lt (at_place c.0 j c.2 passes) in (
-                c.0,
-                subst (λ m. c.0 < m) (sym (length-map (lowered q) (kept_list (is_from_position q) G))) c.1,
-                kernel_lead c.0 (subst (λ m. c.0 < m) (sym (length-map (lowered q) (kept_list (is_from_position q) G))) c.1),
-                (d.0, unraise q (shift d.0 (leads (kernel_of q G) c.0)) k (sym (ap (shift d.0) h) ∙ d.1)),
-              )
+  kernel_reduced = behind_reduced S monomials q (length F) (marked q 0 F) G lawful o (marked_rank q F f_ranks) reduced
 
   -- what the kernel part covers, the basis does behind the first positions
   pub covered_raised :
       (k : Key n) → IsCovered (pot_setting S.weights S.modulus (length F) monomials) (kernel_of q G) k
       → IsCovered (pot_setting S.weights S.modulus (q + length F) monomials) G (q + k.0, k.1)
-  covered_raised k (i, lt, first, d) = (
-    chosen.place i,
-    place_in i lt,
-    IsLead_of_monic (pot_setting S.weights S.modulus (q + length F) monomials) (lawful_position monomials (q + length F) S o lawful) (reduced.reduced.monic (chosen.place i) (place_in i lt)),
-    (d.0, ap (shift d.0) (lead_at i (chosen.place i) (place_in i lt) (raised_at i lt)) ∙ ap (λ x. (q + x.0, x.1)) d.1),
-  )
+  covered_raised k h = behind_covered S monomials q (length F) (marked q 0 F) G lawful o (marked_rank q F f_ranks) reduced k h
 
   first_chosen : Choice (λ g. nat_lt (head_key g).0 q) [] G (led_before q G)
   first_chosen = choice (λ g. nat_lt (head_key g).0 q) [] G

@@ -1,5 +1,5 @@
 -- Each operation from reduced bases alone
-use Rattle.std.proofs.Common.{List, [], arith, length, map, suc, ℕ, ◌*◌, ◌+◌, ◌++◌, ◌∷◌, ◌≡◌}
+use Rattle.std.proofs.Common.{List, [], length, map, suc, ℕ, ◌+◌, ◌++◌, ◌∷◌, ◌≡◌}
 use Rattle.std.specs.declared.cmp.Ordering.{Ordering}
 use Rattle.monomials.specs.Exponents.{Exponents}
 use Rattle.std.specs.Prelude.{◌↔◌}
@@ -16,15 +16,15 @@ use Rattle.bases.proofs.Leading.{positive}
 use Rattle.orders.specs.MonomialOrders.{IsMonomialOrder}
 use Rattle.division_laws.specs.Elimination.{has_none_of_first}
 use Rattle.syzygy_laws.specs.Syzygies.{marked}
-use Rattle.operation_laws.proofs.Linear.{Each_of, Each_of_map, IsSame_linear}
-use Rattle.operation_laws.proofs.More.{picked_rank, sum_members}
-use Rattle.operation_laws.proofs.Multiply.{IsLinear_product, IsLinear_product_left}
+use Rattle.operation_laws.proofs.Linear.{Each_of_map, IsSame_linear}
+use Rattle.operation_laws.proofs.More.{sum_members}
 use Rattle.operation_laws.proofs.Saturate.{HasRank_product, IsLinear_power_times}
 use Rattle.operation_laws.proofs.RankFacts.{back_rank, eliminated_rank, intersection_rank, kernel_rank, marked_rank, saturation_rank}
 use Rattle.operation_laws.proofs.RunFacts.{run_of}
-use Rattle.operation_laws.proofs.Running.{blocks_rank, colon_run, eliminate_run, intersect_run, kernel_run, lawful_elimination, lawful_position, multiples_rank, quotient_run, run_generates, saturate_run, stacked_rank}
+use Rattle.operation_laws.proofs.Parts.{kernel_exact}
+use Rattle.operation_laws.proofs.Running.{eliminate_run, intersect_run, lawful_elimination, lawful_position, run_generates, saturate_run, through}
 use Rattle.syzygy_laws.specs.Kernels.{kernel_of, pot_setting}
-use Rattle.operation_laws.specs.Operations.{IsCombinationOfKept, IsInSaturation, IsRun, IsSumOfMembers, back, blocks, eliminated, elimination_setting, first_components, intersection_list, multiples_of, power_times, products_of, saturation_list, stacked}
+use Rattle.operation_laws.specs.Operations.{IsCombinationOfKept, IsInSaturation, IsRun, IsSumOfMembers, back, eliminated, elimination_setting, intersection_list, power_times, products_of, saturation_list}
 
 back_of : {n : ℕ} (S : Setting n) (ws : List ℕ) → IsLawful S → (L G : List (FormalSum (suc n))) (R : List (FormalSum n)) → IsRun (elimination_setting ws (suc n) 1 S) L G → IsReducedBasis S (back G) R → IsRun S (back G) R
 back_of S ws lawful L G R run b = run_of S lawful (back G) R (back_rank S.rank G run.ranks) b
@@ -52,6 +52,16 @@ eliminate_plain {n} S ws k F G R v lawful r a b =
     let run = run_of (elimination_setting ws n k S) (lawful_elimination ws n k S lawful) F G r a in
     eliminate_run S ws k F G R v lawful run (run_of S lawful (eliminated k G) R (eliminated_rank S.rank k G run.ranks) b)
 
+-- the run on the kernel: the syzygies of F
+pub kernel_run :
+    {n : ℕ} (S K : Setting n) (monomials : Exponents n → Exponents n → Ordering) (q : ℕ) (F G R : List (FormalSum n)) (a : FormalSum n)
+    → IsLawful S → IsLawful K → K.modulus ≡ S.modulus → IsMonomialOrder monomials → Each (HasRank q) F
+    → IsReducedBasis (pot_setting S.weights S.modulus (q + length F) monomials) (marked q 0 F) G → IsRun K (kernel_of q G) R
+    → IsMember S.modulus R a ↔ IsSyzygy S.modulus F a
+kernel_run S K monomials q F G R a lawful k_lawful same o r b last =
+    through (subst (λ p. IsMember p R a ↔ IsMember p (kernel_of q G) a) same (run_generates K k_lawful (kernel_of q G) R last a))
+    (kernel_exact S monomials q F G lawful o r b a)
+
 pub kernel_plain :
     {n : ℕ} (S K : Setting n) (monomials : Exponents n → Exponents n → Ordering) (q : ℕ) (F G R : List (FormalSum n)) (a : FormalSum n)
     → IsLawful S → IsLawful K → K.modulus ≡ S.modulus → K.rank ≡ length F → IsMonomialOrder monomials → Each (HasRank q) F
@@ -59,11 +69,8 @@ pub kernel_plain :
     → IsMember S.modulus R a ↔ IsSyzygy S.modulus F a
 kernel_plain S K monomials q F G R a lawful k_lawful same ranks o r x y =
     let run = marked_run S monomials q F G lawful o r x in
-    kernel_run S K monomials q F G R a lawful k_lawful same o r run
+    kernel_run S K monomials q F G R a lawful k_lawful same o r x
     (run_of K k_lawful (kernel_of q G) R (subst (λ m. Each (HasRank m) (kernel_of q G)) (sym ranks) (kernel_rank q (length F) G run.ranks)) y)
-
-first_rank : {n : ℕ} (m : ℕ) (H : List (FormalSum n)) → Each (HasRank m) (map (first_components m) H)
-first_rank m H = Each_of_map (HasRank m) (first_components m) H (Each_of _ H (picked_rank m))
 
 -- what is proved of the components of v below the rank is so of v
 of_rank :
@@ -74,36 +81,6 @@ of_rank p m R P v r same h =
       λ a. same (kept m v) v e (h.0 (IsMember_same R v (kept m v) (IsSame_sym e) a)),
       λ b. IsMember_same R (kept m v) v e (h.1 (same v (kept m v) (IsSame_sym e) b)),
     )
-
-pub quotient_plain :
-    {n : ℕ} (S : Setting n) (monomials : Exponents n → Exponents n → Ordering) (f : FormalSum n) (F G R : List (FormalSum n)) (v : FormalSum n) → IsLawful S → IsMonomialOrder monomials
-    → Each (HasRank S.rank) F → IsOfRank S.modulus S.rank v
-    → IsReducedBasis (pot_setting S.weights S.modulus (S.rank + length (multiples_of S.rank f ++ F)) monomials) (marked S.rank 0 (multiples_of S.rank f ++ F)) G
-    → IsReducedBasis S (map (first_components S.rank) (kernel_of S.rank G)) R
-    → IsMember S.modulus R v ↔ IsMember S.modulus F (product f v)
-quotient_plain {n} S monomials f F G R v lawful o r vr a b =
-    of_rank S.modulus S.rank R (λ u. IsMember S.modulus F (product f u)) v vr
-    (λ u w e m. IsMember_same F (product f u) (product f w) (IsSame_linear (positive S lawful) (product f) (IsLinear_product f) u w e) m)
-    (quotient_run S monomials f F G R (kept S.rank v) lawful o r (HasRank_kept S.rank v)
-    (marked_run S monomials S.rank (multiples_of S.rank f ++ F) G lawful o (Each_append (HasRank S.rank) (multiples_of S.rank f) F (multiples_rank S.rank f) r) a)
-    (run_of S lawful (map (first_components S.rank) (kernel_of S.rank G)) R (first_rank S.rank (kernel_of S.rank G)) b))
-
-pub colon_plain :
-    {n : ℕ} (S U : Setting n) (monomials : Exponents n → Exponents n → Ordering) (F C G R : List (FormalSum n)) (v : FormalSum n)
-    → IsLawful S → IsLawful U → U.modulus ≡ S.modulus → U.rank ≡ 1 → IsMonomialOrder monomials
-    → Each (HasRank S.rank) F → Each (HasRank S.rank) C → IsOfRank S.modulus 1 v
-    → IsReducedBasis (pot_setting S.weights S.modulus (S.rank * length C + length (stacked S.rank 0 C ∷ blocks S.rank 0 (length C) F)) monomials) (marked (S.rank * length C) 0 (stacked S.rank 0 C ∷ blocks S.rank 0 (length C) F)) G
-    → IsReducedBasis U (map (first_components 1) (kernel_of (S.rank * length C) G)) R
-    → IsMember S.modulus R v ↔ Each (λ c. IsMember S.modulus F (product v c)) C
-colon_plain {n} S U monomials F C G R v lawful u_lawful same one o r cr vr a b =
-    let q = S.rank * length C in
-    let L : List (FormalSum n) = stacked S.rank 0 C ∷ blocks S.rank 0 (length C) F in
-    of_rank S.modulus 1 R (λ u. Each (λ c. IsMember S.modulus F (product u c)) C) v vr
-    (λ u w e m. Each_map (λ c. IsMember S.modulus F (product u c)) (λ c. IsMember S.modulus F (product w c)) C
-    (λ c h. IsMember_same F (product u c) (product w c) (IsSame_linear (positive S lawful) (λ x. product x c) (IsLinear_product_left c) u w e) h) m)
-    (colon_run S U monomials F C G R (kept 1 v) lawful u_lawful same o r cr (HasRank_kept 1 v)
-    (marked_run S monomials q L G lawful o (stacked_rank S.rank 0 C q (omega arith) cr, blocks_rank S.rank 0 (length C) F q (omega arith) r) a)
-    (run_of U u_lawful (map (first_components 1) (kernel_of q G)) R (subst (λ m. Each (HasRank m) (map (first_components 1) (kernel_of q G))) (sym one) (first_rank 1 (kernel_of q G))) b))
 
 pub saturate_plain :
     {n : ℕ} (S : Setting n) (ws : List ℕ) (f : FormalSum n) (F : List (FormalSum n)) (G : List (FormalSum (suc n))) (R : List (FormalSum n)) (v : FormalSum n) → IsLawful S

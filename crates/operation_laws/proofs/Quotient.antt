@@ -1,18 +1,17 @@
--- The first components of syzygies
-use Rattle.std.proofs.Common.{Bool, List, [], add-zero, ap, append_assoc, append-nil, ap₂, arith, cond, false, get_or, length, map, refl, subst, suc, sym, true, zero, ℕ, ◌*◌, ◌++◌, ◌+◌, ◌-◌, ◌<◌, ◌∙◌, ◌∷◌, ◌≡◌, ◌≤◌}
+-- Components at some positions, combinations over two lists, and the multiples of a polynomial
+use Rattle.std.proofs.Common.{Bool, List, [], add-zero, ap, append_assoc, arith, cond, false, get_or, length, refl, suc, sym, true, zero, ℕ, ◌*◌, ◌++◌, ◌+◌, ◌-◌, ◌<◌, ◌∙◌, ◌∷◌, ◌≡◌, ◌≤◌}
 use Rattle.std.proofs.lemmas.Bool.Decides.{nat_tests}
 use Rattle.std.specs.Prelude.{nat_lt}
 use Rattle.residues.proofs.Congruences.{IsCongruent_add, IsCongruent_minus, IsCongruent_of, IsCongruent_refl, IsCongruent_sym, IsCongruent_trans}
 use Rattle.residues.specs.Residues.{IsCongruent}
 use Rattle.monomials.specs.Exponents.{Exponents, times, unit}
-use Rattle.formal_sums.proofs.Combining.{Each_map, HasRank_scale, IsMember_append, IsMember_itself, IsMember_same, IsMember_scale, IsMember_zero, combination-append, combination-scale, weighted_sum-combination}
-use Rattle.formal_sums.proofs.OfRank.{HasRank_kept, IsOfRank_of, IsSame_kept, kept}
-use Rattle.formal_sums.proofs.Sameness.{IsSame_append, IsSame_of, IsSame_past, IsSame_refl, IsSame_scale, IsSame_sym, IsSame_trans, coefficient-scale_unit}
-use Rattle.formal_sums.proofs.WeightedSums.{Each_append, coefficient-append}
-use Rattle.formal_sums.specs.Combinations.{IsMember, IsSyzygy, combination}
-use Rattle.formal_sums.specs.FormalSums.{Each, FormalSum, HasRank, IsSame, Key, Term, coefficient, product, scale, weighted_sum}
-use Rattle.syzygy_laws.specs.Syzygies.{raised}
-use Rattle.operation_laws.proofs.Linear.{Each_of, Each_of_map, Each_to_map, IsLinear, IsMember_each, IsMember_linear, IsSame_linear, linear_append, linear_zero}
+use Rattle.formal_sums.proofs.Combining.{IsMember_append, IsMember_itself, IsMember_scale, IsMember_zero, weighted_sum-combination}
+use Rattle.formal_sums.proofs.OfRank.{HasRank_kept, IsSame_kept, kept}
+use Rattle.formal_sums.proofs.Sameness.{IsSame_append, IsSame_of, IsSame_past, IsSame_refl, IsSame_sym, IsSame_trans, coefficient-scale_unit}
+use Rattle.formal_sums.proofs.WeightedSums.{coefficient-append}
+use Rattle.formal_sums.specs.Combinations.{IsMember, combination}
+use Rattle.formal_sums.specs.FormalSums.{Each, FormalSum, HasRank, IsOfRank, IsSame, Key, Term, coefficient, product, scale, weighted_sum}
+use Rattle.operation_laws.proofs.Linear.{IsLinear, IsSame_linear, linear_append, linear_zero}
 use Rattle.operation_laws.specs.Operations.{basis_vector, first_components, listed, multiples_of, picked}
 use Rattle.operation_laws.proofs.Multiply.{IsLinear_product, product-scale}
 use Rattle.operation_laws.proofs.Saturate.{single_vector}
@@ -80,7 +79,7 @@ pub IsLinear_combination : {n : ℕ} (F : List (FormalSum n)) → IsLinear (comb
 IsLinear_combination F = record { weight = _; by_weight = weighted_sum-combination F }
 
 -- a and y cancel: a is p - 1 times y
-IsSame_of_cancel : {n p : ℕ} → 0 < p → (a y : FormalSum n) → IsSame p (a ++ y) [] → IsSame p (scale (p - 1) (unit n) y) a
+pub IsSame_of_cancel : {n p : ℕ} → 0 < p → (a y : FormalSum n) → IsSame p (a ++ y) [] → IsSame p (scale (p - 1) (unit n) y) a
 IsSame_of_cancel {n} {p} pos a y h = record {
   by_key = λ k.
       let u = coefficient a k in
@@ -95,11 +94,6 @@ IsSame_of_cancel {n} {p} pos a y h = record {
 -- the part of a combination over Y
 abbrev pub Part : {n : ℕ} (p : ℕ) (X Y : List (FormalSum n)) → FormalSum n → Type 0
 Part {n} p X Y w = (y : FormalSum n) × IsMember p Y y × IsSame p (combination (X ++ Y) w) (combination X (first_components (length X) w) ++ y)
-
-IsSame_minus : {n p : ℕ} → 0 < p → (v : FormalSum n) → IsSame p (v ++ scale (p - 1) (unit n) v) []
-IsSame_minus {n} {p} pos v = record {
-  by_key = λ k. IsCongruent_trans (IsCongruent_of p _ _ (coefficient-append v (scale (p - 1) (unit n) v) k ∙ ap (λ x. coefficient v k + x) (coefficient-scale_unit (p - 1) v k))) (IsCongruent_minus p (coefficient v k) pos);
-}
 
 module _ {n p : ℕ} (pos : 0 < p) (X Y : List (FormalSum n)) where
   part_step :
@@ -128,76 +122,6 @@ module _ {n p : ℕ} (pos : 0 < p) (X Y : List (FormalSum n)) where
   part [] r = ([], IsMember_zero p Y, IsSame_refl p [])
   part (t ∷ w) r = let q = part w r.1 in part_step t w r.0 q.0 q.1 q.2
 
-  firsts_exact : (a : FormalSum n) → HasRank (length (X ++ Y)) a → IsSame p (combination (X ++ Y) a) [] → IsMember p Y (combination X (first_components (length X) a))
-  firsts_exact a r vanishes =
-      let q = part a r in
-      IsMember_same Y (scale (p - 1) (unit n) q.0) (combination X (first_components (length X) a))
-      (IsSame_of_cancel pos (combination X (first_components (length X) a)) q.0 (IsSame_trans (IsSame_sym q.2) vanishes))
-      (IsMember_scale pos Y (p - 1) (unit n) q.0 q.1)
-
-  -- the first components of a syzygy: their combination is in the module of the others
-  pub first_components_of : (a : FormalSum n) → IsSyzygy p (X ++ Y) a → IsMember p Y (combination X (first_components (length X) a))
-  first_components_of a h =
-      let m = length (X ++ Y) in
-      let e = IsSame_kept m a h.rank in
-      let first = IsLinear_picked (λ i. nat_lt i (length X)) in
-      IsMember_same Y (combination X (first_components (length X) (kept m a))) (combination X (first_components (length X) a))
-      (IsSame_linear pos (combination X) (IsLinear_combination X) _ _ (IsSame_linear pos (first_components (length X)) first (kept m a) a e))
-      (firsts_exact (kept m a) (HasRank_kept m a) (IsSame_trans (IsSame_linear pos (combination (X ++ Y)) (IsLinear_combination (X ++ Y)) (kept m a) a e) h.vanishes))
-
-  combination-left : (v : FormalSum n) → HasRank (length X) v → combination (X ++ Y) v ≡ combination X v
-  combination-left [] h = refl
-  combination-left (t ∷ v) h = ap₂ ◌++◌ (ap (scale t.1 t.0.1) (get_or-left [] X Y t.0.0 h.0)) (combination-left v h.1)
-
-  combination-right : (v : FormalSum n) → combination (X ++ Y) (raised (length X) v) ≡ combination Y v
-  combination-right [] = refl
-  combination-right (t ∷ v) = ap₂ ◌++◌ (ap (scale t.1 t.0.1) (get_or-right [] X Y t.0.0 (length X + t.0.0) refl)) (combination-right v)
-
-  ranks : (v b : FormalSum n) → HasRank (length X) v → HasRank (length Y) b → HasRank (length (X ++ Y)) (v ++ raised (length X) b)
-  ranks v b h g =
-      let e = length-both X Y in
-      Each_append (λ t. t.0.0 < length (X ++ Y)) v (raised (length X) b)
-      (Each_map (λ t. t.0.0 < length X) (λ t. t.0.0 < length (X ++ Y)) v (λ t q. omega (arith, q, e)) h)
-      (Each_of_map (λ t. t.0.0 < length (X ++ Y)) (λ t. ((length X + t.0.0, t.0.1), t.1)) b (Each_map (λ t. t.0.0 < length Y) (λ t. length X + t.0.0 < length (X ++ Y)) b (λ t q. omega (arith, q, e)) g))
-
-  -- where the combination of v over X is in the module of Y, v is the first part of a syzygy
-  pub syzygy_of : (v : FormalSum n) → HasRank (length X) v → (m : IsMember p Y (combination X v))
-      → IsSyzygy p (X ++ Y) (v ++ raised (length X) (scale (p - 1) (unit n) m.cofactors))
-  syzygy_of v h m = record {
-    rank = IsOfRank_of p (length (X ++ Y)) _ (ranks v (scale (p - 1) (unit n) m.cofactors) h (HasRank_scale (length Y) (p - 1) (unit n) m.cofactors m.positions));
-    vanishes =
-        IsSame_trans (IsSame_of p _ _ (combination-append (X ++ Y) v (raised (length X) (scale (p - 1) (unit n) m.cofactors))
-        ∙ ap₂ ◌++◌ (combination-left v h) (combination-right (scale (p - 1) (unit n) m.cofactors) ∙ combination-scale Y (p - 1) (unit n) m.cofactors)))
-        (IsSame_trans (IsSame_append (IsSame_refl p (combination X v)) (IsSame_scale pos (p - 1) (unit n) m.sums)) (IsSame_minus pos (combination X v)));
-  }
-
-  first_of : (v b : FormalSum n) → HasRank (length X) v → first_components (length X) (v ++ raised (length X) b) ≡ v
-  first_of v b h =
-      picked-append (λ i. nat_lt i (length X)) v (raised (length X) b)
-      ∙ ap₂ ◌++◌ (picked_all (λ i. nat_lt i (length X)) v (Each_map (λ t. t.0.0 < length X) (λ t. nat_lt t.0.0 (length X) ≡ true) v (λ t q. lt_true t.0.0 (length X) q) h))
-      (picked_none (λ i. nat_lt i (length X)) (raised (length X) b) (Each_of_map (λ t. nat_lt t.0.0 (length X) ≡ false) (λ t. ((length X + t.0.0, t.0.1), t.1)) b (Each_of _ b (λ t. lt_false (length X + t.0.0) (length X) (omega arith)))))
-      ∙ append-nil v
-
-  module _ (H : List (FormalSum n)) (syzygies : Each (IsSyzygy p (X ++ Y)) H) (all : (a : FormalSum n) → IsSyzygy p (X ++ Y) a → IsMember p H a) where
-    -- the first components of generating syzygies generate what X takes into the module of Y
-    pub firsts_to : (v : FormalSum n) → IsMember p (map (first_components (length X)) H) v → IsMember p Y (combination X v)
-    firsts_to v a =
-        IsMember_linear pos (combination X) (IsLinear_combination X) (map (first_components (length X)) H) Y
-        (Each_of_map _ (first_components (length X)) H
-        (Each_map (IsSyzygy p (X ++ Y)) (λ h. (c : ℕ) (e : Exponents n) → IsMember p Y (combination X (scale c e (first_components (length X) h)))) H
-        (λ h s c e. IsMember_same Y (scale c e (combination X (first_components (length X) h))) _ (IsSame_of p _ _ (sym (combination-scale X c e (first_components (length X) h)))) (IsMember_scale pos Y c e (combination X (first_components (length X) h)) (first_components_of h s)))
-        syzygies)) v a
-
-    pub firsts_from : (v : FormalSum n) → HasRank (length X) v → IsMember p Y (combination X v) → IsMember p (map (first_components (length X)) H) v
-    firsts_from v h m =
-        let s : FormalSum n = v ++ raised (length X) (scale (p - 1) (unit n) m.cofactors) in
-        let K : List (FormalSum n) = map (first_components (length X)) H in
-        IsMember_same K (first_components (length X) s) v (IsSame_of p _ _ (first_of v (scale (p - 1) (unit n) m.cofactors) h))
-        (IsMember_linear pos (first_components (length X)) (IsLinear_picked (λ i. nat_lt i (length X))) H K
-        (Each_map (λ g. IsMember p K (first_components (length X) g)) (λ g. (c : ℕ) (e : Exponents n) → IsMember p K (first_components (length X) (scale c e g))) H
-        (λ g k c e. IsMember_same K (scale c e (first_components (length X) g)) _ (IsSame_of p _ _ (sym (picked-scale (λ i. nat_lt i (length X)) c e g))) (IsMember_scale pos K c e (first_components (length X) g) k))
-        (Each_to_map (IsMember p K) (first_components (length X)) H (IsMember_each p K))) s (all s (syzygy_of v h m)))
-
 -- f e_1, .. , f e_m
 pub length-listed : {X : Type 0} (i m : ℕ) (g : ℕ → X) → length (listed i m g) ≡ m
 length-listed i zero g = refl
@@ -219,18 +143,11 @@ combination-multiples {n} p m f (t ∷ v) h =
     ∙ sym (product-scale f t.1 t.0.1 (basis_vector t.0.0)) ∙ ap (product f) (single_vector t) in
     IsSame_trans (IsSame_append (IsSame_of p _ _ one) (combination-multiples p m f v h.1)) (IsSame_sym (linear_append p (product f) (IsLinear_product f) (t ∷ []) v))
 
--- the quotient by f
-module _ {n p : ℕ} (pos : 0 < p) (m : ℕ) (f : FormalSum n) (F H : List (FormalSum n)) (syzygies : Each (IsSyzygy p (multiples_of m f ++ F)) H)
-    (all : (a : FormalSum n) → IsSyzygy p (multiples_of m f ++ F) a → IsMember p H a) where
-  length_is : length (multiples_of m f) ≡ m
-  length_is = length-listed 0 m (λ j. product f (basis_vector j))
-
-  pub quotient_to : (v : FormalSum n) → HasRank m v → IsMember p (map (first_components m) H) v → IsMember p F (product f v)
-  quotient_to v r a =
-      IsMember_same F (combination (multiples_of m f) v) (product f v) (combination-multiples p m f v r)
-      (firsts_to pos (multiples_of m f) F H syzygies all v (subst (λ l. IsMember p (map (first_components l) H) v) (sym length_is) a))
-
-  pub quotient_from : (v : FormalSum n) → HasRank m v → IsMember p F (product f v) → IsMember p (map (first_components m) H) v
-  quotient_from v r a =
-      subst (λ l. IsMember p (map (first_components l) H) v) length_is
-      (firsts_from pos (multiples_of m f) F H syzygies all v (subst (λ l. HasRank l v) (sym length_is) r) (IsMember_same F (product f v) _ (IsSame_sym (combination-multiples p m f v r)) a))
+-- so it is for a vector that has the rank modulo p
+pub multiples_same :
+    {n p : ℕ} → 0 < p → (m : ℕ) (f v : FormalSum n) → IsOfRank p m v → IsSame p (combination (multiples_of m f) v) (product f v)
+multiples_same {n} {p} pos m f v r =
+    let F : List (FormalSum n) = multiples_of m f in
+    let e = IsSame_kept m v r in
+    IsSame_trans (IsSame_linear pos (combination F) (IsLinear_combination F) v (kept m v) (IsSame_sym e))
+    (IsSame_trans (combination-multiples p m f (kept m v) (HasRank_kept m v)) (IsSame_linear pos (product f) (IsLinear_product f) (kept m v) v e))

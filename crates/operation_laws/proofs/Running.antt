@@ -1,13 +1,12 @@
 -- What the runs of an operation give
-use Rattle.std.proofs.Common.{List, [], ap, arith, length, map, refl, subst, suc, zero, ℕ, ◌*◌, ◌+◌, ◌++◌, ◌<◌, ◌∷◌, ◌≡◌, ◌≤◌}
+use Rattle.std.proofs.Common.{List, [], ap, arith, length, map, refl, suc, zero, ℕ, ◌*◌, ◌+◌, ◌<◌, ◌∷◌, ◌≡◌, ◌≤◌}
 use Rattle.std.specs.Prelude.{◌↔◌}
 use Rattle.std.specs.declared.cmp.Ordering.{Ordering}
 use mathlib.Core.Path.{fun_ext}
 use Rattle.monomials.specs.Exponents.{Exponents}
 use Rattle.formal_sums.proofs.Combining.{Each_map, IsMember_itself, IsMember_through}
-use Rattle.formal_sums.proofs.OfRank.{IsSyzygy_member}
 use Rattle.formal_sums.proofs.WeightedSums.{Each_append}
-use Rattle.formal_sums.specs.Combinations.{IsMember, IsSyzygy}
+use Rattle.formal_sums.specs.Combinations.{IsMember}
 use Rattle.formal_sums.specs.FormalSums.{Each, FormalSum, HasRank, product}
 use Rattle.orders.proofs.Positions.{pot_order, top_order}
 use Rattle.orders.proofs.Weighted.{weighted_elimination-none, weighted_elimination_order}
@@ -20,17 +19,14 @@ use Rattle.bases.specs.Settings.{IsLawful, Setting}
 use Rattle.division_laws.proofs.Generating.{IsGroebnerBasis_generates}
 use Rattle.division_laws.proofs.Keeping.{IsDownClosed_elimination}
 use Rattle.division_laws.specs.Elimination.{has_none_of_first}
-use Rattle.syzygy_laws.specs.Syzygies.{marked, raised}
-use Rattle.operation_laws.proofs.Colon.{colon_from, colon_to}
+use Rattle.syzygy_laws.specs.Syzygies.{raised}
 use Rattle.operation_laws.proofs.Eliminate.{eliminate_from, eliminate_to}
 use Rattle.operation_laws.proofs.Front.{front_from, front_to}
 use Rattle.operation_laws.proofs.Intersect.{intersection_from, intersection_left, intersection_right}
-use Rattle.operation_laws.proofs.Kernel.{kernel_all, kernel_syzygies}
-use Rattle.operation_laws.proofs.Linear.{Each_at, Each_of_map}
-use Rattle.operation_laws.proofs.Quotient.{quotient_from, quotient_to}
+use Rattle.operation_laws.proofs.Linear.{Each_of_map}
 use Rattle.operation_laws.proofs.Saturate.{HasRank_product, saturation_from, saturation_to}
-use Rattle.syzygy_laws.specs.Kernels.{kernel_of, pot_setting}
-use Rattle.operation_laws.specs.Operations.{IsCombinationOfKept, IsInSaturation, IsRun, back, basis_vector, blocks, eliminated, elimination_setting, first_components, intersection_list, listed, multiples_of, saturation_list, stacked, with_first}
+use Rattle.syzygy_laws.specs.Kernels.{pot_setting}
+use Rattle.operation_laws.specs.Operations.{IsCombinationOfKept, IsInSaturation, IsRun, back, basis_vector, blocks, eliminated, elimination_setting, intersection_list, listed, multiples_of, saturation_list, stacked, with_first}
 
 pub lawful_elimination : {n : ℕ} (ws : List ℕ) (l k : ℕ) (S : Setting n) → IsLawful S → IsLawful (elimination_setting ws l k S)
 lawful_elimination ws l k S lawful = record {
@@ -68,7 +64,7 @@ run_itself S lawful F G run = record {
   descends = run.reduced.descends;
 }
 
-through : {A B C : Type 0} → A ↔ B → B ↔ C → A ↔ C
+pub through : {A B C : Type 0} → A ↔ B → B ↔ C → A ↔ C
 through f g = (λ a. g.0 (f.0 a), λ c. f.1 (g.1 c))
 
 pub eliminate_run :
@@ -108,17 +104,6 @@ saturate_run S ws f F G R v lawful r run last =
     (let pos = positive S lawful in
     (λ a. let q = saturation_to pos S.rank f F v a in record { power = q.0; positive = q.1; inside = q.2 }, λ h. saturation_from pos S.rank f F v h.power r h.inside))
 
--- what a syzygy run gives
-pub syzygy_run :
-    {n : ℕ} (S : Setting n) (monomials : Exponents n → Exponents n → Ordering) (q : ℕ) (F G : List (FormalSum n)) → IsLawful S → IsMonomialOrder monomials → Each (HasRank q) F
-    → IsRun (pot_setting S.weights S.modulus (q + length F) monomials) (marked q 0 F) G
-    → Each (IsSyzygy S.modulus F) (kernel_of q G) × ((a : FormalSum n) → IsSyzygy S.modulus F a → IsMember S.modulus (kernel_of q G) a)
-syzygy_run S monomials q F G lawful o r run =
-    let T = pot_setting S.weights S.modulus (q + length F) monomials in
-    let l = lawful_position monomials (q + length F) S o lawful in
-    let f = Each_at (HasRank q) [] F r in
-    (kernel_syzygies T l monomials refl q F G f run.list run.reduced.reduced.normal run.ranks run.reduced.reduced.basis, kernel_all T l monomials refl q F G f run.list run.reduced.reduced.normal run.ranks run.reduced.reduced.basis)
-
 pub multiples_rank : {n : ℕ} (m : ℕ) (f : FormalSum n) → Each (HasRank m) (multiples_of m f)
 multiples_rank m f = go 0 m (omega arith)
   where
@@ -142,39 +127,3 @@ blocks_rank m i (suc s) F q le h =
     Each_append (HasRank q) (map (raised i) F) (blocks m (m + i) s F)
     (Each_of_map (HasRank q) (raised i) F (Each_map (HasRank m) (λ v. HasRank q (raised i v)) F (λ v r. raised_rank m i q v (omega (arith, le, split)) r) h))
     (blocks_rank m (m + i) s F q (omega (arith, le, split)) h)
-
--- the run on the kernel: the syzygies of F
-pub kernel_run :
-    {n : ℕ} (S K : Setting n) (monomials : Exponents n → Exponents n → Ordering) (q : ℕ) (F G R : List (FormalSum n)) (a : FormalSum n) → IsLawful S → IsLawful K → K.modulus ≡ S.modulus → IsMonomialOrder monomials → Each (HasRank q) F
-    → IsRun (pot_setting S.weights S.modulus (q + length F) monomials) (marked q 0 F) G → IsRun K (kernel_of q G) R
-    → IsMember S.modulus R a ↔ IsSyzygy S.modulus F a
-kernel_run S K monomials q F G R a lawful k_lawful same o r run last =
-    let s = syzygy_run S monomials q F G lawful o r run in
-    through (subst (λ p. IsMember p R a ↔ IsMember p (kernel_of q G) a) same (run_generates K k_lawful (kernel_of q G) R last a))
-    (IsSyzygy_member (positive S lawful) F (kernel_of q G) (Each_at (IsSyzygy S.modulus F) [] (kernel_of q G) s.0) a, s.1 a)
-
-pub quotient_run :
-    {n : ℕ} (S : Setting n) (monomials : Exponents n → Exponents n → Ordering) (f : FormalSum n) (F G R : List (FormalSum n)) (v : FormalSum n) → IsLawful S → IsMonomialOrder monomials
-    → Each (HasRank S.rank) F → HasRank S.rank v
-    → IsRun (pot_setting S.weights S.modulus (S.rank + length (multiples_of S.rank f ++ F)) monomials) (marked S.rank 0 (multiples_of S.rank f ++ F)) G
-    → IsRun S (map (first_components S.rank) (kernel_of S.rank G)) R
-    → IsMember S.modulus R v ↔ IsMember S.modulus F (product f v)
-quotient_run S monomials f F G R v lawful o r vr run last =
-    let s = syzygy_run S monomials S.rank (multiples_of S.rank f ++ F) G lawful o (Each_append (HasRank S.rank) (multiples_of S.rank f) F (multiples_rank S.rank f) r) run in
-    through (run_generates S lawful (map (first_components S.rank) (kernel_of S.rank G)) R last v)
-    (quotient_to (positive S lawful) S.rank f F (kernel_of S.rank G) s.0 s.1 v vr, quotient_from (positive S lawful) S.rank f F (kernel_of S.rank G) s.0 s.1 v vr)
-
--- U is the setting of polynomials
-pub colon_run :
-    {n : ℕ} (S U : Setting n) (monomials : Exponents n → Exponents n → Ordering) (F C G R : List (FormalSum n)) (v : FormalSum n) → IsLawful S → IsLawful U → U.modulus ≡ S.modulus → IsMonomialOrder monomials
-    → Each (HasRank S.rank) F → Each (HasRank S.rank) C → HasRank 1 v
-    → IsRun (pot_setting S.weights S.modulus (S.rank * length C + length (stacked S.rank 0 C ∷ blocks S.rank 0 (length C) F)) monomials) (marked (S.rank * length C) 0 (stacked S.rank 0 C ∷ blocks S.rank 0 (length C) F)) G
-    → IsRun U (map (first_components 1) (kernel_of (S.rank * length C) G)) R
-    → IsMember S.modulus R v ↔ Each (λ c. IsMember S.modulus F (product v c)) C
-colon_run S U monomials F C G R v lawful u_lawful same o r cr vr run last =
-    let q = S.rank * length C in
-    let L : List (FormalSum _) = stacked S.rank 0 C ∷ blocks S.rank 0 (length C) F in
-    let ranks : Each (HasRank q) L = (stacked_rank S.rank 0 C q (omega arith) cr, blocks_rank S.rank 0 (length C) F q (omega arith) r) in
-    let s = syzygy_run S monomials q L G lawful o ranks run in
-    through (subst (λ p. IsMember p R v ↔ IsMember p (map (first_components 1) (kernel_of q G)) v) same (run_generates U u_lawful (map (first_components 1) (kernel_of q G)) R last v))
-    (colon_to (positive S lawful) S.rank F r C cr (kernel_of q G) s.0 s.1 v vr, colon_from (positive S lawful) S.rank F r C cr (kernel_of q G) s.0 s.1 v vr)

@@ -1,9 +1,9 @@
 -- Operations on modules (IVA chapter 4, sections 3 and 4; UAG chapter 5, section 3)
-use Rattle.std.specs.Prelude.{Bool, List, [], cond, false, flat_map, map, nat_lt, suc, zero, ℕ, ◌++◌, ◌+◌, ◌-◌, ◌<◌, ◌∷◌, ◌≡◌}
+use Rattle.std.specs.Prelude.{Bool, List, [], cond, false, flat_map, length, map, nat_lt, suc, zero, ℕ, ◌++◌, ◌+◌, ◌-◌, ◌<◌, ◌∷◌, ◌≡◌}
 use Rattle.residues.specs.Residues.{IsCongruent}
 use Rattle.monomials.specs.Exponents.{Exponents, cons, tail, unit}
-use Rattle.formal_sums.specs.Combinations.{IsMember}
-use Rattle.formal_sums.specs.FormalSums.{Each, FormalSum, HasRank, IsSame, Key, coefficient, product, scale}
+use Rattle.formal_sums.specs.Combinations.{IsMember, combination}
+use Rattle.formal_sums.specs.FormalSums.{Each, FormalSum, HasRank, IsOfRank, IsSame, Key, coefficient, product, scale}
 use Rattle.orders.specs.KeyOrders.{top}
 use Rattle.orders.specs.WeightedOrders.{weighted_elimination}
 use Rattle.bases.specs.Bases.{IsReducedBasis}
@@ -96,6 +96,10 @@ stacked m i (c ∷ C) = raised i c ++ stacked m (m + i) C
 abbrev pub blocks : {n : ℕ} → ℕ → ℕ → ℕ → List (FormalSum n) → List (FormalSum n)
 blocks m i zero F = []
 blocks m i (suc s) F = map (raised i) F ++ blocks m (m + i) s F
+
+-- v is a syzygy of X modulo Y: the combination of X by it is in the module of Y
+abbrev pub IsSyzygyModulo : {n : ℕ} → ℕ → (X Y : List (FormalSum n)) → FormalSum n → Type 0
+IsSyzygyModulo p X Y v = IsOfRank p (length X) v × IsMember p Y (combination X v)
 
 -- the setting of S in l variables of the weights ws, by an order that eliminates the first k of them, term over position
 abbrev pub elimination_setting : {n : ℕ} (ws : List ℕ) (l k : ℕ) → Setting n → Setting l

@@ -1,6 +1,6 @@
 //! What the runs of each operation give.
 
-ghost use Rattle.std.specs.Prelude.{ℕ, suc, ◌≡◌, ◌<◌, ◌+◌, ◌*◌, ◌++◌, ◌∷◌, List, [], map, length, ◌↔◌};
+ghost use Rattle.std.specs.Prelude.{ℕ, suc, ◌≡◌, ◌<◌, ◌+◌, ◌*◌, ◌++◌, ◌∷◌, List, [], length, ◌↔◌};
 ghost use Rattle.std.specs.declared.cmp.Ordering.{Ordering};
 ghost use Rattle.monomials.specs.Exponents.{Exponents};
 ghost use Rattle.formal_sums.specs.FormalSums.{FormalSum, IsOfRank, IsSame, HasRank, Each, product};
@@ -13,7 +13,7 @@ ghost use Rattle.division_laws.specs.Elimination.{has_none_of_first};
 ghost use Rattle.syzygy_laws.specs.Syzygies.{marked};
 ghost use Rattle.syzygy_laws.specs.Kernels.{kernel_of, pot_setting};
 ghost use Rattle.operation_laws.specs.Operations.{IsRun, IsSumOfMembers, IsCombinationOfKept, IsInSaturation, products_of, eliminated, back, elimination_setting};
-ghost use Rattle.operation_laws.specs.Operations.{intersection_list, saturation_list, multiples_of, first_components, stacked, blocks, power_times, basis_vector};
+ghost use Rattle.operation_laws.specs.Operations.{intersection_list, saturation_list, multiples_of, stacked, blocks, power_times, basis_vector};
 
 /// A run generates the module of its list.
 pub fn runs()
@@ -99,41 +99,34 @@ pub fn kernels()
         → IsMember S.modulus R a ↔ IsSyzygy S.modulus F a }
 {}
 
-/// The quotient of a module by a polynomial.
+/// The quotient of a module by a polynomial: the list is f e_1 to f e_m, each with a mark of its own, and the members,
+/// without one. Position over term, the members of its reduced basis that vanish before the marks are, lowered, the reduced
+/// basis of the quotient (UAG chapter 5, section 3).
 pub fn quotients()
-    ensures reduced { (n : ℕ) (S : Setting n) (monomials : Exponents n → Exponents n → Ordering) (f : FormalSum n)
-        (F G R : List (FormalSum n)) (v : FormalSum n)
-        → IsLawful S → IsMonomialOrder monomials → Each (HasRank S.rank) F → IsOfRank S.modulus S.rank v
-        → IsReducedBasis (pot_setting S.weights S.modulus (S.rank + length (multiples_of S.rank f ++ F)) monomials)
-        (marked S.rank 0 (multiples_of S.rank f ++ F)) G
-        → IsReducedBasis S (map (first_components S.rank) (kernel_of S.rank G)) R
-        → IsMember S.modulus R v ↔ IsMember S.modulus F (product f v) }
-    ensures members { (n : ℕ) (S : Setting n) (monomials : Exponents n → Exponents n → Ordering) (f : FormalSum n)
-        (F G R : List (FormalSum n)) (v : FormalSum n)
-        → IsLawful S → IsMonomialOrder monomials → Each (HasRank S.rank) F → HasRank S.rank v
-        → IsRun (pot_setting S.weights S.modulus (S.rank + length (multiples_of S.rank f ++ F)) monomials)
-        (marked S.rank 0 (multiples_of S.rank f ++ F)) G
-        → IsRun S (map (first_components S.rank) (kernel_of S.rank G)) R
-        → IsMember S.modulus R v ↔ IsMember S.modulus F (product f v) }
+    ensures basis { (n : ℕ) (S : Setting n) (monomials : Exponents n → Exponents n → Ordering) (m : ℕ) (f : FormalSum n) (F G : List (FormalSum n))
+        → IsLawful S → IsMonomialOrder monomials → Each (HasRank m) F
+        → IsReducedBasis (pot_setting S.weights S.modulus (m + m) monomials) (marked m 0 (multiples_of m f) ++ F) G
+        → IsReducedBasis (pot_setting S.weights S.modulus m monomials) (kernel_of m G) (kernel_of m G) }
+    ensures members { (n : ℕ) (S : Setting n) (monomials : Exponents n → Exponents n → Ordering) (m : ℕ) (f : FormalSum n)
+        (F G : List (FormalSum n)) (v : FormalSum n)
+        → IsLawful S → IsMonomialOrder monomials → Each (HasRank m) F
+        → IsReducedBasis (pot_setting S.weights S.modulus (m + m) monomials) (marked m 0 (multiples_of m f) ++ F) G
+        → IsMember S.modulus (kernel_of m G) v ↔ (IsOfRank S.modulus m v × IsMember S.modulus F (product f v)) }
 {}
 
-/// The polynomials that take the members of one module into another.
+/// The polynomials that take the members of one module into another: the list is these one below the other, with one mark,
+/// and the members of the other in each block, without one.
 pub fn colons()
-    ensures reduced { (n : ℕ) (S U : Setting n) (monomials : Exponents n → Exponents n → Ordering) (F C G R : List (FormalSum n)) (v : FormalSum n)
-        → IsLawful S → IsLawful U → U.modulus ≡ S.modulus → U.rank ≡ 1 → IsMonomialOrder monomials
-        → Each (HasRank S.rank) F → Each (HasRank S.rank) C → IsOfRank S.modulus 1 v
-        → IsReducedBasis
-        (pot_setting S.weights S.modulus (S.rank * length C + length (stacked S.rank 0 C ∷ blocks S.rank 0 (length C) F)) monomials)
-        (marked (S.rank * length C) 0 (stacked S.rank 0 C ∷ blocks S.rank 0 (length C) F)) G
-        → IsReducedBasis U (map (first_components 1) (kernel_of (S.rank * length C) G)) R
-        → IsMember S.modulus R v ↔ Each (λ c. IsMember S.modulus F (product v c)) C }
-    ensures members { (n : ℕ) (S U : Setting n) (monomials : Exponents n → Exponents n → Ordering) (F C G R : List (FormalSum n)) (v : FormalSum n)
-        → IsLawful S → IsLawful U → U.modulus ≡ S.modulus → IsMonomialOrder monomials
-        → Each (HasRank S.rank) F → Each (HasRank S.rank) C → HasRank 1 v
-        → IsRun
-        (pot_setting S.weights S.modulus (S.rank * length C + length (stacked S.rank 0 C ∷ blocks S.rank 0 (length C) F)) monomials)
-        (marked (S.rank * length C) 0 (stacked S.rank 0 C ∷ blocks S.rank 0 (length C) F)) G
-        → IsRun U (map (first_components 1) (kernel_of (S.rank * length C) G)) R
-        → IsMember S.modulus R v ↔ Each (λ c. IsMember S.modulus F (product v c)) C }
+    ensures basis { (n : ℕ) (S : Setting n) (monomials : Exponents n → Exponents n → Ordering) (m : ℕ) (F C G : List (FormalSum n))
+        → IsLawful S → IsMonomialOrder monomials → Each (HasRank m) F → Each (HasRank m) C
+        → IsReducedBasis (pot_setting S.weights S.modulus (m * length C + 1) monomials)
+        (marked (m * length C) 0 (stacked m 0 C ∷ []) ++ blocks m 0 (length C) F) G
+        → IsReducedBasis (pot_setting S.weights S.modulus 1 monomials) (kernel_of (m * length C) G) (kernel_of (m * length C) G) }
+    ensures members { (n : ℕ) (S : Setting n) (monomials : Exponents n → Exponents n → Ordering) (m : ℕ) (F C G : List (FormalSum n))
+        (v : FormalSum n)
+        → IsLawful S → IsMonomialOrder monomials → Each (HasRank m) F → Each (HasRank m) C
+        → IsReducedBasis (pot_setting S.weights S.modulus (m * length C + 1) monomials)
+        (marked (m * length C) 0 (stacked m 0 C ∷ []) ++ blocks m 0 (length C) F) G
+        → IsMember S.modulus (kernel_of (m * length C) G) v ↔ (IsOfRank S.modulus 1 v × Each (λ c. IsMember S.modulus F (product v c)) C) }
     ensures empty { (n p : ℕ) (v : FormalSum n) → IsOfRank p 1 v → IsMember p (basis_vector 0 ∷ []) v }
 {}

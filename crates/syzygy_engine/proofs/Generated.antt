@@ -1,18 +1,15 @@
 -- The syzygies that a run's basis gives
-use Rattle.std.proofs.Common.{List, [], arith, get_or, length, refl, subst, sym, ℕ, ◌+◌, ◌<◌, ◌∙◌, ◌≡◌}
-use Rattle.std.proofs.lemmas.List.{ext_get_or, length-map}
+use Rattle.std.proofs.Common.{List, [], arith, get_or, length, refl, subst, sym, ℕ, ◌+◌, ◌<◌, ◌≡◌}
+use Rattle.std.proofs.lemmas.List.{length-map}
 use Rattle.formal_sums.proofs.Combining.{IsMember_itself, IsMember_through}
 use Rattle.formal_sums.specs.Combinations.{IsSameModule}
 use Rattle.formal_sums.specs.FormalSums.{Each, FormalSum, HasRank, IsOfRank}
 use Rattle.bases.proofs.Leading.{positive}
-use Rattle.bases.proofs.NormalForms.{normal_unique}
 use Rattle.bases.specs.Bases.{IsReducedBasis}
-use Rattle.bases.specs.Leads.{IsNormal}
 use Rattle.bases.specs.Settings.{IsLawful, Setting}
 use Rattle.reduced_bases.proofs.Comparing.{IsReducedBasis_same}
 use Rattle.syzygy_laws.specs.Kernels.{kernel_of, pot_setting}
 use Rattle.syzygy_laws.specs.Syzygies.{marked}
-use Rattle.operation_laws.proofs.Linear.{Each_at}
 use Rattle.operation_laws.proofs.Parts.{kernel_exact, kernel_reduced}
 use Rattle.operation_laws.proofs.Plain.{kernel_plain}
 use Rattle.operation_laws.proofs.RunFacts.{run_of}
@@ -20,16 +17,14 @@ use Rattle.operation_laws.proofs.Running.{run_itself}
 use Rattle.monomial_orders.specs.Comparisons.{comparison, key_comparison}
 use Rattle.monomial_orders.specs.Laws.{comparison_order, key_comparison_order}
 use Rattle.monomial_orders.specs.declared.order.ModOrder.TheVariants.{Pot}
-use Rattle.module_vectors.proofs.NormalVectors.{vector_normal}
 use Rattle.module_vectors.specs.Rings.{ring_comparison, setting, variables}
-use Rattle.module_vectors.specs.Vectors.{AreVectorsOver, HasPositions, IsVectorOver, sum_of, sums_of}
+use Rattle.module_vectors.specs.Vectors.{AreVectorsOver, HasPositions, sum_of, sums_of}
 use Rattle.module_vectors.specs.declared.ring.Ring.{Ring}
-use Rattle.vector_division.proofs.Members.{sums_at}
 use Rattle.groebner_iface.specs.Runs.{IsReducedBasisOf}
 use Rattle.syzygy_engine.specs.Kernels.{GeneratesSyzygies, IsKernelOf}
 use Rattle.syzygy_engine.specs.Marking.{AreMarked, StandOneByOne, position_ring, position_setting}
-use Rattle.syzygy_engine.proofs.Marks.{already_by_position, lawful_by_position, run_reduced}
-use Rattle.syzygy_engine.proofs.Standing.{Terms, ranks_of_positions, stand_module, stand_positions}
+use Rattle.syzygy_engine.proofs.Marks.{run_reduced}
+use Rattle.syzygy_engine.proofs.Standing.{Terms, ranks_of_positions, stand_basis, stand_module, stand_positions}
 
 -- the ring's own setting is lawful at each rank
 pub lawful_at : (ring : Ring) (r : ℕ) → IsLawful (setting ring (variables ring) (ring_comparison ring (variables ring)) 0) → IsLawful (setting ring (variables ring) (ring_comparison ring (variables ring)) r)
@@ -97,37 +92,10 @@ module _ (ring : Ring) (q : ℕ) (list kernel : List Terms) (lawful : IsLawful (
 
     -- where the ring's own order is by position, nothing is left to do
     pub by_position_done : ring.module_order ≡ Pot → IsReducedBasisOf ring (length list) kernel kernel
-    by_position_done e = record {
-      vectors = vectors;
-      positions = kernel_positions;
-      basis =
-          subst (λ o. IsReducedBasis (record { modulus = ring.modulus.value; weights = ring.weights; rank = length list; compare = key_comparison o ring.order ring.weights (variables ring) }) (sums_of (variables ring) kernel) (sums_of (variables ring) kernel)) (sym e)
-          (subst (λ K. IsReducedBasis (position_setting ring (length list)) K K) (sym equal) (own_basis ring q list lawful low shown.basis shown.reduced));
-    }
-      where
-        T : Setting (variables ring)
-        T = position_setting ring (length list)
-
-        up : IsLawful T
-        up = lawful_by_position ring (length list) lawful
-
-        sums_count : length (sums_of (variables ring) kernel) ≡ length kernel
-        sums_count = length-map kernel (λ v. sum_of (variables ring) v)
-
-        vector_at : (i : ℕ) → i < length kernel → IsVectorOver (position_ring ring) (ring_comparison (position_ring ring)) (get_or kernel i [])
-        vector_at i lt = already_by_position ring (get_or kernel i []) e (Each_at (λ v. IsVectorOver ring (ring_comparison ring) v) [] kernel vectors i lt)
-
-        normal_at : (i : ℕ) → i < length kernel → IsNormal T (sum_of (variables ring) (get_or kernel i []))
-        normal_at i lt = vector_normal (position_ring ring) (ring_comparison (position_ring ring)) (length list) (get_or kernel i []) (vector_at i lt)
-
-        equal : sums_of (variables ring) kernel ≡ kernel_of q shown.basis
-        equal = ext_get_or [] (sums_of (variables ring) kernel) (kernel_of q shown.basis) (sums_count ∙ shown.members.count) (λ i lt.
-            let l : i < length kernel = omega (arith, lt, sums_count) in
-            let m : i < length (kernel_of q shown.basis) = omega (arith, l, shown.members.count) in
-            let u = normal_at i l in
-            let w = (own_basis ring q list lawful low shown.basis shown.reduced).reduced.normal i m in
-            sums_at (variables ring) kernel i
-            ∙ normal_unique T up (sum_of (variables ring) (get_or kernel i [])) (get_or (kernel_of q shown.basis) i []) u.descends w.descends u.residues w.residues (shown.members.each i))
+    by_position_done e =
+        stand_basis ring (length list) kernel (kernel_of q shown.basis) (lawful_at ring (length list) lawful) vectors shown.members kernel_positions
+        (subst (λ o. IsReducedBasis (record { modulus = ring.modulus.value; weights = ring.weights; rank = length list; compare = key_comparison o ring.order ring.weights (variables ring) }) (kernel_of q shown.basis) (kernel_of q shown.basis)) (sym e)
+        (own_basis ring q list lawful low shown.basis shown.reduced))
 
     -- else a run of the kernel gives the reduced basis of the syzygies
     module _ (answer : List Terms) (run : IsReducedBasisOf ring (length list) kernel answer) where

@@ -1,19 +1,22 @@
 -- Lists of vectors that stand one by one for formal sums
-use Rattle.std.proofs.Common.{List, [], ap, arith, get_or, length, suc, sym, zero, ℕ, ◌++◌, ◌+◌, ◌<◌, ◌∙◌, ◌∷◌, ◌≡◌}
-use Rattle.std.proofs.lemmas.List.{length-append, length-map}
+use Rattle.std.proofs.Common.{List, [], ap, arith, get_or, length, subst, suc, sym, zero, ℕ, ◌++◌, ◌+◌, ◌<◌, ◌∙◌, ◌∷◌, ◌≡◌}
+use Rattle.std.proofs.lemmas.List.{ext_get_or, length-append, length-map}
 use Rattle.std.specs.declared.cmp.Ordering.{Ordering}
 use Rattle.formal_sums.proofs.Combining.{IsMember_itself, IsMember_same}
 use Rattle.formal_sums.proofs.Sameness.{IsSame_of, IsSame_refl, IsSame_sym, IsSame_trans}
 use Rattle.formal_sums.specs.Combinations.{IsSameModule}
 use Rattle.formal_sums.specs.FormalSums.{Each, FormalSum, HasRank, IsOfRank, IsSame, Key}
-use Rattle.bases.specs.Settings.{IsLawful}
+use Rattle.bases.proofs.NormalForms.{normal_unique}
+use Rattle.bases.specs.Bases.{IsReducedBasis}
+use Rattle.bases.specs.Settings.{IsLawful, Setting}
 use Rattle.operation_laws.proofs.Linear.{Each_at, Each_tabulate}
-use Rattle.module_vectors.proofs.NormalVectors.{vector_positions}
-use Rattle.module_vectors.specs.Rings.{setting, variables}
+use Rattle.module_vectors.proofs.NormalVectors.{vector_normal, vector_positions}
+use Rattle.module_vectors.specs.Rings.{ring_comparison, setting, variables}
 use Rattle.module_vectors.specs.Vectors.{AreVectorsOver, HasPositions, IsVectorOver, StandsFor, sum_of, sums_of}
 use Rattle.module_vectors.specs.declared.key.Key.{Key as CodeKey}
 use Rattle.module_vectors.specs.declared.ring.Ring.{Ring}
 use Rattle.vector_division.proofs.Members.{sums_at}
+use Rattle.groebner_iface.specs.Runs.{IsReducedBasisOf}
 use Rattle.syzygy_engine.specs.Marking.{StandOneByOne}
 
 abbrev pub Terms : Type 0
@@ -75,3 +78,29 @@ module _ (ring : Ring) where
   stand_positions compare m list G lawful vectors each ranks =
       Each_tabulate (HasPositions m) [] list (λ i lt.
       vector_positions ring compare 0 m (get_or list i []) (get_or G i []) lawful (Each_at (λ v. IsVectorOver ring compare v) [] list vectors i lt) (each i) (ranks i lt))
+
+  -- vectors that stand for a reduced basis of its own module are one
+  pub stand_basis :
+      (rank : ℕ) (list : List Terms) (G : List (FormalSum (variables ring))) → IsLawful (setting ring (variables ring) (ring_comparison ring (variables ring)) rank)
+      → AreVectorsOver ring (ring_comparison ring) list → StandOneByOne ring list G → Each (HasPositions rank) list
+      → IsReducedBasis (setting ring (variables ring) (ring_comparison ring (variables ring)) rank) G G → IsReducedBasisOf ring rank list list
+  stand_basis rank list G lawful vectors h low own = record {
+    vectors = vectors;
+    positions = low;
+    basis = subst (λ L. IsReducedBasis S L L) (sym equal) own;
+  }
+    where
+      S : Setting (variables ring)
+      S = setting ring (variables ring) (ring_comparison ring (variables ring)) rank
+
+      count : length (sums_of (variables ring) list) ≡ length list
+      count = length-map list (λ v. sum_of (variables ring) v)
+
+      equal : sums_of (variables ring) list ≡ G
+      equal = ext_get_or [] (sums_of (variables ring) list) G (count ∙ h.count) (λ i lt.
+          let l : i < length list = omega (arith, lt, count) in
+          let m : i < length G = omega (arith, l, h.count) in
+          let u = vector_normal ring (ring_comparison ring) rank (get_or list i []) (Each_at (λ v. IsVectorOver ring (ring_comparison ring) v) [] list vectors i l) in
+          let w = own.reduced.normal i m in
+          sums_at (variables ring) list i
+          ∙ normal_unique S lawful (sum_of (variables ring) (get_or list i [])) (get_or G i []) u.descends w.descends u.residues w.residues (h.each i))

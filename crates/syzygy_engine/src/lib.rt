@@ -16,4 +16,6 @@ pub use generating::syzygies;
 pub use groebner_iface::OpStop;
 pub use laws::{one_lift, shown_kernels};
 pub use lifting::lift;
+pub use lowering::kernel_part;
 pub use marked_runs::syzygy_run;
+pub use marking::{by_position, first_mark, marked_list};

@@ -10,7 +10,7 @@ use monomial_orders::{ModOrder, Mono};
 use std::alloc::Global;
 
 /// The first position behind those of this rank: that of the first mark.
-pub(crate) fn first_mark(rank: u128) -> u64
+pub fn first_mark(rank: u128) -> u64
     requires { rank < 9223372036854775808 }
     ensures { result ≡ rank }
 {
@@ -18,7 +18,7 @@ pub(crate) fn first_mark(rank: u128) -> u64
 }
 
 /// The ring with its order of monomials, position over term.
-pub(crate) fn by_position(alloc: Global, ring: &Ring) -> Result<Ring, NoMemory>
+pub fn by_position(alloc: Global, ring: &Ring) -> Result<Ring, NoMemory>
     ensures { IfOk result (λ r. r ≡ position_ring ring.now) }
 {
     Ok(Ring {
@@ -74,7 +74,7 @@ fn marked_vector(alloc: Global, ring: &Ring, v: &Vect, position: u64) -> Result<
 
 /// The vectors of the list, each with 1 at a position of its own from `rank` on. `by_position` is the ring, position over
 /// term.
-pub(crate) fn marked_list(
+pub fn marked_list(
     alloc: Global,
     ring: &Ring,
     by_position: &Ring,

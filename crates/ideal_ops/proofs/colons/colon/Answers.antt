@@ -1,15 +1,19 @@
-use Rattle.std.proofs.Common.{ap, arith, inl, inr, length, refl, subst, sym, ◌*◌, ◌<◌, ◌∙◌, ◌≡◌}
+use Rattle.std.proofs.Common.{[], ap, arith, length, subst, subst₂, sym, ◌*◌, ◌<◌, ◌∙◌, ◌∷◌, ◌≡◌}
 use Rattle.formal_sums.specs.FormalSums.{Each}
-use Rattle.module_vectors.specs.Vectors.{HasPositions}
+use Rattle.operation_laws.specs.Operations.{blocks, stacked}
+use Rattle.module_vectors.specs.Rings.{variables}
+use Rattle.module_vectors.specs.Vectors.{AreTermsOver, HasPositions, sums_of}
 use Rattle.groebner_iface.specs.Calls.{NoTrail}
-use Rattle.syzygy_engine.specs.Kernels.{IsKernelOf}
-use Rattle.syzygy_engine.specs.Marking.{IsMarkedRun}
-use Rattle.groebner_iface.proofs.CallingRuns.{more_stops, run_stops}
+use Rattle.groebner_iface.proofs.CallingRuns.{more_stops}
+use Rattle.syzygy_engine.specs.Marking.{position_ring}
 use Rattle.ideal_ops.specs.Components.{AreColonRuns}
-use Rattle.ideal_ops.proofs.Dividing.{parts_positions}
+use Rattle.ideal_ops.specs.Modulo.{AreModuloRuns}
+use Rattle.ideal_ops.specs.Runs.{AreVectorsFor}
+use Rattle.ideal_ops.proofs.ModuloRuns.{runs_for}
 use Rattle.ideal_ops.proofs.Room.{blocks_room, rank_room}
-use Rattle.ideal_ops.proofs.Shared.{later_stops, loose_list}
-use Rattle.ideal_ops.proofs.Stacked.{at_rank, basis_of_colon, colon_positions, runs_of_some, stops_of_none}
+use Rattle.ideal_ops.proofs.Shared.{loose_list}
+use Rattle.ideal_ops.proofs.Stacked.{runs_of_some, stops_of_none}
+use Rattle.ideal_ops.proofs.SyzygyAnswers.{basis_of_colon, blocks_positions, stacked_positions}
 use Rattle.ideal_ops.proofs.colons.colon.Goals as goal
 
 pub returns-then-len-eq0-clause-stop : goal.returns-then-len-eq0-clause-stop
@@ -18,76 +22,104 @@ returns-then-len-eq0-clause-stop g c =
     let e : length by ≡ 0 = omega arith in
     stops_of_none c.args.ring.now c.args.rank c.args.list.now by _ _ _ _ e c.all_polynomials.result c.all_polynomials.ensures.stop
 
-pub as_position-requires : goal.as_position-requires
-as_position-requires g c = rank_room c.args.rank c.len.result (length c.args.by.now) c.len.ensures c.if-len-eq0.false c.requires.room
+pub first_mark-end-requires : goal.first_mark-end-requires
+first_mark-end-requires g c = rank_room c.args.rank c.len.result (length c.args.by.now) c.len.ensures c.if-len-eq0.false c.requires.room
 
-pub colon_list-requires-clause-positions : goal.colon_list-requires-clause-positions
-colon_list-requires-clause-positions g c = subst (λ r. Each (HasPositions r) c.args.list.now) (sym c.as_position.ensures) c.requires.positions
+pub stacked_list-requires-clause-by : goal.stacked_list-requires-clause-by
+stacked_list-requires-clause-by g c = loose_list c.args.ring.now c.args.by.now c.requires.by
 
-pub colon_list-requires-clause-by_positions : goal.colon_list-requires-clause-by_positions
-colon_list-requires-clause-by_positions g c = subst (λ r. Each (HasPositions r) c.args.by.now) (sym c.as_position.ensures) c.requires.by_positions
+pub stacked_list-requires-clause-by_positions : goal.stacked_list-requires-clause-by_positions
+stacked_list-requires-clause-by_positions g c = subst (λ r. Each (HasPositions r) c.args.by.now) (sym c.first_mark-end.ensures) c.requires.by_positions
 
-pub colon_list-requires-clause-room : goal.colon_list-requires-clause-room
-colon_list-requires-clause-room g c = subst (λ r. r * length c.args.by.now < 9223372036854775808) (sym c.as_position.ensures) c.requires.room
+pub stacked_list-requires-clause-room : goal.stacked_list-requires-clause-room
+stacked_list-requires-clause-room g c = subst (λ r. r * length c.args.by.now < 9223372036854775808) (sym c.first_mark-end.ensures) c.requires.room
 
-pub rank_of_blocks-requires : goal.rank_of_blocks-requires
-rank_of_blocks-requires g c = blocks_room c.args.rank c.len-2.result (length c.args.by.now) c.len-2.ensures c.requires.room
+pub block_list-requires-clause-terms : goal.block_list-requires-clause-terms
+block_list-requires-clause-terms g c = subst (λ r. Each (AreTermsOver r) c.args.list.now) (sym c.in_ok-over.ensures) (loose_list c.args.ring.now c.args.list.now c.requires.vectors)
 
-pub syzygy_run-requires-clause-room : goal.syzygy_run-requires-clause-room
-syzygy_run-requires-clause-room g c κs within =
-    subst (λ z. z < 9223372036854775808) (sym c.rank_of_blocks.ensures)
-    (blocks_room c.args.rank c.len-2.result (length c.args.by.now) c.len-2.ensures c.requires.room)
+pub block_list-requires-clause-positions : goal.block_list-requires-clause-positions
+block_list-requires-clause-positions g c = subst (λ r. Each (HasPositions r) c.args.list.now) (sym c.first_mark-end.ensures) c.requires.positions
 
-pub colon_list-requires-clause-terms : goal.colon_list-requires-clause-terms
-colon_list-requires-clause-terms g c = loose_list c.args.ring.now c.args.list.now c.requires.vectors
+pub block_list-requires-clause-room : goal.block_list-requires-clause-room
+block_list-requires-clause-room g c =
+    subst (λ r. r * c.len-s.result < 9223372036854775808) (sym c.first_mark-end.ensures)
+    (blocks_room c.args.rank c.len-s.result (length c.args.by.now) c.len-s.ensures c.requires.room)
 
-pub colon_list-requires-clause-by : goal.colon_list-requires-clause-by
-colon_list-requires-clause-by g c = loose_list c.args.ring.now c.args.by.now c.requires.by
+pub rank_of_blocks-whole-requires : goal.rank_of_blocks-whole-requires
+rank_of_blocks-whole-requires g c = blocks_room c.args.rank c.len-s.result (length c.args.by.now) c.len-s.ensures c.requires.room
 
-pub syzygy_run-requires-clause-positions : goal.syzygy_run-requires-clause-positions
-syzygy_run-requires-clause-positions g c κs within =
+pub kernel_modulo-requires-clause-heads : goal.kernel_modulo-requires-clause-heads
+kernel_modulo-requires-clause-heads g c κs within = c.in_ok-heads.ensures.vectors
+
+pub kernel_modulo-requires-clause-members : goal.kernel_modulo-requires-clause-members
+kernel_modulo-requires-clause-members g c κs within =
     let ring = c.args.ring.now in
     let rank = c.args.rank in
     let list = c.args.list.now in
     let by = c.args.by.now in
-    let done = c.in_ok-stacked.stacked in
-    let q_is = c.rank_of_blocks.ensures ∙ ap (λ s. rank * s) c.len-2.ensures in
-    let stand = at_rank ring rank c.as_position.result list by done c.as_position.ensures c.in_ok-stacked.ensures in
-    subst (λ q. Each (HasPositions q) done) (sym q_is) (colon_positions ring rank list by done (c.lawful_setting.ensures 0) c.requires.positions c.requires.by_positions stand)
+    let heads = c.in_ok-heads.heads in
+    let members = c.in_ok-members.members in
+    let x = subst (λ m. AreVectorsFor ring (stacked m 0 (sums_of (variables ring) by) ∷ []) heads) c.first_mark-end.ensures c.in_ok-heads.ensures in
+    let blocked = subst (λ r. AreVectorsFor r (blocks c.first_mark-end.result 0 c.len-s.result (sums_of (variables r) list)) members) c.in_ok-over.ensures c.in_ok-members.ensures in
+    let y = subst₂ (λ m s. AreVectorsFor (position_ring ring) (blocks m 0 s (sums_of (variables ring) list)) members) c.first_mark-end.ensures c.len-s.ensures blocked in
+    let q_is : c.rank_of_blocks-whole.result ≡ rank * length by = c.rank_of_blocks-whole.ensures ∙ ap (λ s. rank * s) c.len-s.ensures in
+    y.vectors
 
-pub first_parts-requires : goal.first_parts-requires
-first_parts-requires g c = loose_list c.args.ring.now c.in-Ok.kernel c.in-Ok.ensures.vectors
-
-pub reduced-requires-clause-positions : goal.reduced-requires-clause-positions
-reduced-requires-clause-positions g c = parts_positions c.args.ring.now 1 (c.lawful_setting.ensures 0) c.in-Ok.kernel c.in_ok-parts.parts c.in_ok-parts.ensures
-
-pub returns-in-Err-clause-stop : goal.returns-in-Err-clause-stop
-returns-in-Err-clause-stop g c =
+pub kernel_modulo-requires-clause-heads_positions : goal.kernel_modulo-requires-clause-heads_positions
+kernel_modulo-requires-clause-heads_positions g c κs within =
     let ring = c.args.ring.now in
     let rank = c.args.rank in
     let list = c.args.list.now in
     let by = c.args.by.now in
-    let done = c.in_ok-stacked.stacked in
-    let q_is = c.rank_of_blocks.ensures ∙ ap (λ s. rank * s) c.len-2.ensures in
-    let lt : 0 < length by = omega arith in
-    let stand = at_rank ring rank c.as_position.result list by done c.as_position.ensures c.in_ok-stacked.ensures in
-    more_stops _ _ _ _ (IsMarkedRun ring c.rank_of_blocks.result done) (AreColonRuns ring rank list by) NoTrail NoTrail
-    (λ r m l h. runs_of_some ring rank list by lt r m l
-    (record { list = done; stand = stand; run = inl (subst (λ q. IsMarkedRun ring q done r m l) q_is h) }))
-    (λ t h. h) c.in-Err.stop c.in-Err.ensures.stop
+    let heads = c.in_ok-heads.heads in
+    let members = c.in_ok-members.members in
+    let x = subst (λ m. AreVectorsFor ring (stacked m 0 (sums_of (variables ring) by) ∷ []) heads) c.first_mark-end.ensures c.in_ok-heads.ensures in
+    let blocked = subst (λ r. AreVectorsFor r (blocks c.first_mark-end.result 0 c.len-s.result (sums_of (variables r) list)) members) c.in_ok-over.ensures c.in_ok-members.ensures in
+    let y = subst₂ (λ m s. AreVectorsFor (position_ring ring) (blocks m 0 s (sums_of (variables ring) list)) members) c.first_mark-end.ensures c.len-s.ensures blocked in
+    let q_is : c.rank_of_blocks-whole.result ≡ rank * length by = c.rank_of_blocks-whole.ensures ∙ ap (λ s. rank * s) c.len-s.ensures in
+    subst (λ q. Each (HasPositions q) heads) (sym q_is) (stacked_positions ring rank list by heads members (c.lawful_setting.ensures 0) c.requires.positions c.requires.by_positions x y)
 
-pub returns-in-Ok-reduced-clause-basis : goal.returns-in-Ok-reduced-clause-basis
-returns-in-Ok-reduced-clause-basis g c =
+pub kernel_modulo-requires-clause-members_positions : goal.kernel_modulo-requires-clause-members_positions
+kernel_modulo-requires-clause-members_positions g c κs within =
     let ring = c.args.ring.now in
     let rank = c.args.rank in
     let list = c.args.list.now in
     let by = c.args.by.now in
-    let done = c.in_ok-stacked.stacked in
-    let q_is = c.rank_of_blocks.ensures ∙ ap (λ s. rank * s) c.len-2.ensures in
-    let stand = at_rank ring rank c.as_position.result list by done c.as_position.ensures c.in_ok-stacked.ensures in
-    let shown = subst (λ q. IsKernelOf ring q done c.in-Ok.kernel) q_is c.in-Ok.ensures.kernel in
-    basis_of_colon ring rank list by done (c.lawful_setting.ensures 0) c.requires.positions c.requires.by_positions stand
-    c.in-Ok.kernel c.in_ok-parts.parts c.in-Ok-reduced.basis shown c.in_ok-parts.ensures c.in-Ok-reduced.ensures.basis
+    let heads = c.in_ok-heads.heads in
+    let members = c.in_ok-members.members in
+    let x = subst (λ m. AreVectorsFor ring (stacked m 0 (sums_of (variables ring) by) ∷ []) heads) c.first_mark-end.ensures c.in_ok-heads.ensures in
+    let blocked = subst (λ r. AreVectorsFor r (blocks c.first_mark-end.result 0 c.len-s.result (sums_of (variables r) list)) members) c.in_ok-over.ensures c.in_ok-members.ensures in
+    let y = subst₂ (λ m s. AreVectorsFor (position_ring ring) (blocks m 0 s (sums_of (variables ring) list)) members) c.first_mark-end.ensures c.len-s.ensures blocked in
+    let q_is : c.rank_of_blocks-whole.result ≡ rank * length by = c.rank_of_blocks-whole.ensures ∙ ap (λ s. rank * s) c.len-s.ensures in
+    subst (λ q. Each (HasPositions q) members) (sym q_is) (blocks_positions ring rank list by heads members (c.lawful_setting.ensures 0) c.requires.positions c.requires.by_positions x y)
+
+pub kernel_modulo-requires-clause-room : goal.kernel_modulo-requires-clause-room
+kernel_modulo-requires-clause-room g c κs within =
+    let ring = c.args.ring.now in
+    let rank = c.args.rank in
+    let list = c.args.list.now in
+    let by = c.args.by.now in
+    let heads = c.in_ok-heads.heads in
+    let members = c.in_ok-members.members in
+    let x = subst (λ m. AreVectorsFor ring (stacked m 0 (sums_of (variables ring) by) ∷ []) heads) c.first_mark-end.ensures c.in_ok-heads.ensures in
+    let blocked = subst (λ r. AreVectorsFor r (blocks c.first_mark-end.result 0 c.len-s.result (sums_of (variables r) list)) members) c.in_ok-over.ensures c.in_ok-members.ensures in
+    let y = subst₂ (λ m s. AreVectorsFor (position_ring ring) (blocks m 0 s (sums_of (variables ring) list)) members) c.first_mark-end.ensures c.len-s.ensures blocked in
+    let q_is : c.rank_of_blocks-whole.result ≡ rank * length by = c.rank_of_blocks-whole.ensures ∙ ap (λ s. rank * s) c.len-s.ensures in
+    subst (λ q. q < 9223372036854775808) (sym q_is) c.requires.room
+
+pub returns-in-Ok-clause-basis : goal.returns-in-Ok-clause-basis
+returns-in-Ok-clause-basis g c =
+    let ring = c.args.ring.now in
+    let rank = c.args.rank in
+    let list = c.args.list.now in
+    let by = c.args.by.now in
+    let heads = c.in_ok-heads.heads in
+    let members = c.in_ok-members.members in
+    let x = subst (λ m. AreVectorsFor ring (stacked m 0 (sums_of (variables ring) by) ∷ []) heads) c.first_mark-end.ensures c.in_ok-heads.ensures in
+    let blocked = subst (λ r. AreVectorsFor r (blocks c.first_mark-end.result 0 c.len-s.result (sums_of (variables r) list)) members) c.in_ok-over.ensures c.in_ok-members.ensures in
+    let y = subst₂ (λ m s. AreVectorsFor (position_ring ring) (blocks m 0 s (sums_of (variables ring) list)) members) c.first_mark-end.ensures c.len-s.ensures blocked in
+    let q_is : c.rank_of_blocks-whole.result ≡ rank * length by = c.rank_of_blocks-whole.ensures ∙ ap (λ s. rank * s) c.len-s.ensures in
+    basis_of_colon ring rank list by heads members (c.lawful_setting.ensures 0) c.requires.positions c.requires.by_positions x y c.in-Ok.basis c.in-Ok.ensures.basis
 
 pub returns-clause-stop : goal.returns-clause-stop
 returns-clause-stop g c =
@@ -95,14 +127,16 @@ returns-clause-stop g c =
     let rank = c.args.rank in
     let list = c.args.list.now in
     let by = c.args.by.now in
-    let done = c.in_ok-stacked.stacked in
-    let q_is = c.rank_of_blocks.ensures ∙ ap (λ s. rank * s) c.len-2.ensures in
-    let lt : 0 < length by = omega arith in
-    let stand = at_rank ring rank c.as_position.result list by done c.as_position.ensures c.in_ok-stacked.ensures in
-    let shown = subst (λ q. IsKernelOf ring q done c.in-Ok.kernel) q_is c.in-Ok.ensures.kernel in
-    rw c.from.ensures
-    (later_stops _ _ _ _ _ _ (AreColonRuns ring rank list by) NoTrail _ c.in-Ok.ensures.same
-    (run_stops _ _ _ _ (AreColonRuns ring rank list by) NoTrail ring 1 c.in_ok-parts.parts c.in-Err-reduced.stop
-    (runs_of_some ring rank list by lt ring 1 c.in_ok-parts.parts
-    (record { list = done; stand = stand; run = inr (refl, refl, record { kernel = c.in-Ok.kernel; shown = shown; members = c.in_ok-parts.ensures }) }))
-    c.in-Err-reduced.ensures.stop))
+    let heads = c.in_ok-heads.heads in
+    let members = c.in_ok-members.members in
+    let x = subst (λ m. AreVectorsFor ring (stacked m 0 (sums_of (variables ring) by) ∷ []) heads) c.first_mark-end.ensures c.in_ok-heads.ensures in
+    let blocked = subst (λ r. AreVectorsFor r (blocks c.first_mark-end.result 0 c.len-s.result (sums_of (variables r) list)) members) c.in_ok-over.ensures c.in_ok-members.ensures in
+    let y = subst₂ (λ m s. AreVectorsFor (position_ring ring) (blocks m 0 s (sums_of (variables ring) list)) members) c.first_mark-end.ensures c.len-s.ensures blocked in
+    let q_is : c.rank_of_blocks-whole.result ≡ rank * length by = c.rank_of_blocks-whole.ensures ∙ ap (λ s. rank * s) c.len-s.ensures in
+    let X = stacked rank 0 (sums_of (variables ring) by) ∷ [] in
+    let Y = blocks rank 0 (length by) (sums_of (variables ring) list) in
+    let some : 0 < length by = omega (arith, c.len.ensures, c.if-len-eq0.false) in
+    let q = c.rank_of_blocks-whole.result in
+    more_stops _ _ _ _ (AreModuloRuns ring q (sums_of (variables ring) heads) (sums_of (variables ring) members)) (AreColonRuns ring rank list by) NoTrail NoTrail
+    (λ r m l h. runs_of_some ring rank list by some r m l (subst (λ k. AreModuloRuns ring k X Y r m l) q_is (runs_for ring q heads members X Y x y r m l h)))
+    (λ t h. h) c.in-Err.stop c.in-Err.ensures.stop

@@ -1,80 +1,78 @@
-use Rattle.std.proofs.Common.{inl, inr, map, refl, subst}
-use Rattle.operation_laws.specs.Operations.{first_components}
+use Rattle.std.proofs.Common.{subst, sym}
+use Rattle.formal_sums.specs.FormalSums.{Each}
+use Rattle.operation_laws.specs.Operations.{multiples_of}
 use Rattle.module_vectors.specs.Rings.{variables}
-use Rattle.module_vectors.specs.Vectors.{sum_of, sums_of}
+use Rattle.module_vectors.specs.Vectors.{AreTermsOver, sum_of, sums_of}
 use Rattle.groebner_iface.specs.Calls.{NoTrail}
-use Rattle.syzygy_engine.specs.Marking.{IsMarkedRun}
+use Rattle.groebner_iface.proofs.CallingRuns.{more_stops}
 use Rattle.syzygy_engine.proofs.Marks.{loose}
-use Rattle.groebner_iface.proofs.CallingRuns.{more_stops, run_stops}
 use Rattle.ideal_ops.specs.Components.{AreQuotientRuns}
+use Rattle.ideal_ops.specs.Modulo.{AreModuloRuns}
 use Rattle.ideal_ops.specs.Runs.{AreVectorsFor}
-use Rattle.ideal_ops.proofs.Dividing.{basis_of_quotient, parts_positions, quotient_list, quotient_positions}
-use Rattle.ideal_ops.proofs.Shared.{later_stops, loose_list}
+use Rattle.ideal_ops.proofs.ModuloRuns.{runs_for}
+use Rattle.ideal_ops.proofs.Shared.{loose_list}
+use Rattle.ideal_ops.proofs.SyzygyAnswers.{basis_of_quotient, members_positions, multiples_positions}
 use Rattle.ideal_ops.proofs.quotients.quotient.Goals as goal
-
-pub syzygy_run-requires-clause-room : goal.syzygy_run-requires-clause-room
-syzygy_run-requires-clause-room g c κs within = c.requires.room
 
 pub multiples-requires : goal.multiples-requires
 multiples-requires g c = loose c.args.ring.now c.args.f.now c.requires.f.each
 
-pub syzygy_run-requires-clause-vectors : goal.syzygy_run-requires-clause-vectors
-syzygy_run-requires-clause-vectors g c κs within =
+pub first_mark-requires : goal.first_mark-requires
+first_mark-requires g c = c.requires.room
+
+pub sorted_list-requires : goal.sorted_list-requires
+sorted_list-requires g c = subst (λ r. Each (AreTermsOver r) c.args.list.now) (sym c.in_ok-over.ensures) (loose_list c.args.ring.now c.args.list.now c.requires.vectors)
+
+pub kernel_modulo-requires-clause-heads : goal.kernel_modulo-requires-clause-heads
+kernel_modulo-requires-clause-heads g c κs within = c.in_ok-heads.ensures.vectors
+
+pub kernel_modulo-requires-clause-members : goal.kernel_modulo-requires-clause-members
+kernel_modulo-requires-clause-members g c κs within =
     let ring = c.args.ring.now in
     let rank = c.args.rank in
     let list = c.args.list.now in
     let f = c.args.f.now in
-    let stacked = c.in_ok-stacked.stacked in
-    let stand = quotient_list ring rank c.as_position-end.result (sum_of (variables ring) f) c.in_ok-first.first list stacked
-    c.as_position-end.ensures c.in_ok-first.ensures c.requires.vectors c.in_ok-stacked.ensures in
-    stand.vectors
+    let heads = c.in_ok-heads.heads in
+    let members = c.in_ok-members.members in
+    let x = subst (λ m. AreVectorsFor ring (multiples_of m (sum_of (variables ring) f)) heads) c.first_mark.ensures c.in_ok-heads.ensures in
+    let y = subst (λ r. AreVectorsFor r (sums_of (variables r) list) members) c.in_ok-over.ensures c.in_ok-members.ensures in
+    y.vectors
 
-pub syzygy_run-requires-clause-positions : goal.syzygy_run-requires-clause-positions
-syzygy_run-requires-clause-positions g c κs within =
+pub kernel_modulo-requires-clause-heads_positions : goal.kernel_modulo-requires-clause-heads_positions
+kernel_modulo-requires-clause-heads_positions g c κs within =
     let ring = c.args.ring.now in
     let rank = c.args.rank in
     let list = c.args.list.now in
     let f = c.args.f.now in
-    let stacked = c.in_ok-stacked.stacked in
-    let stand = quotient_list ring rank c.as_position-end.result (sum_of (variables ring) f) c.in_ok-first.first list stacked
-    c.as_position-end.ensures c.in_ok-first.ensures c.requires.vectors c.in_ok-stacked.ensures in
-    quotient_positions ring rank (c.lawful_setting.ensures 0) f list stacked c.requires.positions stand
+    let heads = c.in_ok-heads.heads in
+    let members = c.in_ok-members.members in
+    let x = subst (λ m. AreVectorsFor ring (multiples_of m (sum_of (variables ring) f)) heads) c.first_mark.ensures c.in_ok-heads.ensures in
+    let y = subst (λ r. AreVectorsFor r (sums_of (variables r) list) members) c.in_ok-over.ensures c.in_ok-members.ensures in
+    multiples_positions ring rank f list heads members (c.lawful_setting.ensures 0) x y
 
-pub returns-in-Err-clause-stop : goal.returns-in-Err-clause-stop
-returns-in-Err-clause-stop g c =
+pub kernel_modulo-requires-clause-members_positions : goal.kernel_modulo-requires-clause-members_positions
+kernel_modulo-requires-clause-members_positions g c κs within =
     let ring = c.args.ring.now in
     let rank = c.args.rank in
     let list = c.args.list.now in
     let f = c.args.f.now in
-    let stacked = c.in_ok-stacked.stacked in
-    let stand = quotient_list ring rank c.as_position-end.result (sum_of (variables ring) f) c.in_ok-first.first list stacked
-    c.as_position-end.ensures c.in_ok-first.ensures c.requires.vectors c.in_ok-stacked.ensures in
-    more_stops _ _ _ _ (IsMarkedRun ring rank stacked) (AreQuotientRuns ring rank list f) NoTrail NoTrail
-    (λ r m l h. record { list = stacked; stand = stand; run = inl h }) (λ t h. h) c.in-Err.stop c.in-Err.ensures.stop
+    let heads = c.in_ok-heads.heads in
+    let members = c.in_ok-members.members in
+    let x = subst (λ m. AreVectorsFor ring (multiples_of m (sum_of (variables ring) f)) heads) c.first_mark.ensures c.in_ok-heads.ensures in
+    let y = subst (λ r. AreVectorsFor r (sums_of (variables r) list) members) c.in_ok-over.ensures c.in_ok-members.ensures in
+    members_positions ring rank f list heads members (c.lawful_setting.ensures 0) x y c.requires.positions
 
-pub first_parts-requires : goal.first_parts-requires
-first_parts-requires g c = loose_list c.args.ring.now c.in-Ok.kernel c.in-Ok.ensures.vectors
-
-pub reduced-requires-clause-positions : goal.reduced-requires-clause-positions
-reduced-requires-clause-positions g c =
-    let ring = c.args.ring.now in
-    let kernel = c.in-Ok.kernel in
-    let parts = subst (λ m. AreVectorsFor ring (map (first_components m) (sums_of (variables ring) kernel)) c.in_ok-parts.parts) c.as_position-end.ensures c.in_ok-parts.ensures in
-    parts_positions ring c.args.rank (c.lawful_setting.ensures 0) kernel c.in_ok-parts.parts parts
-
-pub returns-in-Ok-reduced-clause-basis : goal.returns-in-Ok-reduced-clause-basis
-returns-in-Ok-reduced-clause-basis g c =
+pub returns-in-Ok-clause-basis : goal.returns-in-Ok-clause-basis
+returns-in-Ok-clause-basis g c =
     let ring = c.args.ring.now in
     let rank = c.args.rank in
     let list = c.args.list.now in
     let f = c.args.f.now in
-    let stacked = c.in_ok-stacked.stacked in
-    let stand = quotient_list ring rank c.as_position-end.result (sum_of (variables ring) f) c.in_ok-first.first list stacked
-    c.as_position-end.ensures c.in_ok-first.ensures c.requires.vectors c.in_ok-stacked.ensures in
-    let kernel = c.in-Ok.kernel in
-    let parts = subst (λ m. AreVectorsFor ring (map (first_components m) (sums_of (variables ring) kernel)) c.in_ok-parts.parts) c.as_position-end.ensures c.in_ok-parts.ensures in
-    basis_of_quotient ring rank (c.lawful_setting.ensures 0) f list stacked c.requires.positions stand kernel c.in_ok-parts.parts c.in-Ok-reduced.basis
-    c.in-Ok.ensures.kernel parts c.in-Ok-reduced.ensures.basis
+    let heads = c.in_ok-heads.heads in
+    let members = c.in_ok-members.members in
+    let x = subst (λ m. AreVectorsFor ring (multiples_of m (sum_of (variables ring) f)) heads) c.first_mark.ensures c.in_ok-heads.ensures in
+    let y = subst (λ r. AreVectorsFor r (sums_of (variables r) list) members) c.in_ok-over.ensures c.in_ok-members.ensures in
+    basis_of_quotient ring rank f list heads members (c.lawful_setting.ensures 0) x y c.in-Ok.basis c.in-Ok.ensures.basis
 
 pub returns-clause-stop : goal.returns-clause-stop
 returns-clause-stop g c =
@@ -82,16 +80,11 @@ returns-clause-stop g c =
     let rank = c.args.rank in
     let list = c.args.list.now in
     let f = c.args.f.now in
-    let stacked = c.in_ok-stacked.stacked in
-    let stand = quotient_list ring rank c.as_position-end.result (sum_of (variables ring) f) c.in_ok-first.first list stacked
-    c.as_position-end.ensures c.in_ok-first.ensures c.requires.vectors c.in_ok-stacked.ensures in
-    let kernel = c.in-Ok.kernel in
-    let parts = subst (λ m. AreVectorsFor ring (map (first_components m) (sums_of (variables ring) kernel)) c.in_ok-parts.parts) c.as_position-end.ensures c.in_ok-parts.ensures in
-    rw c.from.ensures
-    (later_stops _ _ _ _ _ _ (AreQuotientRuns ring rank list f) NoTrail _ c.in-Ok.ensures.same
-    (run_stops _ _ _ _ (AreQuotientRuns ring rank list f) NoTrail ring rank c.in_ok-parts.parts c.in-Err-reduced.stop
-    (record { list = stacked; stand = stand; run = inr (refl, refl, record { kernel = kernel; shown = c.in-Ok.ensures.kernel; members = parts }) })
-    c.in-Err-reduced.ensures.stop))
-
-pub as_position-end-requires : goal.as_position-end-requires
-as_position-end-requires g c = c.requires.room
+    let heads = c.in_ok-heads.heads in
+    let members = c.in_ok-members.members in
+    let x = subst (λ m. AreVectorsFor ring (multiples_of m (sum_of (variables ring) f)) heads) c.first_mark.ensures c.in_ok-heads.ensures in
+    let y = subst (λ r. AreVectorsFor r (sums_of (variables r) list) members) c.in_ok-over.ensures c.in_ok-members.ensures in
+    let X = multiples_of rank (sum_of (variables ring) f) in
+    let Y = sums_of (variables ring) list in
+    more_stops _ _ _ _ (AreModuloRuns ring rank (sums_of (variables ring) heads) (sums_of (variables ring) members)) (AreQuotientRuns ring rank list f) NoTrail NoTrail
+    (runs_for ring rank heads members X Y x y) (λ t h. h) c.in-Err.stop c.in-Err.ensures.stop

@@ -39,7 +39,7 @@ basis_back-requires-clause-positions g c κs within =
     let rank = c.args.rank in
     let list = c.args.list.now in
     let f = sum_of n c.args.f.now in
-    let stand = subst (λ m. AreVectorsFor (front_ring ring) (saturation_list ring.modulus.value m f (sums_of n list)) c.in-Ok.whole) c.as_position-end.ensures c.in-Ok.ensures.list in
+    let stand = subst (λ m. AreVectorsFor (front_ring ring) (saturation_list ring.modulus.value m f (sums_of n list)) c.in-Ok.whole) c.first_mark-end.ensures c.in-Ok.ensures.list in
     saturation_positions ring rank (c.lawful_setting.ensures rank) list c.in-Ok.whole f c.requires.positions stand
 
 pub returns-in-Ok-basis_back-clause-basis : goal.returns-in-Ok-basis_back-clause-basis
@@ -49,7 +49,7 @@ returns-in-Ok-basis_back-clause-basis g c =
     let rank = c.args.rank in
     let list = c.args.list.now in
     let f = sum_of n c.args.f.now in
-    let stand = subst (λ m. AreVectorsFor (front_ring ring) (saturation_list ring.modulus.value m f (sums_of n list)) c.in-Ok.whole) c.as_position-end.ensures c.in-Ok.ensures.list in
+    let stand = subst (λ m. AreVectorsFor (front_ring ring) (saturation_list ring.modulus.value m f (sums_of n list)) c.in-Ok.whole) c.first_mark-end.ensures c.in-Ok.ensures.list in
     basis_of_saturation ring rank (c.lawful_setting.ensures rank) list c.in-Ok.whole c.in-Ok-basis_back.basis f c.requires.positions stand c.in-Ok-basis_back.ensures.basis
 
 pub returns-clause-stop : goal.returns-clause-stop
@@ -59,12 +59,12 @@ returns-clause-stop g c =
     let rank = c.args.rank in
     let list = c.args.list.now in
     let f = sum_of n c.args.f.now in
-    let stand = subst (λ m. AreVectorsFor (front_ring ring) (saturation_list ring.modulus.value m f (sums_of n list)) c.in-Ok.whole) c.as_position-end.ensures c.in-Ok.ensures.list in
+    let stand = subst (λ m. AreVectorsFor (front_ring ring) (saturation_list ring.modulus.value m f (sums_of n list)) c.in-Ok.whole) c.first_mark-end.ensures c.in-Ok.ensures.list in
     more_stops _ _ _ _ (AreRunsOnFront ring rank c.in-Ok.whole) (AreSaturationRuns ring rank list c.args.f.now) NoTrail (IsTrailOfSaturation ring list c.args.f.now)
     (runs_for ring rank (saturation_list ring.modulus.value rank f (sums_of n list)) c.in-Ok.whole stand) (λ t h. absurd h) c.in-Err-basis_back.stop c.in-Err-basis_back.ensures.stop
 
-pub as_position-end-requires : goal.as_position-end-requires
-as_position-end-requires g c = c.requires.room
+pub first_mark-end-requires : goal.first_mark-end-requires
+first_mark-end-requires g c = c.requires.room
 
 pub saturating_list-requires-clause-f_positions : goal.saturating_list-requires-clause-f_positions
 saturating_list-requires-clause-f_positions g c = c.requires.f_positions

@@ -1,9 +1,8 @@
-use Rattle.operation_laws.proofs.Plain.{quotient_plain}
-use Rattle.operation_laws.proofs.Running.{quotient_run}
+use Rattle.operation_laws.proofs.OneMarkRuns.{quotient_exact, quotient_reduced}
 use Rattle.operation_laws.proofs.module_operations.quotients.Goals as goal
 
 pub returns : goal.returns
 returns c = record {
-  reduced = λ n S monomials f F G R v. quotient_plain S monomials f F G R v;
-  members = λ n S monomials f F G R v. quotient_run S monomials f F G R v;
+  basis = λ n S monomials m f F G lawful o ranks b. quotient_reduced S monomials lawful o m f F G ranks b;
+  members = λ n S monomials m f F G v lawful o ranks b. quotient_exact S monomials lawful o m f F G ranks b v;
 }

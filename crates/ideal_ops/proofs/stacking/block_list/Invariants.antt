@@ -1,0 +1,8 @@
+use Rattle.operation_laws.specs.Operations.{blocks}
+use Rattle.module_vectors.specs.Rings.{variables}
+use Rattle.module_vectors.specs.Vectors.{sums_of}
+use Rattle.ideal_ops.specs.Runs.{AreVectorsFor}
+use Rattle.ideal_ops.proofs.stacking.block_list.Given as goal
+
+abbrev pub invariant-loop-j : goal.invariant-loop-j
+invariant-loop-j l = AreVectorsFor l.ring (blocks l.rank 0 l.j (sums_of (variables l.ring) l.list)) l.all.items

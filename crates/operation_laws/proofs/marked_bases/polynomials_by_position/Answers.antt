@@ -1,0 +1,5 @@
+use Rattle.operation_laws.proofs.OnePosition.{one_position}
+use Rattle.operation_laws.proofs.marked_bases.polynomials_by_position.Goals as goal
+
+pub returns : goal.returns
+returns c = λ n S monomials F G lawful o ranks b. one_position monomials S lawful o F G ranks b
