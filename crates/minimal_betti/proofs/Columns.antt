@@ -12,7 +12,7 @@ use Rattle.module_vectors.specs.declared.key.Key.{Key as CodeKey}
 use Rattle.module_vectors.specs.declared.ring.Ring.{Ring}
 use Rattle.schreyer_resolution.specs.Resolved.{degrees_of}
 use Rattle.schreyer_resolution.specs.declared.maps.Map.{Map}
-use Rattle.minimal_betti.specs.Carried.{AreCarried, AreOwn}
+use Rattle.minimal_betti.specs.Carried.{AreCarriedBy, AreImages}
 use Rattle.minimal_betti.specs.Splitting.{AreSplit, AreWithout, IsOtherPut, split_of, without_all}
 use Rattle.minimal_betti.specs.declared.carried.Carried.{Carried}
 use Rattle.minimal_betti.specs.declared.constants.Constant.{Constant}
@@ -210,27 +210,18 @@ pub map_same : {n : ℕ} (F : List (FormalSum n)) → map (λ (v : FormalSum n).
 map_same [] = refl
 map_same (v ∷ F) = ap (λ r. v ∷ r) (map_same F)
 
-pub own_all :
-    (ring : Ring) (old others all : List Terms) → all ≡ others
-    → AreSameColumns ring.modulus.value (map (λ (v : FormalSum (variables ring)). v) (sums_of (variables ring) old)) (sums_of (variables ring) others)
-    → AreVectorsOver ring (ring_comparison ring) others → AreOwn ring old all
-own_all ring old others all e h v =
-    subst (AreOwn ring old) (sym e) (record {
-      same = subst (λ L. AreSameColumns ring.modulus.value L (sums_of (variables ring) others)) (map_same (sums_of (variables ring) old)) h;
-      vectors = v;
-    })
+module _ (ring : Ring) (f : FormalSum (variables ring) → FormalSum (variables ring)) where
+  pub carried_more :
+      (maps : List Map) (k j : ℕ) (m : Map) (old new : List Carried) (c : Carried) → j + 1 ≡ k → k ≤ length maps → m ≡ get_or maps j m
+      → AreImages ring f m.columns c.columns → c.degrees.items ≡ degrees_of ring m.row_degrees.items m.columns
+      → AreCarriedBy ring f (drop k maps) (reverse old) → new ≡ old ++ c ∷ [] → AreCarriedBy ring f (drop j maps) (reverse new)
+  carried_more maps k j m old new c ej le is images degrees h en =
+      subst₂ (AreCarriedBy ring f) (sym (drop_item maps j m (omega (arith, ej, le)) is ∙ ap (λ i. m ∷ drop i maps) ej))
+      (sym (ap reverse en ∙ reverse-append old (c ∷ []))) (images, degrees, h)
 
-pub carried_more :
-    (ring : Ring) (maps : List Map) (k j : ℕ) (m : Map) (old new : List Carried) (c : Carried) → j + 1 ≡ k → k ≤ length maps → m ≡ get_or maps j m
-    → AreOwn ring m.columns c.columns → c.degrees.items ≡ degrees_of ring m.row_degrees.items m.columns
-    → AreCarried ring (drop k maps) (reverse old) → new ≡ old ++ c ∷ [] → AreCarried ring (drop j maps) (reverse new)
-carried_more ring maps k j m old new c ej le is own degrees h en =
-    subst₂ (AreCarried ring) (sym (drop_item maps j m (omega (arith, ej, le)) is ∙ ap (λ i. m ∷ drop i maps) ej))
-    (sym (ap reverse en ∙ reverse-append old (c ∷ []))) (own, degrees, h)
-
-pub carried_start : (ring : Ring) (maps : List Map) (new : List Carried) → new ≡ [] → AreCarried ring (drop (length maps) maps) (reverse new)
-carried_start ring maps new e = subst (λ z. AreCarried ring (drop (length maps) maps) (reverse z)) (sym e) (go maps)
-  where
-    go : (maps : List Map) → AreCarried ring (drop (length maps) maps) []
-    go [] = tt
-    go (m ∷ maps) = go maps
+  pub carried_start : (maps : List Map) (new : List Carried) → new ≡ [] → AreCarriedBy ring f (drop (length maps) maps) (reverse new)
+  carried_start maps new e = subst (λ z. AreCarriedBy ring f (drop (length maps) maps) (reverse z)) (sym e) (go maps)
+    where
+      go : (maps : List Map) → AreCarriedBy ring f (drop (length maps) maps) []
+      go [] = tt
+      go (m ∷ maps) = go maps

@@ -27,11 +27,12 @@ use Rattle.schreyer_resolution.specs.Inducing.{maps_of}
 use Rattle.schreyer_resolution.specs.Resolved.{AreJoined, columns_of, degrees_of}
 use Rattle.schreyer_resolution.specs.declared.maps.Map.{Map}
 use Rattle.schreyer_resolution.specs.declared.maps.Resolution.{Resolution}
-use Rattle.minimal_betti.specs.Carried.{AreCarried, AreOrdered, HasNone, LeadsTo, graded_map, graded_maps}
+use Rattle.minimal_betti.specs.Carried.{AreCarried, AreCarriedBy, AreOrdered, HasNone, LeadsTo, graded_map, graded_maps}
 use Rattle.minimal_betti.specs.Graded.{AreMapsOver, IsGradedResolution, graded_of}
 use Rattle.minimal_betti.specs.Minimising.{IsCancellationOf}
 use Rattle.minimal_betti.specs.Splitting.{IsUnderway}
 use Rattle.minimal_betti.specs.declared.carried.Carried.{Carried}
+use Rattle.minimal_betti.proofs.Columns.{map_same}
 use Rattle.minimal_betti.proofs.NoZeroColumns.{leads_are}
 
 pub each_unmapped : {X Y : Type 0} (P : Y → Type 0) (f : X → Y) (xs : List X) → Each P (map f xs) → Each (λ x. P (f x)) xs
@@ -136,36 +137,64 @@ kept_less n maps k m lt le is none =
 
 -- ---- the start
 module _ (ring : Ring) where
+  module _ (f : FormalSum (variables ring) → FormalSum (variables ring)) where
+    -- the map with the images of its columns
+    abbrev pub image_map : GradedMap (variables ring) → GradedMap (variables ring)
+    image_map M = record { columns = map f M.columns; degrees = M.degrees }
+
+    pub images_same :
+        (rows : List ℕ) (maps : List Map) (start : List Carried) → AreJoined ring rows maps → AreCarriedBy ring f maps start
+        → AreSameMaps ring.modulus.value
+        (map image_map (graded_by_leads ring.weights rows (maps_of (variables ring) (map (λ (m : Map). m.columns) maps))))
+        (map (graded_map (variables ring)) start)
+    images_same rows [] [] j c = tt
+    images_same rows [] (s ∷ start) j c = elim c [ ]
+    images_same rows (m ∷ maps) [] j c = elim c [ ]
+    images_same rows (m ∷ maps) (s ∷ start) j c = (
+      sym (c.1 ∙ ap (λ (z : List ℕ). degrees_of ring z m.columns) j.0.degrees),
+      c.0.same,
+      images_same (degrees_of ring rows m.columns) maps start j.1 c.2,
+    )
+
+    images_ordered : (maps : List Map) (start : List Carried) → AreCarriedBy ring f maps start → AreOrdered ring start
+    images_ordered [] [] c = tt
+    images_ordered [] (s ∷ start) c = elim c [ ]
+    images_ordered (m ∷ maps) [] c = elim c [ ]
+    images_ordered (m ∷ maps) (s ∷ start) c = (c.0.vectors, images_ordered maps start c.2)
+
+    pub images_underway :
+        0 < ring.modulus.value → (r : Resolution) (start : List Carried) (rows : List ℕ) → IsGradedResolution ring r
+        → AreCarriedBy ring f r.maps.items start
+        → AreGraded ring.weights ring.modulus.value r.positions.items (map image_map (graded_of ring r).maps) → rows ≡ r.positions.items
+        → IsUnderway ring rows [] start
+    images_underway pos r start rows given c graded e = record {
+      ordered = images_ordered r.maps.items start c;
+      graded = subst (λ z. AreGraded ring.weights ring.modulus.value z (map (graded_map (variables ring)) start)) (sym e)
+          (same_graded ring.modulus.value pos ring.weights r.positions.items (map image_map (graded_of ring r).maps)
+          (map (graded_map (variables ring)) start) (images_same r.positions.items r.maps.items start given.joined c) graded);
+      none = tt;
+    }
+
+  own_maps : (maps : List (GradedMap (variables ring))) → map (image_map (λ v. v)) maps ≡ maps
+  own_maps [] = refl
+  own_maps (M ∷ maps) =
+      ap₂ (λ (F : List (FormalSum (variables ring))) (Ms : List (GradedMap (variables ring))). record { columns = F; degrees = M.degrees } ∷ Ms)
+      (map_same M.columns) (own_maps maps)
+
   pub start_same :
       (rows : List ℕ) (maps : List Map) (start : List Carried) → AreJoined ring rows maps → AreCarried ring maps start
       → AreSameMaps ring.modulus.value (graded_by_leads ring.weights rows (maps_of (variables ring) (map (λ (m : Map). m.columns) maps)))
       (map (graded_map (variables ring)) start)
-  start_same rows [] [] j c = tt
-  start_same rows [] (s ∷ start) j c = elim c [ ]
-  start_same rows (m ∷ maps) [] j c = elim c [ ]
-  start_same rows (m ∷ maps) (s ∷ start) j c = (
-    sym (c.1 ∙ ap (λ (z : List ℕ). degrees_of ring z m.columns) j.0.degrees),
-    c.0.same,
-    start_same (degrees_of ring rows m.columns) maps start j.1 c.2,
-  )
-
-  pub start_ordered : (maps : List Map) (start : List Carried) → AreCarried ring maps start → AreOrdered ring start
-  start_ordered [] [] c = tt
-  start_ordered [] (s ∷ start) c = elim c [ ]
-  start_ordered (m ∷ maps) [] c = elim c [ ]
-  start_ordered (m ∷ maps) (s ∷ start) c = (c.0.vectors, start_ordered maps start c.2)
+  start_same rows maps start j c =
+      subst (λ Ms. AreSameMaps ring.modulus.value Ms (map (graded_map (variables ring)) start)) (own_maps _) (images_same (λ v. v) rows maps start j c)
 
   pub start_underway :
       0 < ring.modulus.value → (r : Resolution) (start : List Carried) (rows : List ℕ) → IsGradedResolution ring r → AreCarried ring r.maps.items start
       → rows ≡ r.positions.items
       → IsUnderway ring rows [] start
-  start_underway pos r start rows given c e = record {
-    ordered = start_ordered r.maps.items start c;
-    graded = subst (λ z. AreGraded ring.weights ring.modulus.value z (map (graded_map (variables ring)) start)) (sym e)
-        (same_graded ring.modulus.value pos ring.weights r.positions.items (graded_of ring r).maps (map (graded_map (variables ring)) start)
-        (start_same r.positions.items r.maps.items start given.joined c) given.graded);
-    none = tt;
-  }
+  start_underway pos r start rows given c e =
+      images_underway (λ v. v) pos r start rows given c
+      (subst (AreGraded ring.weights ring.modulus.value r.positions.items) (sym (own_maps (graded_of ring r).maps)) given.graded) e
 
   pub none_at_all :
       (ms : List Carried) → Each (λ m. HasNone ring.modulus.value (sums_of (variables ring) m.columns)) ms

@@ -21,3 +21,4 @@ pub mod Stepping
 pub mod Turning
 pub mod Units
 pub mod Zeros
+pub mod ConstantTerms

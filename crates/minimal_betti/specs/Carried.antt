@@ -50,15 +50,23 @@ pub record IsFirst (ring : Ring) (F : List (List (CodeKey × ℕ))) (at : Consta
   pub first_column : (b q : ℕ) → b < at.column → IsConstantAt ring.modulus.value (get_or (sums_of (variables ring) F) b []) q → ⊥
   pub first_row : (q : ℕ) → q < at.row → IsConstantAt ring.modulus.value (get_or (sums_of (variables ring) F) at.column []) q → ⊥
 
--- the columns are one by one the same vectors, in the ring's own order
-pub record AreOwn (ring : Ring) (old new : List (List (CodeKey × ℕ))) : Type 0 where
-  pub same : AreSameColumns ring.modulus.value (sums_of (variables ring) old) (sums_of (variables ring) new)
+-- the columns are one by one the images of the others, in the ring's own order
+pub record AreImages (ring : Ring) (f : FormalSum (variables ring) → FormalSum (variables ring)) (old new : List (List (CodeKey × ℕ))) : Type 0 where
+  pub same : AreSameColumns ring.modulus.value (map f (sums_of (variables ring) old)) (sums_of (variables ring) new)
   pub vectors : AreVectorsOver ring (ring_comparison ring) new
+
+-- the maps of a resolution with the images of their columns, each in the ring's own order and with the degrees of its leads
+abbrev pub AreCarriedBy : (ring : Ring) → (FormalSum (variables ring) → FormalSum (variables ring)) → List Map → List Carried → Type 0
+AreCarriedBy ring f [] [] = ⊤
+AreCarriedBy ring f [] (c ∷ cs) = ⊥
+AreCarriedBy ring f (m ∷ maps) [] = ⊥
+AreCarriedBy ring f (m ∷ maps) (c ∷ cs) =
+    AreImages ring f m.columns c.columns × (c.degrees.items ≡ degrees_of ring m.row_degrees.items m.columns) × AreCarriedBy ring f maps cs
+
+-- the columns are one by one the same vectors, in the ring's own order
+abbrev pub AreOwn : Ring → List (List (CodeKey × ℕ)) → List (List (CodeKey × ℕ)) → Type 0
+AreOwn ring = AreImages ring (λ v. v)
 
 -- the maps of a resolution, each in the ring's own order and with the degrees of its leads
 abbrev pub AreCarried : Ring → List Map → List Carried → Type 0
-AreCarried ring [] [] = ⊤
-AreCarried ring [] (c ∷ cs) = ⊥
-AreCarried ring (m ∷ maps) [] = ⊥
-AreCarried ring (m ∷ maps) (c ∷ cs) =
-    AreOwn ring m.columns c.columns × (c.degrees.items ≡ degrees_of ring m.row_degrees.items m.columns) × AreCarried ring maps cs
+AreCarried ring = AreCarriedBy ring (λ v. v)

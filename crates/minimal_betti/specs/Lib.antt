@@ -11,3 +11,4 @@ pub mod Passing
 pub mod Placing
 pub mod Sorting
 pub mod Splitting
+pub mod ConstantMaps

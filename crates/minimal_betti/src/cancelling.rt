@@ -151,8 +151,8 @@ fn cancelled_map(
     }
 }
 
-// All maps when their constants have left; those given stand with the first one last.
-fn cancelled_maps(
+/// All maps when their constants have left; those given stand with the first one last.
+pub(crate) fn cancelled_maps(
     alloc: Global,
     ring: &Ring,
     positions: &mut Vec<u32>,

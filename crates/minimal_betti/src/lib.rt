@@ -2,13 +2,15 @@
 //!
 //! Where a map of a graded resolution has a constant that is not 0, its row and its column leave the maps; what is left at the
 //! end is a minimal resolution of the same module. Its table counts the positions at each step by their degrees, and is that of
-//! every minimal resolution (UAG chapter 6, section 3).
+//! every minimal resolution (UAG chapter 6, section 3). The constants alone, without all else in the maps, lead to the same table.
 #![tactic(auto)]
 
+mod by_constants;
 mod by_steps;
 mod cancelling;
 mod carried;
 mod clearing;
+mod constant_maps;
 mod constants;
 mod counting;
 mod leaving;
@@ -20,5 +22,6 @@ mod steps;
 mod stopping;
 mod tables;
 
+pub use by_constants::betti_table;
 pub use cancelling::minimal;
 pub use tables::{Entry, TableInvariants, invariants, table};

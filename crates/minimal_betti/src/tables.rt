@@ -33,8 +33,12 @@ pub struct TableInvariants {
     pub regularity: i64,
 }
 
-// Puts the entries of a step behind those of the steps before it.
-fn push_step(step: u32, degrees: &[u32], entries: &mut Vec<Entry>) -> Result<(), NoMemory>
+/// Puts the entries of a step behind those of the steps before it.
+pub(crate) fn push_step(
+    step: u32,
+    degrees: &[u32],
+    entries: &mut Vec<Entry>,
+) -> Result<(), NoMemory>
     ensures { (counts : ℕ → ℕ → ℕ) → ((d : ℕ) → counts step d ≡ occurrences d degrees.now)
         → IsTableTo counts entries.old.items step 0 → OnOk result (IsTableTo counts entries.new.items (step + 1) 0) }
 {
@@ -55,8 +59,8 @@ fn push_step(step: u32, degrees: &[u32], entries: &mut Vec<Entry>) -> Result<(),
     }
 }
 
-// The step of the columns of map k, where it is below 2^32.
-fn step_above(k: usize) -> Result<u32, NoMemory>
+/// The step of the columns of map k, where it is below 2^32.
+pub(crate) fn step_above(k: usize) -> Result<u32, NoMemory>
     ensures { IfOk result (λ step. step ≡ k + 1) }
 {
     if k >= u32::MAX as usize {

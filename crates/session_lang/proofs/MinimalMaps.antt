@@ -34,7 +34,7 @@ use Rattle.monomials.specs.Weights.{weighted_degree}
 use Rattle.formal_sums.proofs.Combining.{Each_map}
 use Rattle.formal_sums.proofs.OfRank.{IsOfRank_of}
 use Rattle.formal_sums.proofs.WeightedSums.{Each_append, indicator_other, key_cases}
-use Rattle.formal_sums.specs.FormalSums.{Each, IsOfRank, Key as FormalKey, coefficient, indicator}
+use Rattle.formal_sums.specs.FormalSums.{Each, FormalSum, IsOfRank, Key as FormalKey, coefficient, indicator}
 use Rattle.module_vectors.specs.Rings.{ring_comparison, setting, variables}
 use Rattle.module_vectors.specs.Vectors.{AreTermsOver, AreVectorsOver, HasPositions, IsVectorOver, key_of, sum_of, sums_of}
 use Rattle.module_vectors.specs.declared.key.Key.{Key}
@@ -44,12 +44,16 @@ use Rattle.module_vectors.specs.declared.trail.WorkStop.TheVariants.{Degree, Mem
 use Rattle.groebner_iface.specs.Runs.{IsReducedBasisOf}
 use Rattle.resolution_laws.specs.Resolutions.{IsCanonical}
 use Rattle.minimal_laws.proofs.CanonicalGrading.{canonical_graded}
-use Rattle.minimal_laws.proofs.CanonicalPresenting.{canonical_presents}
+use Rattle.minimal_laws.proofs.CanonicalPresenting.{canonical_cancelled, canonical_presents}
+use Rattle.minimal_laws.proofs.Searching.{cancellation_exists}
 use Rattle.minimal_laws.specs.Cancellation.{AreSameMaps, IsCancelled}
 use Rattle.minimal_laws.specs.Gradings.{AreExact, AreGraded, AreHomogeneous, GradedMaps, IsHomogeneous, graded_by_leads}
 use Rattle.minimal_laws.specs.Minimal.{IsMinimal, Presents}
 use Rattle.minimal_betti.specs.Graded.{AreMapsOver, IsGradedResolution, graded_of}
 use Rattle.minimal_betti.specs.Minimising.{CancellationStops, IsCancellationOf, IsCancellationTrail}
+use Rattle.minimal_betti.specs.Tables.{IsTable}
+use Rattle.minimal_betti.specs.declared.tables.Entry.{Entry}
+use Rattle.betti_laws.specs.Tables.{step_count}
 use Rattle.schreyer_resolution.proofs.Joining.{length-zeros}
 use Rattle.schreyer_resolution.specs.Inducing.{Columns, maps_of}
 use Rattle.schreyer_resolution.specs.Resolved.{AreJoined, AreVectorsThrough, IsResolutionTrail, ResolutionStops, columns_of}
@@ -58,10 +62,9 @@ use Rattle.schreyer_resolution.specs.declared.maps.Resolution.{Resolution as Res
 use Rattle.script_parse.proofs.Working.{lawful}
 use Rattle.script_parse.specs.declared.named.NameInfo.{NameInfo}
 use Rattle.syzygy_engine.proofs.Standing.{rank_of_positions}
-use Rattle.vector_division.specs.Progress.{AreWeighed}
 use Rattle.session_lang.proofs.Reporting.{written_joined}
-use Rattle.session_lang.specs.Cancelling.{IsCancelledAs, StopsAsMinimal}
-use Rattle.session_lang.specs.Minimising.{HasTwoDegrees, IsInhomogeneous, IsMinimalText}
+use Rattle.session_lang.specs.Cancelling.{IsCancelledAs, IsTableOfBasis, StopsAsMinimal}
+use Rattle.session_lang.specs.Minimising.{HasTwoDegrees, IsInhomogeneous, IsMinimalText, IsResolvedBasis}
 use Rattle.session_values.specs.Resolving.{maps_text}
 use Rattle.session_values.specs.Texts.{heading}
 use Rattle.session_values.specs.Writing.{resolution_written}
@@ -182,11 +185,6 @@ terms_through ring below (F ∷ maps) h = (
   terms_through ring (below ++ F ∷ []) maps h.1,
 )
 
-pub weighed_columns :
-    (ring : Ring) (maps : Columns) → Each (λ F. AreVectorsOver ring (ring_comparison ring) F) maps → Each (AreWeighed (variables ring) ring.weights) maps
-weighed_columns ring [] h = tt
-weighed_columns ring (F ∷ maps) h = (Each_map _ _ F (λ v w. Each_map _ _ v (λ t i. i.weighed) w.each) h.0, weighed_columns ring maps h.1)
-
 module _ (ring : Ring) (rank m : ℕ) (same : m ≡ rank) (list basis : List Terms) (reduced : IsReducedBasisOf ring rank list basis)
     (one : IsInhomogeneous basis → ⊥) (r : Resolved)
     (canonical_there : IsCanonical (setting ring (variables ring) (ring_comparison ring (variables ring)) m) (sums_of (variables ring) basis)
@@ -257,19 +255,41 @@ module _ (ring : Ring) (rank m : ℕ) (same : m ≡ rank) (list basis : List Ter
   }
   cancelled_as (Err stop) c minimal presents joins own = tt
 
+  -- the basis has a minimal resolution
+  pub some_minimal : (D : GradedMaps (variables ring)) × IsResolvedBasis ring rank basis D
+  some_minimal =
+      let n = variables ring in
+      let d = cancellation_exists ring.modulus.value (lawful ring rank).domain start in
+      let m = canonical_cancelled (setting ring n (ring_comparison ring n) rank) (lawful ring rank) ring.weights (replicate rank 0)
+      (map degree_of basis) (sums_of n basis) (length-zeros rank) (homogeneous ring rank basis reduced.vectors reduced.positions one)
+      (maps_of n (columns_of r)) canonical d.0 d.1 in
+      (d.0, record { homogeneous = one; minimal = m.0; presents = m.1 })
+
+  -- what counts every minimal resolution's positions is a table of the basis
+  pub table_of_basis :
+      (entries : List Entry)
+      → ((places : List ℕ) (A : List (FormalSum (variables ring))) (D : GradedMaps (variables ring))
+      → Presents ring.weights ring.modulus.value (graded_of ring r) places A → IsMinimal ring.weights ring.modulus.value D
+      → Presents ring.weights ring.modulus.value D places A → IsTable (step_count D.positions D.maps) entries)
+      → IsTableOfBasis ring rank basis entries
+  table_of_basis entries h =
+      let d = some_minimal in
+      record { resolution = d.0; resolved = d.1; table = h (replicate rank 0) (sums_of (variables ring) basis) d.0 presents_basis d.1.minimal d.1.presents }
+
   -- a stop of its cancellation, as one of the basis
   pub cancellation_stops :
       {T : Type 0} (left : Result T WorkStop) → IfErr left (CancellationStops ring (graded_of ring r)) → IfErr left (StopsAsMinimal ring rank basis)
   cancellation_stops (Ok s) h = tt
   cancellation_stops (Err Memory) h = tt
   cancellation_stops (Err (Degree t)) h =
-      inr (record { homogeneous = one; maps = columns_of r; canonical = canonical; cancellation = subst (λ C. IsCancellationTrail ring C t) (sym start_is) h })
+      (one, inr (record { maps = columns_of r; canonical = canonical; cancellation = subst (λ C. IsCancellationTrail ring C t) (sym start_is) h }))
 
 -- ---- stops
 pub resolution_stops :
-    (ring : Ring) (rank m : ℕ) (basis : List Terms) (stop : WorkStop) → m ≡ rank → ResolutionStops ring m basis stop → StopsAsMinimal ring rank basis stop
-resolution_stops ring rank m basis Memory e h = tt
-resolution_stops ring rank m basis (Degree t) e h = inl (subst (λ z. IsResolutionTrail ring z basis t) e h)
+    (ring : Ring) (rank m : ℕ) (basis : List Terms) (stop : WorkStop) → m ≡ rank → (IsInhomogeneous basis → ⊥) → ResolutionStops ring m basis stop
+    → StopsAsMinimal ring rank basis stop
+resolution_stops ring rank m basis Memory e one h = tt
+resolution_stops ring rank m basis (Degree t) e one h = (one, inl (subst (λ z. IsResolutionTrail ring z basis t) e h))
 
 -- ---- texts
 -- a minimal resolution that is written shows the value's

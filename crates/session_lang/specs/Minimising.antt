@@ -113,15 +113,14 @@ RefusesMinimal ring value kinds.Homogeneous =
     (G : List (List (Key × ℕ))) × IsReducedBasisOf ring value.rank value.list G × IsInhomogeneous G
 RefusesMinimal ring value _ = ⊥
 
--- a basis is homogeneous, and this is a trail of the cancellation of its canonical resolution
+-- a trail of the cancellation of this basis's canonical resolution
 pub record IsCancellingTrail (ring : Ring) (rank : ℕ) (basis : List (List (Key × ℕ))) (t : KeptTrail) : Type 0 where
-  pub homogeneous : IsInhomogeneous basis → ⊥
   pub maps : Columns
   pub canonical :
       let n = variables ring in
       IsCanonical (setting ring n (ring_comparison ring n) rank) (sums_of n basis) (maps_of n maps)
   pub cancellation : IsCancellationTrail ring (graded_from_zero ring rank maps) t
 
--- a trail that a minimal resolution meets, of the resolution of this basis or of the cancellation
+-- a trail that a minimal resolution meets: this basis is homogeneous, and the trail is one of its resolution or of the cancellation
 abbrev pub IsMinimalTrail : Ring → ℕ → List (List (Key × ℕ)) → KeptTrail → Type 0
-IsMinimalTrail ring rank basis t = IsResolutionTrail ring rank basis t ⊎ IsCancellingTrail ring rank basis t
+IsMinimalTrail ring rank basis t = (IsInhomogeneous basis → ⊥) × (IsResolutionTrail ring rank basis t ⊎ IsCancellingTrail ring rank basis t)

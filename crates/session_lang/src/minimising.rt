@@ -13,7 +13,7 @@ ghost use Rattle.session_lang.specs.declared.reports.Report.TheVariants as repor
 
 use crate::step::Step;
 use itoa::Buffer;
-use minimal_betti::{Entry, invariants, minimal, table};
+use minimal_betti::{Entry, betti_table, invariants, minimal};
 use module_vectors::{NoMemory, Ring, Vect, VectList, WorkStop, lawful_setting};
 use schreyer_resolution::{Resolution, resolve};
 use script_parse::{Kind, NameInfo};
@@ -106,18 +106,19 @@ pub fn push_minimal(
     }
 }
 
-// The table of the minimal resolution of a value with this reduced basis, which is homogeneous.
+// The Betti numbers of a value with this reduced basis, which is homogeneous: those of its canonical resolution's constants.
 fn table_of(alloc: Global, ring: &Ring, rank: u64, basis: &VectList) -> Result<Vec<Entry>, WorkStop>
     requires basis { (list : List _) × Each (HasPositions rank) list × IsReducedBasisOf ring.now rank list basis.now }
     requires homogeneous { IsInhomogeneous basis.now → ⊥ }
     ensures table { IfOk result (λ entries. IsTableOfBasis ring.now rank basis.now entries.items) }
     ensures stop { IfErr result (StopsAsMinimal ring.now rank basis.now) }
 {
-    let resolution = match minimal_of(alloc, ring, rank, basis) {
+    lawful_setting(ring);
+    let resolution = match resolve(alloc, ring, u128::from(rank), basis) {
         Ok(resolution) => resolution,
         Err(stop) => return Err(stop),
     };
-    Ok(table(alloc, ring, &resolution)?)
+    Ok(betti_table(alloc, ring, &resolution)?)
 }
 
 // Appends an entry of a table on its line. After an error what was written so far stands there.
@@ -146,7 +147,7 @@ fn append_table(out: &mut Vec<u8>, entries: &[Entry]) -> Result<(), NoMemory>
 }
 
 /// Appends the Betti numbers of a value with this reduced basis, or says that they are refused. After an error, and where they are
-/// refused, nothing is appended; `Degree` comes as that of `push_minimal`.
+/// refused, nothing is appended; `Degree` comes with a trail of the resolution.
 pub fn push_betti(
     alloc: Global,
     out: &mut Vec<u8>,
@@ -218,7 +219,7 @@ fn append_regularity(
 }
 
 /// Appends the projective dimension and the regularity of a value with this reduced basis, or says that they are refused. After an error,
-/// and where they are refused, nothing is appended; `Degree` comes as that of `push_minimal`.
+/// and where they are refused, nothing is appended; `Degree` comes with a trail of the resolution.
 pub fn push_regularity(
     alloc: Global,
     out: &mut Vec<u8>,

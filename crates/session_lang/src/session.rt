@@ -463,7 +463,7 @@ impl Session {
     ///
     /// `Memory` comes where a growth was refused, while the line was read or done; `Pairs` and `Degree` where a run that
     /// the line needs met its budget or needed a product of degree above 65,535; `Trail`, with the chain of products
-    /// to it, where a division by a reduced basis needed one. After a refusal and after each error session and text are as
+    /// to it, where a division by a reduced basis, a list that the line makes, a resolution or its cancellation needed one. After a refusal and after each error session and text are as
     /// before, so no basis is kept that was not. The engine counts and keeps a run that stopped; else its count and the
     /// run that it keeps are as before, and its settings always are.
     pub fn step<R: Threads + Wait + Sync, B: Groebner>(

@@ -1,9 +1,9 @@
-use Rattle.std.proofs.Common.{arith, subst, ◌∙◌}
+use Rattle.std.proofs.Common.{arith, subst₂, sym, ◌∙◌}
 use Rattle.std.proofs.lemmas.List.{take_all}
 use Rattle.formal_sums.specs.FormalSums.{FormalSum}
 use Rattle.module_vectors.specs.Rings.{variables}
 use Rattle.minimal_betti.specs.Carried.{AreOwn}
-use Rattle.minimal_betti.proofs.Columns.{image_pushed, own_all, vectors_pushed}
+use Rattle.minimal_betti.proofs.Columns.{image_pushed, vectors_pushed}
 use Rattle.minimal_betti.proofs.cancelling.own_columns.Goals as goal
 
 pub loop-v-preserved : goal.loop-v-preserved
@@ -21,5 +21,5 @@ loop-v-preserved c =
 pub returns : goal.returns
 returns c =
     let items = c.as_slice-v-items.result.now in
-    subst (λ z. AreOwn c.args.ring.now z c.from_vec.result) (take_all c.loop-v.v-index items (omega arith) ∙ c.as_slice-v-items.ensures)
-    (own_all c.args.ring.now _ c.loop-v.own.items c.from_vec.result c.from_vec.ensures c.loop-v.invariant.same c.loop-v.invariant.vectors)
+    subst₂ (AreOwn c.args.ring.now) (take_all c.loop-v.v-index items (omega arith) ∙ c.as_slice-v-items.ensures) (sym c.from_vec.ensures)
+    (record { same = c.loop-v.invariant.same; vectors = c.loop-v.invariant.vectors })
