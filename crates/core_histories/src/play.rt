@@ -68,7 +68,7 @@ fn solve<R: Threads + Sync>(
     ensures job { IfOk result (λ o. o.job ≡ job) }
 {
     match helpers {
-        Some(helpers) => f4_job::solve(rt, alloc, job, helpers.max(1), &SharedGate::open()),
+        Some(helpers) => f4_job::solve(rt, alloc, job, helpers.max(1), 0, &SharedGate::open()),
         None => s_vectors::solve(alloc, job),
     }
 }

@@ -1,6 +1,7 @@
-// Echelon forms of two rows modulo 7, by helpers side by side.
+// Echelon forms of two or three rows modulo 7, by helpers side by side.
 ghost use Rattle.std.specs.Prelude.{◌≡◌, ◌<◌, [], ◌∷◌, length, IfOk};
-ghost use Rattle.row_matrix.specs.Rows.{AreEntries, first_residue};
+ghost use Rattle.formal_sums.specs.FormalSums.{Each};
+ghost use Rattle.row_matrix.specs.Rows.{AreEntries, IsRow, first_residue};
 
 use module_vectors::{Key, NoMemory};
 use monomial_orders::Mono;
@@ -36,7 +37,29 @@ fn input_row(alloc: Global, entries: &[(u32, u32)], number: u32) -> Result<Row, 
     Ok(Row::new(own, sources))
 }
 
-// The echelon form modulo 7 of two rows over so many columns.
+// The echelon form modulo 7 of so many input rows over so many columns. Each addition of a pass is worth a helper more.
+fn form_of<R: Threads + Sync>(
+    rt: &R,
+    alloc: Global,
+    gate: &SharedGate,
+    helpers: u32,
+    count: u64,
+    inputs: usize,
+    rows: Vec<Row>,
+) -> Result<Vec<Row>, NoMemory>
+    requires helpers { 0 < helpers }
+    requires rows { Each (IsRow 7 count inputs) rows.items }
+{
+    let Some(modulus) = Modulus::of(7) else {
+        return Err(NoMemory);
+    };
+    let columns = columns_of(alloc, count)?;
+    let matrix = Matrix::new(columns, inputs, rows);
+    let form = echelon(rt, alloc, &modulus, matrix, helpers, 0, gate)?;
+    Ok(form.rows)
+}
+
+// The echelon form of two rows.
 fn found<R: Threads + Sync>(
     rt: &R,
     alloc: Global,
@@ -52,19 +75,39 @@ fn found<R: Threads + Sync>(
     requires lead { first_residue first.now ≡ 1 }
     requires next { first_residue second.now ≡ 1 }
 {
-    let Some(modulus) = Modulus::of(7) else {
-        return Err(NoMemory);
-    };
-    let columns = columns_of(alloc, count)?;
     let mut rows = Vec::with_capacity(alloc, 2)?;
     rows.push(input_row(alloc, first, 0)?)?;
     rows.push(input_row(alloc, second, 1)?)?;
-    let matrix = Matrix::new(columns, 2, rows);
-    let form = echelon(rt, alloc, &modulus, matrix, helpers, gate)?;
-    Ok(form.rows)
+    form_of(rt, alloc, gate, helpers, count, 2, rows)
 }
 
-// Two rows with one lead, of which what is left has the next lead.
+// The echelon form of three rows.
+fn found_of_three<R: Threads + Sync>(
+    rt: &R,
+    alloc: Global,
+    gate: &SharedGate,
+    helpers: u32,
+    count: u64,
+    first: &[(u32, u32)],
+    second: &[(u32, u32)],
+    third: &[(u32, u32)],
+) -> Result<Vec<Row>, NoMemory>
+    requires helpers { 0 < helpers }
+    requires first { AreEntries 7 0 count first.now }
+    requires second { AreEntries 7 0 count second.now }
+    requires third { AreEntries 7 0 count third.now }
+    requires lead { first_residue first.now ≡ 1 }
+    requires next { first_residue second.now ≡ 1 }
+    requires last { first_residue third.now ≡ 1 }
+{
+    let mut rows = Vec::with_capacity(alloc, 3)?;
+    rows.push(input_row(alloc, first, 0)?)?;
+    rows.push(input_row(alloc, second, 1)?)?;
+    rows.push(input_row(alloc, third, 2)?)?;
+    form_of(rt, alloc, gate, helpers, count, 3, rows)
+}
+
+// Two rows with one lead: the one with fewer entries has the column, and what is left of the other has the next lead.
 fn two_leads<R: Threads + Sync>(
     rt: &R,
     alloc: Global,
@@ -87,8 +130,40 @@ fn two_leads<R: Threads + Sync>(
     if rows.len() != 2 {
         return Some(false);
     }
-    let top = rows[1].entries();
-    Some(rows[0].entries() == [(1, 1), (2, 1)].as_slice() && top.len() > 0 && top[0] == (0, 1))
+    Some(
+        rows[0].entries() == [(1, 1), (2, 1)].as_slice()
+            && rows[1].entries() == [(0, 1), (1, 2)].as_slice(),
+    )
+}
+
+// The same where a row of a column of its own comes first, so that of two helpers the first has it and the last of the others.
+fn a_lead_apart<R: Threads + Sync>(
+    rt: &R,
+    alloc: Global,
+    gate: &SharedGate,
+    helpers: u32,
+) -> Option<bool>
+    requires { 0 < helpers }
+{
+    let Ok(rows) = found_of_three(
+        rt,
+        alloc,
+        gate,
+        helpers,
+        4,
+        &[(0, 1)],
+        &[(1, 1), (2, 2)],
+        &[(1, 1), (2, 3), (3, 1)],
+    ) else {
+        return None;
+    };
+    if rows.len() != 3 {
+        return Some(false);
+    }
+    Some(
+        rows[0].entries() == [(2, 1), (3, 1)].as_slice()
+            && rows[1].entries() == [(1, 1), (2, 2)].as_slice(),
+    )
 }
 
 #[test]
@@ -118,6 +193,25 @@ fn any_number_of_helpers_finds_both_leads(rt: HostRuntime) -> Result<(), Fail> {
             two_leads(&rt, rt.alloc(), &gate, helpers),
             Some(true),
             "{helpers} helpers"
+        );
+    }
+    Ok(())
+}
+
+// The row with the fewest entries has its column, whichever helper has the row and starts first.
+#[test]
+fn the_first_claims_are_for_all(rt: HostRuntime) -> Result<(), Fail> {
+    let gate = OpenGate.shared();
+    for turn in 0..200 {
+        assert_eq!(rt;
+            two_leads(&rt, rt.alloc(), &gate, 2),
+            Some(true),
+            "turn {turn}"
+        );
+        assert_eq!(rt;
+            a_lead_apart(&rt, rt.alloc(), &gate, 2),
+            Some(true),
+            "turn {turn}"
         );
     }
     Ok(())

@@ -28,6 +28,7 @@ pub struct F4Engine {
     pairs: u64,
     workers: u32,
     helpers: u32,
+    thread: usize,
     gate: SharedGate,
     stops: u64,
     state: Option<BasisState>,
@@ -42,6 +43,7 @@ impl Drop for F4Engine {
             pairs: _,
             workers: _,
             helpers: _,
+            thread: _,
             gate: _,
             stops: _,
             state: _,
@@ -79,8 +81,9 @@ impl Model for F4Engine {
 
 impl F4Engine {
     /// An engine whose runs take at most so many pairs each, by so many workers, each of which solves its jobs with so many
-    /// helpers. The workers pass this gate with each job, and the helpers with each row whose lead column they claim.
-    pub fn new(pairs: u64, workers: u32, helpers: u32, gate: SharedGate) -> F4Engine
+    /// helpers: one in its own thread, and one more for each `thread` additions that a pass over rows makes. The workers pass this
+    /// gate with each job, and the helpers with each row whose lead column they claim.
+    pub fn new(pairs: u64, workers: u32, helpers: u32, thread: usize, gate: SharedGate) -> F4Engine
         requires workers { 0 < workers }
         requires helpers { 0 < helpers }
         ensures pairs { result.pairs ≡ pairs }
@@ -95,6 +98,7 @@ impl F4Engine {
             pairs,
             workers,
             helpers,
+            thread,
             gate,
             stops: 0,
             state: None,
@@ -124,6 +128,11 @@ impl F4Engine {
         ensures some { 0 < result }
     {
         self.helpers
+    }
+
+    /// How many additions of a pass are worth a helper more.
+    pub fn thread(&self) -> usize {
+        self.thread
     }
 
     /// The gate that its workers and their helpers pass.
@@ -166,6 +175,7 @@ impl F4Engine {
             pairs: _,
             workers: _,
             helpers: _,
+            thread: _,
             gate: _,
             stops: _,
             state,
@@ -243,6 +253,7 @@ impl F4Engine {
             self.pairs,
             self.workers,
             self.helpers,
+            self.thread,
             &self.gate,
             ring,
             rank,

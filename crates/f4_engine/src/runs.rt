@@ -51,6 +51,7 @@ fn let_work<R: Threads + Wait + Sync>(
     rt: &R,
     alloc: Global,
     helpers: u32,
+    thread: usize,
     gate: &SharedGate,
     state: BasisState,
 ) -> Option<BasisState>
@@ -65,10 +66,9 @@ fn let_work<R: Threads + Wait + Sync>(
             let turns = Mutex::new(Turn {
                 degree: 0,
                 gave_rows: true,
-                workers: threads,
             });
             let seat = work_all(
-                rt, alloc, &lock, helpers, gate, &turns, seat, workers, threads,
+                rt, alloc, &lock, helpers, thread, gate, &turns, seat, workers, threads,
             );
             let state = lock.close(seat);
             state.kept();
@@ -110,6 +110,7 @@ pub(crate) fn run<R: Threads + Wait + Sync>(
     pairs: u64,
     workers: u32,
     helpers: u32,
+    thread: usize,
     gate: &SharedGate,
     ring: &Ring,
     rank: u128,
@@ -130,7 +131,7 @@ pub(crate) fn run<R: Threads + Wait + Sync>(
         Err(WorkStop::Memory) => return Err(RunStop::Memory),
         Err(WorkStop::Degree(trail)) => return Err(RunStop::Beginning(trail)),
     };
-    let Some(state) = let_work(rt, alloc, helpers, gate, state) else {
+    let Some(state) = let_work(rt, alloc, helpers, thread, gate, state) else {
         return Err(RunStop::Memory);
     };
     match how_ended(alloc, &state) {

@@ -24,13 +24,11 @@ const PAIRS: u64 = 512;
 // others are likely to give none, and nobody waits.
 const LONG: usize = 8;
 
-/// What a worker knows that has the turn to take: the degree of the last long job that was handed in, whether it gave rows, and how
-/// many workers there are side by side.
+/// What a worker knows that has the turn to take: the degree of the last long job that was handed in, and whether it gave rows.
 #[derive(Clone, Copy)]
 pub(crate) struct Turn {
     pub(crate) degree: u128,
     pub(crate) gave_rows: bool,
-    pub(crate) workers: u32,
 }
 
 // The degree of the job's pairs.
@@ -39,17 +37,6 @@ fn degree_of(job: &Job) -> u128 {
         Some(pair) => pair.lcm.monomial.degree(),
         None => 0,
     }
-}
-
-// The helpers of so many workers; those of one under a held gate, where helpers wait for one another.
-fn helpers_of_all(gate: &SharedGate, helpers: u32, workers: u32) -> u32
-    requires { 0 < helpers }
-    ensures { 0 < result }
-{
-    if gate.is_open() {
-        return helpers.saturating_mul(workers).max(helpers);
-    }
-    helpers
 }
 
 // The reason of a stop.
@@ -97,6 +84,7 @@ fn do_job<R: Threads + Wait + Sync>(
     alloc: Global,
     lock: &BasisLock,
     helpers: u32,
+    thread: usize,
     gate: &SharedGate,
     seat: &mut BasisSeat,
     job: Job,
@@ -108,7 +96,7 @@ fn do_job<R: Threads + Wait + Sync>(
     ensures ends { RoundEnds (base lock.now.table.shared.key.value) seat.old.place.me.0 seat.new.place.me.0 result.0 }
 {
     gate.pass(seat.worker, Point::JobTaken);
-    match solve(rt, alloc, job, helpers, gate) {
+    match solve(rt, alloc, job, helpers, thread, gate) {
         Ok(outcome) => {
             let gave_rows = !outcome.rows().is_empty();
             match hand_in(rt, alloc, lock, seat, outcome) {
@@ -127,12 +115,13 @@ fn do_job<R: Threads + Wait + Sync>(
 }
 
 // Solves a job and hands it in, or gives up. The turn is kept meanwhile where the job is long, unless the last long job of its degree
-// gave no rows; since the other workers wait then, the job has the helpers of all. Is the worker done?
+// gave no rows. Is the worker done?
 fn do_job_in_turn<R: Threads + Wait + Sync>(
     rt: &R,
     alloc: Global,
     lock: &BasisLock,
     helpers: u32,
+    thread: usize,
     gate: &SharedGate,
     turns: &Mutex<Turn>,
     mut turn: MutexGuard<'_, Turn>,
@@ -149,23 +138,14 @@ fn do_job_in_turn<R: Threads + Wait + Sync>(
     let last = *turn;
     if job.pairs().len() < LONG || (last.degree == degree && !last.gave_rows) {
         drop(turn);
-        let (done, gave_rows) = do_job(rt, alloc, lock, helpers, gate, seat, job);
+        let (done, gave_rows) = do_job(rt, alloc, lock, helpers, thread, gate, seat, job);
         if gave_rows && !last.gave_rows {
-            *turns.lock(rt) = Turn {
-                degree,
-                gave_rows,
-                workers: last.workers,
-            };
+            *turns.lock(rt) = Turn { degree, gave_rows };
         }
         return done;
     }
-    let all = helpers_of_all(gate, helpers, last.workers);
-    let (done, gave_rows) = do_job(rt, alloc, lock, all, gate, seat, job);
-    *turn = Turn {
-        degree,
-        gave_rows,
-        workers: last.workers,
-    };
+    let (done, gave_rows) = do_job(rt, alloc, lock, helpers, thread, gate, seat, job);
+    *turn = Turn { degree, gave_rows };
     drop(turn);
     done
 }
@@ -176,6 +156,7 @@ fn do_round<R: Threads + Wait + Sync>(
     alloc: Global,
     lock: &BasisLock,
     helpers: u32,
+    thread: usize,
     gate: &SharedGate,
     turns: &Mutex<Turn>,
     seat: &mut BasisSeat,
@@ -189,7 +170,7 @@ fn do_round<R: Threads + Wait + Sync>(
     let turn = turns.lock(rt);
     match take_job(rt, alloc, lock, seat, PAIRS) {
         Ok(Taken::Job(job)) => do_job_in_turn(
-            rt, alloc, lock, helpers, gate, turns, turn, seat, job,
+            rt, alloc, lock, helpers, thread, gate, turns, turn, seat, job,
         ),
         Ok(Taken::Empty) => {
             drop(turn);
@@ -213,6 +194,7 @@ pub(crate) fn work<R: Threads + Wait + Sync>(
     alloc: Global,
     lock: &BasisLock,
     helpers: u32,
+    thread: usize,
     gate: &SharedGate,
     turns: &Mutex<Turn>,
     seat: BasisSeat,
@@ -226,7 +208,7 @@ pub(crate) fn work<R: Threads + Wait + Sync>(
 {
     let mut seat = seat;
     for _ in rt.forever() {
-        if do_round(rt, alloc, lock, helpers, gate, turns, &mut seat) {
+        if do_round(rt, alloc, lock, helpers, thread, gate, turns, &mut seat) {
             return seat;
         }
     }

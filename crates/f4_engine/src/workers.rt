@@ -45,6 +45,7 @@ fn work_alone<R: Threads + Wait + Sync>(
     alloc: Global,
     lock: &BasisLock,
     helpers: u32,
+    thread: usize,
     gate: &SharedGate,
     turns: &Mutex<Turn>,
     seat: BasisSeat,
@@ -57,7 +58,7 @@ fn work_alone<R: Threads + Wait + Sync>(
     ensures idle { IsIdle lock.now.table.shared.table_id (base lock.now.table.shared.key.value) result.place }
     ensures done { AllDone n result.place.me.0 }
 {
-    work(rt, alloc, lock, helpers, gate, turns, seat)
+    work(rt, alloc, lock, helpers, thread, gate, turns, seat)
 }
 
 // The last worker, after those before it have ended.
@@ -66,6 +67,7 @@ fn work_late<R: Threads + Wait + Sync>(
     alloc: Global,
     lock: &BasisLock,
     helpers: u32,
+    thread: usize,
     gate: &SharedGate,
     turns: &Mutex<Turn>,
     seat: BasisSeat,
@@ -82,7 +84,7 @@ fn work_late<R: Threads + Wait + Sync>(
     ensures idle { IsIdle lock.now.table.shared.table_id (base lock.now.table.shared.key.value) result.place }
     ensures done { AllDone n result.place.me.0 }
 {
-    let worked = work(rt, alloc, lock, helpers, gate, turns, other);
+    let worked = work(rt, alloc, lock, helpers, thread, gate, turns, other);
     unite(lock, seat, worked, n, last)
 }
 
@@ -93,6 +95,7 @@ pub(crate) fn work_all<R: Threads + Wait + Sync>(
     alloc: Global,
     lock: &BasisLock,
     helpers: u32,
+    thread: usize,
     gate: &SharedGate,
     turns: &Mutex<Turn>,
     mut seat: BasisSeat,
@@ -107,13 +110,17 @@ pub(crate) fn work_all<R: Threads + Wait + Sync>(
     ensures done { AllDone n result.place.me.0 }
 {
     if n <= 1 {
-        return work_alone(rt, alloc, lock, helpers, gate, turns, seat, n);
+        return work_alone(rt, alloc, lock, helpers, thread, gate, turns, seat, n);
     }
     let last = n - 1;
     let other = part(lock, &mut seat, n, last);
     if threads <= last {
-        let seat = work_all(rt, alloc, lock, helpers, gate, turns, seat, last, threads);
-        return work_late(rt, alloc, lock, helpers, gate, turns, seat, other, n, last);
+        let seat = work_all(
+            rt, alloc, lock, helpers, thread, gate, turns, seat, last, threads,
+        );
+        return work_late(
+            rt, alloc, lock, helpers, thread, gate, turns, seat, other, n, last,
+        );
     }
     let (theirs, ours) = join(
         rt,
@@ -123,14 +130,18 @@ pub(crate) fn work_all<R: Threads + Wait + Sync>(
                 × (0 < helpers) }
             ensures { IsIdle lock.entry.now.table.shared.table_id (base lock.entry.now.table.shared.key.value) result.place
                 × HasDone other.worker result.place.me.0 }
-        { work(rt, alloc, lock, helpers, gate, turns, other) },
+        { work(rt, alloc, lock, helpers, thread, gate, turns, other) },
         || -> BasisSeat
             requires { IsSync R.row × IsIdle lock.now.table.shared.table_id (base lock.now.table.shared.key.value) seat.place
                 × IsReady last seat.place.me.0 × (last ≤ (base lock.now.table.shared.key.value).workers)
                 × (0 < (base lock.now.table.shared.key.value).workers) × (0 < helpers) }
             ensures { IsIdle lock.entry.now.table.shared.table_id (base lock.entry.now.table.shared.key.value) result.place
                 × AllDone last result.place.me.0 }
-        { work_all(rt, alloc, lock, helpers, gate, turns, seat, last, threads) },
+        {
+            work_all(
+                rt, alloc, lock, helpers, thread, gate, turns, seat, last, threads,
+            )
+        },
     );
     unite(lock, ours, theirs, n, last)
 }

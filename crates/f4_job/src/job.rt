@@ -25,6 +25,7 @@ fn rows_over<R: Threads + Sync>(
     ring: &Ring,
     job: &Job,
     helpers: u32,
+    thread: usize,
     gate: &SharedGate,
 ) -> Result<NewRows, MatrixStop>
     requires over { ring.now ≡ job.now.shared.ring }
@@ -35,7 +36,7 @@ fn rows_over<R: Threads + Sync>(
     job.kept();
     let members = job.members();
     members.kept();
-    let found = new_rows(rt, alloc, ring, members, job.pairs(), helpers, gate)?;
+    let found = new_rows(rt, alloc, ring, members, job.pairs(), helpers, thread, gate)?;
     Ok(found)
 }
 
@@ -53,6 +54,7 @@ fn solve_matrix<R: Threads + Sync>(
     ring: &Ring,
     job: &Job,
     helpers: u32,
+    thread: usize,
     gate: &SharedGate,
 ) -> Result<Solution, MatrixStop>
     requires over { ring.now ≡ job.now.shared.ring }
@@ -62,7 +64,7 @@ fn solve_matrix<R: Threads + Sync>(
     job.kept();
     let members = job.members();
     members.kept();
-    let found = rows_over(rt, alloc, ring, job, helpers, gate)?;
+    let found = rows_over(rt, alloc, ring, job, helpers, thread, gate)?;
     let rows = make_rows(alloc, ring, &found.columns, &found.products, &found.rows)?;
     Ok(Solution {
         rows,
@@ -74,9 +76,10 @@ fn solve_matrix<R: Threads + Sync>(
 /// products of which it is a combination (Faugère 1999, section 2). Where a product of the matrix has a degree above
 /// 65,535, the job is solved by plain division, which may need no such product.
 ///
-/// So many helpers, one at least, bring the matrix into echelon form together: in each pass each claims the lead columns of its share
-/// of the rows, passes the gate with its own number at `RowClaimed`, and reduces the rows whose column another row has. The first
-/// works in the caller's thread, others in threads of their own, as many as there is work for. Division is by the caller alone.
+/// So many helpers, one at least, bring the matrix into echelon form together: in each pass each claims the free columns and then the
+/// lead columns of its share of the rows, passes the gate with its own number at `RowClaimed`, and reduces the rows whose column
+/// another row has. The first works in the caller's thread, others in threads of their own, one more for each `thread` additions that
+/// a pass makes. Division is by the caller alone.
 ///
 /// `Degree` comes with a trail of the job to a product of degree above 65,535, `Memory` where there is none; both
 /// give the job back.
@@ -85,6 +88,7 @@ pub fn solve<R: Threads + Sync>(
     alloc: Global,
     job: Job,
     helpers: u32,
+    thread: usize,
     gate: &SharedGate,
 ) -> Result<Outcome, (WorkStop, Job)>
     requires helpers { 0 < helpers }
@@ -92,7 +96,7 @@ pub fn solve<R: Threads + Sync>(
     ensures back { IfErr result (λ e. e.1 ≡ job) }
     ensures stop { IfErr result (λ e. JobStops job e.0) }
 {
-    match solve_matrix(rt, alloc, &job.shared().ring, &job, helpers, gate) {
+    match solve_matrix(rt, alloc, &job.shared().ring, &job, helpers, thread, gate) {
         Ok(solution) => Ok(Outcome::new(job, solution.rows, solution.products)),
         Err(MatrixStop::Memory) => Err((WorkStop::Memory, job)),
         Err(MatrixStop::Degree) => s_vectors::solve(alloc, job),

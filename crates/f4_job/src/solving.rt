@@ -36,6 +36,7 @@ pub(crate) fn new_rows<R: Threads + Sync, L: Vectors>(
     members: &L,
     pairs: &[Pair],
     helpers: u32,
+    thread: usize,
     gate: &SharedGate,
 ) -> Result<NewRows, MatrixStop>
     requires members { AreVectorsOver ring.now (ring_comparison ring.now) (L.listed members.now) }
@@ -56,7 +57,15 @@ pub(crate) fn new_rows<R: Threads + Sync, L: Vectors>(
         prepared.matrix.columns().len(),
         prepared.matrix.rows(),
     )?;
-    let form = echelon(rt, alloc, &ring.modulus, prepared.matrix, helpers, gate)?;
+    let form = echelon(
+        rt,
+        alloc,
+        &ring.modulus,
+        prepared.matrix,
+        helpers,
+        thread,
+        gate,
+    )?;
     let rows = unflagged_rows(alloc, &flags, form.rows)?;
     Ok(NewRows {
         columns: form.columns,

@@ -27,3 +27,13 @@ fn a_held_gate_lets_the_first_go_once_another_has_passed(rt: HostRuntime) -> Res
     assert!(rt; !gate.ran_out());
     Ok(())
 }
+
+#[test]
+fn a_gate_of_no_turns_holds_nobody(rt: HostRuntime) -> Result<(), Fail> {
+    let gate = HeldGate::for_turns(rt.alloc(), Point::RowClaimed, 0)?;
+    assert_eq!(rt; pass_both(&gate, 0), 0);
+    assert!(rt; !gate.met());
+    assert_eq!(rt; pass_both(&gate, 1), 1);
+    assert!(rt; gate.met());
+    Ok(())
+}

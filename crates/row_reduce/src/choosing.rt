@@ -7,10 +7,6 @@ ghost use Rattle.row_reduce.specs.Echelons.{AreBetween};
 use module_vectors::NoMemory;
 use row_matrix::Row;
 use std::alloc::Global;
-use worker_gate::SharedGate;
-
-// So many additions of a product take about a millisecond: no thread is for less.
-const THREAD: usize = 1_000_000;
 
 // After so many additions for each helper a pass ends, so that each helper soon reads what the others left.
 const PART: usize = 4_000_000;
@@ -19,6 +15,8 @@ const PART: usize = 4_000_000;
 #[derive(Drop)]
 pub(crate) struct Chosen {
     pub(crate) now: Vec<u64>,
+    // How many of them, the first, have a free column each.
+    pub(crate) free: usize,
     pub(crate) later: Vec<u64>,
     pub(crate) helpers: u32,
 }
@@ -86,40 +84,37 @@ fn enough(rows: &[Row], numbers: &[u64], most: usize) -> (usize, usize)
     (numbers.len(), made)
 }
 
-// All pending rows at once, by so many helpers.
-fn all_rows(alloc: Global, pending: &[u64], helpers: u32) -> Result<Chosen, NoMemory>
+// All pending rows at once, by one helper.
+fn all_rows(alloc: Global, pending: &[u64]) -> Result<Chosen, NoMemory>
     ensures parts { IfOk result (λ c. IsPermutation pending.now (c.now.items ++ c.later.items)) }
     ensures now { IfOk result (λ c. c.now.items ≡ pending.now) }
 {
     let now = Vec::from_slice(alloc, pending)?;
     Ok(Chosen {
         now,
+        free: 0,
         later: Vec::new(alloc),
-        helpers,
+        helpers: 1,
     })
 }
 
-// Rows that only claim free columns, by one helper, or else the first of the others, so that all helpers have enough to do.
+// The rows that have free columns, one of each, and so many of the others that all helpers have enough to do.
 fn some_rows(alloc: Global, rows: &[Row], parts: Parts, helpers: u32) -> Result<Chosen, NoMemory>
     requires known { Each (λ k. k < length rows.now) parts.others.items }
     requires some { 0 < length (parts.first.items ++ parts.others.items) }
     ensures parts { IfOk result (λ c. (c.now.items ++ c.later.items) ≡ (parts.first.items ++ parts.others.items)) }
     ensures some { IfOk result (λ c. 0 < length c.now.items) }
 {
-    let Parts { first, others } = parts;
-    if first.len() > 0 {
-        return Ok(Chosen {
-            now: first,
-            later: others,
-            helpers: 1,
-        });
-    }
-    let mut now = others;
+    let Parts { first, mut others } = parts;
     let most = PART.saturating_mul(helpers as usize);
-    let (count, _) = enough(rows, &now, most);
-    let later = now.split_off(count)?;
+    let (count, _) = enough(rows, &others, most);
+    let later = others.split_off(count)?;
+    let free = first.len();
+    let mut now = first;
+    now.append(&mut others)?;
     Ok(Chosen {
         now,
+        free,
         later,
         helpers,
     })
@@ -127,18 +122,18 @@ fn some_rows(alloc: Global, rows: &[Row], parts: Parts, helpers: u32) -> Result<
 
 /// Which of the pending rows the next pass is over, one at least, and by how many of so many helpers.
 ///
-/// One helper has all rows at once, since it reads what it left itself. So it is where there is too little work for threads of more,
-/// and under a held gate, where helpers wait for one another. Several helpers have at first the rows that have free columns, one of
-/// each column, so that these become pivots before any row is reduced; and then as many others as keep all helpers at work for a few
-/// milliseconds: what one helper leaves, the others read from the next pass on.
+/// One helper has all rows at once, since it reads what it left itself. So it is where there is too little work for threads of more:
+/// for each `thread` additions a pass has one helper more. Several helpers have the first row of each free column at first, so that
+/// each claims for these before others, and then as many others as keep all helpers at work for a few milliseconds: what one helper
+/// leaves, the others read from the next pass on.
 pub(crate) fn choose(
     alloc: Global,
-    gate: &SharedGate,
     rows: &[Row],
     leads: &[u64],
     held: &[Option<u64>],
     pending: &[u64],
     helpers: u32,
+    thread: usize,
 ) -> Result<Chosen, NoMemory>
     requires some { 0 < length pending.now }
     requires ready { (p inputs : ℕ) × AreBetween p (length held.now) inputs rows.now leads.now held.now pending.now }
@@ -146,14 +141,14 @@ pub(crate) fn choose(
     ensures some { IfOk result (λ c. 0 < length c.now.items) }
 {
     let most = helpers.min(u32::try_from(pending.len()).unwrap_or(u32::MAX));
-    if most <= 1 || !gate.is_open() {
-        return all_rows(alloc, pending, most);
+    if most <= 1 {
+        return all_rows(alloc, pending);
     }
     let parts = free_rows(alloc, leads, held, pending)?;
     let (_, work) = enough(rows, &parts.others, usize::MAX);
-    let threads = u32::try_from(work / THREAD).unwrap_or(u32::MAX);
+    let threads = u32::try_from(work / thread.max(1)).unwrap_or(u32::MAX);
     if threads == 0 {
-        return all_rows(alloc, pending, 1);
+        return all_rows(alloc, pending);
     }
     some_rows(alloc, rows, parts, most.min(threads.saturating_add(1)))
 }

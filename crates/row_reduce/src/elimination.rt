@@ -121,6 +121,7 @@ fn pass_over<R: Threads + Sync>(
     inputs: usize,
     state: &Underway,
     helpers: u32,
+    thread: usize,
     gate: &SharedGate,
 ) -> Result<(Passed, Vec<u64>), NoMemory>
     requires some { 0 < length state.now.pending.items }
@@ -131,12 +132,12 @@ fn pass_over<R: Threads + Sync>(
 {
     let chosen = choose(
         alloc,
-        gate,
         &state.rows,
         &state.leads,
         &state.held,
         &state.pending,
         helpers,
+        thread,
     )?;
     let passed = pass(
         rt,
@@ -148,6 +149,7 @@ fn pass_over<R: Threads + Sync>(
         &state.leads,
         &state.held,
         &chosen.now,
+        chosen.free,
         chosen.helpers,
     )?;
     Ok((passed, chosen.later))
@@ -161,6 +163,7 @@ fn run_pass<R: Threads + Sync>(
     inputs: usize,
     state: &mut Underway,
     helpers: u32,
+    thread: usize,
     gate: &SharedGate,
 ) -> Result<(), NoMemory>
     requires some { 0 < length state.old.pending.items }
@@ -173,7 +176,7 @@ fn run_pass<R: Threads + Sync>(
     ensures less { OnOk result (columns_behind (length state.old.held.items) state.new.rows.items state.new.pending.items
         < columns_behind (length state.old.held.items) state.old.rows.items state.old.pending.items) }
 {
-    let (passed, later) = pass_over(rt, alloc, modulus, inputs, state, helpers, gate)?;
+    let (passed, later) = pass_over(rt, alloc, modulus, inputs, state, helpers, thread, gate)?;
     put_all(state, passed, later)?;
     Ok(())
 }
@@ -186,6 +189,7 @@ fn run_passes<R: Threads + Sync>(
     inputs: usize,
     state: &mut Underway,
     helpers: u32,
+    thread: usize,
     gate: &SharedGate,
 ) -> Result<(), NoMemory>
     requires { AreBetween modulus.now.value (length state.old.held.items) inputs
@@ -197,7 +201,7 @@ fn run_passes<R: Threads + Sync>(
     ensures done { OnOk result (state.new.pending.items ≡ []) }
 {
     while state.pending.len() > 0 {
-        run_pass(rt, alloc, modulus, inputs, state, helpers, gate)?;
+        run_pass(rt, alloc, modulus, inputs, state, helpers, thread, gate)?;
     }
     Ok(())
 }
@@ -227,6 +231,7 @@ fn reduce_rows<R: Threads + Sync>(
     inputs: usize,
     rows: Vec<Row>,
     helpers: u32,
+    thread: usize,
     gate: &SharedGate,
 ) -> Result<Vec<Row>, NoMemory>
     requires { Each (IsRow modulus.now.value columns inputs) rows.items }
@@ -234,7 +239,9 @@ fn reduce_rows<R: Threads + Sync>(
 {
     let sorted = by_weight(rows);
     let mut state = begin(alloc, columns, sorted)?;
-    run_passes(rt, alloc, modulus, inputs, &mut state, helpers, gate)?;
+    run_passes(
+        rt, alloc, modulus, inputs, &mut state, helpers, thread, gate,
+    )?;
     let done = named_rows(alloc, state.rows, &state.held)?;
     Ok(done)
 }
@@ -243,18 +250,20 @@ fn reduce_rows<R: Threads + Sync>(
 /// section 2): monic rows whose leads are apart, no more than the matrix has, with the same span, each with the combination of
 /// the input rows that it is; the least lead comes first.
 ///
-/// The rows of a pass are shared and read only. Of n helpers number h has the rows h, h + n, and so on. It claims the first column of
-/// each of its rows, by one exchange, and passes the gate at `RowClaimed`. Then it reduces those whose column another row has, by
-/// that row and by each other pivot that the helper can read: at each column the row that has it by then, or else one that the helper
-/// left itself. What is left has a lower lead, so the passes end. Which of the rows a pass is over `choose` says: where there is
-/// work for several helpers, at first those that have free columns, those with fewer entries first, and then a part of the others
-/// after another. `NoMemory` is the only error; the matrix is gone then.
+/// The rows of a pass are shared and read only. A pass has one helper more for each `thread` additions that it makes. Of n helpers
+/// number h has the rows h, h + n, and so on. It claims each free column first, for whichever row comes first there, and then the first
+/// column of each of its rows, each by one exchange, and with each of its rows it passes the gate at `RowClaimed`. Then it reduces
+/// those whose column another row has, by that row and by each other pivot that the helper can read: at each column the row that has
+/// it by then, or else one that the helper left itself. What is left has a lower lead, so the passes end. Which of the rows a pass is
+/// over `choose` says: where there is work for several helpers, the first row of each free column, those with fewer entries first in
+/// the first pass, and a part of the others after another. `NoMemory` is the only error; the matrix is gone then.
 pub fn echelon<R: Threads + Sync>(
     rt: &R,
     alloc: Global,
     modulus: &Modulus,
     matrix: Matrix,
     helpers: u32,
+    thread: usize,
     gate: &SharedGate,
 ) -> Result<EchelonRows, NoMemory>
     requires rows { Each (IsRow modulus.now.value (length matrix.columns) matrix.inputs) matrix.rows }
@@ -273,6 +282,7 @@ pub fn echelon<R: Threads + Sync>(
         inputs,
         rows,
         helpers,
+        thread,
         gate,
     )?;
     Ok(EchelonRows { columns, rows })

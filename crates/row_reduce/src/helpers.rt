@@ -87,7 +87,8 @@ fn unite(
     (gather(left, more), seat)
 }
 
-// The helpers below n side by side, of which the seat is the first's: helper h has the rows h, h + n, and so on.
+// The helpers below n side by side, of which the seat is the first's: helper h has the rows h, h + n, and so on. Each claims free
+// columns for the rows `free`, from a share of its own on.
 fn help_all<R: Threads + Sync>(
     rt: &R,
     alloc: Global,
@@ -97,20 +98,24 @@ fn help_all<R: Threads + Sync>(
     mut seat: ClaimSeat,
     mine: &[u64],
     n: u32,
+    free: &[u64],
+    share: usize,
 ) -> (Result<Vec<Left>, NoMemory>, ClaimSeat)
     requires ready { AreReady shared.modulus.now.value columns shared.inputs shared.rows.now
         shared.claims.now.rows.leads.items shared.claims.now.rows.held.items }
     requires seat { IsSeatOf shared.claims.now.table.shared.table_id shared.claims.now.rows.leads.items seat }
     requires fresh { told seat ≡ [] }
     requires mine { Each (λ m. m < length shared.rows.now) mine.now }
+    requires free { Each (λ m. m < length shared.rows.now) free.now }
     ensures seat { IsSeatOf shared.entry.claims.now.table.shared.table_id shared.entry.claims.now.rows.leads.items result.1 }
     ensures helped { IfOk result.0 (λ left. AreHelped shared.entry.modulus.now.value columns shared.entry.inputs shared.entry.rows.now
         mine.now (told result.1) left.items) }
 {
     if n <= 1 {
-        return help(alloc, shared, columns, gate, 0, seat, mine);
+        return help(alloc, shared, columns, gate, 0, seat, mine, free, 0);
     }
     let last = n - 1;
+    let from = share.saturating_mul(last as usize);
     let dealt = match deal(alloc, mine, n) {
         Ok(dealt) => dealt,
         Err(stop) => return (Err(stop), seat),
@@ -129,7 +134,7 @@ fn help_all<R: Threads + Sync>(
         || -> (Result<Vec<Left>, NoMemory>, ClaimSeat)
             requires { AreReady modulus.now.value columns inputs rows.now claims.now.rows.leads.items claims.now.rows.held.items
                 × IsSeatOf claims.now.table.shared.table_id claims.now.rows.leads.items other
-                × (told other ≡ []) × Each (λ m. m < length rows.now) late.now }
+                × (told other ≡ []) × Each (λ m. m < length rows.now) late.now × Each (λ m. m < length rows.now) free.now }
             ensures { IsSeatOf claims.entry.now.table.shared.table_id claims.entry.now.rows.leads.items result.1
                 × IfOk result.0 (λ left. AreHelped modulus.entry.now.value columns inputs rows.entry.now late.entry.now (told result.1) left.items) }
         {
@@ -139,12 +144,12 @@ fn help_all<R: Threads + Sync>(
                 inputs,
                 claims,
             };
-            help(alloc, shared, columns, gate, last, other, late)
+            help(alloc, shared, columns, gate, last, other, late, free, from)
         },
         || -> (Result<Vec<Left>, NoMemory>, ClaimSeat)
             requires { IsSync R.row × AreReady modulus.now.value columns inputs rows.now claims.now.rows.leads.items claims.now.rows.held.items
                 × IsSeatOf claims.now.table.shared.table_id claims.now.rows.leads.items seat
-                × (told seat ≡ []) × Each (λ m. m < length rows.now) others.now }
+                × (told seat ≡ []) × Each (λ m. m < length rows.now) others.now × Each (λ m. m < length rows.now) free.now }
             ensures { IsSeatOf claims.entry.now.table.shared.table_id claims.entry.now.rows.leads.items result.1
                 × IfOk result.0 (λ left. AreHelped modulus.entry.now.value columns inputs rows.entry.now others.entry.now (told result.1) left.items) }
         {
@@ -154,10 +159,20 @@ fn help_all<R: Threads + Sync>(
                 inputs,
                 claims,
             };
-            help_all(rt, alloc, shared, columns, gate, seat, others, last)
+            help_all(
+                rt, alloc, shared, columns, gate, seat, others, last, free, share,
+            )
         },
     );
     unite(claims, ours, theirs)
+}
+
+// The first of these rows, so many at most.
+fn front(numbers: &[u64], count: usize) -> &[u64]
+    ensures { (n : ℕ) → Each (λ m. m < n) numbers.now → Each (λ m. m < n) result.now }
+{
+    let end = count.min(numbers.len());
+    &numbers[0..end]
 }
 
 /// The words at the end of a pass, and the rows left.
@@ -167,7 +182,8 @@ pub(crate) struct Passed {
     pub(crate) left: Vec<Left>,
 }
 
-/// One pass over the rows with these numbers by so many helpers, where each column has the old row that `held` names, or none.
+/// One pass over the rows with these numbers by so many helpers, where each column has the old row that `held` names, or none. The
+/// first `free` of these rows have a free column each.
 pub(crate) fn pass<R: Threads + Sync>(
     rt: &R,
     alloc: Global,
@@ -178,6 +194,7 @@ pub(crate) fn pass<R: Threads + Sync>(
     leads: &[u64],
     held: &[Option<u64>],
     pending: &[u64],
+    free: usize,
     helpers: u32,
 ) -> Result<Passed, NoMemory>
     requires some { 0 < length held.now }
@@ -196,7 +213,20 @@ pub(crate) fn pass<R: Threads + Sync>(
         inputs,
         claims: &claims,
     };
-    let (left, seat) = help_all(rt, alloc, shared, held.len(), gate, seat, pending, helpers);
+    let first = front(pending, free);
+    let share = first.len() / helpers.max(1) as usize;
+    let (left, seat) = help_all(
+        rt,
+        alloc,
+        shared,
+        held.len(),
+        gate,
+        seat,
+        pending,
+        helpers,
+        first,
+        share,
+    );
     let left = left?;
     let words = claims.close(seat);
     Ok(Passed { words, left })

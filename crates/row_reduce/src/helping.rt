@@ -8,7 +8,7 @@ ghost use Rattle.dense_reduction.specs.Pivots.{ArePivots};
 ghost use Rattle.dense_reduction.specs.Rests.{rows_left};
 ghost use Rattle.dense_reduction.specs.Together.{AreRests};
 ghost use Rattle.dense_reduction.specs.Underway.{AreIdle};
-ghost use Rattle.dense_reduction.specs.Words.{AreReady, Follows};
+ghost use Rattle.dense_reduction.specs.Words.{AreReady, Follows, leads_of};
 ghost use Rattle.row_reduce.specs.Passes.{AreHelped};
 ghost use Rattle.row_reduce.specs.Replaced.{AreReplaced, IsReplaced, IsRestKept};
 ghost use Rattle.row_reduce.specs.Room.{HasIdleRoom};
@@ -290,7 +290,33 @@ fn replace_rows(
     Ok(own.left)
 }
 
-// Claims for all its rows, and then reduces those that lost.
+// Claims the first column of each of these rows, whichever helper has the row.
+fn claim_each(shared: Shared<'_>, seat: &mut ClaimSeat, free: &[u64])
+    requires known { shared.claims.now.rows.leads.items ≡ leads_of shared.rows.now }
+    requires seat { IsSeatOf shared.claims.now.table.shared.table_id shared.claims.now.rows.leads.items seat.old }
+    requires free { Each (λ m. m < length shared.rows.now) free.now }
+    ensures seat { IsSeatOf shared.entry.claims.now.table.shared.table_id shared.entry.claims.now.rows.leads.items seat.new }
+{
+    for number in free {
+        let _ = shared.claims.claim(seat, *number);
+    }
+}
+
+// Claims the first column of each of these rows, from this place on and round to it again. No helper waits for the others, since it
+// claims for their rows too: so these rows have their columns, whoever starts first.
+fn claim_free(shared: Shared<'_>, seat: &mut ClaimSeat, free: &[u64], from: usize)
+    requires known { shared.claims.now.rows.leads.items ≡ leads_of shared.rows.now }
+    requires seat { IsSeatOf shared.claims.now.table.shared.table_id shared.claims.now.rows.leads.items seat.old }
+    requires free { Each (λ m. m < length shared.rows.now) free.now }
+    ensures seat { IsSeatOf shared.entry.claims.now.table.shared.table_id shared.entry.claims.now.rows.leads.items seat.new }
+{
+    let count = free.len();
+    let first = from.min(count);
+    claim_each(shared, seat, &free[first..count]);
+    claim_each(shared, seat, &free[0..first]);
+}
+
+// Claims the free columns for these rows and then the columns of all its own, and reduces those that lost.
 fn help_through(
     alloc: Global,
     shared: Shared<'_>,
@@ -299,22 +325,26 @@ fn help_through(
     helper: u32,
     seat: &mut ClaimSeat,
     mine: &[u64],
+    free: &[u64],
+    from: usize,
 ) -> Result<Vec<Left>, NoMemory>
     requires ready { AreReady shared.modulus.now.value columns shared.inputs shared.rows.now
         shared.claims.now.rows.leads.items shared.claims.now.rows.held.items }
     requires seat { IsSeatOf shared.claims.now.table.shared.table_id shared.claims.now.rows.leads.items seat.old }
     requires mine { Each (λ m. m < length shared.rows.now) mine.now }
+    requires free { Each (λ m. m < length shared.rows.now) free.now }
     ensures seat { IsSeatOf shared.entry.claims.now.table.shared.table_id shared.entry.claims.now.rows.leads.items seat.new }
     ensures helped { IfOk result (λ left. AreHelped shared.entry.modulus.now.value columns shared.entry.inputs shared.entry.rows.now
         mine.now (told seat.new) left.items) }
 {
+    claim_free(shared, seat, free, from);
     let lost = claim_rows(alloc, shared, gate, helper, seat, mine)?;
     let left = replace_rows(alloc, shared, columns, seat, &lost)?;
     Ok(left)
 }
 
-/// One helper's part of a pass: it claims the first column of each of these rows, and then reduces those whose column another
-/// row has.
+/// One helper's part of a pass: it claims the free columns for the rows `free`, from this place on and round, then the first column of
+/// each of its own, and reduces those of its own whose column another row has.
 pub(crate) fn help(
     alloc: Global,
     shared: Shared<'_>,
@@ -323,17 +353,22 @@ pub(crate) fn help(
     helper: u32,
     seat: ClaimSeat,
     mine: &[u64],
+    free: &[u64],
+    from: usize,
 ) -> (Result<Vec<Left>, NoMemory>, ClaimSeat)
     requires ready { AreReady shared.modulus.now.value columns shared.inputs shared.rows.now
         shared.claims.now.rows.leads.items shared.claims.now.rows.held.items }
     requires seat { IsSeatOf shared.claims.now.table.shared.table_id shared.claims.now.rows.leads.items seat }
     requires fresh { told seat ≡ [] }
     requires mine { Each (λ m. m < length shared.rows.now) mine.now }
+    requires free { Each (λ m. m < length shared.rows.now) free.now }
     ensures seat { IsSeatOf shared.entry.claims.now.table.shared.table_id shared.entry.claims.now.rows.leads.items result.1 }
     ensures helped { IfOk result.0 (λ left. AreHelped shared.entry.modulus.now.value columns shared.entry.inputs shared.entry.rows.now
         mine.now (told result.1) left.items) }
 {
     let mut seat = seat;
-    let left = help_through(alloc, shared, columns, gate, helper, &mut seat, mine);
+    let left = help_through(
+        alloc, shared, columns, gate, helper, &mut seat, mine, free, from,
+    );
     (left, seat)
 }

@@ -5,13 +5,15 @@ use std::sync::Arc;
 use std::sync::atomic::{AtomicU64, Ordering};
 use std::thread;
 
-// For how many turns the first is held.
+// For how many turns the first is held where nothing else is said.
 const MOST_TURNS: u32 = 10_000_000;
 
 /// The point of a held gate, and who has passed it there. All gates that one held gate hands out have the same.
 #[derive(Drop)]
 pub struct Hold {
     point: Point,
+    // For how many turns the first is held.
+    turns: u32,
     // 0 before anybody passed at the point, else the number of the first that did, and 1.
     first: AtomicU64,
     // Not 0 where another has passed there.
@@ -41,7 +43,7 @@ impl Hold {
     }
 
     fn wait_for_another(&self) {
-        for _ in 0..MOST_TURNS {
+        for _ in 0..self.turns {
             if self.passed.load(Ordering::SeqCst) != 0 {
                 return;
             }
@@ -52,17 +54,23 @@ impl Hold {
 }
 
 /// A gate that holds the first worker that passes it at its point, until a worker with another number has passed there, for
-/// at most 10,000,000 turns. It holds once.
+/// so many turns at most. It holds once.
 #[derive(Drop)]
 pub struct HeldGate {
     hold: Arc<Hold, Global>,
 }
 
 impl HeldGate {
-    /// A gate that holds at this point.
+    /// A gate that holds at this point, for at most 10,000,000 turns.
     pub fn new(alloc: Global, point: Point) -> Result<HeldGate, AllocError> {
+        HeldGate::for_turns(alloc, point, MOST_TURNS)
+    }
+
+    /// A gate that holds at this point for at most so many turns. With none it holds nobody, and tells whether two have come by.
+    pub fn for_turns(alloc: Global, point: Point, turns: u32) -> Result<HeldGate, AllocError> {
         let hold = Hold {
             point,
+            turns,
             first: AtomicU64::new(0),
             passed: AtomicU64::new(0),
             gave_up: AtomicU64::new(0),
@@ -77,7 +85,7 @@ impl HeldGate {
         self.hold.gave_up.load(Ordering::SeqCst) != 0
     }
 
-    /// Was the first let go since another had come by?
+    /// Have two workers with different numbers come by?
     pub fn met(&self) -> bool {
         self.hold.passed.load(Ordering::SeqCst) != 0
     }

@@ -16,11 +16,6 @@ impl SharedGate {
         SharedGate { hold: None }
     }
 
-    /// Does it let everyone through at once?
-    pub fn is_open(&self) -> bool {
-        self.hold.is_none()
-    }
-
     // This hold again. It takes no memory: an `Arc` is refused where 2^63 of it are alive, which no memory has room for.
     pub(crate) fn holding(hold: &Arc<Hold, Global>) -> SharedGate {
         SharedGate {

@@ -12,8 +12,8 @@ join-theirs-requires-after_bounds g t c κs within =
     let parts =
     dealt_below (length c.args.shared.rows.now) c.args.mine.now c.as_slice-others.result.now c.as_slice-late.result.now
     (dealt_read c.as_slice-others.ensures.value c.as_slice-late.ensures.value c.in-Ok.ensures) c.requires.mine in (
-      (c.requires.ready, new.0, new.1, parts.1),
-      (search rules, ((λ a m. m), ((search rules, c.requires.ready, old.0, old.1 ∙ c.requires.fresh, parts.0), search rules))),
+      (c.requires.ready, new.0, new.1, parts.1, c.requires.free),
+      (search rules, ((λ a m. m), ((search rules, c.requires.ready, old.0, old.1 ∙ c.requires.fresh, parts.0, c.requires.free), search rules))),
     )
 
 pub returns-clause-helped : goal.returns-clause-helped
