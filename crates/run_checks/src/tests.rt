@@ -1,8 +1,9 @@
 // Runs over ports in memory: faults in mid-stream, what is kept of a stop, and a gate that workers pass.
 use basis_core::BasisState;
 use byte_ports::{MemSink, MemSource};
+use command_words::read_words;
 use module_vectors::{KeptTrail, TrailStart};
-use session_top::{Ended, run};
+use session_top::{Ended, run, run_request};
 use std::alloc::Global;
 use std::sync::Wait;
 use std::test::Fail;
@@ -369,6 +370,24 @@ fn runs_are_told(rt: HostRuntime) -> Result<(), Fail> {
     Ok(())
 }
 
+/// Runs a case with a thread for each addition of a pass, so that helpers share the smallest rows. Is its text written, and what is
+/// told of its ending?
+fn run_shared<R: Threads + Wait + Sync, G: Gate>(
+    rt: &R,
+    alloc: Global,
+    case: &Case,
+    gate: &G,
+) -> Result<(bool, Told), Fail> {
+    let words = words_of(alloc, case)?;
+    let mut source = source_of(alloc, case)?;
+    let mut sink = sink_of(alloc, case)?;
+    let Ok(request) = read_words(alloc, &words) else {
+        return Ok((false, plain(2, 0)));
+    };
+    let told = told_of(&run_request(rt, alloc, request, 0, gate.shared(), &mut source, &mut sink));
+    Ok((sink.bytes() == case.text.as_bytes(), told))
+}
+
 /// Is a script run as told under a gate that holds the first at this point, and does another come by there?
 fn is_met<R: Threads + Wait + Sync>(
     rt: &R,
@@ -398,11 +417,58 @@ fn workers_pass_the_gate(rt: HostRuntime) -> Result<(), Fail> {
 #[test]
 fn helpers_pass_the_gate(rt: HostRuntime) -> Result<(), Fail> {
     let case = calm("p run --workers 1 --helpers 2", BASIS, TEXT, plain(0, 0));
-    assert!(rt; is_met(&rt, rt.alloc(), Point::RowClaimed, &case)?);
+    let gate = HeldGate::new(rt.alloc(), Point::RowClaimed)?;
+    let (is_written, told) = run_shared(&rt, rt.alloc(), &case, &gate)?;
+    assert!(rt; is_written);
+    assert!(rt; told == case.told);
+    assert!(rt; gate.met());
+    assert!(rt; !gate.ran_out());
     Ok(())
 }
 
-/// The first words with which the basis has another text or another ending.
+/// A module of which matrices have work for two helpers: passes with millions of additions.
+const LARGE: &str =
+    "ring 32003 a,b,c,d,e grevlex\nmodule N 2 = [(a+b+c+d+e)^3,(a-b)^3], [(b+2*c)^3,(c+d-3*e)^3], [(a+d)^3,(b+4*e)^3], [(2*a-e)^3,(b-c+d)^3]\nsize N\n";
+
+/// Its text.
+const LARGE_TEXT: &str = "size N 48\n3 4\n4 3\n5 6\n6 11\n7 8\n8 8\n9 5\n10 3\n";
+
+/// Do two helpers of a matrix claim columns, by the program's own numbers, under a gate that holds nobody? None where the text is
+/// another.
+fn two_claim<R: Threads + Wait + Sync>(
+    rt: &R,
+    alloc: Global,
+    words: &'static str,
+) -> Result<Option<bool>, Fail> {
+    let case = calm(words, LARGE, LARGE_TEXT, plain(0, 0));
+    let gate = HeldGate::for_turns(alloc, Point::RowClaimed, 0)?;
+    let (is_written, told) = run_case(rt, alloc, &case, &gate)?;
+    if is_written && told == case.told {
+        Ok(Some(gate.met()))
+    } else {
+        Ok(None)
+    }
+}
+
+/// A matrix with enough work has both helpers, and with `--helpers 1` one alone, however many workers there are.
+#[test]
+fn helpers_share_a_large_matrix(rt: HostRuntime) -> Result<(), Fail> {
+    assert_eq!(rt;
+        two_claim(&rt, rt.alloc(), "p run --workers 1 --helpers 2")?,
+        Some(true)
+    );
+    assert_eq!(rt;
+        two_claim(&rt, rt.alloc(), "p run --workers 1 --helpers 1")?,
+        Some(false)
+    );
+    assert_eq!(rt;
+        two_claim(&rt, rt.alloc(), "p run --workers 2 --helpers 1")?,
+        Some(false)
+    );
+    Ok(())
+}
+
+/// The first words with which the basis has another text or another ending, where helpers share the smallest rows.
 fn first_other_words<R: Threads + Wait + Sync>(
     rt: &R,
     alloc: Global,
@@ -414,7 +480,7 @@ fn first_other_words<R: Threads + Wait + Sync>(
         "p run --workers 2 --helpers 2",
     ] {
         let case = calm(words, BASIS, TEXT, plain(0, 0));
-        let (is_written, told) = run_case(rt, alloc, &case, &OpenGate)?;
+        let (is_written, told) = run_shared(rt, alloc, &case, &OpenGate)?;
         if !is_written || told != case.told {
             return Ok(Some(words));
         }

@@ -22,6 +22,7 @@ pub fn do_generated<R: Threads + Wait + Sync, K: Sink>(
     rt: &R,
     alloc: Global,
     request: Request,
+    thread: usize,
     gate: SharedGate,
     seed: u32,
     sink: &mut K,
@@ -39,5 +40,5 @@ pub fn do_generated<R: Threads + Wait + Sync, K: Sink>(
         Err(_) => return Err(Early::NoMemory(0)),
     };
     let mut source = SureSource::new(script, usize::MAX);
-    do_lines(rt, alloc, request, gate, &mut source, sink)
+    do_lines(rt, alloc, request, thread, gate, &mut source, sink)
 }

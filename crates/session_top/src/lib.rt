@@ -4,12 +4,13 @@
 #![tactic(auto)]
 
 mod early;
+mod engines;
 mod generated;
 mod lines;
 mod stops;
 mod top;
 
-pub use top::{Ended, run};
+pub use top::{Ended, run, run_request};
 
 /// The most bytes that a script has.
 pub const SCRIPT_LIMIT: usize = 1_048_576;

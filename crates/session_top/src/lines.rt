@@ -15,10 +15,12 @@ ghost use Rattle.session_top.specs.Run.{Meant, ScriptStops};
 
 use crate::SCRIPT_LIMIT;
 use crate::early::{Early, Kept, Refusal};
+use crate::engines::{Engines, engine_of};
 use crate::stops::write_stop_line;
 use basis_core::BasisState;
 use byte_ports::{Failed, Lines, LinesStop, Next, Sink, Source, write_all_to};
 use command_words::Request;
+use degree_engine::DegreeEngine;
 use f4_engine::F4Engine;
 use groebner_iface::OpStop;
 use itoa::Buffer;
@@ -86,8 +88,8 @@ fn replays(state: &Option<BasisState>)
     }
 }
 
-/// Takes out what an engine keeps of the last run that stopped. A new engine with the same budget, workers, helpers and
-/// gate stands in its place.
+/// Takes out what an engine keeps of the last run that stopped. A new engine with the same budget, workers, helpers, worth of
+/// a thread and gate stands in its place.
 fn take_stop(engine: &mut F4Engine) -> Kept
     ensures state { result.state ≡ engine.old.state }
     ensures trail { result.trail ≡ engine.old.trail }
@@ -98,6 +100,7 @@ fn take_stop(engine: &mut F4Engine) -> Kept
         engine.pairs(),
         engine.workers(),
         engine.helpers(),
+        engine.thread(),
         engine.gate().shared(),
     );
     let (state, trail) = replace(engine, fresh).into_stop();
@@ -143,7 +146,7 @@ fn stop_at_division<K: Sink>(sink: &mut K, number: u32, trail: KeptTrail) -> Ear
 
 /// What a run of lines works with from line to line.
 pub struct Desk {
-    engine: F4Engine,
+    engine: DegreeEngine<Engines, F4Engine>,
     session: Session,
     /// Where the text of a line is made.
     out: Vec<u8>,
@@ -161,14 +164,14 @@ impl Drop for Desk {
 }
 
 /// A desk at which nothing has a name yet, whose basis runs are as the request says, by workers and helpers that pass this gate.
-fn set_desk(alloc: Global, request: Request, gate: SharedGate) -> Desk
+fn set_desk(alloc: Global, request: Request, thread: usize, gate: SharedGate) -> Desk
     requires workers { 0 < request.workers }
     requires helpers { 0 < request.helpers }
     ensures names { result.session ≡ no_names }
-    ensures limits { limits_in result.engine ≡ limits_of request }
+    ensures limits { limits_in result.engine.direct ≡ limits_of request }
 {
     Desk {
-        engine: F4Engine::new(request.pairs, request.workers, request.helpers, gate),
+        engine: engine_of(request, thread, gate),
         session: Session::new(alloc),
         out: Vec::new(alloc),
     }
@@ -184,8 +187,8 @@ fn do_line<R: Threads + Wait + Sync, K: Sink>(
     line: &[u8],
 ) -> Result<(), Early>
     ensures done { OnOk result ((text : List ℕ) × Line desk.old.session line.now desk.new.session text × Appends (K.taken sink.old) (K.taken sink.new) text) }
-    ensures limits { OnOk result (limits_in desk.new.engine ≡ limits_in desk.old.engine) }
-    ensures stops { IfErr result (LineStops (K.taken sink.old) (K.taken sink.new) (limits_in desk.old.engine) desk.old.session line.now number) }
+    ensures limits { OnOk result (limits_in desk.new.engine.direct ≡ limits_in desk.old.engine.direct) }
+    ensures stops { IfErr result (LineStops (K.taken sink.old) (K.taken sink.new) (limits_in desk.old.engine.direct) desk.old.session line.now number) }
     ensures write { result ≡ Err Early.WriteFault → Rose (K.faults sink.old) (K.faults sink.new) }
     ensures later { K.faults sink.old ≤ K.faults sink.new }
 {
@@ -200,8 +203,8 @@ fn do_line<R: Threads + Wait + Sync, K: Sink>(
         },
         Ok(Step::Refused(kind)) => Err(refuse(sink, number, Refusal::OfLine(kind))),
         Err(OpStop::Memory) => Err(Early::NoMemory(number)),
-        Err(OpStop::Pairs) => Err(stop_at_run(sink, number, &mut desk.engine)),
-        Err(OpStop::Degree) => Err(stop_at_run(sink, number, &mut desk.engine)),
+        Err(OpStop::Pairs) => Err(stop_at_run(sink, number, &mut desk.engine.direct)),
+        Err(OpStop::Degree) => Err(stop_at_run(sink, number, &mut desk.engine.direct)),
         Err(OpStop::Trail(trail)) => Err(stop_at_division(sink, number, trail)),
     }
 }
@@ -221,7 +224,7 @@ fn do_all<R: Threads + Wait + Sync, S: Source, K: Sink>(
     requires lines { lines.old ≡ record { held = []; room = SCRIPT_LIMIT; is_open = true } }
     requires line { SCRIPT_LIMIT ≤ vec_capacity line.old }
     ensures done { OnOk result (Meant (S.left source.old) (S.left source.new) (K.taken sink.old) (K.taken sink.new) Done) }
-    ensures stops { IfErr result (ScriptStops (S.left source.old) (S.left source.new) (K.taken sink.old) (K.taken sink.new) (limits_in desk.old.engine)) }
+    ensures stops { IfErr result (ScriptStops (S.left source.old) (S.left source.new) (K.taken sink.old) (K.taken sink.new) (limits_in desk.old.engine.direct)) }
     ensures read { result ≡ Err Early.ReadFault → Rose (S.faults source.old) (S.faults source.new) }
     ensures write { result ≡ Err Early.WriteFault → Rose (K.faults sink.old) (K.faults sink.new) }
     ensures read_later { S.faults source.old ≤ S.faults source.new }
@@ -254,6 +257,7 @@ pub fn do_lines<R: Threads + Wait + Sync, S: Source, K: Sink>(
     rt: &R,
     alloc: Global,
     request: Request,
+    thread: usize,
     gate: SharedGate,
     source: &mut S,
     sink: &mut K,
@@ -275,7 +279,7 @@ pub fn do_lines<R: Threads + Wait + Sync, S: Source, K: Sink>(
         Ok(line) => line,
         Err(_) => return Err(Early::NoMemory(0)),
     };
-    let mut desk = set_desk(alloc, request, gate);
+    let mut desk = set_desk(alloc, request, thread, gate);
     let result = do_all(rt, alloc, &mut desk, &mut lines, &mut line, source, sink);
     drop(desk);
     result

@@ -23,6 +23,9 @@ use std::sync::Wait;
 use std::thread::Threads;
 use worker_gate::{Gate, SharedGate};
 
+// So many additions take about a millisecond, which is worth a thread.
+const THREAD: usize = 1_000_000;
+
 /// How a run ended.
 pub struct Ended {
     /// 0: all lines were done and, of a script that is read, the input was read to its end. 1: a line was refused, or the script
@@ -94,6 +97,7 @@ fn run_script<R: Threads + Wait + Sync, S: Source, K: Sink>(
     rt: &R,
     alloc: Global,
     request: Request,
+    thread: usize,
     gate: SharedGate,
     source: &mut S,
     sink: &mut K,
@@ -111,16 +115,18 @@ fn run_script<R: Threads + Wait + Sync, S: Source, K: Sink>(
     ensures write_later { K.faults sink.old ≤ K.faults sink.new }
 {
     match request.command {
-        Command::Run => do_lines(rt, alloc, request, gate, source, sink),
-        Command::Large(seed) => do_generated(rt, alloc, request, gate, seed, sink),
+        Command::Run => do_lines(rt, alloc, request, thread, gate, source, sink),
+        Command::Large(seed) => do_generated(rt, alloc, request, thread, gate, seed, sink),
     }
 }
 
-/// Does what a request asks for, and tells how it ended.
-fn run_request<R: Threads + Wait + Sync, S: Source, K: Sink>(
+/// Does what a request asks for, as `run` does after the words, and tells how it ended: a pass over the rows of a matrix has one
+/// helper more for each `thread` additions, up to the request's number.
+pub fn run_request<R: Threads + Wait + Sync, S: Source, K: Sink>(
     rt: &R,
     alloc: Global,
     request: Request,
+    thread: usize,
     gate: SharedGate,
     source: &mut S,
     sink: &mut K,
@@ -135,7 +141,7 @@ fn run_request<R: Threads + Wait + Sync, S: Source, K: Sink>(
 {
     // A script has one meaning, because each line has one result.
     one_result();
-    ending_of(run_script(rt, alloc, request, gate, source, sink))
+    ending_of(run_script(rt, alloc, request, thread, gate, source, sink))
 }
 
 /// Runs the script that the source gives, or with the command `large` the generated script of its seed, as the words ask, and
@@ -208,7 +214,7 @@ pub fn run<R: Threads + Wait + Sync, S: Source, K: Sink, G: Gate + Sync>(
         (K.taken sink.old) (K.taken sink.new) result.status result.line }
 {
     match read_words(alloc, words) {
-        Ok(request) => run_request(rt, alloc, request, gate.shared(), source, sink),
+        Ok(request) => run_request(rt, alloc, request, THREAD, gate.shared(), source, sink),
         Err(WordStop::Memory) => plain_ending(5, 0),
         Err(WordStop::Words) => match write_all_to(sink, b"error words\n") {
             Ok(()) => plain_ending(2, 0),

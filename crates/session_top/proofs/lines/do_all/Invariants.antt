@@ -9,7 +9,7 @@ invariant-loop-next g l = record {
   going : Going (g.S.Source.left l.initial.source) (g.S.Source.left l.source) (g.K.Sink.taken l.initial.sink) (g.K.Sink.taken l.sink) l.lines l.number l.desk.session;
   is_open : l.lines.is_open ≡ true;
   capacity : SCRIPT_LIMIT ≤ vec_capacity l.line;
-  limits : limits_in l.desk.engine ≡ limits_in l.initial.desk.engine;
+  limits : limits_in l.desk.engine.direct ≡ limits_in l.initial.desk.engine.direct;
   read_later : g.S.Source.faults l.initial.source ≤ g.S.Source.faults l.source;
   write_later : g.K.Sink.faults l.initial.sink ≤ g.K.Sink.faults l.sink;
 }

@@ -1,0 +1,3 @@
+mod AtOne
+pub mod LastVariable
+mod Resorting

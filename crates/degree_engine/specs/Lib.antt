@@ -1,0 +1,2 @@
+pub mod LastVariables
+pub mod Resorted

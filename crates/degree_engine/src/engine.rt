@@ -1,0 +1,95 @@
+// The engine.
+ghost use Rattle.std.specs.Prelude.{◌≡◌, IfOk};
+ghost use Rattle.std.specs.Thread.{IsSync};
+ghost use Rattle.formal_sums.specs.FormalSums.{Each};
+ghost use Rattle.module_vectors.specs.Rings.{ring_comparison};
+ghost use Rattle.module_vectors.specs.Vectors.{AreVectorsOver, HasPositions};
+ghost use Rattle.groebner_iface.specs.Runs.{IsReducedBasisOf};
+
+use crate::attempt::{Attempts, Unanswered};
+use crate::by_change::by_change;
+use crate::by_degrees::by_degrees;
+use crate::directness::goes_directly;
+use groebner_iface::{Groebner, Stop};
+use module_vectors::{Ring, VectList};
+use monomial_orders::Order;
+use std::alloc::Global;
+use std::sync::Wait;
+use std::thread::Threads;
+
+/// An engine over another. A list that is not homogeneous is first run homogenised, and before that, where the order is not by
+/// degree, the basis of an ideal is taken from the one in the graded order if it has few standard monomials. Each attempt has an
+/// engine of its own. Where none has an answer, or the list goes directly, the engine `direct` runs the list itself. What
+/// stopped early is of that one alone.
+pub struct DegreeEngine<A, E> {
+    pub attempts: A,
+    pub direct: E,
+}
+
+// By hand, so that each drop of one is a call.
+impl<A: Drop, E: Drop> Drop for DegreeEngine<A, E> {
+    fn drop(self) {
+        let DegreeEngine {
+            attempts: _,
+            direct: _,
+        } = self;
+    }
+}
+
+// May there be a change of order? An ideal of fewer generators than variables has no or infinitely many standard monomials (Krull's
+// height theorem).
+fn may_have_few(ring: &Ring, list: &VectList) -> bool {
+    ring.order != Order::Grevlex && list.len() >= ring.vars.len()
+}
+
+// The reduced basis of the list by one of the two ways, if one comes to it and the list does not go directly.
+fn attempted<R: Threads + Wait + Sync, A: Attempts<E>, E: Groebner + Drop>(
+    rt: &R,
+    alloc: Global,
+    attempts: &A,
+    ring: &Ring,
+    rank: u128,
+    list: &VectList,
+) -> Result<VectList, Unanswered>
+    requires sync { IsSync R.row }
+    requires vectors { AreVectorsOver ring.now (ring_comparison ring.now) list.now }
+    requires positions { Each (HasPositions rank) list.now }
+    ensures { IfOk result (IsReducedBasisOf ring.now rank list.now) }
+{
+    if goes_directly(alloc, ring, rank, list)? {
+        return Err(Unanswered::Other);
+    }
+    if rank == 1 {
+        if may_have_few(ring, list) {
+            match by_change(rt, alloc, &mut attempts.engine(), ring, list) {
+                Ok(basis) => return Ok(basis),
+                Err(Unanswered::Memory) => return Err(Unanswered::Memory),
+                Err(Unanswered::Other) => {}
+            }
+        }
+    }
+    by_degrees(rt, alloc, &mut attempts.engine(), ring, rank, list)
+}
+
+impl<A: Attempts<E>, E: Groebner + Drop> Groebner for DegreeEngine<A, E> {
+    ghost stops = { λ e. E.stops e.direct };
+
+    ghost stopped = { λ e. E.stopped e.direct };
+
+    ghost settings = { λ e. E.settings e.direct };
+
+    fn reduced<R: Threads + Wait + Sync>(
+        &mut self,
+        rt: &R,
+        alloc: Global,
+        ring: &Ring,
+        rank: u128,
+        list: &VectList,
+    ) -> Result<VectList, Stop> {
+        match attempted(rt, alloc, &self.attempts, ring, rank, list) {
+            Ok(basis) => Ok(basis),
+            Err(Unanswered::Memory) => Err(Stop::Memory),
+            Err(Unanswered::Other) => self.direct.reduced(rt, alloc, ring, rank, list),
+        }
+    }
+}
