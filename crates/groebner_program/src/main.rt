@@ -1,7 +1,7 @@
 //! The program: its words, standard input and standard output, handed to the call that does all the
 //! work. It ends with the status of the run: 0 all done, 1 a refusal, 2 wrong words, 3 a failed read,
-//! 4 a failed write, 5 want of memory, 6 a basis run met its budget of pairs, 7 a product of total
-//! degree above 65,535 was needed.
+//! 4 a failed write, 5 want of memory, 6 a basis run met its budget of pairs, 7 a product of degree
+//! above 65,535, by the ring's weights, was needed.
 #![tactic(auto)]
 
 use byte_ports::{StdSink, StdSource};
