@@ -182,7 +182,7 @@ square_outcome = record {
 begins : Begins crossing crossing_first
 begins = record {
   makes = makes_old;
-  queues = record { sorted = ((refl, (refl, tt)), ((refl, tt), (tt, tt))); same = queued_of 0 (vectors old_members) [] ((0, 1) ∷ ((1, 2) ∷ ((0, 2) ∷ []))) tt ((omega arith, omega arith), ((omega arith, omega arith), ((omega arith, omega arith), tt))) first_queue };
+  queues = (record { sorted = ((refl, (refl, tt)), ((refl, tt), (tt, tt))); same = queued_of 0 (vectors old_members) [] ((0, 1) ∷ ((1, 2) ∷ ((0, 2) ∷ []))) tt ((omega arith, omega arith), ((omega arith, omega arith), ((omega arith, omega arith), tt))) first_queue }, refl);
   out = refl;
   taken = refl;
   ended = refl;
@@ -199,7 +199,8 @@ step_1 = (
     record {
       unstopped = refl;
       skips = ((0, 1) ∷ ((1, 2) ∷ []), [], refl, (not_01 _, (not_12 _, tt)), inl (refl, refl), refl);
-      none_applies = (not_01 _, (not_12 _, tt));
+      none_applies = λ e. (not_01 _, (not_12 _, tt));
+      skips_none = λ e. cc;
       gives = refl;
       after = refl;
     },
@@ -207,31 +208,37 @@ step_1 = (
 )
 
 step_2 : Step crossing crossing_1 (Take 1 [] ((1, 2) ∷ [])) crossing_2
-step_2 = (512, record { known = omega arith; works = refl; free = refl; some = omega arith }, inr ((1, 2) ∷ [], record { unstopped = refl; skips = refl; none_applies = (not_12 _, tt); gives = refl; after = refl }))
+step_2 = (512, record { known = omega arith; works = refl; free = refl; some = omega arith }, inr ((1, 2) ∷ [], record { unstopped = refl; skips = refl; none_applies = λ e. (not_12 _, tt); skips_none = λ e. refl; gives = refl; after = refl }))
 
 step_3 : Step crossing crossing_2 (Put 1 (y_member ∷ [])) crossing_3
-step_3 = record {
-  base = 3;
-  rows = y_member ∷ [];
-  products = y_products;
-  may = record { known = omega arith; works = refl; had = omega arith; outcome = y_outcome };
-  makes = inr ([], 1, 1, y_member, [], leaves_y, refl, refl);
-  queue = y_queue;
-  queues = record { sorted = ((refl, (refl, tt)), ((refl, tt), (tt, tt))); same = queued_of 3 (vectors new_members) [] y_queue tt ((omega arith, omega arith), ((omega arith, omega arith), ((omega arith, omega arith), tt))) new_queue };
-  after = refl;
-}
+step_3 = (
+  3,
+  y_member ∷ [],
+  y_products,
+  record {
+    may = record { known = omega arith; works = refl; had = omega arith; outcome = y_outcome };
+    makes = inr ([], 1, 1, y_member, [], leaves_y, refl, refl);
+    queue = y_queue;
+    dropped = [];
+    queues = (record { sorted = ((refl, (refl, tt)), ((refl, tt), (tt, tt))); same = queued_of 3 (vectors new_members) [] y_queue tt ((omega arith, omega arith), ((omega arith, omega arith), ((omega arith, omega arith), tt))) new_queue }, refl);
+    after = refl;
+  },
+)
 
 step_4 : Step crossing crossing_3 (Put 0 []) crossing_last
-step_4 = record {
-  base = 3;
-  rows = square_row ∷ [];
-  products = square_products;
-  may = record { known = omega arith; works = refl; had = omega arith; outcome = square_outcome };
-  makes = inl ((at 3 0 1, 1) ∷ [], leaves_nothing, refl);
-  queue = y_queue;
-  queues = record { sorted = ((refl, (refl, tt)), ((refl, tt), (tt, tt))); same = queued_of 4 (vectors new_members) y_queue y_queue ((omega arith, omega arith), ((omega arith, omega arith), ((omega arith, omega arith), tt))) ((omega arith, omega arith), ((omega arith, omega arith), ((omega arith, omega arith), tt))) same_queue };
-  after = refl;
-}
+step_4 = (
+  3,
+  square_row ∷ [],
+  square_products,
+  record {
+    may = record { known = omega arith; works = refl; had = omega arith; outcome = square_outcome };
+    makes = inl ((at 3 0 1, 1) ∷ [], leaves_nothing, refl);
+    queue = y_queue;
+    dropped = [];
+    queues = (record { sorted = ((refl, (refl, tt)), ((refl, tt), (tt, tt))); same = queued_of 4 (vectors new_members) y_queue y_queue ((omega arith, omega arith), ((omega arith, omega arith), ((omega arith, omega arith), tt))) ((omega arith, omega arith), ((omega arith, omega arith), ((omega arith, omega arith), tt))) same_queue }, refl);
+    after = refl;
+  },
+)
 
 pub crossing_replays : Replays crossing crossing_last
 crossing_replays = (crossing_first, begins, (crossing_1, step_1, (crossing_2, step_2, (crossing_3, step_3, (crossing_last, step_4, refl)))))
@@ -246,7 +253,8 @@ budget_step = (
     record {
       unstopped = refl;
       skips = ((1, 2) ∷ [], [], refl, (basis_12 _, tt), inl (refl, refl), refl);
-      none_applies = (basis_12 _, tt);
+      none_applies = λ e. (basis_12 _, tt);
+      skips_none = λ e. cc;
       gives = refl;
       after = refl;
     },

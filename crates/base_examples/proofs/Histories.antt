@@ -15,7 +15,7 @@ use Rattle.base_examples.proofs.Vectors.{membership_sum}
 use Rattle.base_examples.specs.Examples.{at, basis, generators, setting, square_plus, xy, y_squared}
 use Rattle.base_examples.specs.Histories.{after_put, first_state, last_state, member_0, member_1, member_2, more_work, state_1, state_2, state_3, state_4, state_5, state_6, state_7, three_members, two_members, two_workers}
 use Rattle.basis_steps.proofs.Counting.{is_same_pair-true}
-use Rattle.basis_steps.proofs.Keeping.{pair_of_new}
+use Rattle.basis_steps.proofs.Updating.{pair_of_new}
 use Rattle.basis_steps.specs.Criteria.{CriterionApplies}
 use Rattle.basis_steps.specs.Divisions.{IsMonicMember, LeavesMember, Makes, Occurs}
 use Rattle.basis_steps.specs.Invariant.{HaveAllEnded}
@@ -193,28 +193,31 @@ outcome_12 = record {
 
 -- ---- the beginning and the events
 pub begins : Begins two_workers first_state
-begins = record { makes = makes_two; queues = record { sorted = (tt, tt); same = queued_of 0 generators [] ((0, 1) ∷ []) tt ((omega arith, omega arith), tt) queued_01 }; out = refl; taken = refl; ended = refl; stop = refl; history = refl }
+begins = record { makes = makes_two; queues = (record { sorted = (tt, tt); same = queued_of 0 generators [] ((0, 1) ∷ []) tt ((omega arith, omega arith), tt) queued_01 }, refl); out = refl; taken = refl; ended = refl; stop = refl; history = refl }
 
 step_1 : Step two_workers first_state (Take 0 [] ((0, 1) ∷ [])) state_1
-step_1 = (512, record { known = omega arith; works = refl; free = refl; some = omega arith }, inr ((0, 1) ∷ [], record { unstopped = refl; skips = refl; none_applies = (not_01 _, tt); gives = refl; after = refl }))
+step_1 = (512, record { known = omega arith; works = refl; free = refl; some = omega arith }, inr ((0, 1) ∷ [], record { unstopped = refl; skips = refl; none_applies = λ e. (not_01 _, tt); skips_none = λ e. refl; gives = refl; after = refl }))
 
 step_2 : Step two_workers state_1 (Take 1 [] []) state_2
-step_2 = (512, record { known = omega arith; works = refl; free = refl; some = omega arith }, inr ([], record { unstopped = refl; skips = refl; none_applies = tt; gives = refl; after = refl }))
+step_2 = (512, record { known = omega arith; works = refl; free = refl; some = omega arith }, inr ([], record { unstopped = refl; skips = refl; none_applies = λ e. tt; skips_none = λ e. refl; gives = refl; after = refl }))
 
 step_3 : Step two_workers state_2 (End 1 Ended) state_3
 step_3 = record { may = record { known = omega arith; works = refl; done = λ e. (refl, refl) }; answers = refl; after = refl }
 
 step_4 : Step two_workers state_3 (Put 0 (member_2 ∷ [])) state_4
-step_4 = record {
-  base = 2;
-  rows = member_2 ∷ [];
-  products = products;
-  may = record { known = omega arith; works = refl; had = omega arith; outcome = outcome_01 };
-  makes = makes_third;
-  queue = (1, 2) ∷ ((0, 2) ∷ []);
-  queues = record { sorted = ((refl, tt), (tt, tt)); same = queued_of 2 basis [] ((1, 2) ∷ ((0, 2) ∷ [])) tt ((omega arith, omega arith), ((omega arith, omega arith), tt)) queued_2 };
-  after = refl;
-}
+step_4 = (
+  2,
+  member_2 ∷ [],
+  products,
+  record {
+    may = record { known = omega arith; works = refl; had = omega arith; outcome = outcome_01 };
+    makes = makes_third;
+    queue = (1, 2) ∷ ((0, 2) ∷ []);
+    dropped = [];
+    queues = (record { sorted = ((refl, tt), (tt, tt)); same = queued_of 2 basis [] ((1, 2) ∷ ((0, 2) ∷ [])) tt ((omega arith, omega arith), ((omega arith, omega arith), tt)) queued_2 }, refl);
+    after = refl;
+  },
+)
 
 step_5 : Step two_workers state_4 (Take 0 ((0, 2) ∷ []) ((1, 2) ∷ [])) state_5
 step_5 = (
@@ -225,7 +228,8 @@ step_5 = (
     record {
       unstopped = refl;
       skips = ((1, 2) ∷ [], [], refl, (basis_12 _, tt), inl (refl, refl), refl);
-      none_applies = (basis_12 _, tt);
+      none_applies = λ e. (basis_12 _, tt);
+      skips_none = λ e. cc;
       gives = refl;
       after = refl;
     },
@@ -233,19 +237,22 @@ step_5 = (
 )
 
 step_6 : Step two_workers state_5 (Put 0 []) state_6
-step_6 = record {
-  base = 3;
-  rows = [];
-  products = [];
-  may = record { known = omega arith; works = refl; had = omega arith; outcome = outcome_12 };
-  makes = refl;
-  queue = [];
-  queues = record { sorted = tt; same = queued_of 3 basis [] [] tt tt queued_none };
-  after = refl;
-}
+step_6 = (
+  3,
+  [],
+  [],
+  record {
+    may = record { known = omega arith; works = refl; had = omega arith; outcome = outcome_12 };
+    makes = refl;
+    queue = [];
+    dropped = [];
+    queues = (record { sorted = tt; same = queued_of 3 basis [] [] tt tt queued_none }, refl);
+    after = refl;
+  },
+)
 
 step_7 : Step two_workers state_6 (Take 0 [] []) state_7
-step_7 = (512, record { known = omega arith; works = refl; free = refl; some = omega arith }, inr ([], record { unstopped = refl; skips = refl; none_applies = tt; gives = refl; after = refl }))
+step_7 = (512, record { known = omega arith; works = refl; free = refl; some = omega arith }, inr ([], record { unstopped = refl; skips = refl; none_applies = λ e. tt; skips_none = λ e. refl; gives = refl; after = refl }))
 
 step_8 : Step two_workers state_7 (End 0 Ended) last_state
 step_8 = record { may = record { known = omega arith; works = refl; done = λ e. (refl, refl) }; answers = refl; after = refl }
@@ -260,16 +267,19 @@ both_ended (suc (suc w)) h = absurd (omega arith)
 
 -- ---- a worker that would end while pairs are queued
 put_early : Step two_workers state_2 (Put 0 (member_2 ∷ [])) after_put
-put_early = record {
-  base = 2;
-  rows = member_2 ∷ [];
-  products = products;
-  may = record { known = omega arith; works = refl; had = omega arith; outcome = outcome_01 };
-  makes = makes_third;
-  queue = (1, 2) ∷ ((0, 2) ∷ []);
-  queues = record { sorted = ((refl, tt), (tt, tt)); same = queued_of 2 basis [] ((1, 2) ∷ ((0, 2) ∷ [])) tt ((omega arith, omega arith), ((omega arith, omega arith), tt)) queued_2 };
-  after = refl;
-}
+put_early = (
+  2,
+  member_2 ∷ [],
+  products,
+  record {
+    may = record { known = omega arith; works = refl; had = omega arith; outcome = outcome_01 };
+    makes = makes_third;
+    queue = (1, 2) ∷ ((0, 2) ∷ []);
+    dropped = [];
+    queues = (record { sorted = ((refl, tt), (tt, tt)); same = queued_of 2 basis [] ((1, 2) ∷ ((0, 2) ∷ [])) tt ((omega arith, omega arith), ((omega arith, omega arith), tt)) queued_2 }, refl);
+    after = refl;
+  },
+)
 
 end_early : Step two_workers after_put (End 1 MoreWork) more_work
 end_early = record { may = record { known = omega arith; works = refl; done = λ e. (refl, refl) }; answers = refl; after = refl }

@@ -96,7 +96,7 @@ outcome_12 = record { some = omega arith; pairs = (record { ordered = omega arit
 begins : Begins sharing (sharing_state 0 ((1, 2) ∷ ((0, 1) ∷ ((0, 2) ∷ []))) [] 0 none)
 begins = record {
   makes = makes_all;
-  queues = record { sorted = ((refl, (refl, tt)), ((refl, tt), (tt, tt))); same = queued_of 0 (vectors monomial_members) [] ((1, 2) ∷ ((0, 1) ∷ ((0, 2) ∷ []))) tt ((omega arith, omega arith), ((omega arith, omega arith), ((omega arith, omega arith), tt))) first_queue };
+  queues = (record { sorted = ((refl, (refl, tt)), ((refl, tt), (tt, tt))); same = queued_of 0 (vectors monomial_members) [] ((1, 2) ∷ ((0, 1) ∷ ((0, 2) ∷ []))) tt ((omega arith, omega arith), ((omega arith, omega arith), ((omega arith, omega arith), tt))) first_queue }, refl);
   out = refl;
   taken = refl;
   ended = refl;
@@ -113,7 +113,8 @@ step_1 = (
     record {
       unstopped = refl;
       skips = ((1, 2) ∷ ((0, 1) ∷ []), [], refl, (not_12 _, (not_01 _, tt)), inl (refl, refl), refl);
-      none_applies = (not_12 _, (not_01 _, tt));
+      none_applies = λ e. (not_12 _, (not_01 _, tt));
+      skips_none = λ e. cc;
       gives = refl;
       after = refl;
     },
@@ -121,10 +122,10 @@ step_1 = (
 )
 
 step_2 : Step sharing (sharing_state 1 ((0, 1) ∷ []) (((1, 2), 0) ∷ []) 1 none) (Take 1 [] ((0, 1) ∷ [])) (sharing_state 2 [] (((1, 2), 0) ∷ (((0, 1), 1) ∷ [])) 2 none)
-step_2 = (512, record { known = omega arith; works = refl; free = refl; some = omega arith }, inr ((0, 1) ∷ [], record { unstopped = refl; skips = refl; none_applies = (not_01 _, tt); gives = refl; after = refl }))
+step_2 = (512, record { known = omega arith; works = refl; free = refl; some = omega arith }, inr ((0, 1) ∷ [], record { unstopped = refl; skips = refl; none_applies = λ e. (not_01 _, tt); skips_none = λ e. refl; gives = refl; after = refl }))
 
 step_3 : Step sharing (sharing_state 2 [] (((1, 2), 0) ∷ (((0, 1), 1) ∷ [])) 2 none) (Take 2 [] []) (sharing_state 3 [] (((1, 2), 0) ∷ (((0, 1), 1) ∷ [])) 2 none)
-step_3 = (512, record { known = omega arith; works = refl; free = refl; some = omega arith }, inr ([], record { unstopped = refl; skips = refl; none_applies = tt; gives = refl; after = refl }))
+step_3 = (512, record { known = omega arith; works = refl; free = refl; some = omega arith }, inr ([], record { unstopped = refl; skips = refl; none_applies = λ e. tt; skips_none = λ e. refl; gives = refl; after = refl }))
 
 -- worker 2 has ended
 abbrev two_left : List Bool
@@ -138,19 +139,19 @@ step_4 : Step sharing (sharing_state 3 [] (((1, 2), 0) ∷ (((0, 1), 1) ∷ []))
 step_4 = record { may = record { known = omega arith; works = refl; done = λ e. (refl, refl) }; answers = refl; after = refl }
 
 step_5 : Step sharing (sharing_state 4 [] (((1, 2), 0) ∷ (((0, 1), 1) ∷ [])) 2 two_left) (Put 1 []) (sharing_state 5 [] (((1, 2), 0) ∷ []) 2 two_left)
-step_5 = record { base = 3; rows = []; products = []; may = record { known = omega arith; works = refl; had = omega arith; outcome = outcome_01 }; makes = refl; queue = []; queues = record { sorted = tt; same = queued_of 3 (vectors monomial_members) [] [] tt tt no_queue }; after = refl }
+step_5 = (3, [], [], record { may = record { known = omega arith; works = refl; had = omega arith; outcome = outcome_01 }; makes = refl; queue = []; dropped = []; queues = (record { sorted = tt; same = queued_of 3 (vectors monomial_members) [] [] tt tt no_queue }, refl); after = refl })
 
 step_6 : Step sharing (sharing_state 5 [] (((1, 2), 0) ∷ []) 2 two_left) (Take 1 [] []) (sharing_state 6 [] (((1, 2), 0) ∷ []) 2 two_left)
-step_6 = (512, record { known = omega arith; works = refl; free = refl; some = omega arith }, inr ([], record { unstopped = refl; skips = refl; none_applies = tt; gives = refl; after = refl }))
+step_6 = (512, record { known = omega arith; works = refl; free = refl; some = omega arith }, inr ([], record { unstopped = refl; skips = refl; none_applies = λ e. tt; skips_none = λ e. refl; gives = refl; after = refl }))
 
 step_7 : Step sharing (sharing_state 6 [] (((1, 2), 0) ∷ []) 2 two_left) (End 1 Ended) (sharing_state 7 [] (((1, 2), 0) ∷ []) 2 one_left)
 step_7 = record { may = record { known = omega arith; works = refl; done = λ e. (refl, refl) }; answers = refl; after = refl }
 
 step_8 : Step sharing (sharing_state 7 [] (((1, 2), 0) ∷ []) 2 one_left) (Put 0 []) (sharing_state 8 [] [] 2 one_left)
-step_8 = record { base = 3; rows = []; products = []; may = record { known = omega arith; works = refl; had = omega arith; outcome = outcome_12 }; makes = refl; queue = []; queues = record { sorted = tt; same = queued_of 3 (vectors monomial_members) [] [] tt tt no_queue }; after = refl }
+step_8 = (3, [], [], record { may = record { known = omega arith; works = refl; had = omega arith; outcome = outcome_12 }; makes = refl; queue = []; dropped = []; queues = (record { sorted = tt; same = queued_of 3 (vectors monomial_members) [] [] tt tt no_queue }, refl); after = refl })
 
 step_9 : Step sharing (sharing_state 8 [] [] 2 one_left) (Take 0 [] []) (sharing_state 9 [] [] 2 one_left)
-step_9 = (512, record { known = omega arith; works = refl; free = refl; some = omega arith }, inr ([], record { unstopped = refl; skips = refl; none_applies = tt; gives = refl; after = refl }))
+step_9 = (512, record { known = omega arith; works = refl; free = refl; some = omega arith }, inr ([], record { unstopped = refl; skips = refl; none_applies = λ e. tt; skips_none = λ e. refl; gives = refl; after = refl }))
 
 step_10 : Step sharing (sharing_state 9 [] [] 2 one_left) (End 0 Ended) (sharing_state 10 [] [] 2 all)
 step_10 = record { may = record { known = omega arith; works = refl; done = λ e. (refl, refl) }; answers = refl; after = refl }

@@ -3,6 +3,7 @@ use Rattle.std.specs.Prelude.{List, [], None, Some, false, take, true, ◌++◌,
 use Rattle.formal_sums.specs.FormalSums.{FormalSum}
 use Rattle.base_examples.specs.Examples.{at, membership_cofactors, setting, square_plus, xy, y_squared}
 use Rattle.base_examples.specs.Histories.{events, member_0, member_1, three_members}
+use Rattle.queue_updates.specs.declared.Update.TheVariants.{Plain}
 use Rattle.basis_steps.specs.States.{Event, Member, Pairs, Put, Run, State, Take}
 
 -- y^3 + x
@@ -15,7 +16,7 @@ only_y = (at 0 0 1, 1) ∷ []
 
 -- two workers, at most ten pairs
 abbrev pub crossing : Run 2
-crossing = record { setting = setting; generators = square_plus ∷ (xy ∷ (cubic ∷ [])); budget = 10; workers = 2; degree_limit = 65535 }
+crossing = record { setting = setting; generators = square_plus ∷ (xy ∷ (cubic ∷ [])); budget = 10; workers = 2; degree_limit = 65535; update = Plain }
 
 -- y^3 + x, the third generator
 abbrev pub cubic_member : Member 2
@@ -51,6 +52,7 @@ abbrev pub crossing_first : State 2
 crossing_first = record {
   members = old_members;
   queue = (0, 1) ∷ ((1, 2) ∷ ((0, 2) ∷ []));
+  dropped = [];
   out = [];
   taken = 0;
   ended = false ∷ (false ∷ []);
@@ -63,6 +65,7 @@ abbrev pub crossing_1 : State 2
 crossing_1 = record {
   members = old_members;
   queue = (1, 2) ∷ [];
+  dropped = [];
   out = ((0, 1), 0) ∷ [];
   taken = 1;
   ended = false ∷ (false ∷ []);
@@ -75,6 +78,7 @@ abbrev pub crossing_2 : State 2
 crossing_2 = record {
   members = old_members;
   queue = [];
+  dropped = [];
   out = ((0, 1), 0) ∷ (((1, 2), 1) ∷ []);
   taken = 2;
   ended = false ∷ (false ∷ []);
@@ -87,6 +91,7 @@ abbrev pub crossing_3 : State 2
 crossing_3 = record {
   members = new_members;
   queue = (1, 3) ∷ ((2, 3) ∷ ((0, 3) ∷ []));
+  dropped = [];
   out = ((0, 1), 0) ∷ [];
   taken = 2;
   ended = false ∷ (false ∷ []);
@@ -99,6 +104,7 @@ abbrev pub crossing_last : State 2
 crossing_last = record {
   members = new_members;
   queue = (1, 3) ∷ ((2, 3) ∷ ((0, 3) ∷ []));
+  dropped = [];
   out = [];
   taken = 2;
   ended = false ∷ (false ∷ []);
@@ -108,13 +114,14 @@ crossing_last = record {
 
 -- the run on (x^2 + y, xy) with a budget of one pair
 abbrev pub one_pair : Run 2
-one_pair = record { setting = setting; generators = square_plus ∷ (xy ∷ []); budget = 1; workers = 2; degree_limit = 65535 }
+one_pair = record { setting = setting; generators = square_plus ∷ (xy ∷ []); budget = 1; workers = 2; degree_limit = 65535; update = Plain }
 
 -- the budget is met while the pair (1, 2) is queued
 abbrev pub budget_met : State 2
 budget_met = record {
   members = three_members;
   queue = (1, 2) ∷ [];
+  dropped = [];
   out = [];
   taken = 1;
   ended = false ∷ (true ∷ []);

@@ -1,11 +1,12 @@
 -- A whole run of two workers on the ideal (x^2 + y, xy), event by event
 use Rattle.std.specs.Prelude.{List, [], None, false, take, true, ◌∷◌, ◌++◌}
 use Rattle.base_examples.specs.Examples.{at, generators, membership_cofactors, setting, square_plus, xy, y_squared}
+use Rattle.queue_updates.specs.declared.Update.TheVariants.{Plain}
 use Rattle.basis_steps.specs.States.{End, Ended, Event, Member, MoreWork, Put, Run, State, Take}
 
 -- two workers, at most ten pairs, degrees up to 65535
 abbrev pub two_workers : Run 2
-two_workers = record { setting = setting; generators = generators; budget = 10; workers = 2; degree_limit = 65535 }
+two_workers = record { setting = setting; generators = generators; budget = 10; workers = 2; degree_limit = 65535; update = Plain }
 
 -- x^2 + y, the first generator
 abbrev pub member_0 : Member 2
@@ -43,25 +44,26 @@ events =
 
 -- the state at the beginning: two members, and their pair queued
 abbrev pub first_state : State 2
-first_state = record { members = two_members; queue = (0, 1) ∷ []; out = []; taken = 0; ended = false ∷ (false ∷ []); stop = None; history = [] }
+first_state = record { members = two_members; queue = (0, 1) ∷ []; dropped = []; out = []; taken = 0; ended = false ∷ (false ∷ []); stop = None; history = [] }
 
 -- the pair (0, 1) is out with worker 0
 abbrev pub state_1 : State 2
-state_1 = record { members = two_members; queue = []; out = ((0, 1), 0) ∷ []; taken = 1; ended = false ∷ (false ∷ []); stop = None; history = take 1 events }
+state_1 = record { members = two_members; queue = []; dropped = []; out = ((0, 1), 0) ∷ []; taken = 1; ended = false ∷ (false ∷ []); stop = None; history = take 1 events }
 
 -- worker 1 found nothing
 abbrev pub state_2 : State 2
-state_2 = record { members = two_members; queue = []; out = ((0, 1), 0) ∷ []; taken = 1; ended = false ∷ (false ∷ []); stop = None; history = take 2 events }
+state_2 = record { members = two_members; queue = []; dropped = []; out = ((0, 1), 0) ∷ []; taken = 1; ended = false ∷ (false ∷ []); stop = None; history = take 2 events }
 
 -- worker 1 has ended
 abbrev pub state_3 : State 2
-state_3 = record { members = two_members; queue = []; out = ((0, 1), 0) ∷ []; taken = 1; ended = false ∷ (true ∷ []); stop = None; history = take 3 events }
+state_3 = record { members = two_members; queue = []; dropped = []; out = ((0, 1), 0) ∷ []; taken = 1; ended = false ∷ (true ∷ []); stop = None; history = take 3 events }
 
 -- y^2 is a member, and its pairs are queued by the degrees of their lcms
 abbrev pub state_4 : State 2
 state_4 = record {
   members = three_members;
   queue = (1, 2) ∷ ((0, 2) ∷ []);
+  dropped = [];
   out = [];
   taken = 1;
   ended = false ∷ (true ∷ []);
@@ -71,25 +73,26 @@ state_4 = record {
 
 -- the pair (0, 2) was skipped, and (1, 2) is out with worker 0
 abbrev pub state_5 : State 2
-state_5 = record { members = three_members; queue = []; out = ((1, 2), 0) ∷ []; taken = 2; ended = false ∷ (true ∷ []); stop = None; history = take 5 events }
+state_5 = record { members = three_members; queue = []; dropped = []; out = ((1, 2), 0) ∷ []; taken = 2; ended = false ∷ (true ∷ []); stop = None; history = take 5 events }
 
 -- nothing is out
 abbrev pub state_6 : State 2
-state_6 = record { members = three_members; queue = []; out = []; taken = 2; ended = false ∷ (true ∷ []); stop = None; history = take 6 events }
+state_6 = record { members = three_members; queue = []; dropped = []; out = []; taken = 2; ended = false ∷ (true ∷ []); stop = None; history = take 6 events }
 
 -- worker 0 found nothing
 abbrev pub state_7 : State 2
-state_7 = record { members = three_members; queue = []; out = []; taken = 2; ended = false ∷ (true ∷ []); stop = None; history = take 7 events }
+state_7 = record { members = three_members; queue = []; dropped = []; out = []; taken = 2; ended = false ∷ (true ∷ []); stop = None; history = take 7 events }
 
 -- both workers have ended
 abbrev pub last_state : State 2
-last_state = record { members = three_members; queue = []; out = []; taken = 2; ended = true ∷ (true ∷ []); stop = None; history = events }
+last_state = record { members = three_members; queue = []; dropped = []; out = []; taken = 2; ended = true ∷ (true ∷ []); stop = None; history = events }
 
 -- worker 1 found nothing, and then worker 0 handed in y^2
 abbrev pub after_put : State 2
 after_put = record {
   members = three_members;
   queue = (1, 2) ∷ ((0, 2) ∷ []);
+  dropped = [];
   out = [];
   taken = 1;
   ended = false ∷ (false ∷ []);
@@ -102,6 +105,7 @@ abbrev pub more_work : State 2
 more_work = record {
   members = three_members;
   queue = (1, 2) ∷ ((0, 2) ∷ []);
+  dropped = [];
   out = [];
   taken = 1;
   ended = false ∷ (false ∷ []);

@@ -13,8 +13,8 @@ use Rattle.basis_steps.proofs.Reading.{replays_given}
 use Rattle.basis_steps.specs.Criteria.{IsPair}
 use Rattle.basis_steps.specs.Divisions.{AreReached, Makes, Occurs}
 use Rattle.basis_steps.specs.Outcomes.{AreJobProducts, IsOutcome}
-use Rattle.basis_steps.specs.Pairs.{Pair}
-use Rattle.basis_steps.specs.Queues.{QueuesNewPairs}
+use Rattle.basis_steps.specs.Pairs.{Drop, Pair}
+use Rattle.basis_steps.specs.Updates.{QueuesPairs}
 use Rattle.basis_steps.specs.States as plain
 use Rattle.basis_steps.specs.States.{vectors, with_others}
 use Rattle.basis_steps.specs.Steps.{Puts, Replays}
@@ -74,11 +74,11 @@ taken_back old after now first made shared list first_is same front = λ i. reco
 
 -- ---- the step
 -- the state after a Put
-abbrev pub after_put : Shown → List Tracked → List Pair → List (Pair × ℕ) → List Event → Shown
-after_put s after queue out es = record s { members = after; queue = queue; out = out; history = es }
+abbrev pub after_put : Shown → List Tracked → List Pair → List Drop → List (Pair × ℕ) → List Event → Shown
+after_put s after queue dropped out es = record s { members = after; queue = queue; dropped = dropped; out = out; history = es }
 
 -- what the code of a Put came to
-pub record HasPut (n : ℕ) (s : Shown) (o : OutcomeShown) (after : List Tracked) (queue : List Pair) (out : List (Pair × ℕ)) (es : List Event) : Type 0 where
+pub record HasPut (n : ℕ) (s : Shown) (o : OutcomeShown) (after : List Tracked) (queue : List Pair) (dropped : List Drop) (out : List (Pair × ℕ)) (es : List Event) : Type 0 where
   pub known : o.job.worker < s.workers
   pub works : get_or s.ended o.job.worker true ≡ false
   pub job : IsJobOut s o
@@ -86,7 +86,7 @@ pub record HasPut (n : ℕ) (s : Shown) (o : OutcomeShown) (after : List Tracked
   pub made : HaveMadeRows n s.shared s.members o.rows after
   pub first : ℕ
   pub first_is : first ≡ length s.members
-  pub queues : QueuesNewPairs (setting_of n s.shared) first (vectors (members_of n after)) s.queue queue
+  pub queues : QueuesPairs s.update (setting_of n s.shared) first (vectors (members_of n after)) s.queue s.dropped queue dropped
   pub out_is : out ≡ with_others o.job.worker s.out
   pub read : Each (IsRead (length s.members) s.stop) s.history
   pub events : es ≡ s.history ++ (Put o.job.worker first (length after - first) ∷ [])
@@ -108,16 +108,15 @@ base_vectors n ms base e =
     ∙ ap vectors (sym (take-map (λ m. member_of n m) (length base) ms))
     ∙ sym (take-map (λ (m : plain.Member n). m.vector) (length base) (members_of n ms))
 
-module _ (n : ℕ) (s : Shown) (o : OutcomeShown) (after : List Tracked) (queue : List Pair) (out : List (Pair × ℕ)) (es : List Event)
-    (h : HasPut n s o after queue out es) where
+module _ (n : ℕ) (s : Shown) (o : OutcomeShown) (after : List Tracked) (queue : List Pair) (dropped : List Drop) (out : List (Pair × ℕ)) (es : List Event)
+    (h : HasPut n s o after queue dropped out es) where
   made_count : length after - h.first ≡ length (h.made).made
   made_count = omega (arith, ap length (h.made).same, length-append s.members (h.made).made, h.first_is)
 
-  pub put_step : Puts (run_of n s) (state_of n s) o.job.worker (members_of n (h.made).made) (state_of n (after_put s after queue out es))
+  pub put_step :
+      Puts (run_of n s) (state_of n s) o.job.worker (length o.job.members) (rows_of n o.rows) (products_of n o.products)
+      (members_of n (h.made).made) (state_of n (after_put s after queue dropped out es))
   put_step = record {
-    base = length o.job.members;
-    rows = rows_of n o.rows;
-    products = products_of n o.products;
     may = record {
       known = h.known;
       works = h.works;
@@ -127,9 +126,10 @@ module _ (n : ℕ) (s : Shown) (o : OutcomeShown) (after : List Tracked) (queue 
     };
     makes = (h.made).makes;
     queue = queue;
-    queues = subst (λ (z : ℕ × List (plain.Member n)). QueuesNewPairs (setting_of n s.shared) z.0 (vectors z.1) s.queue queue)
+    dropped = dropped;
+    queues = subst (λ (z : ℕ × List (plain.Member n)). QueuesPairs s.update (setting_of n s.shared) z.0 (vectors z.1) s.queue s.dropped queue dropped)
         (λ i. ((h.first_is ∙ sym (length-map s.members (λ m. member_of n m))) i, all i)) h.queues;
-    after = λ i. record (state_of n s) { members = all i; queue = queue; out = h.out_is i; history = history i };
+    after = λ i. record (state_of n s) { members = all i; queue = queue; dropped = dropped; out = h.out_is i; history = history i };
   }
     where
       all : members_of n after ≡ members_of n s.members ++ members_of n (h.made).made
@@ -156,29 +156,32 @@ module _ (n : ℕ) (s : Shown) (o : OutcomeShown) (after : List Tracked) (queue 
 pub put_kept :
     (i : Inside) (o : OutcomeShown) (members : MembersShown) (pairs : PairsShown) (history : Vec Event Global)
     → IsCoherent i → members.shared ≡ i.members.shared
-    → HasPut (variables_of (shown i)) (shown i) o members.list (pairs_of pairs.queue) pairs.out history.items
-    → pairs.leads ≡ leads_of i.members.shared members.list
+    → HasPut (variables_of (shown i)) (shown i) o members.list (pairs_of pairs.queue) pairs.dropped pairs.out history.items
+    → pairs.leads ≡ leads_of i.members.shared members.list → pairs.update ≡ i.pairs.update
     → length i.history.items + (3 * i.workers + 1) ≤ vec_capacity history
     → IsCoherent (record i { members = members; pairs = pairs; history = history })
-put_kept i o members pairs history kept same h leads room =
+put_kept i o members pairs history kept same h leads update room =
     let n : ℕ = variables_of (shown i) in
-    let t : Shown = after_put (shown i) members.list (pairs_of pairs.queue) pairs.out history.items in
-    let step : Puts (run_of n (shown i)) (state_of n (shown i)) o.job.worker (members_of n (h.made).made) (state_of n t) =
-    put_step n (shown i) o members.list (pairs_of pairs.queue) pairs.out history.items h in
+    let t : Shown = record (after_put (shown i) members.list (pairs_of pairs.queue) pairs.dropped pairs.out history.items) { update = pairs.update } in
+    let step : Puts (run_of n (shown i)) (state_of n (shown i)) o.job.worker (length o.job.members) (rows_of n o.rows) (products_of n o.products)
+    (members_of n (h.made).made) (state_of n t) =
+    put_step n (shown i) o members.list (pairs_of pairs.queue) pairs.dropped pairs.out history.items h in
     subst (λ (m : MembersShown). IsCoherent (record i { members = m; pairs = pairs; history = history }))
     (λ j. record { shared = sym same j; list = members.list })
     (record {
       some = kept.some;
       replays = replays_after (shown i) t (plain.Put o.job.worker (members_of n (h.made).made))
-          (record { shared = refl; budget = refl; workers = refl }) kept.replays step;
+          (record { shared = refl; budget = refl; workers = refl; update = update }) kept.replays
+          (length o.job.members, rows_of n o.rows, products_of n o.products, step);
       leads = leads;
       stop = kept.stop;
-      read = put_read n (shown i) o members.list (pairs_of pairs.queue) pairs.out history.items h;
+      read = put_read n (shown i) o members.list (pairs_of pairs.queue) pairs.dropped pairs.out history.items h;
       room =
           let long : length history.items ≡ length i.history.items + 1 = ap length h.events
           ∙ length-append i.history.items (Put o.job.worker h.first (length members.list - h.first) ∷ []) in
           let left : all_left (state_of n t) i.workers ≡ all_left (state_of n (shown i)) i.workers =
-          room_after_put (run_of n (shown i)) (state_of n (shown i)) (state_of n t) o.job.worker (members_of n (h.made).made) step in
+          room_after_put (run_of n (shown i)) (state_of n (shown i)) (state_of n t) o.job.worker (length o.job.members) (rows_of n o.rows)
+          (products_of n o.products) (members_of n (h.made).made) step in
           omega (arith, long, left, room_bound (state_of n (shown i)) i.workers, room);
     })
 

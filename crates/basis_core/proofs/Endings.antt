@@ -87,7 +87,7 @@ end_kept i w e ended history kept end items capacity =
     let many : ℕ = length s.members in
     record {
       some = kept.some;
-      replays = replays_after s t (plain.End w (ending_of e)) (record { shared = refl; budget = refl; workers = refl }) kept.replays step;
+      replays = replays_after s t (plain.End w (ending_of e)) (record { shared = refl; budget = refl; workers = refl; update = refl }) kept.replays step;
       leads = kept.leads;
       stop = kept.stop;
       read = subst (Each (IsRead many s.stop)) (sym items)

@@ -7,6 +7,7 @@ use Rattle.basis_steps.specs.Criteria.{IsPair}
 use Rattle.basis_steps.specs.Divisions.{Occurs}
 use Rattle.basis_steps.specs.Outcomes.{AreJobProducts}
 use Rattle.basis_steps.specs.Pairs.{Pair}
+use Rattle.queue_updates.specs.declared.Update.{Update}
 use Rattle.basis_steps.specs.States.{Run, vectors}
 use Rattle.basis_steps.specs.Trails.{IsTrailOf}
 use Rattle.basis_core.specs.Members.{Shared, Tracked, members_of, setting_of}
@@ -14,22 +15,23 @@ use Rattle.basis_core.specs.Stops.{IsTrailBy, trail_of}
 use Rattle.basis_core.proofs.AfterPut.{base_vectors, members_length}
 
 -- a run on these
-abbrev run_with : (n : ℕ) (shared : Shared) (budget workers : ℕ) → Run n
-run_with n shared budget workers = record {
+abbrev run_with : (n : ℕ) (shared : Shared) (budget workers : ℕ) → Update → Run n
+run_with n shared budget workers update = record {
   setting = setting_of n shared;
   generators = sums_of n shared.generators;
   budget = budget;
   workers = workers;
   degree_limit = 65535;
+  update = update;
 }
 
 -- a trail by the first members is one of a job that has these
 pub trail_of_job :
-    (shared : Shared) (budget workers : ℕ) (ms all : List Tracked) (job : List Pair) (t : KeptTrail)
+    (shared : Shared) (budget workers : ℕ) (update : Update) (ms all : List Tracked) (job : List Pair) (t : KeptTrail)
     → ms ≡ take (length ms) all → length ms ≤ length all → IsTrailBy shared ms job t
-    → IsTrailOf (run_with (variables shared.ring) shared budget workers) (vectors (members_of (variables shared.ring) all)) job
+    → IsTrailOf (run_with (variables shared.ring) shared budget workers update) (vectors (members_of (variables shared.ring) all)) job
     (trail_of (variables shared.ring) t)
-trail_of_job shared budget workers ms all job t front had h =
+trail_of_job shared budget workers update ms all job t front had h =
     let n : ℕ = variables shared.ring in
     let p : ℕ = shared.ring.modulus.value in
     record {

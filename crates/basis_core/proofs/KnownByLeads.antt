@@ -17,9 +17,13 @@ use Rattle.module_vectors.specs.declared.key.Key.{Key as CodeKey}
 use Rattle.member_products.specs.Generators.{IsRanked}
 use Rattle.pair_criteria.specs.declared.pair.Pair.{Pair as CodePair}
 use Rattle.basis_steps.specs.Criteria.{ChainApplies, CriterionApplies, IsPair, NoCriterionApplies, Skips, lcm_of, waiting}
-use Rattle.basis_steps.specs.Pairs.{Pair, count}
+use Rattle.queue_updates.specs.declared.Update.{Update}
+use Rattle.queue_updates.specs.declared.Update.TheVariants.{Gebauer, Plain}
+use Rattle.basis_steps.proofs.Matching.{updates_same}
+use Rattle.basis_steps.specs.Pairs.{Drop, Pair, count}
 use Rattle.basis_steps.specs.Queues.{IsSorted, QueuesNewPairs, compare_pairs, degree_of, is_new_pair, number_of_degree, number_of_least_degree, share}
 use Rattle.basis_steps.specs.States.{Run, vectors}
+use Rattle.basis_steps.specs.Updates.{QueuesPairs}
 use Rattle.pair_queue.specs.Leads.{LeadsShown, lead_sums, setting_of as setting_by, sums_shown}
 use Rattle.pair_queue.specs.Pairs.{HasLcm as HasLcmOfLeads, IsRealPair}
 use Rattle.basis_core.specs.Jobs.{HasLcm, pair_of, pairs_of}
@@ -159,8 +163,13 @@ module _ (shared : Shared) (ms : List Tracked) where
   pub share_known : (r : Run n) (taken most : ℕ) (xs : List Pair) → share r (sums_shown l) taken most xs ≡ share r G taken most xs
   share_known r taken most xs = share_same (sums_shown l) G (keys_same n ms) r taken most xs
 
-  pub queues_known : (k : ℕ) (old new : List Pair) → QueuesNewPairs (setting_by n l) k (sums_shown l) old new → QueuesNewPairs S k G old new
-  queues_known k old new h = queues_same (setting_by n l) S refl refl (sums_shown l) G (keys_same n ms) (keys_length n ms) k old new h
+  pub queues_known :
+      (u : Update) (k : ℕ) (old : List Pair) (drops : List Drop) (new : List Pair) (later : List Drop)
+      → QueuesPairs u (setting_by n l) k (sums_shown l) old drops new later → QueuesPairs u S k G old drops new later
+  queues_known Plain k old drops new later (h, e) = (queues_same (setting_by n l) S refl refl (sums_shown l) G (keys_same n ms) (keys_length n ms) k old new h, e)
+  queues_known Gebauer k old drops new later h =
+      updates_same (setting_by n l) S refl (sums_shown l) G (keys_length n ms) (keys_same n ms) k old new drops later
+      (sorted_same (setting_by n l) S refl refl (sums_shown l) G (keys_same n ms) new) h
 
   lcm_known : (x : CodePair) → HasLcmOfLeads l x → HasLcm n shared.ring.weights ms x
   lcm_known x h = record { weighed = h.weighed; lcm = h.lcm ∙ lcm_same (sums_shown l) G (keys_same n ms) (pair_of x) }

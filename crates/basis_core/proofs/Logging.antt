@@ -17,7 +17,7 @@ use Rattle.basis_core.specs.Members.{Tracked, member_of, members_of}
 use Rattle.basis_core.specs.Shown.{Shown}
 use Rattle.basis_core.specs.Views.{IsSameRun, ending_of, history_of, run_of, state_of, variables_of}
 use Rattle.basis_core.proofs.Growing.{part_front}
-use Rattle.basis_core.specs.Logs.{Adds, AddsPut, End, Noted, Put, Stop, Take, base, count_made, log, made_in, members_after, notes_from, number_at_beginning}
+use Rattle.basis_core.specs.Logs.{Adds, End, Noted, Put, Stop, Take, base, count_made, log, made_in, members_after, notes_from, number_at_beginning}
 
 pub length_notes : (k : ℕ) (ms : List Tracked) (es : List Event) → length (notes_from k ms es) ≡ length es
 length_notes k ms [] = refl
@@ -136,7 +136,7 @@ module _ {n : ℕ} (r : Run n) where
       ap (λ u. length u.members) f.after in omega (arith, h, e)
   runs_members s t (plain.Take w skipped job ∷ es) (mid, (most, may, inr (left, q)), rest) = let h = runs_members mid t es rest in let e =
       ap (λ u. length u.members) q.after in omega (arith, h, e)
-  runs_members s t (plain.Put w made ∷ es) (mid, q, rest) = let h = runs_members mid t es rest in let e =
+  runs_members s t (plain.Put w made ∷ es) (mid, (base, rows, products, q), rest) = let h = runs_members mid t es rest in let e =
       ap (λ u. length u.members) q.after in omega (arith, h, e, length-append s.members made)
   runs_members s t (plain.End w ending ∷ es) (mid, q, rest) = let h = runs_members mid t es rest in let e =
       ap (λ u. length u.members) q.after in omega (arith, h, e)
@@ -203,6 +203,7 @@ module _ (s t : Shown) (made : List Tracked) (e : Event) (counted : IsCounted s)
     shared = same.shared i;
     budget = same.budget i;
     workers = same.workers i;
+    update = same.update i;
     first = (first_same i);
   }
     where
@@ -222,10 +223,10 @@ module _ (s t : Shown) (replays : Replays (run_of (variables_of s) s) (state_of 
   pub puts_more :
       (w : ℕ) (made : List Tracked) → t.members ≡ s.members ++ made
       → t.history ≡ s.history ++ (events.Put w (length s.members) (length t.members - length s.members) ∷ [])
-      → AddsPut w s t
+      → Adds (Put w made) s t
   puts_more w made members history =
       let many : (length t.members - length s.members) + 0 ≡ length made = omega (arith, ap length members, length-append s.members made) in
-      (made, one_more made (events.Put w (length s.members) (length t.members - length s.members)) members history many, members)
+      one_more made (events.Put w (length s.members) (length t.members - length s.members)) members history many
 
   module _ (members : t.members ≡ s.members) where
     all : t.members ≡ s.members ++ []

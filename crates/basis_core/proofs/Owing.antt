@@ -6,10 +6,10 @@ use Rattle.std.proofs.Common.{arith, append-nil}
 use Rattle.basis_steps.specs.Pairs.{Pair}
 use Rattle.basis_steps.specs.States as plain
 use Rattle.basis_steps.specs.States.{job_of, with_others}
-use Rattle.basis_steps.specs.Steps.{Ends, MayTake, Puts, Stops, ended_after, out_with}
+use Rattle.basis_steps.specs.Steps.{Ends, MayTake, Stops, ended_after, out_with}
 use Rattle.basis_core.specs.declared.taken.Taken.{Taken}
 use Rattle.basis_core.specs.declared.taken.Taken.TheVariants as taken
-use Rattle.basis_core.specs.Answers.{AnswersTake, IsTaken, pairs_given}
+use Rattle.basis_core.specs.Answers.{AnswersTake, IsTaken, PutsOutcome, pairs_given}
 use Rattle.basis_core.specs.Jobs.{pairs_of}
 use Rattle.basis_core.specs.Members.{Tracked}
 use Rattle.basis_core.specs.Outcomes.{OutcomeShown}
@@ -107,12 +107,12 @@ owed_over_take s t w most answer o (skipped, added, inr (left, takes)) same grow
         ∙ append-nil (job_of o.job.worker s.out)
 
 pub owed_over_put :
-    (s t : Shown) (w : ℕ) (made : List (plain.Member (variables_of s))) (o : OutcomeShown)
-    → Puts (run_of (variables_of s) s) (state_of (variables_of s) s) w made (state_of (variables_of s) t) → IsSameRun s t → HaveGrown s.members t.members
-    → (w ≡ o.job.worker → ⊥) → MayPut s o → MayPut t o
-owed_over_put s t w made o puts same grown other may =
-    still_owed s t o same grown (ap (λ z. job_of o.job.worker z.out) puts.after ∙ job_others w o.job.worker other s.out)
-    (ap (λ z. get_or z.ended o.job.worker true) puts.after) may
+    (s t : Shown) (given o : OutcomeShown) (made : List Tracked)
+    → PutsOutcome (variables_of s) s given made t → IsSameRun s t
+    → (given.job.worker ≡ o.job.worker → ⊥) → MayPut s o → MayPut t o
+owed_over_put s t given o made put same other may =
+    still_owed s t o same (made, put.members) (ap (λ z. job_of o.job.worker z.out) (put.puts).after ∙ job_others given.job.worker o.job.worker other s.out)
+    (ap (λ z. get_or z.ended o.job.worker true) (put.puts).after) may
 
 pub owed_over_end :
     (s t : Shown) (w : ℕ) (ending : plain.Ending) (o : OutcomeShown)

@@ -32,6 +32,7 @@ same_run n s t same = λ i. record {
   budget = same.budget i;
   workers = same.workers i;
   degree_limit = 65535;
+  update = same.update i;
 }
 
 -- one more event of the same run
@@ -54,7 +55,7 @@ module _ {n : ℕ} (r : Run n) where
   step_length : (s t : State n) (e : Event n) → Step r s e t → length t.ended ≡ length s.ended
   step_length s t (Take w skipped job) (most, may, inl f) = ap (λ u. length u.ended) f.after
   step_length s t (Take w skipped job) (most, may, inr (left, h)) = ap (λ u. length u.ended) h.after
-  step_length s t (Put w made) h = ap (λ u. length u.ended) h.after
+  step_length s t (Put w made) (base, rows, products, h) = ap (λ u. length u.ended) h.after
   step_length s t (End w Ended) h = ap (λ u. length u.ended) h.after ∙ length-set s.ended w true
   step_length s t (End w MoreWork) h = ap (λ u. length u.ended) h.after
   step_length s t (Stop w reason) h = ap (λ u. length u.ended) h.after

@@ -2,7 +2,7 @@
 use Rattle.std.proofs.Common.{Bool, List, None, Option, Some, [], ap, ap₂, arith, cond, eq-eqb, eqb-true, false, get_or, get_or-set_other, inl, inr}
 use Rattle.std.proofs.Common.{nat_eq, not, refl, set, suc, sym, true, zero, ℕ, ◌&&◌, ◌*◌, ◌++◌, ◌+◌, ◌<◌, ◌∙◌, ◌∷◌, ◌≡◌, ◌≤◌}
 use Rattle.std.proofs.lemmas.Bool.{eqb-false}
-use Rattle.basis_steps.specs.States.{End, Ended, Ending, Event, Member, MoreWork, Put, Run, State, Stop, StopReason, Take}
+use Rattle.basis_steps.specs.States.{End, Ended, Ending, Event, Member, MoreWork, Product, Put, Run, State, Stop, StopReason, Take}
 use Rattle.basis_steps.specs.Histories.{HasStopped, took_since}
 use Rattle.basis_steps.specs.Steps.{Ends, Puts, Stops, ending_of, is_empty, ended_after, is_stopped}
 use Rattle.basis_core.specs.Inside.{all_left, events_left, has_stopped}
@@ -232,6 +232,8 @@ module _ {n : ℕ} where
           omega (arith, now, before, stopped_fewer (get_or s.ended w true) (took_since w s.history false))
 
   -- a Put takes none
-  pub room_after_put : (r : Run n) (s t : State n) (w : ℕ) (made : List (Member n)) → Puts r s w made t → all_left t r.workers ≡ all_left s r.workers
-  room_after_put r s t w made h = all_same s t r.workers
+  pub room_after_put :
+      (r : Run n) (s t : State n) (w base : ℕ) (rows : List (Member n)) (products : List (Product n)) (made : List (Member n))
+      → Puts r s w base rows products made t → all_left t r.workers ≡ all_left s r.workers
+  room_after_put r s t w base rows products made h = all_same s t r.workers
       (λ v. other_left s t v w (Put w made) (ap (λ u. get_or u.ended v true) h.after) (ap (λ u. u.history) h.after) refl refl)

@@ -21,7 +21,7 @@ use Rattle.member_products.specs.Generators.{AreGenerators, IsRanked, IsVectorOf
 use Rattle.member_products.specs.declared.member.Row.{Row as CodeRow}
 use Rattle.basis_steps.proofs.Making.{makes_members}
 use Rattle.basis_steps.specs.Divisions.{IsMonicMember, Makes}
-use Rattle.basis_steps.specs.Queues.{QueuesNewPairs}
+use Rattle.basis_steps.specs.Updates.{QueuesPairs}
 use Rattle.basis_steps.specs.States as plain
 use Rattle.basis_steps.specs.States.{Member, vectors}
 use Rattle.basis_steps.specs.Steps.{Begins, Reaches, Replays, generator_rows, none_ended}
@@ -209,7 +209,7 @@ all_made shared k ms e h =
 begun :
     (n : ℕ) (s : Shown)
     → Makes (setting_of n s.shared) [] (generator_rows 0 (sums_of n s.shared.generators)) (members_of n s.members)
-    → QueuesNewPairs (setting_of n s.shared) 0 (vectors (members_of n s.members)) [] s.queue → s.out ≡ [] → s.taken ≡ 0
+    → QueuesPairs s.update (setting_of n s.shared) 0 (vectors (members_of n s.members)) [] [] s.queue s.dropped → s.out ≡ [] → s.taken ≡ 0
     → s.ended ≡ none_ended s.workers → s.stop ≡ None → s.history ≡ [] → Begins (run_of n s) (state_of n s)
 begun n s makes queues out taken ended stop history = record {
   makes = makes;
@@ -225,8 +225,8 @@ begun n s makes queues out taken ended stop history = record {
 pub begun_inside :
     (i : Inside)
     → HaveMade i.members.shared (length i.members.shared.generators) i.members.list
-    → QueuesNewPairs (setting_of (variables i.members.shared.ring) i.members.shared) 0
-    (vectors (members_of (variables i.members.shared.ring) i.members.list)) [] (pairs_of i.pairs.queue)
+    → QueuesPairs i.pairs.update (setting_of (variables i.members.shared.ring) i.members.shared) 0
+    (vectors (members_of (variables i.members.shared.ring) i.members.list)) [] [] (pairs_of i.pairs.queue) i.pairs.dropped
     → i.pairs.out ≡ [] → i.taken ≡ 0 → i.ended.items ≡ none_ended i.workers → i.stop ≡ None → i.history.items ≡ []
     → Begins (run_of (variables i.members.shared.ring) (shown i)) (state_of (variables i.members.shared.ring) (shown i))
 begun_inside i made queues out taken ended stop history =

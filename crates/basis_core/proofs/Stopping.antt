@@ -126,7 +126,7 @@ stop_kept i w reason after given history kept may keeps items capacity =
     let many : ℕ = length s.members in
     record {
       some = kept.some;
-      replays = replays_after s t (plain.Stop w (reason_of n reason)) (record { shared = refl; budget = refl; workers = refl }) kept.replays step;
+      replays = replays_after s t (plain.Stop w (reason_of n reason)) (record { shared = refl; budget = refl; workers = refl; update = refl }) kept.replays step;
       leads = kept.leads;
       stop = keeps_over n after reason given t s.stop keeps kept.stop (reason_over n s reason may.why);
       read = subst (Each (IsRead many after)) (sym items)

@@ -7,9 +7,10 @@ use Rattle.formal_sums.specs.FormalSums.{Each, FormalSum}
 use Rattle.residues.specs.Residues.{IsDomain}
 use Rattle.module_vectors.proofs.SumsOfProducts.{Each_take}
 use Rattle.pair_criteria.specs.declared.pair.Pair.{Pair as CodePair}
+use Rattle.queue_updates.specs.declared.Update.TheVariants.{Gebauer, Plain}
 use Rattle.basis_steps.proofs.Taking.{job_given_out}
 use Rattle.basis_steps.specs.Criteria.{IsPair, NoCriterionApplies, Skips, waiting}
-use Rattle.basis_steps.specs.Pairs.{Pair}
+use Rattle.basis_steps.specs.Pairs.{Drop, Pair}
 use Rattle.basis_steps.specs.Queues.{share}
 use Rattle.basis_steps.specs.States as plain
 use Rattle.basis_steps.specs.States.{vectors}
@@ -51,8 +52,9 @@ pub record IsFound (i : Inside) (w most : ℕ) (g : Given) (q : PairsShown) (sto
   pub left : List CodePair
   pub skips : Skips (setting_of (variables_of (shown i)) i.members.shared) (vectors_inside i) i.pairs.out (pairs_of i.pairs.queue) g.skipped.items
       (pairs_of left)
-  pub spared : NoCriterionApplies (setting_of (variables_of (shown i)) i.members.shared) (vectors_inside i) (waiting (pairs_of left) i.pairs.out)
+  pub spared : i.pairs.update ≡ Plain → NoCriterionApplies (setting_of (variables_of (shown i)) i.members.shared) (vectors_inside i) (waiting (pairs_of left) i.pairs.out)
       (pairs_of left)
+  pub skips_none : i.pairs.update ≡ Gebauer → g.skipped.items ≡ []
   pub reals : Each (IsPair (vectors_inside i)) (pairs_of left)
   pub lcms : Each (HasLcm (variables_of (shown i)) i.members.shared.ring.weights i.members.list) left
   pub shared : length g.pairs.items ≡ share (run_of (variables_of (shown i)) (shown i)) (vectors_inside i) i.taken most (pairs_of left)
@@ -61,6 +63,8 @@ pub record IsFound (i : Inside) (w most : ℕ) (g : Given) (q : PairsShown) (sto
   pub rest : q.queue ≡ drop (length g.pairs.items) left
   pub out : q.out ≡ i.pairs.out ++ steps.out_with w (pairs_of g.pairs.items)
   pub leads : q.leads ≡ i.pairs.leads
+  pub update : q.update ≡ i.pairs.update
+  pub dropped : q.dropped ≡ i.pairs.dropped
   pub stop_is : stop_of (variables_of (shown i)) stop ≡ steps.stop_of_take (run_of (variables_of (shown i)) (shown i)) i.taken (pairs_of left)
   pub kind : MatchOption stop ⊤ (λ reason. (reason ≡ reasons.Pairs) × (i.taken ≡ i.budget))
 
@@ -85,8 +89,9 @@ found_by i w most g q stop may none kept h stops kind =
       skips = skips_known sh ms i.pairs.out (pairs_of i.pairs.queue) g.skipped.items left
           (subst (λ (l : LeadsShown). Skips (setting_by l.variables l) (sums_shown l) i.pairs.out (pairs_of i.pairs.queue) g.skipped.items left)
           kept.leads h.skips);
-      spared = none_known sh ms (waiting left i.pairs.out) left
-          (subst (λ (l : LeadsShown). NoCriterionApplies (setting_by l.variables l) (sums_shown l) (waiting left i.pairs.out) left) kept.leads h.none);
+      spared = λ e. none_known sh ms (waiting left i.pairs.out) left
+          (subst (λ (l : LeadsShown). NoCriterionApplies (setting_by l.variables l) (sums_shown l) (waiting left i.pairs.out) left) kept.leads (h.none e));
+      skips_none = h.skips_none;
       reals = pairs_known sh ms h.left reals;
       lcms = lcms_known sh ms h.left reals;
       shared =
@@ -100,13 +105,15 @@ found_by i w most g q stop may none kept h stops kind =
       rest = h.rest;
       out = h.out;
       leads = h.leads;
+      update = h.update;
+      dropped = h.dropped;
       stop_is = stops n (run_of n (shown i)) left refl h.none_left;
       kind = kind;
     }
 
 -- the state after it
-abbrev pub after_take : Shown → List Pair → List (Pair × ℕ) → ℕ → Option StopReason → List Event → Shown
-after_take s queue out taken stop es = record s { queue = queue; out = out; taken = taken; stop = stop; history = es }
+abbrev pub after_take : Shown → List Pair → List Drop → List (Pair × ℕ) → ℕ → Option StopReason → List Event → Shown
+after_take s queue dropped out taken stop es = record s { queue = queue; dropped = dropped; out = out; taken = taken; stop = stop; history = es }
 
 module _ (i : Inside) (w most : ℕ) (g : Given) (q : PairsShown) (stop : Option StopReason) (found : IsFound i w most g q stop) where
   abbrev s : Shown
@@ -130,7 +137,7 @@ module _ (i : Inside) (w most : ℕ) (g : Given) (q : PairsShown) (stop : Option
   module _ (es : List Event) (read : Each (IsRead (length i.members.list) i.stop) i.history.items)
       (noted : es ≡ i.history.items ++ (Take w g.skipped g.given ∷ [])) where
     abbrev t : Shown
-    t = after_take s (pairs_of q.queue) q.out (i.taken + k) stop es
+    t = record (after_take s (pairs_of q.queue) q.dropped q.out (i.taken + k) stop es) { update = q.update }
 
     history_given : history_of n i.members.list stop es ≡ history_of n i.members.list i.stop i.history.items ++
         (plain.Take w g.skipped.items (pairs_of g.pairs.items) ∷ [])
@@ -147,9 +154,11 @@ module _ (i : Inside) (w most : ℕ) (g : Given) (q : PairsShown) (stop : Option
       unstopped = ap (stop_of n) found.none;
       skips = found.skips;
       none_applies = found.spared;
+      skips_none = found.skips_none;
       gives = gives;
       after = λ j. record (state_of n s) {
         queue = (ap pairs_of found.rest ∙ pairs_drop k left ∙ ap (λ j. drop j (pairs_of left)) found.shared) j;
+        dropped = found.dropped j;
         out = found.out j;
         taken = i.taken + counted j;
         stop = found.stop_is j;
@@ -193,7 +202,7 @@ module _ (i : Inside) (w most : ℕ) (g : Given) (q : PairsShown) (stop : Option
       record {
         some = kept.some;
         replays = replays_after s after_state (plain.Take w g.skipped.items (pairs_of g.pairs.items))
-            (record { shared = refl; budget = refl; workers = refl }) kept.replays (took history.items kept.read noted);
+            (record { shared = refl; budget = refl; workers = refl; update = found.update }) kept.replays (took history.items kept.read noted);
         leads = found.leads ∙ kept.leads;
         stop = stop_over stop found.kind after_state;
         read = subst (Each (IsRead many stop)) (sym noted)
@@ -256,7 +265,7 @@ stopped_kept i w most reason skipped given history kept may stop none no_job mor
     (most, may, inl (stopped_step s w reason skipped given history.items stop none no_job kept.read more)) in
     record {
       some = kept.some;
-      replays = replays_after s t (plain.Take w [] []) (record { shared = refl; budget = refl; workers = refl }) kept.replays step;
+      replays = replays_after s t (plain.Take w [] []) (record { shared = refl; budget = refl; workers = refl; update = refl }) kept.replays step;
       leads = kept.leads;
       stop = kept.stop;
       read = subst (Each (IsRead many i.stop)) (sym more)

@@ -6,28 +6,30 @@ use Rattle.module_vectors.specs.declared.trail.TrailStart.TheVariants as starts
 use Rattle.module_vectors.specs.declared.trail.WorkStop.{WorkStop}
 use Rattle.module_vectors.specs.declared.trail.WorkStop.TheVariants.{Memory, Degree}
 use Rattle.formal_sums.specs.FormalSums.{FormalSum}
+use Rattle.queue_updates.specs.declared.Update.{Update}
 use Rattle.basis_steps.specs.Divisions.{AreReached, Makes}
 use Rattle.basis_steps.specs.Pairs.{Pair, count}
 use Rattle.basis_steps.specs.States.{Member, job_of, vectors}
-use Rattle.basis_steps.specs.Steps.{FindsStop, Takes, generator_rows}
+use Rattle.basis_steps.specs.Steps.{FindsStop, Puts, Takes, generator_rows}
 use Rattle.basis_steps.specs.Trails.{HasGiven, IsTrail, row_at}
 use Rattle.basis_core.specs.declared.stop.StopReason.{StopReason}
 use Rattle.basis_core.specs.declared.stop.StopReason.TheVariants as reasons
 use Rattle.basis_core.specs.declared.taken.Taken.{Taken}
 use Rattle.basis_core.specs.declared.taken.Taken.TheVariants.{Job as TookJob, Empty, Stopped}
 use Rattle.basis_core.specs.Jobs.{pairs_of}
-use Rattle.basis_core.specs.Logs.{Adds, Take}
-use Rattle.basis_core.specs.Members.{Shared, members_of, rows_of, setting_of}
-use Rattle.basis_core.specs.Outcomes.{OutcomeShown}
+use Rattle.basis_core.specs.Logs.{Adds, Put, Take}
+use Rattle.basis_core.specs.Members.{Shared, Tracked, members_of, rows_of, setting_of}
+use Rattle.basis_core.specs.Outcomes.{OutcomeShown, products_of}
 use Rattle.basis_core.specs.Shown.{Shown}
 use Rattle.basis_core.specs.Stops.{IsPairTrail, IsTrailOver, trail_members, trail_of}
 use Rattle.basis_core.specs.Views.{run_of, state_of}
 
--- ring, rank, generators, budget and workers are these
-pub record IsRunOf (shared : Shared) (budget workers : ℕ) (s : Shown) : Type 0 where
+-- ring, rank, generators, budget, workers and what is queued as members come are these
+pub record IsRunOf (shared : Shared) (budget workers : ℕ) (update : Update) (s : Shown) : Type 0 where
   pub over : s.shared ≡ shared
   pub most : s.budget ≡ budget
   pub number : s.workers ≡ workers
+  pub queues : s.update ≡ update
 
 -- a trail by the members that the generators before number i make, of which generator i is divided
 pub record IsBeginningTrail (n : ℕ) (shared : Shared) (t : KeptTrail) : Type 0 where
@@ -86,6 +88,13 @@ pub record IsJobOut (s : Shown) (o : OutcomeShown) : Type 0 where
   pub out : job_of o.job.worker s.out ≡ pairs_of o.job.pairs
   pub had : length o.job.members ≤ length s.members
   pub members : o.job.members ≡ take (length o.job.members) s.members
+
+-- the Put of the outcome: its rows make these members, which stand behind the old ones and in the log
+pub record PutsOutcome (n : ℕ) (s : Shown) (o : OutcomeShown) (made : List Tracked) (t : Shown) : Type 0 where
+  pub puts :
+      Puts (run_of n s) (state_of n s) o.job.worker (length o.job.members) (rows_of n o.rows) (products_of n o.products) (members_of n made) (state_of n t)
+  pub members : t.members ≡ s.members ++ made
+  pub adds : Adds (Put o.job.worker made) s t
 
 -- a trail by the state's members and those that the rows before one of them make, of a job of the history: of that row's division
 pub record IsPutTrail (n : ℕ) (s : Shown) (o : OutcomeShown) (t : KeptTrail) : Type 0 where

@@ -1,5 +1,6 @@
 -- The log of a run, its history as plain data without the number of variables: a note for each event, and what never changes
 use Rattle.std.specs.Prelude.{List, [], drop, length, take, ℕ, ◌++◌, ◌+◌, ◌-◌, ◌∷◌, ◌≡◌}
+use Rattle.queue_updates.specs.declared.Update.{Update}
 use Rattle.basis_steps.specs.Pairs.{Pair}
 use Rattle.basis_steps.specs.States as plain
 use Rattle.basis_core.specs.declared.event.Event.{Event}
@@ -8,11 +9,12 @@ use Rattle.basis_core.specs.Members.{Shared, Tracked}
 use Rattle.basis_core.specs.Shown.{Shown}
 use Rattle.basis_core.specs.Views.{ending_of}
 
--- ring, rank and generators; budget and workers; the members at the beginning
+-- ring, rank and generators; budget, workers and what is queued as members come; the members at the beginning
 pub record Base : Type 0 where
   pub shared : Shared
   pub budget : ℕ
   pub workers : ℕ
+  pub update : Update
   pub first : List Tracked
 
 -- an event of a worker: a Put with the members that it made
@@ -55,6 +57,7 @@ base s = record {
   shared = s.shared;
   budget = s.budget;
   workers = s.workers;
+  update = s.update;
   first = take (number_at_beginning s) s.members;
 }
 
@@ -81,7 +84,3 @@ members_after b es = b.first ++ made_in es
 -- the event e is added to the log, and what never changes is the same
 abbrev pub Adds : Noted → (old new : Shown) → Type 0
 Adds e old new = (log new ≡ log old ++ (e ∷ [])) × (base new ≡ base old)
-
--- a Put of the worker is added, with the members that it made: those behind the old ones
-abbrev pub AddsPut : ℕ → (old new : Shown) → Type 0
-AddsPut w old new = (made : List Tracked) × Adds (Put w made) old new × (new.members ≡ old.members ++ made)

@@ -44,6 +44,7 @@ run_of n s = record {
   budget = s.budget;
   workers = s.workers;
   degree_limit = 65535;
+  update = s.update;
 }
 
 -- what the events change
@@ -51,6 +52,7 @@ abbrev pub state_of : (n : ℕ) → Shown → State n
 state_of n s = record {
   members = members_of n s.members;
   queue = s.queue;
+  dropped = s.dropped;
   out = s.out;
   taken = s.taken;
   ended = s.ended;
@@ -58,11 +60,12 @@ state_of n s = record {
   history = history_of n s.members s.stop s.history;
 }
 
--- ring, rank, generators, budget and number of workers are the same
+-- ring, rank, generators, budget, number of workers and what is queued as members come are the same
 pub record IsSameRun (old new : Shown) : Type 0 where
   pub shared : new.shared ≡ old.shared
   pub budget : new.budget ≡ old.budget
   pub workers : new.workers ≡ old.workers
+  pub update : new.update ≡ old.update
 
 -- the number of variables
 abbrev pub variables_of : Shown → ℕ

@@ -2,12 +2,13 @@
 
 ghost use Rattle.std.specs.Prelude.{ℕ, ◌≡◌, List};
 ghost use Rattle.basis_steps.specs.States as plain;
-ghost use Rattle.basis_steps.specs.Steps.{Ends, MayTake, Puts, Stops};
+ghost use Rattle.basis_steps.specs.Steps.{Ends, MayTake, Stops};
 ghost use Rattle.basis_core.specs.declared.taken.Taken.{Taken};
 ghost use Rattle.basis_core.specs.declared.taken.Taken.TheVariants as taken;
-ghost use Rattle.basis_core.specs.Answers.{AnswersTake, IsTaken};
+ghost use Rattle.basis_core.specs.Answers.{AnswersTake, IsTaken, PutsOutcome};
+ghost use Rattle.basis_core.specs.Members.{Tracked};
 ghost use Rattle.basis_core.specs.Outcomes.{OutcomeShown};
-ghost use Rattle.basis_core.specs.Pending.{HaveGrown, MayPut};
+ghost use Rattle.basis_core.specs.Pending.{MayPut};
 ghost use Rattle.basis_core.specs.Shown.{Shown};
 ghost use Rattle.basis_core.specs.Views.{IsSameRun, run_of, state_of, variables_of};
 
@@ -20,9 +21,9 @@ pub fn pending_outcomes()
     ensures take { (s t : Shown) (w most : ℕ) (answer : Taken) (o : OutcomeShown)
         → IsTaken (variables_of s) s w most answer t → IsSameRun s t → t.members ≡ s.members
         → (w ≡ o.job.worker → ⊥) → MayPut s o → MayPut t o }
-    ensures put { (s t : Shown) (w : ℕ) (made : List (plain.Member (variables_of s))) (o : OutcomeShown)
-        → Puts (run_of (variables_of s) s) (state_of (variables_of s) s) w made (state_of (variables_of s) t) → IsSameRun s t → HaveGrown s.members t.members
-        → (w ≡ o.job.worker → ⊥) → MayPut s o → MayPut t o }
+    ensures put { (s t : Shown) (given o : OutcomeShown) (made : List Tracked)
+        → PutsOutcome (variables_of s) s given made t → IsSameRun s t
+        → (given.job.worker ≡ o.job.worker → ⊥) → MayPut s o → MayPut t o }
     ensures end { (s t : Shown) (w : ℕ) (ending : plain.Ending) (o : OutcomeShown)
         → Ends (run_of (variables_of s) s) (state_of (variables_of s) s) w ending (state_of (variables_of s) t) → IsSameRun s t → t.members ≡ s.members
         → (w ≡ o.job.worker → ⊥) → MayPut s o → MayPut t o }

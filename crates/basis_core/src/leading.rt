@@ -4,7 +4,7 @@ ghost use Rattle.formal_sums.specs.FormalSums.{Each};
 ghost use Rattle.module_vectors.specs.Rings.{variables};
 ghost use Rattle.module_vectors.specs.Vectors.{IsMonomialOver};
 ghost use Rattle.basis_steps.specs.Divisions.{IsMonicMember};
-ghost use Rattle.basis_steps.specs.Queues.{QueuesNewPairs};
+ghost use Rattle.basis_steps.specs.Updates.{QueuesPairs};
 ghost use Rattle.basis_steps.specs.States.{vectors};
 ghost use Rattle.basis_core.specs.Jobs.{pairs_of};
 ghost use Rattle.basis_core.specs.Leads.{first_key, leads_of};
@@ -13,6 +13,7 @@ ghost use Rattle.basis_core.specs.Members.{AreMonic, members_of, setting_of};
 use crate::members::Members;
 use module_vectors::{Key, NoMemory, Vect};
 use pair_queue::PairQueue;
+use queue_updates::Update;
 use std::alloc::Global;
 
 // The key of the lead of a vector that is not zero.
@@ -42,18 +43,30 @@ pub(crate) fn lead_keys(
     Ok(keys)
 }
 
-/// The pairs of the members at the beginning of a run: all are queued.
-pub(crate) fn first_pairs(alloc: Global, members: &Members) -> Result<PairQueue, NoMemory>
+/// The pairs of the members at the beginning of a run: all are queued, or those that the update leaves.
+pub(crate) fn first_pairs(
+    alloc: Global,
+    members: &Members,
+    update: Update,
+) -> Result<PairQueue, NoMemory>
     requires { AreMonic members.now.shared members.now.list }
     ensures leads { IfOk result (λ q. q.leads ≡ leads_of members.now.shared members.now.list) }
     ensures queues { let n = variables members.now.shared.ring in IfOk result
-        (λ q. QueuesNewPairs (setting_of n members.now.shared) 0 (vectors (members_of n members.now.list)) [] (pairs_of q.queue)) }
+        (λ q. QueuesPairs update (setting_of n members.now.shared) 0 (vectors (members_of n members.now.list)) [] [] (pairs_of q.queue) q.dropped) }
     ensures out { IfOk result (λ q. q.out ≡ []) }
+    ensures update { IfOk result (λ q. q.update ≡ update) }
 {
     let shared = members.shared();
     let ring = &shared.ring;
     let weights = ring.weights.try_copy(alloc)?;
-    let mut pairs = PairQueue::new(alloc, ring.order, ring.module_order, weights, shared.rank);
+    let mut pairs = PairQueue::new(
+        alloc,
+        ring.order,
+        ring.module_order,
+        weights,
+        shared.rank,
+        update,
+    );
     let keys = lead_keys(alloc, members, 0)?;
     pairs.add(alloc, keys)?;
     Ok(pairs)

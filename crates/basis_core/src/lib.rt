@@ -29,7 +29,7 @@ pub use job::Job;
 pub use laws::pending_outcomes;
 pub use members::Members;
 pub use outcome::Outcome;
-pub use pair_queue::Out;
+pub use pair_queue::{Dropped, Out};
 pub use products::quotient_products;
 pub use state::BasisState;
 pub use stop::StopReason;

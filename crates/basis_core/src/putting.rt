@@ -3,7 +3,7 @@ ghost use Rattle.std.specs.Prelude.{◌≡◌, ◌≤◌, ◌+◌, ◌*◌, OnOk
 ghost use Rattle.std.specs.Vec.{vec_capacity};
 ghost use Rattle.formal_sums.specs.FormalSums.{Each};
 ghost use Rattle.module_vectors.specs.Rings.{variables};
-ghost use Rattle.basis_steps.specs.Queues.{QueuesNewPairs};
+ghost use Rattle.basis_steps.specs.Updates.{QueuesPairs};
 ghost use Rattle.basis_steps.specs.States.{vectors};
 ghost use Rattle.basis_core.specs.Jobs.{pairs_of};
 ghost use Rattle.basis_core.specs.Leads.{leads_of};
@@ -44,7 +44,7 @@ pub(crate) fn make_members(
     Ok(())
 }
 
-/// Takes all memory that the members from number `first` on need in a state: for their leads and pairs, which are queued,
+/// Takes all memory that the members from number `first` on need in a state: for their leads and pairs, which are queued or dropped,
 /// and for this event and those that take no memory. After an error the pairs are as before.
 pub(crate) fn add_pairs(
     alloc: Global,
@@ -62,9 +62,10 @@ pub(crate) fn add_pairs(
     ensures history_room { OnOk result (length history.old.items + (3 * workers + 1) ≤ vec_capacity history.new) }
     ensures leads { OnOk result (pairs.new.leads ≡ leads_of members.now.shared members.now.list) }
     ensures queues { let n = variables members.now.shared.ring in OnOk result
-        (QueuesNewPairs (setting_of n members.now.shared) first (vectors (members_of n members.now.list)) (pairs_of pairs.old.queue)
-        (pairs_of pairs.new.queue)) }
+        (QueuesPairs pairs.old.update (setting_of n members.now.shared) first (vectors (members_of n members.now.list))
+        (pairs_of pairs.old.queue) pairs.old.dropped (pairs_of pairs.new.queue) pairs.new.dropped) }
     ensures out { OnOk result (pairs.new.out ≡ pairs.old.out) }
+    ensures update { OnOk result (pairs.new.update ≡ pairs.old.update) }
     ensures kept { OnErr result (pairs.new ≡ pairs.old) }
 {
     history.reserve(3 * workers as usize + 1)?;
@@ -122,9 +123,10 @@ pub(crate) fn add_members(
     ensures history_room { OnOk result (length history.old.items + (3 * workers + 1) ≤ vec_capacity history.new) }
     ensures leads { OnOk result (pairs.new.leads ≡ leads_of members.old.shared members.new.list) }
     ensures queues { let n = variables members.old.shared.ring in OnOk result
-        (QueuesNewPairs (setting_of n members.old.shared) (length members.old.list) (vectors (members_of n members.new.list))
-        (pairs_of pairs.old.queue) (pairs_of pairs.new.queue)) }
+        (QueuesPairs pairs.old.update (setting_of n members.old.shared) (length members.old.list) (vectors (members_of n members.new.list))
+        (pairs_of pairs.old.queue) pairs.old.dropped (pairs_of pairs.new.queue) pairs.new.dropped) }
     ensures out { OnOk result (pairs.new.out ≡ pairs.old.out) }
+    ensures update { OnOk result (pairs.new.update ≡ pairs.old.update) }
     ensures err { OnErr result ((members.new ≡ members.old) × (pairs.new ≡ pairs.old)) }
     ensures stop { let n = variables members.old.shared.ring in IfErr result (StopsWork n members.old.shared members.old.list outcome.now) }
 {

@@ -4,16 +4,17 @@ ghost use Rattle.std.specs.Arc.{arc_value};
 ghost use Rattle.formal_sums.specs.FormalSums.{Each};
 ghost use Rattle.module_vectors.specs.Rings.{variables};
 ghost use Rattle.basis_steps.specs.Invariant.{HoldsInvariant};
-ghost use Rattle.basis_steps.specs.States.{Member as PlainMember, IsLawfulRun};
+ghost use Rattle.basis_steps.specs.States.{IsLawfulRun};
 ghost use Rattle.basis_steps.specs.Histories.{HasStopped};
-ghost use Rattle.basis_steps.specs.Steps.{Begins, Ends, FindsStop, MayEnd, MayTake, Puts, Replays, Stops};
+ghost use Rattle.basis_steps.specs.Steps.{Begins, Ends, FindsStop, MayEnd, MayTake, Replays, Stops};
 ghost use Rattle.member_products.specs.Generators.{AreGenerators};
-ghost use Rattle.basis_core.specs.Answers.{AnswersTake, BeginningStops, IsJobOut, IsReason, IsRunOf, IsTaken, PutStops};
-ghost use Rattle.basis_core.specs.Members.{shared_of};
+ghost use Rattle.basis_core.specs.Answers.{AnswersTake, BeginningStops, IsJobOut, IsReason, IsRunOf, IsTaken, PutStops, PutsOutcome};
+ghost use Rattle.basis_core.specs.Members.{Tracked, shared_of};
 ghost use Rattle.basis_core.specs.Stops.{reason_of};
 ghost use Rattle.basis_core.specs.Inside.{IsRead, IsStopOver};
-ghost use Rattle.basis_core.specs.Logs.{Adds, AddsPut, End as EndNote, Stop as StopNote, Take as TakeNote};
+ghost use Rattle.basis_core.specs.Logs.{Adds, End as EndNote, Stop as StopNote, Take as TakeNote};
 ghost use Rattle.basis_core.specs.Jobs.{HasLcm, pairs_of};
+ghost use Rattle.pair_queue.specs.Dropping.{drops_of};
 ghost use Rattle.basis_core.specs.Pending.{HaveGrown};
 ghost use Rattle.basis_core.specs.Views.{ending_of, outs_of, run_of, state_of, variables_of, IsSameRun};
 
@@ -31,7 +32,8 @@ use crate::taking::{answer, keep_stop};
 use member_products::Shared;
 use module_vectors::{NoMemory, Ring, VectList, WorkStop};
 use pair_criteria::Pair;
-use pair_queue::{Out, PairQueue};
+use pair_queue::{Dropped, Out, PairQueue};
+use queue_updates::Update;
 use std::alloc::Global;
 use std::marker::Model;
 use std::sync::Arc;
@@ -92,10 +94,11 @@ impl BasisState {
     }
 
     /// The run on these generators at its beginning: they are divided by each other until no lead is divisible by an
-    /// earlier one, and all pairs are queued. IVA chapter 2, section 7.
+    /// earlier one, and all pairs are queued, or those that the update leaves. IVA chapter 2, section 7; Gebauer and Möller
+    /// 1988.
     ///
     /// `generators` are vectors of the ring, with positions below `rank`; `budget` is the most pairs that are taken;
-    /// `workers` is at least 1. `Degree` comes with a trail to a product of degree above 65,535, `Memory` where
+    /// `workers` is at least 1; `update` is what is queued as members come. `Degree` comes with a trail to a product of degree above 65,535, `Memory` where
     /// there is none.
     pub fn begin(
         alloc: Global,
@@ -104,10 +107,11 @@ impl BasisState {
         generators: VectList,
         budget: u64,
         workers: u32,
+        update: Update,
     ) -> Result<BasisState, WorkStop>
         requires workers { 0 < workers }
         requires generators { AreGenerators ring rank generators }
-        ensures run { IfOk result (IsRunOf (record { ring = ring; rank = rank; generators = generators }) budget workers) }
+        ensures run { IfOk result (IsRunOf (record { ring = ring; rank = rank; generators = generators }) budget workers update) }
         ensures begins { let n = variables ring in IfOk result (λ s. Begins (run_of n s) (state_of n s)) }
         ensures stop { IfErr result (BeginningStops (variables ring) (record { ring = ring; rank = rank; generators = generators })) }
     {
@@ -121,7 +125,7 @@ impl BasisState {
         )?;
         let mut members = Members::new(alloc, shared);
         make_generators(alloc, &mut members)?;
-        let pairs = first_pairs(alloc, &members)?;
+        let pairs = first_pairs(alloc, &members, update)?;
         let ended = nobody_ended(alloc, workers)?;
         // Ends and Stops take no memory: there is room for three events of each worker.
         let history = Vec::with_capacity(alloc, 3 * workers as usize)?;
@@ -137,8 +141,8 @@ impl BasisState {
         })
     }
 
-    /// Skips queued pairs to which a criterion applies, and gives a worker that has none out some of those left: at most
-    /// `most`, within the budget. IVA chapter 2, section 10.
+    /// Skips queued pairs to which a criterion applies, or none where new members drop pairs, and gives a worker that has none
+    /// out some of those left: at most `most`, within the budget. IVA chapter 2, section 10.
     ///
     /// After `NoMemory` the state is as before.
     pub fn take(&mut self, alloc: Global, worker: u32, most: u64) -> Result<Taken, NoMemory>
@@ -199,7 +203,8 @@ impl BasisState {
     }
 
     /// Takes in the outcome of a job that is out: each row is divided by the members of that moment and becomes a member
-    /// where it is not zero, and the new members' pairs are queued. IVA chapter 2, section 10.
+    /// where it is not zero, and the new members' pairs are queued, or the update with each of them is done. IVA chapter 2,
+    /// section 10; Gebauer and Möller 1988.
     ///
     /// `Degree` comes with a trail to a product of degree above 65,535, `Memory` where there is none; both give the
     /// outcome back and leave the state as it was.
@@ -208,8 +213,7 @@ impl BasisState {
         requires works { get_or self.old.ended outcome.job.worker true ≡ false }
         requires out { IsJobOut self.old outcome }
         ensures step { let n = variables_of self.old in OnOk result
-            ((made : List (PlainMember n)) × Puts (run_of n self.old) (state_of n self.old) outcome.job.worker made (state_of n self.new)) }
-        ensures event { OnOk result (AddsPut outcome.job.worker self.old self.new) }
+            ((made : List Tracked) × PutsOutcome n self.old outcome made self.new) }
         ensures run { IsSameRun self.old self.new }
         ensures members { OnOk result (HaveGrown self.old.members self.new.members) }
         ensures err { OnErr result (self.new ≡ self.old) }
@@ -296,6 +300,20 @@ impl BasisState {
         ensures lcms { Each (HasLcm (variables_of self.now) self.now.shared.ring.weights self.now.members) result.now }
     {
         self.pairs.queued()
+    }
+
+    /// What is queued as members come.
+    pub fn update(&self) -> Update
+        ensures { result ≡ self.now.update }
+    {
+        self.pairs.update()
+    }
+
+    /// The pairs that new members dropped, in the order in which they did.
+    pub fn dropped(&self) -> &[Dropped]
+        ensures { drops_of result.now ≡ self.now.dropped }
+    {
+        self.pairs.dropped()
     }
 
     /// The pairs that are out.

@@ -1,7 +1,5 @@
 -- One hold and one event
-use Rattle.std.proofs.Common.{List, None, Option, Some, [], ap, append-nil, arith, cond, inl, inr, length, length-append, refl, subst, sym, true, ℕ, ◌++◌, ◌+◌, ◌-◌, ◌∙◌, ◌∷◌, ◌≡◌}
-use Rattle.std.specs.Prelude.{⊤}
-use Rattle.module_vectors.specs.Rings.{variables}
+use Rattle.std.proofs.Common.{List, None, Option, Some, ap, cond, refl, subst, sym, true, ℕ, ◌∙◌, ◌≡◌}
 use Rattle.module_vectors.specs.declared.trail.KeptTrail.{KeptTrail}
 use Rattle.module_vectors.specs.declared.trail.WorkStop.{WorkStop}
 use Rattle.module_vectors.specs.declared.trail.WorkStop.TheVariants as works
@@ -11,13 +9,9 @@ use Rattle.basis_steps.specs.Steps as steps
 use Rattle.basis_steps.specs.Trails.{IsTrailOf}
 use Rattle.basis_core.specs.declared.ending.Ending.{Ending}
 use Rattle.basis_core.specs.declared.ending.Ending.TheVariants as endings
-use Rattle.basis_core.specs.declared.event.Event.TheVariants as events
-use Rattle.basis_core.specs.declared.stop.StopReason.{StopReason}
-use Rattle.basis_core.specs.declared.taken.Taken.{Taken}
-use Rattle.basis_core.specs.Answers.{IsRunTrail, PutStops, pairs_given}
+use Rattle.basis_core.specs.Answers.{IsRunTrail, PutStops}
 use Rattle.basis_core.specs.Members.{Tracked, members_of}
 use Rattle.basis_core.specs.Outcomes.{OutcomeShown}
-use Rattle.basis_core.specs.Pending.{HaveGrown}
 use Rattle.basis_core.specs.Shown.{Shown}
 use Rattle.basis_core.specs.Stops.{trail_of}
 use Rattle.basis_core.specs.Views.{IsSameRun, ending_of, run_of, state_of, variables_of}

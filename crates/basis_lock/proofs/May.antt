@@ -1,6 +1,5 @@
 -- What a worker may do by what its seat has seen, the core lets it do at its hold
-use Rattle.std.proofs.Common.{Bool, List, None, Option, Some, [], ap, append_assoc, arith, cond, false, get_or, inl, inr, length, length-append, map, refl, subst, suc, sym, take, true, zero, ℕ, ◌++◌, ◌+◌, ◌<◌, ◌==◌, ◌∙◌, ◌∷◌, ◌≡◌, ◌≤◌}
-use Rattle.module_vectors.specs.Rings.{variables}
+use Rattle.std.proofs.Common.{Bool, List, Option, [], ap, append_assoc, arith, cond, false, get_or, inl, inr, length, length-append, refl, subst, suc, sym, take, true, zero, ℕ, ◌++◌, ◌+◌, ◌<◌, ◌==◌, ◌∙◌, ◌∷◌, ◌≡◌, ◌≤◌}
 use Rattle.module_vectors.specs.declared.trail.KeptTrail.{KeptTrail}
 use Rattle.std.specs.Prelude.{Contains}
 use Rattle.basis_steps.proofs.Growing.{vectors-append}
@@ -16,17 +15,16 @@ use Rattle.basis_core.specs.declared.event.Event.TheVariants as events
 use Rattle.basis_core.specs.declared.stop.StopReason.{StopReason}
 use Rattle.basis_core.specs.declared.stop.StopReason.TheVariants as reasons
 use Rattle.basis_core.specs.Answers.{IsJobOut, IsReason, IsRunTrail}
-use Rattle.basis_core.specs.Jobs.{pairs_of}
 use Rattle.basis_core.specs.Members.{Tracked, member_of, members_of}
 use Rattle.basis_core.specs.Outcomes.{OutcomeShown}
 use Rattle.basis_core.specs.Shown.{Shown}
 use Rattle.basis_core.specs.Stops.{trail_of}
 use Rattle.basis_core.specs.Views.{ending_of, history_of, run_of, state_of, variables_of}
 use Rattle.ruled_lock.specs.declared.law.View.{View}
-use Rattle.ruled_lock.specs.Events.{StartsWith, calls_by}
+use Rattle.ruled_lock.specs.Events.{calls_by}
 use Rattle.ruled_lock.specs.Plays.{Sees}
-use Rattle.basis_lock.specs.Acts.{Act, Stopped, act_of, acts_of, actor, has_ended, has_stop, held_after, took_after}
-use Rattle.basis_lock.specs.Calls.{HasGivenSeen, IsReasonSeen, IsTrailSeen, MayFinish, MayHandIn, MayReport, MayTakeJob, own, run_on}
+use Rattle.basis_lock.specs.Acts.{act_of, acts_of, actor, has_ended, has_stop, held_after, took_after}
+use Rattle.basis_lock.specs.Calls.{HasGivenSeen, IsReasonSeen, IsTrailSeen, MayFinish, MayHandIn, MayReport, MayTakeJob, own}
 use Rattle.basis_core.specs.Logs.{Base, End, Noted, Put, Stop, Take, base, by, log, made_in, members_after, notes_from, number_at_beginning}
 use Rattle.basis_lock.proofs.Acting.{acts_of_events, nobody_ended, own_acts, runs_out, runs_stop_kept, runs_stopped, runs_took, runs_works}
 use Rattle.basis_core.proofs.Logging.{members_told}

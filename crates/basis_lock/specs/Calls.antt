@@ -5,8 +5,8 @@ use Rattle.module_vectors.specs.Vectors.{sums_of}
 use Rattle.module_vectors.specs.declared.trail.KeptTrail.{KeptTrail}
 use Rattle.module_vectors.specs.declared.trail.WorkStop.{WorkStop}
 use Rattle.module_vectors.specs.declared.trail.WorkStop.TheVariants as works
+use Rattle.basis_steps.specs.Invariant.{HoldsInvariant}
 use Rattle.basis_steps.specs.Pairs.{Pair}
-use Rattle.basis_steps.specs.States as plain
 use Rattle.basis_steps.specs.States.{Run, vectors}
 use Rattle.basis_steps.specs.Steps as steps
 use Rattle.basis_steps.specs.Trails.{IsTrailOf}
@@ -16,13 +16,13 @@ use Rattle.basis_core.specs.declared.stop.StopReason.TheVariants as reasons
 use Rattle.basis_core.specs.declared.taken.Taken.{Taken}
 use Rattle.basis_core.specs.Answers.{AnswersTake, IsTakeOf, pairs_given}
 use Rattle.basis_core.specs.Jobs.{pairs_of}
-use Rattle.basis_core.specs.Members.{Tracked, members_of, setting_of}
-use Rattle.basis_core.specs.Outcomes.{OutcomeShown}
+use Rattle.basis_core.specs.Members.{Tracked, members_of, rows_of, setting_of}
+use Rattle.basis_core.specs.Outcomes.{OutcomeShown, products_of}
 use Rattle.basis_core.specs.Shown.{Shown}
 use Rattle.basis_core.specs.Stops.{IsPairTrail, reason_of, trail_of}
 use Rattle.basis_core.specs.Views.{IsSameRun, ending_of, run_of, state_of, variables_of}
 use Rattle.ruled_lock.specs.declared.law.View.{View}
-use Rattle.ruled_lock.specs.Plays.{Makes}
+use Rattle.ruled_lock.specs.Plays.{Holds, Makes}
 use Rattle.basis_lock.specs.Acts.{Act, acts_of, has_ended, has_stop, held_after, took_after}
 use Rattle.basis_core.specs.Logs.{Base, End, Noted, Put, Stop, Take, base, by, log, members_after}
 
@@ -67,6 +67,7 @@ run_on n b = record {
   budget = b.budget;
   workers = b.workers;
   degree_limit = 65535;
+  update = b.update;
 }
 
 -- a trail of the members that were seen, and of a job that was seen to be given
@@ -106,6 +107,15 @@ pub record IsHold (b : Base) (v : View Noted Base) (e : Noted) (w : View Noted B
   pub seen : w.seen ≡ log t
   pub replays : steps.Replays (run_of (variables_of t) t) (state_of (variables_of t) t)
 
+-- The state of the run at one point of the one history, where the lock was free: it replays that history, which begins with
+-- all that the seat had seen, and holds the invariant of a run. The hold that finds it is no event
+pub record IsFreeState (b : Base) (v w : View Noted Base) (s : Shown) : Type 0 where
+  pub holds : Holds by v w
+  pub of_run : base s ≡ b
+  pub history : w.seen ≡ log s
+  pub replays : steps.Replays (run_of (variables_of s) s) (state_of (variables_of s) s)
+  pub invariant : HoldsInvariant (run_of (variables_of s) s) (state_of (variables_of s) s)
+
 -- a Take, with its answer
 pub record TakesJob (b : Base) (v : View Noted Base) (most : ℕ) (answer : Taken) (w : View Noted Base) : Type 0 where
   pub before : Shown
@@ -115,7 +125,7 @@ pub record TakesJob (b : Base) (v : View Noted Base) (most : ℕ) (answer : Take
   pub taken : IsTakeOf (variables_of before) before v.worker most skipped answer after
   pub answers : AnswersTake v.worker after answer
 
--- a Put of the outcome
+-- a Put of the outcome: its rows make these members
 pub record HandsIn (b : Base) (v : View Noted Base) (o : OutcomeShown) (w : View Noted Base) : Type 0 where
   pub before : Shown
   pub after : Shown
@@ -124,7 +134,8 @@ pub record HandsIn (b : Base) (v : View Noted Base) (o : OutcomeShown) (w : View
   pub hold : IsHold b v (Put v.worker made) w before after
   pub puts :
       let n = variables_of before in
-      (plain_made : List (plain.Member n)) × steps.Puts (run_of n before) (state_of n before) v.worker plain_made (state_of n after)
+      steps.Puts (run_of n before) (state_of n before) v.worker (length o.job.members) (rows_of n o.rows) (products_of n o.products)
+      (members_of n made) (state_of n after)
 
 -- an End, with its answer
 pub record Finishes (b : Base) (v : View Noted Base) (ending : Ending) (w : View Noted Base) : Type 0 where

@@ -11,8 +11,10 @@
 #![tactic(auto)]
 
 mod calls;
+mod laws;
 mod locked;
 mod note;
 
 pub use calls::{BasisLock, BasisSeat, finish, hand_in, report_stop, take_job};
+pub use laws::free_states;
 pub use note::{Note, RunBase};

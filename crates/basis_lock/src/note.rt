@@ -2,8 +2,8 @@
 use basis_core::BasisState;
 use std::marker::Model;
 
-/// What never changes in a run: ring, rank and generators, its budget and number of workers, and the members that it
-/// began with.
+/// What never changes in a run: ring, rank and generators, its budget, its number of workers and what is queued as
+/// members come, and the members that it began with.
 pub struct RunBase {
     pub state: BasisState,
 }

@@ -1,9 +1,8 @@
 -- Each event keeps the invariant
-use Rattle.std.proofs.Common.{Bool, Contains, List, [], None, Option, Some, ap, append-nil, append_assoc, arith, cond, drop, eq-eqb, eqb-true, false, filter, get_or, inl, inr, leb, length, length-append, ltb, map, nat_eq, not, refl, set, subst, suc, sym, take, true, zero, ℕ, ◌&&◌, ◌++◌, ◌+◌, ◌<◌, ◌==◌, ◌∙◌, ◌∷◌, ◌≡◌, ◌≤◌, ◌⊎◌}
+use Rattle.std.proofs.Common.{Bool, Contains, List, [], None, Option, Some, ap, append-nil, append_assoc, arith, cond, drop, eq-eqb, false, filter, get_or, inl, inr, length, length-append, map, nat_eq, not, refl, set, subst, suc, sym, take, true, zero, ℕ, ◌++◌, ◌+◌, ◌<◌, ◌==◌, ◌∙◌, ◌∷◌, ◌≡◌, ◌≤◌, ◌⊎◌}
 use Rattle.std.proofs.Common.{Less}
-use Rattle.std.proofs.lemmas.Bool.{cases_lt, leb-true, ltb-true}
+use Rattle.std.proofs.lemmas.Bool.{cases_lt}
 use Rattle.std.proofs.lemmas.List.{get_or-set_other, length-set, length-take, take-append-drop}
-use Rattle.monomials.proofs.Monomials.{and_left, and_right}
 use Rattle.monomials.specs.Exponents.{unit}
 use Rattle.formal_sums.proofs.WeightedSums.{Each_append}
 use Rattle.formal_sums.specs.Combinations.{IsMember}
@@ -13,17 +12,17 @@ use Rattle.bases.specs.Leads.{leads}
 use Rattle.bases.specs.Settings.{Setting}
 use Rattle.basis_steps.proofs.Carrying.{carried, made_append}
 use Rattle.basis_steps.proofs.Counting.{count-append, count-split, count_out_with, count_workers, pairs_out-append}
-use Rattle.basis_steps.proofs.Covering.{gives_covered, put_covered, skips_covered}
+use Rattle.basis_steps.proofs.Joining.{IsJoined, put_joined, take_covered}
 use Rattle.basis_steps.proofs.Growing.{leads_front, length-vectors, vectors-append}
 use Rattle.basis_steps.proofs.Making.{makes_made, makes_members, makes_new_leads, module_more, rows_made}
 use Rattle.basis_steps.specs.Cofactors.{AreMade, IsMade}
-use Rattle.basis_steps.specs.Criteria.{AreCovered, IsPair, Skips, waiting}
+use Rattle.basis_steps.specs.Criteria.{IsPair, Skips}
 use Rattle.basis_steps.specs.Divisions.{IsMonicMember, Makes}
 use Rattle.basis_steps.specs.Invariant.{HasNewLeads, HoldsInvariant}
 use Rattle.basis_steps.proofs.JobProducts.{job_product_at}
 use Rattle.basis_steps.specs.Outcomes.{AreJobProducts, IsOutcome}
 use Rattle.basis_steps.specs.Pairs.{Pair, count}
-use Rattle.basis_steps.specs.Queues.{IsSorted, compare_pairs, is_new_pair, share}
+use Rattle.basis_steps.specs.Queues.{IsSorted, compare_pairs, share}
 use Rattle.basis_steps.specs.States.{Degree, End, Ended, Ending, Event, IsLawfulRun, Member, MoreWork, Pairs, Product, Put, Run, State, Stop, StopReason, Take, Trail, job_given, job_of, pairs_out, pairs_taken, vectors, with_others}
 use Rattle.basis_steps.specs.Steps.{Ends, FindsStop, MayTake, Puts, Step, Stops, Takes, ended_after, ending_of, first_stop, is_empty, is_stopped, out_with, stop_of_take}
 use Rattle.basis_steps.specs.Trails.{HasGiven, IsInJob, IsInPut, IsTrail, IsTrailOf}
@@ -175,24 +174,6 @@ known_products {n} p G job products h t c =
     let e = contained_at products t (0, unit n) c in
     subst (λ u. u.0 < length G) e.2 (job_product_at p G job products h e.0 e.1).0
 
--- a pair with a new member
-abbrev IsNew : {n : ℕ} → State n → List (Member n) → Pair → Type 0
-IsNew s made x = (length s.members ≤ x.1) × IsPair (vectors (s.members ++ made)) x
-
--- a pair of the list that the test finds new
-pub pair_of_new : {n : ℕ} (k : ℕ) (G : List (FormalSum n)) (x : Pair) → is_new_pair k G x ≡ true → (k ≤ x.1) × IsPair G x
-pair_of_new k G x e =
-    let same = nat_eq (leads G x.0).0 (leads G x.1).0 in
-    let e1 : (ltb x.1 (length G) && (ltb x.0 x.1 && same)) ≡ true = and_right (leb k x.1) _ e in
-    let e2 : (ltb x.0 x.1 && same) ≡ true = and_right (ltb x.1 (length G)) _ e1 in (
-      leb-true k x.1 (and_left (leb k x.1) _ e),
-      record {
-        ordered = ltb-true x.0 x.1 (and_left (ltb x.0 x.1) same e2);
-        within = ltb-true x.1 (length G) (and_left (ltb x.1 (length G)) (ltb x.0 x.1 && same) e1);
-        position = eqb-true (leads G x.0).0 (leads G x.1).0 (and_right (ltb x.0 x.1) same e2);
-      },
-    )
-
 module _ {n : ℕ} (r : Run n) (ok : IsLawfulRun r) (s : State n) (inv : HoldsInvariant r s) where
   -- an event that only the history shows
   kept_note : (e : Event n) → job_given e ≡ [] → HoldsInvariant r (record s { history = s.history ++ (e ∷ []) })
@@ -240,9 +221,7 @@ module _ {n : ℕ} (r : Run n) (ok : IsLawfulRun r) (s : State n) (inv : HoldsIn
         made = inv.made;
         generators = inv.generators;
         new_leads = inv.new_leads;
-        covered = subst (λ j. AreCovered S G (waiting (drop k left) (s.out ++ out_with w j))) (sym h.gives)
-            (gives_covered S ok.setting G inv.members s.out left w k
-            (skips_covered S ok.setting G inv.members s.out s.queue skipped left h.skips (λ x p. inv.real x (omega arith)) inv.covered));
+        covered = take_covered S ok.setting G inv.members s.out s.queue skipped left s.dropped w k job h.gives h.skips (λ x p. inv.real x (omega arith)) r.update h.skips_none inv.covered;
         real = λ x p. inv.real x (omega (arith, less x, split x, given x));
         sorted = sorted_drop S G k left (sorted_skips S G s.out s.queue skipped left h.skips inv.sorted);
         once = λ x. omega (arith, inv.once x, less x, split x, given x);
@@ -263,8 +242,10 @@ module _ {n : ℕ} (r : Run n) (ok : IsLawfulRun r) (s : State n) (inv : HoldsIn
           go true e = cc
           go false e = cc
 
-  pub kept_put : (w : ℕ) (made : List (Member n)) (t : State n) → Puts r s w made t → HoldsInvariant r t
-  kept_put w made t h =
+  pub kept_put :
+      (w base : ℕ) (rows : List (Member n)) (products : List (Product n)) (made : List (Member n)) (t : State n)
+      → Puts r s w base rows products made t → HoldsInvariant r t
+  kept_put w base rows products made t h =
       let S = r.setting in
       let G = s.members in
       let V = vectors s.members in
@@ -273,19 +254,19 @@ module _ {n : ℕ} (r : Run n) (ok : IsLawfulRun r) (s : State n) (inv : HoldsIn
       let same = taken_same s.history (Put w made) refl in
       let all : AreMade S.modulus r.generators [] (G ++ made) =
       made_append S.modulus r.generators [] G made inv.made
-      (makes_made S ok.setting r.generators V h.rows made h.makes
-      (subst (λ l. Each (IsMade S.modulus r.generators l) h.rows) (take-append-drop h.base V)
-      (rows_made S ok.setting r.generators (take h.base V) (drop h.base V) h.rows h.products (known_products S.modulus (take h.base V) (job_of w s.out) h.products o.job_products) o.sums))) in
+      (makes_made S ok.setting r.generators V rows made h.makes
+      (subst (λ l. Each (IsMade S.modulus r.generators l) rows) (take-append-drop base V)
+      (rows_made S ok.setting r.generators (take base V) (drop base V) rows products (known_products S.modulus (take base V) (job_of w s.out) products o.job_products) o.sums))) in
       subst (HoldsInvariant r) (sym h.after) (record {
-        members = subst (Each (IsMonicMember S)) (sym vs) (makes_members S ok.setting V h.rows made h.makes inv.members);
+        members = subst (Each (IsMonicMember S)) (sym vs) (makes_members S ok.setting V rows made h.makes inv.members);
         combined = carried S.modulus (positive S ok.setting) r.generators (G ++ made) all;
         made = all;
         generators = λ i l. subst (λ v. IsMember S.modulus v (get_or r.generators i [])) (sym vs) (module_more S ok.setting V (vectors made) (get_or r.generators i []) (inv.generators i l));
-        new_leads = subst HasNewLeads (sym vs) (makes_new_leads S ok.setting V h.rows made h.makes inv.members inv.new_leads);
-        covered = put_covered S ok.setting G h.rows made h.base h.makes s.queue h.queue s.out w o.pairs o.represented h.queues inv.covered;
-        real = λ x p. real x (new_cases x) (subst (λ l. 0 < count x h.queue + count x l) same p);
-        sorted = h.queues.sorted;
-        once = λ x. once x (new_cases x);
+        new_leads = subst HasNewLeads (sym vs) (makes_new_leads S ok.setting V rows made h.makes inv.members inv.new_leads);
+        covered = joined.covered;
+        real = λ x p. real x (cases_lt 0 (count x h.queue)) (subst (λ l. 0 < count x h.queue + count x l) same p);
+        sorted = joined.sorted;
+        once = λ x. once x (cases_lt x.1 (length s.members));
         out_taken = λ x. omega (arith, inv.out_taken x, ap (count x) same, count_workers x w s.out);
         counted = inv.counted ∙ ap length (sym same);
         within_budget = inv.within_budget;
@@ -311,27 +292,28 @@ module _ {n : ℕ} (r : Run n) (ok : IsLawfulRun r) (s : State n) (inv : HoldsIn
             position = ap (λ k. k.0) (front x.0 (omega (arith, p.ordered, p.within))) ∙ p.position ∙ ap (λ k. k.0) (sym (front x.1 (omega (arith, p.within))));
           }
 
-      new_cases : (x : Pair) → (IsNew s made x × (count x h.queue ≡ count x s.queue + 1)) ⊎ (count x h.queue ≡ count x s.queue)
-      new_cases x = go (is_new_pair (length s.members) H x) refl
-        where
-          go : (c : Bool) → is_new_pair (length s.members) H x ≡ c → (IsNew s made x × (count x h.queue ≡ count x s.queue + 1)) ⊎ (count x h.queue ≡ count x s.queue)
-          go true e = inl (pair_of_new (length s.members) H x e, h.queues.same x ∙ ap (λ c. count x s.queue + cond c 1 0) e)
-          go false e = inr (h.queues.same x ∙ ap (λ c. count x s.queue + cond c 1 0) e ∙ omega arith)
+      before : (x : Pair) → 0 < count x s.queue → IsPair H x × (x.1 < length s.members)
+      before x p = let q = inv.real x (omega (arith, p)) in (grown x q, let l = q.within in omega (arith, l, length-vectors s.members))
 
-      real : (x : Pair) → (IsNew s made x × (count x h.queue ≡ count x s.queue + 1)) ⊎ (count x h.queue ≡ count x s.queue) → 0 < count x h.queue + count x (pairs_taken s.history) → IsPair H x
-      real x (inl (new, e)) p = new.1
-      real x (inr e) p = grown x (inv.real x (omega arith))
+      joined : IsJoined r.setting r.update (length s.members) H s.queue h.queue (with_others w s.out) h.dropped
+      joined = put_joined r.setting ok.setting s.members rows made base h.makes s.queue h.queue s.out w h.may.outcome.pairs h.may.outcome.represented s.dropped h.dropped
+          (subst (Each (IsMonicMember r.setting)) (sym (vectors-append s.members made)) (makes_members r.setting ok.setting (vectors s.members) rows made h.makes inv.members))
+          before r.update h.queues inv.covered
 
-      -- a new pair was neither queued nor taken
-      fresh : (x : Pair) → IsNew s made x → count x s.queue + count x (pairs_taken s.history) ≡ 0
-      fresh x new = elim (cases_lt 0 (count x s.queue + count x (pairs_taken s.history))) [
-        | inl p ↦ absurd (let q = inv.real x p in omega (arith, q.within, new.0, length-vectors s.members))
+      real : (x : Pair) → (0 < count x h.queue) ⊎ (count x h.queue ≤ 0) → 0 < count x h.queue + count x (pairs_taken s.history) → IsPair H x
+      real x (inl q) p = joined.queue.real x q
+      real x (inr z) p = grown x (inv.real x (omega (arith, z, p)))
+
+      -- a new pair was not taken
+      fresh : (x : Pair) → length s.members ≤ x.1 → count x (pairs_taken s.history) ≡ 0
+      fresh x l = elim (cases_lt 0 (count x (pairs_taken s.history))) [
+        | inl p ↦ absurd (let q = inv.real x (omega (arith, p)) in omega (arith, q.within, l, length-vectors s.members))
         | inr z ↦ omega arith
       ]
 
-      once : (x : Pair) → (IsNew s made x × (count x h.queue ≡ count x s.queue + 1)) ⊎ (count x h.queue ≡ count x s.queue) → count x h.queue + count x (pairs_taken (s.history ++ (Put w made ∷ []))) ≤ 1
-      once x (inl (new, e)) = omega (arith, fresh x new, ap (count x) (taken_same s.history (Put w made) refl))
-      once x (inr e) = omega (arith, inv.once x, ap (count x) (taken_same s.history (Put w made) refl))
+      once : (x : Pair) → (x.1 < length s.members) ⊎ (length s.members ≤ x.1) → count x h.queue + count x (pairs_taken (s.history ++ (Put w made ∷ []))) ≤ 1
+      once x (inl l) = omega (arith, joined.queue.earlier x l, inv.once x, ap (count x) (taken_same s.history (Put w made) refl))
+      once x (inr l) = omega (arith, joined.queue.later x l, fresh x l, ap (count x) (taken_same s.history (Put w made) refl))
 
   pub kept_end : (w : ℕ) (ending : Ending) (t : State n) → Ends r s w ending t → HoldsInvariant r t
   kept_end w ending t h = subst (HoldsInvariant r) (sym h.after) (go ending h.answers)
@@ -402,6 +384,6 @@ module _ {n : ℕ} (r : Run n) (ok : IsLawfulRun r) (s : State n) (inv : HoldsIn
   pub kept_step : (e : Event n) (t : State n) → Step r s e t → HoldsInvariant r t
   kept_step (Take w skipped job) t (most, may, inl f) = kept_stopped w skipped job t f
   kept_step (Take w skipped job) t (most, may, inr (left, h)) = kept_take w most skipped job left t may h
-  kept_step (Put w made) t h = kept_put w made t h
+  kept_step (Put w made) t (base, rows, products, h) = kept_put w base rows products made t h
   kept_step (End w ending) t h = kept_end w ending t h
   kept_step (Stop w reason) t h = kept_stop w reason t h

@@ -191,7 +191,7 @@ module _ {n : ℕ} (r : Run n) (w : ℕ) where
       go : (b : Bool) → (v == w) ≡ b → job_of w s.out ++ job_of w (out_with v job) ≡ cond b job (job_of w s.out)
       go true d = ap (λ l. l ++ job_of w (out_with v job)) (ap (λ u. job_of u s.out) (sym (eqb-true v w d)) ∙ may.free) ∙ job_given_to v w true d job
       go false d = ap (λ l. job_of w s.out ++ l) (job_given_to v w false d job) ∙ append-nil (job_of w s.out)
-  step_job s t (Put v made) h = ap (λ u. job_of w u.out) h.after ∙ go (v == w) refl
+  step_job s t (Put v made) (base, rows, products, h) = ap (λ u. job_of w u.out) h.after ∙ go (v == w) refl
     where
       go : (b : Bool) → (v == w) ≡ b → job_of w (with_others v s.out) ≡ cond b [] (job_of w s.out)
       go true d = ap (λ u. job_of w (with_others u s.out)) (eqb-true v w d) ∙ job_back w s.out
@@ -207,7 +207,7 @@ module _ {n : ℕ} (r : Run n) (w : ℕ) where
   pub step_has_ended : (s t : State n) (e : Event n) → Step r s e t → get_or t.ended w true ≡ ended_by w e (get_or s.ended w true)
   step_has_ended s t (Take v skipped job) (most, may, inl f) = ap (λ u. get_or u.ended w true) f.after
   step_has_ended s t (Take v skipped job) (most, may, inr (left, h)) = ap (λ u. get_or u.ended w true) h.after
-  step_has_ended s t (Put v made) h = ap (λ u. get_or u.ended w true) h.after
+  step_has_ended s t (Put v made) (base, rows, products, h) = ap (λ u. get_or u.ended w true) h.after
   step_has_ended s t (End v MoreWork) h = ap (λ u. get_or u.ended w true) h.after
   step_has_ended s t (End v Ended) h = ap (λ u. get_or u.ended w true) h.after ∙ go (v == w) refl
     where
@@ -220,7 +220,7 @@ module _ {n : ℕ} (r : Run n) where
   pub step_made : (s t : State n) (e : Event n) → Step r s e t → t.members ≡ s.members ++ made_by e
   step_made s t (Take v skipped job) (most, may, inl f) = ap (λ u. u.members) f.after ∙ sym (append-nil s.members)
   step_made s t (Take v skipped job) (most, may, inr (left, h)) = ap (λ u. u.members) h.after ∙ sym (append-nil s.members)
-  step_made s t (Put v made) h = ap (λ u. u.members) h.after
+  step_made s t (Put v made) (base, rows, products, h) = ap (λ u. u.members) h.after
   step_made s t (End v ending) h = ap (λ u. u.members) h.after ∙ sym (append-nil s.members)
   step_made s t (Stop v reason) h = ap (λ u. u.members) h.after ∙ sym (append-nil s.members)
 

@@ -1,18 +1,14 @@
 -- The state at the beginning, and each state that events lead to
-use Rattle.std.proofs.Common.{Bool, List, None, Some, [], ap, append-nil, arith, cond, eq-eqb, false, get_or, inl, inr, length, refl, set, subst, suc, sym, true, zero, ℕ, ◌++◌, ◌+◌, ◌<◌, ◌∙◌, ◌∷◌, ◌≡◌, ◌≤◌}
-use Rattle.std.proofs.lemmas.Bool.{le-leb, lt-ltb}
-use Rattle.std.specs.Cmp.Derive.{both_true}
+use Rattle.std.proofs.Common.{Bool, List, None, Some, [], ap, append-nil, arith, false, get_or, inl, inr, length, refl, set, subst, suc, sym, true, zero, ℕ, ◌++◌, ◌<◌, ◌∙◌, ◌∷◌, ◌≡◌}
 use Rattle.formal_sums.specs.FormalSums.{FormalSum}
 use Rattle.bases.proofs.Leading.{positive}
 use Rattle.basis_steps.proofs.Carrying.{carried}
 use Rattle.basis_steps.proofs.Dividing.{rows_standard}
-use Rattle.basis_steps.proofs.Keeping.{kept_step, pair_of_new}
+use Rattle.basis_steps.proofs.Keeping.{kept_step}
+use Rattle.basis_steps.proofs.Joining.{IsJoined, begin_joined}
 use Rattle.basis_steps.proofs.Making.{generators_inside, generators_made, makes_made, makes_members, makes_new_leads}
 use Rattle.basis_steps.specs.Cofactors.{AreMade}
-use Rattle.basis_steps.specs.Criteria.{IsPair}
 use Rattle.basis_steps.specs.Invariant.{HoldsInvariant}
-use Rattle.basis_steps.specs.Pairs.{Pair, count}
-use Rattle.basis_steps.specs.Queues.{is_new_pair}
 use Rattle.basis_steps.specs.States.{End, Ended, Ending, Event, IsLawfulRun, Member, MoreWork, Put, Run, State, Stop, StopReason, Take, vectors}
 use Rattle.basis_steps.specs.Steps.{Begins, Reaches, Replays, Step, ended_after, first_stop, generator_rows, none_ended}
 
@@ -24,9 +20,6 @@ first_works : (k : ℕ) → 0 < k → get_or (none_ended k) 0 true ≡ false
 first_works zero h = absurd (omega arith)
 first_works (suc k) h = refl
 
-is_new-true : {n : ℕ} (k : ℕ) (G : List (FormalSum n)) (x : Pair) → k ≤ x.1 → IsPair G x → is_new_pair k G x ≡ true
-is_new-true k G x l h = both_true (le-leb k x.1 l) (both_true (lt-ltb x.1 (length G) h.within) (both_true (lt-ltb x.0 x.1 h.ordered) (eq-eqb _ _ h.position)))
-
 module _ {n : ℕ} (r : Run n) (ok : IsLawfulRun r) where
   pub kept_begin : (s : State n) → Begins r s → HoldsInvariant r s
   kept_begin s h = subst (HoldsInvariant r) (sym whole) (record {
@@ -35,10 +28,10 @@ module _ {n : ℕ} (r : Run n) (ok : IsLawfulRun r) where
     made = all;
     generators = λ i l. generators_inside r.setting ok.setting (vectors s.members) r.generators 0 i (rows_standard r.setting ok.setting [] (generator_rows 0 r.generators) s.members h.makes) l;
     new_leads = makes_new_leads r.setting ok.setting [] (generator_rows 0 r.generators) s.members h.makes tt (λ i j l m d. absurd (omega arith));
-    covered = λ x p. let one : ◌≡◌ {A = ℕ} (cond (is_new_pair 0 G x) 1 0) 1 = ap (λ c. cond c 1 0) (is_new-true 0 G x (omega arith) p) in inl (omega (arith, one, h.queues.same x));
-    real = λ x p. real x (is_new_pair 0 G x) refl p;
-    sorted = h.queues.sorted;
-    once = λ x. once x (is_new_pair 0 G x) refl;
+    covered = joined.covered;
+    real = λ x p. joined.queue.real x (omega (arith, p));
+    sorted = joined.sorted;
+    once = λ x. let q = joined.queue.later x (omega arith) in omega (arith, q);
     out_taken = λ x. omega arith;
     counted = refl;
     within_budget = omega arith;
@@ -54,16 +47,11 @@ module _ {n : ℕ} (r : Run n) (ok : IsLawfulRun r) where
       all : AreMade r.setting.modulus r.generators [] s.members
       all = makes_made r.setting ok.setting r.generators [] (generator_rows 0 r.generators) s.members h.makes (generators_made r.setting ok.setting r.generators r.generators 0 (omega arith) (λ i. ap (λ j. get_or r.generators j []) (omega arith)))
 
-      whole : s ≡ record { members = s.members; queue = s.queue; out = []; taken = 0; ended = none_ended r.workers; stop = None; history = [] }
-      whole = λ i. record { members = s.members; queue = s.queue; out = h.out i; taken = h.taken i; ended = h.ended i; stop = h.stop i; history = h.history i }
+      whole : s ≡ record { members = s.members; queue = s.queue; dropped = s.dropped; out = []; taken = 0; ended = none_ended r.workers; stop = None; history = [] }
+      whole = λ i. record { members = s.members; queue = s.queue; dropped = s.dropped; out = h.out i; taken = h.taken i; ended = h.ended i; stop = h.stop i; history = h.history i }
 
-      real : (x : Pair) (c : Bool) → is_new_pair 0 G x ≡ c → 0 < count x s.queue + 0 → IsPair G x
-      real x true e p = (pair_of_new 0 G x e).1
-      real x false e p = let z : ◌≡◌ {A = ℕ} (cond (is_new_pair 0 G x) 1 0) 0 = ap (λ c. cond c 1 0) e in absurd (omega (arith, z, p, h.queues.same x))
-
-      once : (x : Pair) (c : Bool) → is_new_pair 0 G x ≡ c → count x s.queue + 0 ≤ 1
-      once x true e = let z : ◌≡◌ {A = ℕ} (cond (is_new_pair 0 G x) 1 0) 1 = ap (λ c. cond c 1 0) e in omega (arith, z, h.queues.same x)
-      once x false e = let z : ◌≡◌ {A = ℕ} (cond (is_new_pair 0 G x) 1 0) 0 = ap (λ c. cond c 1 0) e in omega (arith, z, h.queues.same x)
+      joined : IsJoined r.setting r.update 0 G [] s.queue [] s.dropped
+      joined = begin_joined r.setting ok.setting G (makes_members r.setting ok.setting [] (generator_rows 0 r.generators) s.members h.makes tt) s.queue s.dropped r.update h.queues
 
   pub kept_runs : (s t : State n) (es : List (Event n)) → HoldsInvariant r s → Reaches r s es t → HoldsInvariant r t
   kept_runs s t [] h q = subst (HoldsInvariant r) (sym q) h
@@ -78,7 +66,7 @@ module _ {n : ℕ} (r : Run n) where
   pub step_history : (s t : State n) (e : Event n) → Step r s e t → t.history ≡ s.history ++ (e ∷ [])
   step_history s t (Take w skipped job) (most, may, inl f) = ap (λ u. u.history) f.after
   step_history s t (Take w skipped job) (most, may, inr (left, h)) = ap (λ u. u.history) h.after
-  step_history s t (Put w made) h = ap (λ u. u.history) h.after
+  step_history s t (Put w made) (base, rows, products, h) = ap (λ u. u.history) h.after
   step_history s t (End w ending) h = ap (λ u. u.history) h.after
   step_history s t (Stop w reason) h = ap (λ u. u.history) h.after
 
@@ -86,7 +74,7 @@ module _ {n : ℕ} (r : Run n) where
   pub step_members : (s t : State n) (e : Event n) → Step r s e t → (made : List (Member n)) × (t.members ≡ s.members ++ made)
   step_members s t (Take w skipped job) (most, may, inl f) = ([], subst (λ m. t.members ≡ m) (sym (append-nil s.members)) (ap (λ u. u.members) f.after))
   step_members s t (Take w skipped job) (most, may, inr (left, h)) = ([], subst (λ m. t.members ≡ m) (sym (append-nil s.members)) (ap (λ u. u.members) h.after))
-  step_members s t (Put w made) h = (made, ap (λ u. u.members) h.after)
+  step_members s t (Put w made) (base, rows, products, h) = (made, ap (λ u. u.members) h.after)
   step_members s t (End w ending) h = ([], subst (λ m. t.members ≡ m) (sym (append-nil s.members)) (ap (λ u. u.members) h.after))
   step_members s t (Stop w reason) h = ([], subst (λ m. t.members ≡ m) (sym (append-nil s.members)) (ap (λ u. u.members) h.after))
 
@@ -96,7 +84,7 @@ module _ {n : ℕ} (r : Run n) where
       → Step r s e t → s.stop ≡ Some reason → t.stop ≡ Some reason
   step_stop s t (Take w skipped job) reason (most, may, inl f) k = ap (λ u. u.stop) f.after ∙ k
   step_stop s t (Take w skipped job) reason (most, may, inr (left, h)) k = absurd (let a = h.unstopped in cc)
-  step_stop s t (Put w made) reason h k = ap (λ u. u.stop) h.after ∙ k
+  step_stop s t (Put w made) reason (base, rows, products, h) k = ap (λ u. u.stop) h.after ∙ k
   step_stop s t (End w ending) reason h k = ap (λ u. u.stop) h.after ∙ k
   step_stop s t (Stop w new) reason h k = ap (λ u. u.stop) h.after ∙ ap (λ o. first_stop o new) k
 
@@ -117,7 +105,7 @@ module _ {n : ℕ} (r : Run n) where
       → Step r s e t → get_or s.ended w true ≡ true → get_or t.ended w true ≡ true
   step_ended s t (Take v skipped job) w (most, may, inl f) k = ap (λ u. get_or u.ended w true) f.after ∙ k
   step_ended s t (Take v skipped job) w (most, may, inr (left, h)) k = ap (λ u. get_or u.ended w true) h.after ∙ k
-  step_ended s t (Put v made) w h k = ap (λ u. get_or u.ended w true) h.after ∙ k
+  step_ended s t (Put v made) w (base, rows, products, h) k = ap (λ u. get_or u.ended w true) h.after ∙ k
   step_ended s t (End v ending) w h k = ap (λ u. get_or u.ended w true) h.after ∙ ended_more s v w ending k
   step_ended s t (Stop v reason) w h k = ap (λ u. get_or u.ended w true) h.after ∙ k
 

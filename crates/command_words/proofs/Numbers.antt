@@ -15,7 +15,7 @@ use Rattle.clap.proofs.WalkLemmas.{one_text-rows}
 use Rattle.clap.proofs.ValueTestLemmas.{accepts-Accepts, Accepts-accepts}
 use Rattle.command_words.specs.declared.words.Request.{Request}
 use Rattle.command_words.specs.declared.words.Command.{Command}
-use Rattle.command_words.specs.Command.{command_met, command_named, number_or, option_text, request_of, words_app}
+use Rattle.command_words.specs.Command.{command_met, command_named, number_or, option_text, request_of, update_numbered, words_app}
 
 -- a text that is read as a number within the bounds states it
 pub number_within : (least most default n : ℕ) (text : Text) → IsNumeral 10 (without_leading_plus text) → digits_value 10 (without_leading_plus text) < 2 ^ 64
@@ -87,10 +87,11 @@ chosen_command name f (Some p) r command named rows same is =
     let seed = one_text-rows f (codes "seed") ∙ ap (one_of (codes "seed")) (some_rows (rows_of f) p.1 rows) in
     is ∙ ap₂ command_named here seed ∙ ap command_met same
 
--- the command and the three numbers make the request
-pub request_is : (command : Command) (workers helpers pairs : ℕ) (words : List Text) → command ≡ command_met (subcommand_of words_app words)
+-- the command and the four numbers make the request
+pub request_is : (command : Command) (workers helpers pairs update : ℕ) (words : List Text) → command ≡ command_met (subcommand_of words_app words)
     → workers ≡ number_or 1 16 2 (option_text (codes "workers") words)
     → helpers ≡ number_or 1 16 2 (option_text (codes "helpers") words) → pairs ≡ number_or 0 1000000000 1000000 (option_text (codes "pairs") words)
-    → ◌≡◌ {A = Request} (record { command = command; workers = workers; helpers = helpers; pairs = pairs }) (request_of words)
-request_is command workers helpers pairs words zero one two three =
-    λ i. record { command = zero i; workers = one i; helpers = two i; pairs = three i }
+    → update ≡ number_or 0 1 0 (option_text (codes "update") words)
+    → ◌≡◌ {A = Request} (record { command = command; workers = workers; helpers = helpers; pairs = pairs; update = update_numbered update }) (request_of words)
+request_is command workers helpers pairs update words zero one two three four =
+    λ i. record { command = zero i; workers = one i; helpers = two i; pairs = three i; update = update_numbered (four i) }

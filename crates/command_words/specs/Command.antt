@@ -1,5 +1,5 @@
 -- The command that reads the words, and what the words say to it.
-use Rattle.std.specs.Prelude.{◌≡◌, ◌≤◌, ℕ, true, if◌then◌else◌, List, [], codes, Option, Some, None, option_and_then}
+use Rattle.std.specs.Prelude.{◌≡◌, ◌≤◌, ℕ, suc, zero, true, if◌then◌else◌, List, [], codes, Option, Some, None, option_and_then}
 use Rattle.std.specs.Str.{bytes_eq}
 use Rattle.std.specs.Str.Parse.{digits_value, without_leading_plus}
 use Rattle.clap.specs.Walk.{Row, Rule, Text, one_of}
@@ -8,6 +8,8 @@ use Rattle.clap.specs.Faults.{fault_of}
 use Rattle.clap.specs.ValueTests.{is_unsigned_in}
 use Rattle.clap.specs.declared.builder.action.ArgAction.TheVariants.{Set}
 use Rattle.clap.specs.declared.builder.value_parser.ValueParser.TheVariants as parser
+use Rattle.queue_updates.specs.declared.Update.{Update}
+use Rattle.queue_updates.specs.declared.Update.TheVariants.{Gebauer, Plain}
 use Rattle.command_words.specs.declared.words.Request.{Request}
 use Rattle.command_words.specs.declared.words.Command.{Command}
 use Rattle.command_words.specs.declared.words.Command.TheVariants.{Run, Large}
@@ -20,12 +22,13 @@ number_rule name least most = record (new_rule name) { long = Some name; action 
 abbrev pub seed_rule : Rule
 seed_rule = record (new_rule (codes "seed")) { action = Some Set; parser = Some (parser.Unsigned 0 2147483647); required = true }
 
--- a subcommand with the three options
+-- a subcommand with the four options
 abbrev pub with_options : App → App
-with_options a = with_rule (with_rule (with_rule a
+with_options a = with_rule (with_rule (with_rule (with_rule a
     (number_rule (codes "workers") 1 16))
     (number_rule (codes "helpers") 1 16))
-    (number_rule (codes "pairs") 0 1000000000)
+    (number_rule (codes "pairs") 0 1000000000))
+    (number_rule (codes "update") 0 1)
 
 -- `run`
 abbrev pub run_app : App
@@ -65,6 +68,11 @@ abbrev pub command_met : Option (Text × List Row) → Command
 command_met None = Run
 command_met (Some p) = command_named p.0 (one_of (codes "seed") p.1)
 
+-- the update with a number
+abbrev pub update_numbered : ℕ → Update
+update_numbered zero = Plain
+update_numbered (suc n) = Gebauer
+
 -- the request that the words state
 abbrev pub request_of : List Text → Request
 request_of words = record {
@@ -72,6 +80,7 @@ request_of words = record {
   workers = number_or 1 16 2 (option_text (codes "workers") words);
   helpers = number_or 1 16 2 (option_text (codes "helpers") words);
   pairs = number_or 0 1000000000 1000000 (option_text (codes "pairs") words);
+  update = update_numbered (number_or 0 1 0 (option_text (codes "update") words));
 }
 
 -- the seed of the command, where it has one, is at most this

@@ -6,11 +6,12 @@ ghost use Rattle.clap.specs.Faults.{fault_of};
 ghost use Rattle.clap.specs.Simple.{app_of, subcommand_rows_of, subcommand_of};
 ghost use Rattle.clap.specs.Walk.{rule_of};
 ghost use Rattle.clap.specs.declared.builder.command.Command.TheViews.{out-Command};
-ghost use Rattle.command_words.specs.Command.{command_named, number_rule, seed_rule, with_options, words_app, IsForm, number_or, request_of, HasSeedWithin};
+ghost use Rattle.command_words.specs.Command.{command_named, number_rule, seed_rule, update_numbered, with_options, words_app, IsForm, number_or, request_of, HasSeedWithin};
 
 use clap::builder::ValueParser;
 use clap::error::ErrorKind;
 use clap::{Arg, ArgAction, ArgMatches, Error};
+use queue_updates::Update;
 use std::alloc::{AllocError, Global};
 
 /// What the program is to do.
@@ -36,6 +37,9 @@ pub struct Request {
 
     /// How many pairs one basis run may take, at most 1,000,000,000.
     pub pairs: u64,
+
+    /// What a basis run queues as members come.
+    pub update: Update,
 }
 
 /// Why the words gave no request.
@@ -70,7 +74,7 @@ fn seed_argument<'a>(alloc: Global) -> Arg<'a>
         .required(true)
 }
 
-/// The subcommand with the three options.
+/// The subcommand with the four options.
 fn with_options<'a>(
     alloc: Global,
     command: clap::Command<'a>,
@@ -82,7 +86,9 @@ fn with_options<'a>(
     let counted = command
         .arg(number_option(alloc, "workers", 1, 16))?
         .arg(number_option(alloc, "helpers", 1, 16))?;
-    let whole = counted.arg(number_option(alloc, "pairs", 0, 1_000_000_000))?;
+    let whole = counted
+        .arg(number_option(alloc, "pairs", 0, 1_000_000_000))?
+        .arg(number_option(alloc, "update", 0, 1))?;
     Ok(whole)
 }
 
@@ -127,10 +133,21 @@ fn command_of(name: &str, matches: &ArgMatches<'_>) -> Command
     }
 }
 
+/// The update with this number.
+fn update_of(number: u64) -> Update
+    ensures { result ≡ update_numbered number }
+{
+    if number == 0 {
+        Update::Plain
+    } else {
+        Update::Gebauer
+    }
+}
+
 /// Reads the words: the program's name, which is not looked at, then `run`, or `large` and a seed, with the options
-/// `--workers N`, `--helpers N` and `--pairs N`, each set at most once.
+/// `--workers N`, `--helpers N`, `--pairs N` and `--update N`, each set at most once.
 ///
-/// The defaults are two workers, two helpers and 1,000,000 pairs. `Words` comes only where the words
+/// The defaults are two workers, two helpers, 1,000,000 pairs and update 0. `Words` comes only where the words
 /// are not of this form, and then no request does; want of memory may come instead of either.
 pub fn read_words(alloc: Global, words: &[String]) -> Result<Request, WordStop>
     ensures request { IfOk result (λ request. request ≡ request_of (map string_bytes words.now)) }
@@ -152,12 +169,14 @@ pub fn read_words(alloc: Global, words: &[String]) -> Result<Request, WordStop>
                 workers: number_of(chosen, "workers", 1, 16, 2) as u32,
                 helpers: number_of(chosen, "helpers", 1, 16, 2) as u32,
                 pairs: number_of(chosen, "pairs", 0, 1_000_000_000, 1_000_000),
+                update: update_of(number_of(chosen, "update", 0, 1, 0)),
             }),
             None => Ok(Request {
                 command: Command::Run,
                 workers: 2,
                 helpers: 2,
                 pairs: 1_000_000,
+                update: Update::Plain,
             }),
         },
     }

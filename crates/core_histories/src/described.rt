@@ -46,6 +46,17 @@ fn write_queued(sheet: &mut Sheet, state: &BasisState) {
     }
 }
 
+// Those that new members dropped, each with the member that it was dropped for; where none was it writes nothing.
+fn write_dropped(sheet: &mut Sheet, state: &BasisState) {
+    if !state.dropped().is_empty() {
+        sheet.text("; dropped");
+    }
+    for drop in state.dropped() {
+        write_pair(sheet, drop.i, drop.j);
+        sheet.count(" for ", drop.k);
+    }
+}
+
 fn write_out(sheet: &mut Sheet, state: &BasisState) {
     sheet.text("; out");
     if state.out().is_empty() {
@@ -105,6 +116,7 @@ fn write_event(sheet: &mut Sheet, event: &Event) {
 pub fn write_state(alloc: Global, sheet: &mut Sheet, state: &BasisState) {
     write_members(alloc, sheet, state);
     write_queued(sheet, state);
+    write_dropped(sheet, state);
     write_out(sheet, state);
     write_ended(sheet, state);
     sheet.count("  events ", state.history().len() as u64);

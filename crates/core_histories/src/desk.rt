@@ -5,17 +5,20 @@ use crate::matrices::compare_jobs;
 use crate::play::{Play, begin};
 use crate::sizes::{measure_jobs, solve_jobs};
 use check_texts::Sheet;
+use queue_updates::Update;
 use std::alloc::Global;
 use std::mem::replace;
 use std::thread::Threads;
 
-/// The texts of a ring and of its generators, each behind the one before and a `;`, the rank, and how many helpers reduce a matrix.
+/// The texts of a ring and of its generators, each behind the one before and a `;`, the rank, how many helpers reduce a matrix,
+/// and what is queued as members come.
 #[derive(Drop)]
 pub struct Input {
     pub ring: String,
     pub rank: u128,
     pub generators: String,
     pub helpers: u32,
+    pub update: Update,
 }
 
 /// What is kept from line to line.
@@ -78,6 +81,7 @@ impl Desk {
                 rank: 1,
                 generators: String::new(alloc),
                 helpers: 1,
+                update: Update::Plain,
             },
             play: None,
         }
@@ -169,6 +173,12 @@ impl Desk {
             "ring" => self.input.set_ring(text),
             "rank" => self.input.rank = u128::from(numbers_of(text).0),
             "helpers" => self.input.helpers = small(numbers_of(text).0),
+            "update" => {
+                self.input.update = match numbers_of(text).0 {
+                    0 => Update::Plain,
+                    _ => Update::Gebauer,
+                }
+            }
             "generator" => self.input.add_generator(text),
             "begin" => self.begin(alloc, sheet, text),
             "drive" => drive(rt, alloc, sheet, &self.input),

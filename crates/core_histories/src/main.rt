@@ -1,5 +1,6 @@
 //! Histories of the basis core. Standard input has lines `ring P VARIABLE{,VARIABLE} ORDER`, `rank N` and `generator VECTOR`,
-//! with texts of `check_texts`, and `helpers N`, without which a matrix has one helper, and then `begin WORKERS BUDGET` and the
+//! with texts of `check_texts`, `helpers N`, without which a matrix has one helper, and `update N`, without which all
+//! pairs of a new member are queued, and then `begin WORKERS BUDGET` and the
 //! events `take WORKER MOST`, `put WORKER`, `end WORKER` and `stop WORKER`, or `drive`, or `jobs COUNT MOST`, or `busy TAKES
 //! PUTS`. An outcome comes from plain division at its Take. After each event it prints the answer and what all readers of the
 //! state say. `drive` runs random legal events of 1, 2, 3 and 5 workers to their end, and prints the minimal leads of the

@@ -285,7 +285,7 @@ fn begun(
     }
     let ring = ring_of(alloc, &input.ring)?;
     let list = vectors_of(alloc, &ring, input.rank, &input.generators)?;
-    Ok(BasisState::begin(alloc, ring, input.rank, list, budget, workers))
+    Ok(BasisState::begin(alloc, ring, input.rank, list, budget, workers, input.update))
 }
 
 /// A run at its beginning; where there is none it writes why.

@@ -4,6 +4,7 @@ use Rattle.std.proofs.lemmas.Bool.{cases_lt}
 use Rattle.formal_sums.specs.FormalSums.{Each}
 use Rattle.module_vectors.proofs.SumsOfProducts.{Each_drop}
 use Rattle.pair_criteria.specs.declared.pair.Pair.{Pair as CodePair}
+use Rattle.queue_updates.specs.declared.Update.TheVariants.{Plain}
 use Rattle.basis_steps.proofs.Counting.{count-append, count-split, count_each, count_out_with, count_workers, pairs_out-append}
 use Rattle.basis_steps.specs.Criteria.{waiting}
 use Rattle.basis_steps.specs.Pairs.{Pair, count}
@@ -11,9 +12,10 @@ use Rattle.basis_steps.specs.Queues.{IsSorted}
 use Rattle.basis_steps.specs.States.{pairs_out, with_others}
 use Rattle.basis_steps.specs.Steps.{out_with}
 use Rattle.pair_queue.proofs.Knowing.{indices_queued}
-use Rattle.pair_queue.proofs.LeastDegree.{sorted_behind, sorted_left}
+use Rattle.pair_queue.proofs.LeastDegree.{sorted_behind}
 use Rattle.pair_queue.proofs.Passing.{pairs_drop, pairs_take}
 use Rattle.pair_queue.proofs.SameLeads.{each_counted}
+use Rattle.pair_queue.specs.declared.dropped.Dropped.{Dropped}
 use Rattle.pair_queue.specs.declared.out.Out.{Out}
 use Rattle.pair_queue.specs.declared.pairs.PairQueue.TheInside.{Inside}
 use Rattle.pair_queue.specs.Inside.{IsCoherent}
@@ -59,12 +61,13 @@ given_within P left out w k h g = each_counted P (pairs_out (out ++ out_with w (
 -- what is kept after pairs were skipped and given
 pub given_coherent :
     (i : Inside) (skipped : List Pair) (left : List CodePair) (k w : ℕ) (queue : QueueShown) (out : Vec Out Global) (waits due : TableShown)
-    → IsCoherent i → AreSkipped i.leads (outs_of i.out.items) (pairs_of i.queue.items) skipped (pairs_of left) (flag waits)
-    → Each (IsRealPair i.leads) left → Each (IsKnown i.leads (flag waits) (flag due)) (pairs_of left)
-    → size waits ≡ length i.leads.keys → size due ≡ length i.leads.keys
+    → IsCoherent i → (i.update ≡ Plain → AreSkipped i.leads (outs_of i.out.items) (pairs_of i.queue.items) skipped (pairs_of left) (flag waits))
+    → Each (IsRealPair i.leads) left → IsSorted (setting_of i.leads.variables i.leads) (sums_shown i.leads) (pairs_of left)
+    → (i.update ≡ Plain → Each (IsKnown i.leads (flag waits) (flag due)) (pairs_of left))
+    → (i.update ≡ Plain → size waits ≡ length i.leads.keys) → (i.update ≡ Plain → size due ≡ length i.leads.keys)
     → queue.items ≡ drop k left → outs_of out.items ≡ outs_of i.out.items ++ out_with w (pairs_of (take k left))
     → IsCoherent (record i { queue = queue; out = out; waits = waits; due = due })
-given_coherent i skipped left k w queue out waits due kept skips real known waits_size due_size queue_is out_is =
+given_coherent i skipped left k w queue out waits due kept skips real sorted known waits_size due_size queue_is out_is =
     let m = i.leads in
     let pairs : pairs_of queue.items ≡ drop k (pairs_of left) = ap pairs_of queue_is ∙ pairs_drop k left in
     let outs : outs_of out.items ≡ outs_of i.out.items ++ out_with w (take k (pairs_of left)) = out_is
@@ -72,32 +75,30 @@ given_coherent i skipped left k w queue out waits due kept skips real known wait
     record {
       real = subst (Each (IsRealPair m)) (sym queue_is) (Each_drop (IsRealPair m) k left real);
       sorted = subst (IsSorted (setting_of m.variables m) (sums_shown m)) (sym pairs)
-          (sorted_behind (setting_of m.variables m) (sums_shown m) k (pairs_of left)
-          (sorted_left (setting_of m.variables m) (sums_shown m) (outs_of i.out.items) (pairs_of i.queue.items) skipped
-          (pairs_of left) skips.skips kept.sorted));
+          (sorted_behind (setting_of m.variables m) (sums_shown m) k (pairs_of left) sorted);
       within = subst (λ (l : List (Pair × ℕ)). Each (AreIndices (length m.keys)) (pairs_out l)) (sym outs)
           (given_within (AreIndices (length m.keys)) (pairs_of left) (outs_of i.out.items) w k (indices_queued m left real) kept.within);
       waits_size = waits_size;
       due_size = due_size;
-      table = subst (λ (z : List Pair × List (Pair × ℕ)). IsTable (flag waits) z.0 z.1) (λ t. (sym pairs t, sym outs t))
-          (given_table (flag waits) (pairs_of left) (outs_of i.out.items) w k skips.table);
-      known = subst (Each (IsKnown m (flag waits) (flag due))) (sym pairs) (Each_drop (IsKnown m (flag waits) (flag due)) k (pairs_of left) known);
+      table = λ e. subst (λ (z : List Pair × List (Pair × ℕ)). IsTable (flag waits) z.0 z.1) (λ t. (sym pairs t, sym outs t))
+          (given_table (flag waits) (pairs_of left) (outs_of i.out.items) w k (skips e).table);
+      known = λ e. subst (Each (IsKnown m (flag waits) (flag due))) (sym pairs) (Each_drop (IsKnown m (flag waits) (flag due)) k (pairs_of left) (known e));
     }
 
 -- what is kept where nothing changed that contracts see
 pub same_coherent :
-    (i : Inside) (leads : LeadsShown) (queue : QueueShown) (waits due : TableShown)
+    (i : Inside) (leads : LeadsShown) (queue : QueueShown) (dropped : Vec Dropped Global) (waits due : TableShown)
     → leads ≡ i.leads → queue.items ≡ i.queue.items → HasSameFlags i.waits waits → HasSameFlags i.due due
-    → IsCoherent i → IsCoherent (record i { leads = leads; queue = queue; waits = waits; due = due })
-same_coherent i leads queue waits due l q w d h =
-    subst (λ (z : LeadsShown × QueueShown). IsCoherent (record i { leads = z.0; queue = z.1; waits = waits; due = due }))
+    → IsCoherent i → IsCoherent (record i { leads = leads; queue = queue; dropped = dropped; waits = waits; due = due })
+same_coherent i leads queue dropped waits due l q w d h =
+    subst (λ (z : LeadsShown × QueueShown). IsCoherent (record i { leads = z.0; queue = z.1; dropped = dropped; waits = waits; due = due }))
     (λ t. (sym l t, record { items = sym q t })) (record {
       real = h.real;
       sorted = h.sorted;
       within = h.within;
-      waits_size = w.sizes ∙ h.waits_size;
-      due_size = d.sizes ∙ h.due_size;
-      table = record { flags = λ x. ap (λ b. cond b 1 0) (w.flags x) ∙ h.table.flags x };
-      known = subst (λ (f : (Pair → Bool) × (Pair → Bool)). Each (IsKnown i.leads f.0 f.1) (pairs_of i.queue.items))
-          (λ t. (λ x. sym (w.flags x) t, λ x. sym (d.flags x) t)) h.known;
+      waits_size = λ e. w.sizes ∙ h.waits_size e;
+      due_size = λ e. d.sizes ∙ h.due_size e;
+      table = λ e. record { flags = λ x. ap (λ b. cond b 1 0) (w.flags x) ∙ (h.table e).flags x };
+      known = λ e. subst (λ (f : (Pair → Bool) × (Pair → Bool)). Each (IsKnown i.leads f.0 f.1) (pairs_of i.queue.items))
+          (λ t. (λ x. sym (w.flags x) t, λ x. sym (d.flags x) t)) (h.known e);
     })

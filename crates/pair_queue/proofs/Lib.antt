@@ -19,5 +19,14 @@ pub mod Putting
 pub mod SameLeads
 pub mod Adding
 pub mod Knowing
+pub mod SkippedPairs
 pub mod Handing
 pub mod Halving
+pub mod Negating
+pub mod ProperDivisors
+pub mod NewFates
+pub mod FirstYields
+pub mod CopiedPairs
+pub mod StayingPairs
+pub mod JoiningPairs
+pub mod UpdatedQueues

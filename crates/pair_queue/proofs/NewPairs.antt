@@ -62,6 +62,15 @@ module _ (m : LeadsShown) (i j : ℕ) (order : i < j) (known : j < length m.keys
   pub together_is : nat_eq (lead_at ks i).position (lead_at ks j).position ≡ are_together (lead_sums n ks) i j
   together_is = ap₂ nat_eq (ap (λ k. k.0) (at i there)) (ap (λ k. k.0) (at j known))
 
+  pub positions_back : (leads (lead_sums n ks) i).0 ≡ (leads (lead_sums n ks) j).0 → (lead_at ks i).position ≡ (lead_at ks j).position
+  positions_back e = ap (λ k. k.0) (at i there) ∙ e ∙ sym (ap (λ k. k.0) (at j known))
+
+  -- the leads of a pair stand at one position
+  pub positions_of : (p : CodePair) → IsPair ks i j p → (leads (lead_sums n ks) p.i).0 ≡ (leads (lead_sums n ks) p.j).0
+  positions_of p h =
+      ap (λ z. (leads (lead_sums n ks) z).0) h.left ∙ sym (ap (λ k. k.0) (at i there)) ∙ h.together ∙ ap (λ k. k.0) (at j known)
+      ∙ sym (ap (λ z. (leads (lead_sums n ks) z).0) h.right)
+
   pub lcm_made : (p : CodePair) → IsPair ks i j p → IsWeighed (variables_of (lead_at ks i)) m.weights p.lcm.monomial → HasLcm m p
   lcm_made p h w = record {
     weighed = subst (λ z. IsWeighed z m.weights p.lcm.monomial) (variables_at i there) w;

@@ -5,6 +5,9 @@ pub mod Queueing
 pub mod Rows
 pub mod Tables
 pub mod Skipping
+pub mod Dropping
+pub mod FirstYields
+pub mod Updating
 pub mod Gaps
 pub mod Giving
 pub mod Inside

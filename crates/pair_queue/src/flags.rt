@@ -17,8 +17,8 @@ use module_vectors::NoMemory;
 use pair_criteria::{Pair, pair_of};
 use std::alloc::Global;
 
-// Appends the pair of two members if their leads stand at the same position.
-fn push_pair(
+/// Appends the pair of two members if their leads stand at the same position.
+pub(crate) fn push_pair(
     alloc: Global,
     leads: &Leads,
     i: usize,

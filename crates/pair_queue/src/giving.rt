@@ -5,6 +5,7 @@ ghost use Rattle.formal_sums.specs.FormalSums.{Each};
 ghost use Rattle.basis_steps.specs.Pairs.{Pair as PlainPair, count};
 ghost use Rattle.basis_steps.specs.States.{job_of, with_others};
 ghost use Rattle.basis_steps.specs.Steps.{out_with};
+ghost use Rattle.queue_updates.specs.declared.Update.TheVariants as updates;
 ghost use Rattle.pair_queue.specs.Giving.{HasCleared};
 ghost use Rattle.pair_queue.specs.Pairs.{outs_of, pairs_of};
 ghost use Rattle.pair_queue.specs.Skipping.{IsKnown};
@@ -15,6 +16,7 @@ use crate::leads::Leads;
 use crate::out::Out;
 use crate::table::Table;
 use pair_criteria::Pair;
+use queue_updates::Update;
 
 /// The pairs go out with the worker. There is room for them.
 pub(crate) fn give(worker: u32, pairs: &[Pair], out: &mut Vec<Out>, given: &mut Vec<(u64, u64)>)
@@ -52,14 +54,8 @@ fn pass_all(worker: u32, out: &[Out], leads: &Leads, waits: &mut Table, due: &mu
     }
 }
 
-/// The pairs of the worker are out no more, nor do they wait. It takes no memory.
-pub(crate) fn close_job(
-    worker: u32,
-    out: &mut Vec<Out>,
-    leads: &Leads,
-    waits: &mut Table,
-    due: &mut Table,
-)
+// The pairs of the worker are out no more, nor do they wait. It takes no memory.
+fn close_job(worker: u32, out: &mut Vec<Out>, leads: &Leads, waits: &mut Table, due: &mut Table)
     requires within { Each (λ o. AreIndices (length leads.now.keys) (o.i, o.j)) out.old.items }
     requires waits { size waits.old ≡ length leads.now.keys }
     requires due { size due.old ≡ length leads.now.keys }
@@ -73,4 +69,31 @@ pub(crate) fn close_job(
 {
     pass_all(worker, out, leads, waits, due);
     out.retain(|o| o.worker != worker);
+}
+
+/// The pairs of the worker are out no more, nor do they wait. It takes no memory. Where new members drop pairs no flags are kept.
+pub(crate) fn close_by_update(
+    update: Update,
+    worker: u32,
+    out: &mut Vec<Out>,
+    leads: &Leads,
+    waits: &mut Table,
+    due: &mut Table,
+)
+    requires within { Each (λ o. AreIndices (length leads.now.keys) (o.i, o.j)) out.old.items }
+    requires waits { update ≡ updates.Plain → size waits.old ≡ length leads.now.keys }
+    requires due { update ≡ updates.Plain → size due.old ≡ length leads.now.keys }
+    ensures out { outs_of out.new.items ≡ with_others worker (outs_of out.old.items) }
+    ensures waits_size { update ≡ updates.Plain → size waits.new ≡ size waits.old }
+    ensures due_size { update ≡ updates.Plain → size due.new ≡ size due.old }
+    ensures table { update ≡ updates.Plain → (queue : List PlainPair) → IsTable (flag waits.old) queue (outs_of out.old.items)
+        → IsTable (flag waits.new) queue (outs_of out.new.items) }
+    ensures known { update ≡ updates.Plain → (queue : List PlainPair) → Each (AreIndices (length leads.now.keys)) queue
+        → IsTable (flag waits.old) queue (outs_of out.old.items)
+        → Each (IsKnown leads.now (flag waits.old) (flag due.old)) queue → Each (IsKnown leads.now (flag waits.new) (flag due.new)) queue }
+{
+    match update {
+        Update::Plain => close_job(worker, out, leads, waits, due),
+        Update::Gebauer => out.retain(|o| o.worker != worker),
+    }
 }

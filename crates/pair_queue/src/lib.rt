@@ -4,6 +4,8 @@
 
 mod closing;
 mod comparing;
+mod dropped;
+mod dropping;
 mod flags;
 mod given;
 mod giving;
@@ -18,7 +20,10 @@ mod sharing;
 mod skipping;
 mod sorting;
 mod table;
+mod updating;
+mod yielding;
 
+pub use dropped::Dropped;
 pub use given::Given;
 pub use out::Out;
 pub use pairs::PairQueue;

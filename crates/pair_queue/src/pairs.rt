@@ -2,34 +2,40 @@
 ghost use Rattle.std.specs.Prelude.{ℕ, ◌≡◌, ◌<◌, ◌≤◌, ◌+◌, ◌++◌, [], length, IfOk, OnOk, OnErr};
 ghost use Rattle.formal_sums.specs.FormalSums.{Each};
 ghost use Rattle.monomial_orders.specs.Kept.{IsWeighed};
-ghost use Rattle.basis_steps.specs.Queues.{QueuesNewPairs};
+ghost use Rattle.basis_steps.specs.Updates.{QueuesPairs};
 ghost use Rattle.basis_steps.specs.States.{with_others};
+ghost use Rattle.pair_queue.specs.Dropping.{drops_of};
 ghost use Rattle.pair_queue.specs.Leads.{LeadsShown, setting_of, sums_shown};
 ghost use Rattle.pair_queue.specs.Pairs.{IsRealPair, outs_of, pairs_of};
 ghost use Rattle.pair_queue.specs.Shown.{IsGiven};
 
+use crate::dropped::Dropped;
 use crate::given::Given;
-use crate::giving::{close_job, give};
+use crate::giving::{close_by_update, give};
 use crate::leads::Leads;
 use crate::out::Out;
 use crate::queue::{Queue, blank_pairs};
-use crate::queueing::queue_new_pairs;
+use crate::queueing::queue_by;
 use crate::sharing::share_of;
-use crate::skipping::skip;
+use crate::skipping::skip_by;
 use crate::table::Table;
 use module_vectors::{Key, NoMemory};
 use monomial_orders::{ModOrder, Order, Weights};
 use pair_criteria::Pair;
+use queue_updates::Update;
 use std::alloc::Global;
 use std::marker::Model;
 
-/// The pairs of a run: those that are queued, in their order, and those that are out with a worker; and the leads of the
-/// members. Contracts see these three. It knows of each queued pair whether a criterion applies to it.
+/// The pairs of a run: those that are queued, in their order, those that are out with a worker, and those that new members
+/// dropped; and the leads of the members. Contracts see these, and what is queued as members come. Where new members drop
+/// none it knows of each queued pair whether a criterion applies to it.
 pub struct PairQueue {
     leads: Leads,
     queue: Queue,
     out: Vec<Out>,
-    // Which pairs wait, in the queue or out.
+    update: Update,
+    dropped: Vec<Dropped>,
+    // Both have flags where new members drop no pairs. Which pairs wait, in the queue or out.
     waits: Table,
     // Of the queued pairs those to which no criterion applies; what it says of others is not read.
     due: Table,
@@ -42,6 +48,8 @@ impl Drop for PairQueue {
             leads: _,
             queue: _,
             out: _,
+            update: _,
+            dropped: _,
             waits: _,
             due: _,
         } = self;
@@ -61,13 +69,14 @@ impl Model for PairQueue {
 
 impl PairQueue {
     /// No leads and no pairs yet, over a ring with these orders and a variable of each of these weights, and a free module
-    /// of this rank.
+    /// of this rank, where this is queued as members come.
     pub fn new(
         alloc: Global,
         order: Order,
         module_order: ModOrder,
         weights: Weights,
         rank: u128,
+        update: Update,
     ) -> PairQueue
         ensures leads { result.leads ≡ record {
           order = order;
@@ -79,35 +88,42 @@ impl PairQueue {
         } }
         ensures queue { result.queue ≡ [] }
         ensures out { result.out ≡ [] }
+        ensures update { result.update ≡ update }
+        ensures dropped { result.dropped ≡ [] }
     {
         PairQueue {
             leads: Leads::new(alloc, order, module_order, weights, rank),
             queue: Queue::new(alloc),
             out: Vec::new(alloc),
+            update,
+            dropped: Vec::new(alloc),
             waits: Table::new(alloc),
             due: Table::new(alloc),
         }
     }
 
     /// New members have these leads: their pairs with every earlier member whose lead stands at the same position are
-    /// queued, each in its place.
+    /// queued, each in its place; or the update with each of them is done in their order (Gebauer and Möller 1988).
     ///
-    /// After `NoMemory` nothing has changed: the members are not there, and no pair is queued.
+    /// After `NoMemory` nothing has changed: the members are not there, and no pair is queued or dropped.
     pub fn add(&mut self, alloc: Global, mut keys: Vec<Key>) -> Result<(), NoMemory>
         requires { Each (λ k. IsWeighed self.old.leads.variables self.old.leads.weights k.monomial) keys.items }
         ensures leads { OnOk result (self.new.leads ≡ record self.old.leads { keys = self.old.leads.keys ++ keys.items }) }
-        ensures queues { OnOk result (QueuesNewPairs (setting_of self.new.leads.variables self.new.leads) (length self.old.leads.keys)
-            (sums_shown self.new.leads) (pairs_of self.old.queue) (pairs_of self.new.queue)) }
+        ensures queues { OnOk result (QueuesPairs self.old.update (setting_of self.new.leads.variables self.new.leads) (length self.old.leads.keys)
+            (sums_shown self.new.leads) (pairs_of self.old.queue) self.old.dropped (pairs_of self.new.queue) self.new.dropped) }
         ensures out { OnOk result (self.new.out ≡ self.old.out) }
+        ensures update { OnOk result (self.new.update ≡ self.old.update) }
         ensures err { OnErr result (self.new ≡ self.old) }
     {
         let first = self.leads.len();
         self.leads.append(&mut keys)?;
-        if let Err(stop) = queue_new_pairs(
+        if let Err(stop) = queue_by(
             alloc,
+            self.update,
             &self.leads,
             first,
             &mut self.queue,
+            &mut self.dropped,
             &mut self.waits,
             &mut self.due,
         ) {
@@ -117,9 +133,9 @@ impl PairQueue {
         Ok(())
     }
 
-    /// Skips the queued pairs to which a criterion applies, each time the first one, and gives the worker the first of those
-    /// left: at most `most` and what the budget leaves, and its share of those whose lcm has the least degree. IVA chapter
-    /// 2, section 10.
+    /// Skips the queued pairs to which a criterion applies, each time the first one, or none where new members drop pairs;
+    /// and gives the worker the first of those left: at most `most` and what the budget leaves, and its share of those whose
+    /// lcm has the least degree. IVA chapter 2, section 10.
     ///
     /// There are `workers` workers, at least one, and `taken` pairs of the budget are taken already. After `NoMemory` nothing
     /// has changed: no pair was skipped or given.
@@ -144,7 +160,8 @@ impl PairQueue {
         let mut given = Vec::with_capacity(alloc, most_given)?;
         let mut pairs = blank_pairs(alloc, most_given)?;
         self.out.reserve(most_given)?;
-        skip(
+        skip_by(
+            self.update,
             &self.leads,
             &mut self.waits,
             &mut self.due,
@@ -174,8 +191,11 @@ impl PairQueue {
         ensures leads { self.new.leads ≡ self.old.leads }
         ensures queue { self.new.queue ≡ self.old.queue }
         ensures out { self.new.out ≡ with_others worker self.old.out }
+        ensures update { self.new.update ≡ self.old.update }
+        ensures dropped { self.new.dropped ≡ self.old.dropped }
     {
-        close_job(
+        close_by_update(
+            self.update,
             worker,
             &mut self.out,
             &self.leads,
@@ -191,6 +211,20 @@ impl PairQueue {
         ensures real { Each (IsRealPair self.now.leads) result.now }
     {
         self.queue.as_slice()
+    }
+
+    /// What is queued as members come.
+    pub fn update(&self) -> Update
+        ensures { result ≡ self.now.update }
+    {
+        self.update
+    }
+
+    /// The pairs that new members dropped, in the order in which they did.
+    pub fn dropped(&self) -> &[Dropped]
+        ensures { drops_of result.now ≡ self.now.dropped }
+    {
+        &self.dropped
     }
 
     /// The pairs that are out.

@@ -4,18 +4,24 @@ ghost use Rattle.formal_sums.specs.FormalSums.{Each};
 ghost use Rattle.basis_steps.specs.Pairs.{Pair as PlainPair};
 ghost use Rattle.basis_steps.specs.Queues.{IsSorted, QueuesNewPairs};
 ghost use Rattle.basis_steps.specs.States.{pairs_out};
+ghost use Rattle.basis_steps.specs.Updates.{QueuesPairs};
+ghost use Rattle.queue_updates.specs.declared.Update.TheVariants as updates;
+ghost use Rattle.pair_queue.specs.Dropping.{drops_of};
 ghost use Rattle.pair_queue.specs.Leads.{lead_sums, setting_of, sums_shown};
 ghost use Rattle.pair_queue.specs.Pairs.{IsRealPair, pairs_of};
 ghost use Rattle.pair_queue.specs.Skipping.{IsKnown};
 ghost use Rattle.pair_queue.specs.Tables.{AreIndices, HasSameFlags, IsTable, flag, size};
 
+use crate::dropped::Dropped;
 use crate::flags::{flag_pairs, new_pairs};
 use crate::leads::Leads;
 use crate::merging::merge;
 use crate::queue::Queue;
 use crate::sorting::sort_pairs;
 use crate::table::Table;
+use crate::updating::update_queue;
 use module_vectors::NoMemory;
+use queue_updates::Update;
 use std::alloc::Global;
 use std::mem::replace;
 
@@ -60,4 +66,50 @@ pub(crate) fn queue_new_pairs(
     let queued = replace(queue, Queue::new(alloc)).into_pairs();
     *queue = Queue::from_vec(merge(leads, queued, pairs, room));
     Ok(())
+}
+
+/// The members from number `first` on come: all their pairs are queued, and flagged; or the update with each of them is done.
+/// After an error all is as before.
+pub(crate) fn queue_by(
+    alloc: Global,
+    update: Update,
+    leads: &Leads,
+    first: usize,
+    queue: &mut Queue,
+    dropped: &mut Vec<Dropped>,
+    waits: &mut Table,
+    due: &mut Table,
+) -> Result<(), NoMemory>
+    requires first { first ≤ length leads.now.keys }
+    requires real { Each (IsRealPair leads.now) queue.old.items }
+    requires within { Each (AreIndices first) (pairs_of queue.old.items) }
+    requires sorted { IsSorted (setting_of leads.now.variables leads.now) (sums_shown leads.now) (pairs_of queue.old.items) }
+    requires waits { update ≡ updates.Plain → size waits.old ≡ first }
+    requires due { update ≡ updates.Plain → size due.old ≡ first }
+    ensures real { OnOk result (Each (IsRealPair leads.now) queue.new.items) }
+    ensures queues { OnOk result (QueuesPairs update (setting_of leads.now.variables leads.now) first (sums_shown leads.now)
+        (pairs_of queue.old.items) (drops_of dropped.old.items) (pairs_of queue.new.items) (drops_of dropped.new.items)) }
+    ensures sorted { OnOk result (IsSorted (setting_of leads.now.variables leads.now) (sums_shown leads.now) (pairs_of queue.new.items)) }
+    ensures waits { OnOk result (update ≡ updates.Plain → size waits.new ≡ length leads.now.keys) }
+    ensures due { OnOk result (update ≡ updates.Plain → size due.new ≡ length leads.now.keys) }
+    ensures table { OnOk result (update ≡ updates.Plain → (out : List (PlainPair × ℕ)) → Each (AreIndices first) (pairs_out out)
+        → IsTable (flag waits.old) (pairs_of queue.old.items) out → IsTable (flag waits.new) (pairs_of queue.new.items) out) }
+    ensures known { OnOk result (update ≡ updates.Plain → (out : List (PlainPair × ℕ)) → IsTable (flag waits.old) (pairs_of queue.old.items) out
+        → Each (IsKnown (record leads.now { keys = take first leads.now.keys }) (flag waits.old) (flag due.old)) (pairs_of queue.old.items)
+        → Each (IsKnown leads.now (flag waits.new) (flag due.new)) (pairs_of queue.new.items)) }
+    ensures queue_kept { OnErr result (queue.new.items ≡ queue.old.items) }
+    ensures dropped_kept { OnErr result (dropped.new.items ≡ dropped.old.items) }
+    ensures waits_kept { OnErr result (HasSameFlags waits.old waits.new) }
+    ensures due_kept { OnErr result (HasSameFlags due.old due.new) }
+{
+    match update {
+        Update::Plain => {
+            queue_new_pairs(alloc, leads, first, queue, waits, due)?;
+            Ok(())
+        }
+        Update::Gebauer => {
+            update_queue(alloc, leads, first, queue, dropped)?;
+            Ok(())
+        }
+    }
 }

@@ -9,6 +9,7 @@ ghost use Rattle.pair_queue.specs.Skipping.{AreSkipped, IsKnown, IsSpared, NoneI
 ghost use Rattle.pair_queue.specs.Tables.{AreIndices, IsTable, cleared, flag, size};
 ghost use Rattle.basis_steps.specs.Pairs.{Pair as PlainPair};
 ghost use Rattle.basis_steps.specs.Queues.{IsSorted};
+ghost use Rattle.queue_updates.specs.declared.Update.TheVariants as updates;
 
 use crate::closing::pass;
 use crate::leads::Leads;
@@ -16,6 +17,7 @@ use crate::queue::Queue;
 use crate::table::Table;
 use monomial_orders::Mono;
 use pair_criteria::Pair;
+use queue_updates::Update;
 
 // How many of the kept pairs stand before those at their end whose lcms have this monomial.
 fn count_before(kept: &[Pair], monomial: &Mono) -> usize
@@ -170,4 +172,35 @@ pub(crate) fn skip(
         }
     }
     queue.truncate(kept);
+}
+
+/// Skips where new members drop no pairs, and else leaves all as they are.
+pub(crate) fn skip_by(
+    update: Update,
+    leads: &Leads,
+    waits: &mut Table,
+    due: &mut Table,
+    queue: &mut Queue,
+    skipped: &mut Vec<(u64, u64)>,
+)
+    requires waits { update ≡ updates.Plain → size waits.old ≡ length leads.now.keys }
+    requires due { update ≡ updates.Plain → size due.old ≡ length leads.now.keys }
+    requires real { Each (IsRealPair leads.now) queue.old.items }
+    requires sorted { IsSorted (setting_of leads.now.variables leads.now) (sums_shown leads.now) (pairs_of queue.old.items) }
+    requires skipped { (skipped.old.items ≡ []) × (length queue.old.items ≤ vec_capacity skipped.old) }
+    requires known { update ≡ updates.Plain → Each (IsKnown leads.now (flag waits.old) (flag due.old)) (pairs_of queue.old.items) }
+    ensures waits_size { update ≡ updates.Plain → size waits.new ≡ size waits.old }
+    ensures due_size { update ≡ updates.Plain → size due.new ≡ size due.old }
+    ensures few { length queue.new.items ≤ length queue.old.items }
+    ensures real { Each (IsRealPair leads.now) queue.new.items }
+    ensures skips { update ≡ updates.Plain → (out : List (PlainPair × ℕ)) → IsTable (flag waits.old) (pairs_of queue.old.items) out
+        → AreSkipped leads.now out (pairs_of queue.old.items) skipped.new.items (pairs_of queue.new.items) (flag waits.new) }
+    ensures none { update ≡ updates.Plain → NoneIsSpared leads.now (flag waits.new) (pairs_of queue.new.items) }
+    ensures known { update ≡ updates.Plain → Each (IsKnown leads.now (flag waits.new) (flag due.new)) (pairs_of queue.new.items) }
+    ensures nothing { update ≡ updates.Gebauer → (skipped.new.items ≡ []) × (queue.new.items ≡ queue.old.items) }
+{
+    match update {
+        Update::Plain => skip(leads, waits, due, queue, skipped),
+        Update::Gebauer => {}
+    }
 }

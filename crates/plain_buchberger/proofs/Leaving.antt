@@ -10,7 +10,7 @@ use Rattle.run_endings.specs.Endings.{IsClosed}
 use Rattle.run_endings.specs.Stops.{OfState, RunStops}
 use Rattle.plain_buchberger.specs.Runs.{StopLeaves}
 
-pub closed_leaves : (s : Shown) (stop : RunStop) → IsClosed s → OfState (λ t. t ≡ s) stop → RunStops s.budget s.workers s.shared stop → StopLeaves stop
+pub closed_leaves : (s : Shown) (stop : RunStop) → IsClosed s → OfState (λ t. t ≡ s) stop → RunStops s.budget s.workers s.update s.shared stop → StopLeaves stop
 closed_leaves s Memory closed e h = tt
 closed_leaves s (Pairs t) closed e (over, (by, budget)) =
     absurd (let both : ◌≡◌ {A = Option StopReason} None (Some reasons.Pairs) = sym (ap (λ (x : Shown). x.stop) e ∙ closed.stop) ∙ budget.stop in cc)

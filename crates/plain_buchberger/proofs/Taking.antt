@@ -5,12 +5,13 @@ use Rattle.module_vectors.specs.declared.key.Key.{Key as CodeKey}
 use Rattle.module_vectors.specs.declared.ring.Ring.{Ring}
 use Rattle.module_vectors.specs.declared.trail.KeptTrail.{KeptTrail}
 use Rattle.module_vectors.specs.declared.trail.WorkStop.{WorkStop}
+use Rattle.queue_updates.specs.declared.Update.{Update}
 use Rattle.basis_steps.specs.Criteria.{NoCriterionApplies, waiting}
 use Rattle.basis_steps.specs.Invariant.{HaveAllEnded}
 use Rattle.basis_steps.specs.Histories.{HasStopped, took_since}
 use Rattle.basis_steps.specs.Pairs.{Pair}
 use Rattle.basis_steps.specs.States as plain
-use Rattle.basis_steps.specs.States.{Member, Run, job_of, vectors}
+use Rattle.basis_steps.specs.States.{Run, job_of, vectors}
 use Rattle.basis_steps.specs.Steps.{Begins, Ends, MayEnd, Puts, Stops, Takes, none_ended, out_with, stop_of_take}
 use Rattle.basis_steps.specs.Trails.{HasGiven}
 use Rattle.basis_steps.specs.Steps as steps
@@ -20,9 +21,10 @@ use Rattle.basis_core.specs.declared.stop.StopReason.{StopReason}
 use Rattle.basis_core.specs.declared.stop.StopReason.TheVariants as reasons
 use Rattle.basis_core.specs.declared.taken.Taken.{Taken}
 use Rattle.basis_core.specs.declared.taken.Taken.TheVariants.{Job as TookJob, Empty, Stopped}
-use Rattle.basis_core.specs.Answers.{AnswersTake, IsRunOf, IsTaken, pairs_given}
+use Rattle.basis_core.specs.Answers.{AnswersTake, IsRunOf, IsTaken, PutsOutcome, pairs_given}
 use Rattle.basis_core.specs.Jobs.{JobShown, pairs_of}
-use Rattle.basis_core.specs.Members.{Shared, members_of, setting_of}
+use Rattle.basis_core.specs.Members.{Shared, Tracked, members_of, rows_of, setting_of}
+use Rattle.basis_core.specs.Outcomes.{OutcomeShown, products_of}
 use Rattle.basis_core.specs.Shown.{Shown}
 use Rattle.basis_core.specs.Stops as stops
 use Rattle.basis_core.specs.Stops.{reason_of, stop_of}
@@ -134,8 +136,8 @@ module _ (s t : Shown) (free : IsFree s) (same : IsSameRun s t) where
             record { stop = stops_pairs k t.stop stop; taken = met.0 ∙ sym same.budget },
             record {
               queued = met.1;
-              none_applies =
-                  subst (λ (sh : Shared). NoCriterionApplies (setting_of (variables sh.ring) sh) (vectors (members_of (variables sh.ring) t.members)) (waiting t.queue t.out) t.queue) (sym same.shared) met.2;
+              none_applies = λ e.
+                  subst (λ (sh : Shared). NoCriterionApplies (setting_of (variables sh.ring) sh) (vectors (members_of (variables sh.ring) t.members)) (waiting t.queue t.out) t.queue) (sym same.shared) (met.2 (sym same.update ∙ e));
             },
           )
 
@@ -163,13 +165,18 @@ closed_after_end t u ending one (none, empty) same h =
           (ap (λ z. get_or z.ended 0 true) h.after ∙ ap (λ e. get_or (steps.ended_after (state_of n t) 0 e) 0 true) answer ∙ first_ended t.ended);
     }
 
+-- a Put of the outcome by this worker
+abbrev PutsBy : (s : Shown) (o : OutcomeShown) (made : List Tracked) (t : Shown) → ℕ → Type 0
+PutsBy s o made t w =
+    let n : ℕ = variables_of s in
+    Puts (run_of n s) (state_of n s) w (length o.job.members) (rows_of n o.rows) (products_of n o.products) (members_of n made) (state_of n t)
+
 pub free_after_put :
-    (s t : Shown) (job : JobShown) (made : List (Member (variables_of s))) → IsOut s job → IsSameRun s t
-    → Puts (run_of (variables_of s) s) (state_of (variables_of s) s) job.worker made (state_of (variables_of s) t)
+    (s t : Shown) (o : OutcomeShown) (made : List Tracked) → IsOut s o.job → IsSameRun s t → PutsOutcome (variables_of s) s o made t
     → IsFree t × (t.taken ≡ s.taken)
-free_after_put s t job made out same put = go (subst (λ w. Puts (run_of (variables_of s) s) (state_of (variables_of s) s) w made (state_of (variables_of s) t)) out.worker put)
+free_after_put s t o made out same put = go (subst (PutsBy s o made t) out.worker put.puts)
   where
-    go : Puts (run_of (variables_of s) s) (state_of (variables_of s) s) 0 made (state_of (variables_of s) t) → IsFree t × (t.taken ≡ s.taken)
+    go : PutsBy s o made t 0 → IsFree t × (t.taken ≡ s.taken)
     go h = (
       record {
         runs = record {
@@ -178,7 +185,7 @@ free_after_put s t job made out same put = go (subst (λ w. Puts (run_of (variab
           works = ap (λ z. get_or z.ended 0 true) h.after ∙ out.runs.works;
           unstopped =
               subst (λ k. HasStopped 0 (state_of k t).history → ⊥) (same_variables s t same)
-              (subst (λ es. HasStopped 0 es → ⊥) (sym (ap (λ z. z.history) h.after)) (unstopped_put 0 0 made (state_of (variables_of s) s).history out.runs.unstopped));
+              (subst (λ es. HasStopped 0 es → ⊥) (sym (ap (λ z. z.history) h.after)) (unstopped_put 0 0 (members_of (variables_of s) made) (state_of (variables_of s) s).history out.runs.unstopped));
         };
         free = ap (λ z. job_of 0 z.out) h.after ∙ job_of_with_others 0 s.out;
       },
@@ -195,9 +202,9 @@ keeps_after_stop s t trail runs h =
 
 -- a state at its beginning
 pub free_at_beginning :
-    (shared : Shared) (budget : ℕ) (s : Shown) → IsRunOf shared budget 1 s
+    (shared : Shared) (budget : ℕ) (update : Update) (s : Shown) → IsRunOf shared budget 1 update s
     → Begins (run_of (variables shared.ring) s) (state_of (variables shared.ring) s) → IsFree s
-free_at_beginning shared budget s run begins =
+free_at_beginning shared budget update s run begins =
     let n : ℕ = variables shared.ring in
     let same : n ≡ variables_of s = sym (ap (λ (sh : Shared). variables sh.ring) run.over) in
     record {
@@ -211,9 +218,9 @@ free_at_beginning shared budget s run begins =
     }
 
 pub begins_free :
-    (ring : Ring) (rank : ℕ) (generators : List (List (CodeKey × ℕ))) (budget : ℕ) (r : Result Shown WorkStop)
-    → IfOk r (IsRunOf (record { ring = ring; rank = rank; generators = generators }) budget 1)
+    (ring : Ring) (rank : ℕ) (generators : List (List (CodeKey × ℕ))) (budget : ℕ) (update : Update) (r : Result Shown WorkStop)
+    → IfOk r (IsRunOf (record { ring = ring; rank = rank; generators = generators }) budget 1 update)
     → IfOk r (λ s. Begins (run_of (variables ring) s) (state_of (variables ring) s))
     → IfOk r IsFree
-begins_free ring rank generators budget (Ok s) run begins = free_at_beginning (record { ring = ring; rank = rank; generators = generators }) budget s run begins
-begins_free ring rank generators budget (Err e) run begins = tt
+begins_free ring rank generators budget update (Ok s) run begins = free_at_beginning (record { ring = ring; rank = rank; generators = generators }) budget update s run begins
+begins_free ring rank generators budget update (Err e) run begins = tt

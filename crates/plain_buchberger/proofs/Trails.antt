@@ -24,7 +24,7 @@ run_trail_of_job s job t out h =
       way = record {
         job = pairs_of job.pairs;
         given = out.given;
-        way = trail_of_job s.shared s.budget s.workers s.members s.members (pairs_of job.pairs) t (sym (take_all (length s.members) s.members (omega arith))) (omega arith) by;
+        way = trail_of_job s.shared s.budget s.workers s.update s.members s.members (pairs_of job.pairs) t (sym (take_all (length s.members) s.members (omega arith))) (omega arith) by;
       };
     }
 

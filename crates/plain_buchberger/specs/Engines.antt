@@ -1,6 +1,7 @@
 -- What contracts see of the engine
 use Rattle.std.specs.Prelude.{Option, Some, min, ℕ, ◌+◌, ◌-◌, ◌^◌, ◌≡◌, ◌≤◌}
 use Rattle.module_vectors.specs.declared.trail.KeptTrail.{KeptTrail}
+use Rattle.queue_updates.specs.declared.Update.{Update}
 use Rattle.basis_core.specs.Members.{Shared}
 use Rattle.basis_core.specs.Shown.{Shown}
 use Rattle.groebner_iface.specs.declared.stop.Stop.{Stop}
@@ -8,22 +9,25 @@ use Rattle.groebner_iface.specs.declared.stop.Stop.TheVariants.{Memory, Pairs, D
 use Rattle.run_endings.specs.Stops.{IsKeptWhereCounted, IsStop, stopped_on, stopped_run}
 use Rattle.plain_buchberger.specs.Runs.{KeptLeaves}
 
--- its budget of pairs; how many runs stopped; the state and the trail that are kept of the last one of them
+-- its budget of pairs, and what its runs queue as members come; how many runs stopped; the state and the trail that are kept of the
+-- last one of them
 pub record EngineShown : Type 0 where
   pub pairs : ℕ
+  pub update : Update
   pub stops : ℕ
   pub state : Option Shown
   pub trail : Option KeptTrail
 
 -- what is kept is of a run of this engine that stopped, and it is counted; one by the budget leaves a pair
 pub record IsKeptBy (e : EngineShown) : Type 0 where
-  pub stop : IsStop e.pairs 1 e.state e.trail
+  pub stop : IsStop e.pairs 1 e.update e.state e.trail
   pub counted : IsKeptWhereCounted e.stops (stopped_run e.state e.trail)
   pub left : KeptLeaves e.state e.trail
 
--- one more run that stopped is counted, up to 2 ^ 64 - 1; the budget is the same
+-- one more run that stopped is counted, up to 2 ^ 64 - 1; budget and update are the same
 pub record Counts (old new : EngineShown) : Type 0 where
   pub pairs : new.pairs ≡ old.pairs
+  pub update : new.update ≡ old.update
   pub stops : new.stops ≡ min (old.stops + 1) (2 ^ 64 - 1)
   pub later : old.stops ≤ new.stops
 

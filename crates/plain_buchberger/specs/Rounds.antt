@@ -3,6 +3,7 @@ use Rattle.std.specs.Prelude.{[], None, Some, false, get_or, length, true, ⊤, 
 use Rattle.module_vectors.specs.declared.trail.KeptTrail.{KeptTrail}
 use Rattle.module_vectors.specs.declared.trail.WorkStop.{WorkStop}
 use Rattle.module_vectors.specs.declared.trail.WorkStop.TheVariants as works
+use Rattle.queue_updates.specs.declared.Update.TheVariants.{Plain}
 use Rattle.basis_steps.specs.Criteria.{NoCriterionApplies, waiting}
 use Rattle.basis_steps.specs.Histories.{HasStopped}
 use Rattle.basis_steps.specs.States.{job_of, vectors}
@@ -39,11 +40,11 @@ pub record IsOut (s : Shown) (job : JobShown) : Type 0 where
   pub out : job_of 0 s.out ≡ pairs_of job.pairs
   pub given : HasGiven (state_of (variables_of s) s).history (pairs_of job.pairs)
 
--- a pair is left, and no criterion applies to one that is
+-- a pair is left, and, where new members drop none, no criterion applies to one that is
 pub record LeavesPairs (s : Shown) : Type 0 where
   pub queued : 0 < length s.queue
   pub none_applies :
-      let n = variables_of s in
+      s.update ≡ Plain → let n = variables_of s in
       NoCriterionApplies (setting_of n s.shared) (vectors (members_of n s.members)) (waiting s.queue s.out) s.queue
 
 -- why a round is not done: a stop by the budget with a pair left, or by the degree; the state keeps it

@@ -13,6 +13,7 @@ use crate::runs::run;
 use basis_core::BasisState;
 use groebner_iface::{Groebner, Stop};
 use module_vectors::{KeptTrail, Ring, VectList};
+use queue_updates::Update;
 use run_endings::RunStop;
 use std::alloc::Global;
 use std::marker::Model;
@@ -24,6 +25,7 @@ use std::thread::Threads;
 /// degree above 65,535, a trail and its state, or the trail alone where the beginning of the run met it.
 pub struct PlainEngine {
     pairs: u64,
+    update: Update,
     stops: u64,
     state: Option<BasisState>,
     trail: Option<KeptTrail>,
@@ -34,6 +36,7 @@ impl Drop for PlainEngine {
     fn drop(self) {
         let PlainEngine {
             pairs: _,
+            update: _,
             stops: _,
             state: _,
             trail: _,
@@ -46,21 +49,23 @@ impl Model for PlainEngine {
 
     ghost Value = { EngineShown };
 
-    ghost view = { λ e. record { pairs = e.pairs; stops = e.stops; state = e.state; trail = e.trail } };
+    ghost view = { λ e. record { pairs = e.pairs; update = e.update; stops = e.stops; state = e.state; trail = e.trail } };
 
-    ghost invariant = { λ e. IsKeptBy (record { pairs = e.pairs; stops = e.stops; state = e.state; trail = e.trail }) };
+    ghost invariant = { λ e. IsKeptBy (record { pairs = e.pairs; update = e.update; stops = e.stops; state = e.state; trail = e.trail }) };
 }
 
 impl PlainEngine {
-    /// An engine whose runs take at most so many pairs each.
-    pub fn new(pairs: u64) -> PlainEngine
+    /// An engine whose runs take at most so many pairs each, and queue this as members come.
+    pub fn new(pairs: u64, update: Update) -> PlainEngine
         ensures pairs { result.pairs ≡ pairs }
+        ensures update { result.update ≡ update }
         ensures stops { result.stops ≡ 0 }
         ensures state { result.state ≡ None }
         ensures trail { result.trail ≡ None }
     {
         PlainEngine {
             pairs,
+            update,
             stops: 0,
             state: None,
             trail: None,
@@ -72,6 +77,13 @@ impl PlainEngine {
         ensures { result ≡ self.now.pairs }
     {
         self.pairs
+    }
+
+    /// What its runs queue as members come.
+    pub fn update(&self) -> Update
+        ensures { result ≡ self.now.update }
+    {
+        self.update
     }
 
     /// How many runs stopped early, up to 2^64 - 1.
@@ -99,6 +111,7 @@ impl PlainEngine {
     {
         let PlainEngine {
             pairs: _,
+            update: _,
             stops: _,
             state,
             trail,
@@ -122,7 +135,7 @@ impl PlainEngine {
         ensures same { OnOk result (self.new ≡ self.old) }
         ensures stop { IfErr result (EngineStops self.old self.new (shared_on ring.now rank list.now)) }
     {
-        match run(rt, alloc, self.pairs, ring, rank, list) {
+        match run(rt, alloc, self.pairs, self.update, ring, rank, list) {
             Ok(basis) => Ok(basis),
             Err(stop) => Err(self.keep_stop(stop)),
         }
@@ -131,7 +144,7 @@ impl PlainEngine {
     // Counts a run that stopped, and keeps this of it.
     fn keep(&mut self, state: Option<BasisState>, trail: Option<KeptTrail>)
         requires some { (run : StoppedRun) × (stopped_run state trail ≡ Some run) }
-        requires stop { IsStop self.old.pairs 1 state trail }
+        requires stop { IsStop self.old.pairs 1 self.old.update state trail }
         requires left { KeptLeaves state trail }
         ensures counts { Counts self.old self.new }
         ensures state { self.new.state ≡ state }
@@ -144,9 +157,9 @@ impl PlainEngine {
 
     // Counts and keeps a run that stopped, unless memory was wanting.
     fn keep_stop(&mut self, stop: RunStop) -> Stop
-        requires stop { (shared : Shared) × RunStops self.old.pairs 1 shared stop }
+        requires stop { (shared : Shared) × RunStops self.old.pairs 1 self.old.update shared stop }
         requires left { StopLeaves stop }
-        ensures { (shared : Shared) → RunStops self.old.pairs 1 shared stop → EngineStops self.old self.new shared result }
+        ensures { (shared : Shared) → RunStops self.old.pairs 1 self.old.update shared stop → EngineStops self.old self.new shared result }
     {
         match stop {
             RunStop::Memory => Stop::Memory,
@@ -168,13 +181,13 @@ impl PlainEngine {
 
 impl Groebner for PlainEngine {
     ghost use Rattle.std.specs.Prelude.{[], ◌∷◌};
-    ghost use Rattle.run_endings.specs.Stops.{stopped_run};
+    ghost use Rattle.run_endings.specs.Stops.{number_of_update, stopped_run};
 
     ghost stops = { λ e. e.stops };
 
     ghost stopped = { λ e. stopped_run e.state e.trail };
 
-    ghost settings = { λ e. e.pairs ∷ 1 ∷ [] };
+    ghost settings = { λ e. e.pairs ∷ 1 ∷ number_of_update e.update ∷ [] };
 
     fn reduced<R: Threads + Wait + Sync>(
         &mut self,

@@ -3,6 +3,7 @@ ghost use Rattle.std.specs.Prelude.{ℕ, IfOk, IfErr};
 ghost use Rattle.formal_sums.specs.FormalSums.{Each};
 ghost use Rattle.module_vectors.specs.Rings.{ring_comparison, variables};
 ghost use Rattle.module_vectors.specs.Vectors.{AreVectorsOver, HasPositions};
+ghost use Rattle.queue_updates.specs.declared.Update.{Update};
 ghost use Rattle.basis_core.specs.Answers.{BeginningStops, IsRunOf};
 ghost use Rattle.groebner_iface.specs.Runs.{IsReducedBasisOf};
 ghost use Rattle.run_endings.specs.Stops.{IsRunBy, RunStops, shared_on};
@@ -12,6 +13,7 @@ ghost use Rattle.plain_buchberger.specs.Runs.{StopLeaves};
 use crate::rounds::look_at_pairs;
 use basis_core::{BasisState, StopReason};
 use module_vectors::{Ring, VectList, WorkStop};
+use queue_updates::Update;
 use run_endings::{RunStop, close};
 use std::alloc::Global;
 use std::thread::Threads;
@@ -20,25 +22,26 @@ use std::thread::Threads;
 fn begin(
     alloc: Global,
     pairs: u64,
+    update: Update,
     ring: &Ring,
     rank: u128,
     list: &VectList,
 ) -> Result<BasisState, WorkStop>
     requires vectors { AreVectorsOver ring.now (ring_comparison ring.now) list.now }
     requires positions { Each (HasPositions rank) list.now }
-    ensures run { IfOk result (IsRunOf (shared_on ring.now rank list.now) pairs 1) }
+    ensures run { IfOk result (IsRunOf (shared_on ring.now rank list.now) pairs 1 update) }
     ensures free { IfOk result IsFree }
     ensures stop { IfErr result (BeginningStops (variables ring.now) (shared_on ring.now rank list.now)) }
 {
     let ring = ring.try_copy(alloc)?;
     let generators = VectList::copy_of(alloc, list)?;
-    BasisState::begin(alloc, ring, rank, generators, pairs, 1)
+    BasisState::begin(alloc, ring, rank, generators, pairs, 1, update)
 }
 
 // What is kept of a run that its rounds stopped.
 fn stop_of_rounds(state: BasisState, stop: StopReason) -> RunStop
     requires { RoundStops state stop }
-    ensures stop { (pairs workers : ℕ) → IsRunBy pairs workers state → RunStops pairs workers state.shared result }
+    ensures stop { (pairs workers : ℕ) (update : Update) → IsRunBy pairs workers update state → RunStops pairs workers update state.shared result }
     ensures left { StopLeaves result }
 {
     match stop {
@@ -53,6 +56,7 @@ pub(crate) fn run<R: Threads + Sync>(
     rt: &R,
     alloc: Global,
     pairs: u64,
+    update: Update,
     ring: &Ring,
     rank: u128,
     list: &VectList,
@@ -60,10 +64,10 @@ pub(crate) fn run<R: Threads + Sync>(
     requires vectors { AreVectorsOver ring.now (ring_comparison ring.now) list.now }
     requires positions { Each (HasPositions rank) list.now }
     ensures basis { IfOk result (IsReducedBasisOf ring.now rank list.now) }
-    ensures stop { IfErr result (RunStops pairs 1 (shared_on ring.now rank list.now)) }
+    ensures stop { IfErr result (RunStops pairs 1 update (shared_on ring.now rank list.now)) }
     ensures left { IfErr result StopLeaves }
 {
-    let mut state = match begin(alloc, pairs, ring, rank, list) {
+    let mut state = match begin(alloc, pairs, update, ring, rank, list) {
         Ok(state) => state,
         Err(WorkStop::Memory) => return Err(RunStop::Memory),
         Err(WorkStop::Degree(trail)) => return Err(RunStop::Beginning(trail)),

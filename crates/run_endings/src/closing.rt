@@ -8,6 +8,7 @@ ghost use Rattle.basis_core.specs.Rows.{vectors_in};
 ghost use Rattle.groebner_iface.specs.Runs.{IsReducedBasisOf};
 ghost use Rattle.interreduce.specs.Trails.{InterreductionStops, IsInterreductionTrail};
 ghost use Rattle.run_endings.specs.Endings.{ClosingStops, IsClosed, IsInterreductionStop};
+ghost use Rattle.queue_updates.specs.declared.Update.{Update};
 ghost use Rattle.run_endings.specs.Stops.{IsRunBy, OfState, RunStops};
 
 use crate::RunStop;
@@ -82,7 +83,7 @@ pub fn close<R: Threads + Sync>(
     requires { IsClosed state }
     ensures basis { IfOk result (λ t. IsReducedBasisOf state.shared.ring state.shared.rank state.shared.generators t.0) }
     ensures state { IfOk result (λ t. t.1 ≡ state) }
-    ensures stop { IfErr result (λ stop. (pairs workers : ℕ) → IsRunBy pairs workers state → RunStops pairs workers state.shared stop) }
+    ensures stop { IfErr result (λ stop. (pairs workers : ℕ) (update : Update) → IsRunBy pairs workers update state → RunStops pairs workers update state.shared stop) }
     ensures stopped { IfErr result (OfState (λ s. s ≡ state)) }
 {
     match reduce_members(rt, alloc, &state) {

@@ -12,6 +12,7 @@ use cofactor_track::run_members;
 use groebner_iface::Stop;
 use module_vectors::{Ring, VectList, WorkStop};
 use plain_buchberger::PlainEngine;
+use queue_updates::Update;
 use s_vectors::solve;
 use std::alloc::Global;
 use std::thread::Threads;
@@ -27,7 +28,7 @@ fn begun(
 ) -> Result<Result<BasisState, WorkStop>, NoValue> {
     let (ring, rank) = setting_of(alloc, setting)?;
     let list = vectors_of(alloc, &ring, rank, text)?;
-    Ok(BasisState::begin(alloc, ring, rank, list, MOST, 1))
+    Ok(BasisState::begin(alloc, ring, rank, list, MOST, 1, Update::Plain))
 }
 
 // Writes the vectors of members.
@@ -193,7 +194,7 @@ pub fn write_basis<R: Threads + Sync>(
     requires positions { Each (HasPositions rank) list.now }
 {
     let pairs = number_of(pairs)?;
-    let mut engine = PlainEngine::new(pairs);
+    let mut engine = PlainEngine::new(pairs, Update::Plain);
     write_run(rt, alloc, sheet, ring, rank, list, &mut engine);
     Ok(())
 }

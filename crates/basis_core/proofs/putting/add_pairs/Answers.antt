@@ -2,7 +2,7 @@ use Rattle.std.proofs.Common.{subst, sym, ℕ}
 use Rattle.formal_sums.specs.FormalSums.{Each}
 use Rattle.monomial_orders.specs.Kept.{IsWeighed}
 use Rattle.module_vectors.specs.declared.key.Key.{Key as CodeKey}
-use Rattle.basis_steps.specs.Queues.{QueuesNewPairs}
+use Rattle.basis_steps.specs.Updates.{QueuesPairs}
 use Rattle.pair_queue.specs.Leads.{LeadsShown, setting_of as setting_by, sums_shown}
 use Rattle.basis_core.specs.Jobs.{pairs_of}
 use Rattle.basis_core.proofs.KnownByLeads.{leads_count, leads_joined, queues_known}
@@ -18,14 +18,16 @@ returns-clause-queues c =
     let shared = c.args.members.now.shared in
     let ms = c.args.members.now.list in
     let first : ℕ = c.args.first in
-    let there : QueuesNewPairs (setting_by (c.add.new.self.leads).variables c.add.new.self.leads) first (sums_shown c.add.new.self.leads)
-    (pairs_of c.args.pairs.now.queue) (pairs_of c.add.new.self.queue) =
-    subst (λ (k : ℕ). QueuesNewPairs (setting_by (c.add.new.self.leads).variables c.add.new.self.leads) k (sums_shown c.add.new.self.leads)
-    (pairs_of c.args.pairs.now.queue) (pairs_of c.add.new.self.queue))
+    let old = c.args.pairs.now in
+    let new = c.add.new.self in
+    let there : QueuesPairs old.update (setting_by (new.leads).variables new.leads) first (sums_shown new.leads)
+    (pairs_of old.queue) old.dropped (pairs_of new.queue) new.dropped =
+    subst (λ (k : ℕ). QueuesPairs old.update (setting_by (new.leads).variables new.leads) k (sums_shown new.leads)
+    (pairs_of old.queue) old.dropped (pairs_of new.queue) new.dropped)
     (leads_count shared ms first c.args.pairs.now.leads c.requires.first c.requires.leads) c.in_ok-add.ensures.queues in
-    queues_known shared ms first (pairs_of c.args.pairs.now.queue) (pairs_of c.add.new.self.queue)
-    (subst (λ (l : LeadsShown). QueuesNewPairs (setting_by l.variables l) first (sums_shown l) (pairs_of c.args.pairs.now.queue)
-    (pairs_of c.add.new.self.queue)) (returns-clause-leads c) there)
+    queues_known shared ms old.update first (pairs_of old.queue) old.dropped (pairs_of new.queue) new.dropped
+    (subst (λ (l : LeadsShown). QueuesPairs old.update (setting_by l.variables l) first (sums_shown l) (pairs_of old.queue) old.dropped
+    (pairs_of new.queue) new.dropped) (returns-clause-leads c) there)
 
 pub lead_keys-requires-clause-first : goal.lead_keys-requires-clause-first
 lead_keys-requires-clause-first c = c.requires.first

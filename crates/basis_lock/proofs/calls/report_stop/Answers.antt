@@ -1,4 +1,4 @@
-use Rattle.std.proofs.Common.{[], ap, refl, subst, sym, ◌++◌, ◌∙◌, ◌∷◌, ◌≡◌, ℕ, ◌<◌}
+use Rattle.std.proofs.Common.{[], ap, refl, subst, sym, ◌++◌, ◌∙◌, ◌∷◌, ℕ}
 use Rattle.basis_steps.specs.Histories.{HasStopped}
 use Rattle.basis_steps.specs.Steps as steps
 use Rattle.basis_core.specs.Shown.{Shown}

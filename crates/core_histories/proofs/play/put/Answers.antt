@@ -18,7 +18,7 @@ pub returns-in-Ok : goal.returns-in-Ok
 returns-in-Ok c =
     let mine : c.in-Some.outcome.job.worker ≡ c.args.worker = (c.requires c.args.worker c.in-Some.outcome (sym c.take_back.ensures.value ∙ c.in-Some.is)).0 in
     waits_on c.args.state.now c.put.new.self c.args.worker c.args.waiting.now.items c.take_back.new.waiting.items c.requires
-    (λ o apart may. c.pending_outcomes.ensures.put c.args.state.now c.put.new.self c.in-Some.outcome.job.worker c.in-Ok.ensures.step.0 o c.in-Ok.ensures.step.1 c.put.ensures.run c.in-Ok.ensures.members (λ e. apart (sym mine ∙ e)) may)
+    (λ o apart may. c.pending_outcomes.ensures.put c.args.state.now c.put.new.self c.in-Some.outcome o c.in-Ok.ensures.step.0 c.in-Ok.ensures.step.1 c.put.ensures.run (λ e. apart (sym mine ∙ e)) may)
     c.take_back.ensures.others c.take_back.ensures.here
 
 pub returns : goal.returns

@@ -13,4 +13,4 @@ begin-requires-clause-generators c =
     (are_generators c.args.ring.now c.args.rank c.args.list.now c.requires.vectors c.requires.positions))
 
 pub returns-clause-free : goal.returns-clause-free
-returns-clause-free c = begins_free c.in_ok-ring.ring c.args.rank c.in_ok-generators.generators c.args.pairs c.begin.result c.begin.ensures.run c.begin.ensures.begins
+returns-clause-free c = begins_free c.in_ok-ring.ring c.args.rank c.in_ok-generators.generators c.args.pairs c.args.update c.begin.result c.begin.ensures.run c.begin.ensures.begins

@@ -60,4 +60,4 @@ returns-clause-event c =
     let t : Shown = after_end s c.mark_ended.new.ended.items c.push_reserved.new.self.items in
     subst (λ (z : Shown). Adds (EndNote w (ending_of e)) z t) c.self.view_is
     (ends_more s t c.self.invariant.replays c.self.invariant.read
-    (record { shared = refl; budget = refl; workers = refl }) refl w e c.push_reserved.ensures.items)
+    (record { shared = refl; budget = refl; workers = refl; update = refl }) refl w e c.push_reserved.ensures.items)

@@ -41,5 +41,5 @@ returns-clause-event c =
     let t : Shown = record s { history = es } in
     subst (λ (z : Shown). Adds (TakeNote c.args.worker [] []) z t) c.self.view_is
     (takes_more s t c.self.invariant.replays c.self.invariant.read
-    (record { shared = refl; budget = refl; workers = refl }) refl c.args.worker c.new.result c.new-2.result [] [] c.new.ensures.items c.new-2.ensures.items
+    (record { shared = refl; budget = refl; workers = refl; update = refl }) refl c.args.worker c.new.result c.new-2.result [] [] c.new.ensures.items c.new-2.ensures.items
     (c.push_reserved.ensures.items ∙ ap (λ (l : List Event). l ++ Take c.args.worker c.new.result c.new-2.result ∷ []) c.reserve.ensures.items))

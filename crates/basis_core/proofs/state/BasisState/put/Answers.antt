@@ -1,15 +1,13 @@
 use Rattle.std.proofs.Common.{List, [], ap, arith, false, get_or, length, refl, subst, sym, true, ℕ, ◌++◌, ◌-◌, ◌<◌, ◌∙◌, ◌∷◌, ◌≡◌}
 use Rattle.basis_steps.specs.Invariant.{HoldsInvariant}
-use Rattle.basis_steps.specs.States.{Member as PlainMember, with_others}
-use Rattle.basis_steps.specs.Steps.{Puts}
-use Rattle.basis_core.specs.Answers.{IsJobOut, PutStops}
+use Rattle.basis_steps.specs.States.{with_others}
+use Rattle.basis_core.specs.Answers.{IsJobOut, PutStops, PutsOutcome}
 use Rattle.basis_core.specs.Inside.{shown}
 use Rattle.basis_core.specs.declared.event.Event.{Event}
 use Rattle.basis_core.specs.declared.event.Event.TheVariants.{Put}
 use Rattle.basis_core.specs.declared.state.BasisState.TheInside.{Inside}
 use Rattle.basis_core.specs.Jobs.{JobShown, pairs_of}
-use Rattle.basis_core.specs.Logs.{AddsPut}
-use Rattle.basis_core.specs.Members.{Tracked, members_of}
+use Rattle.basis_core.specs.Members.{Tracked}
 use Rattle.basis_core.specs.Outcomes.{OutcomeShown}
 use Rattle.basis_core.specs.Shown.{Shown}
 use Rattle.basis_core.specs.Views.{run_of, state_of, variables_of}
@@ -51,7 +49,7 @@ returns-in-Err-clause-stop c =
 has_put :
     (c : After-drop-outcome)
     → HasPut (variables_of (shown c.self.inside)) (shown c.self.inside) c.args.outcome c.add_members.new.members.list
-    (pairs_of c.give_back.new.self.queue) c.give_back.new.self.out c.push_reserved.new.self.items
+    (pairs_of c.give_back.new.self.queue) c.give_back.new.self.dropped c.give_back.new.self.out c.push_reserved.new.self.items
 has_put c =
     let s : Shown = shown c.self.inside in
     let o : OutcomeShown = c.args.outcome in
@@ -66,7 +64,7 @@ has_put c =
       made = added.made;
       first = length s.members;
       first_is = refl;
-      queues = rw (ap pairs_of c.give_back.ensures.queue) added.queues;
+      queues = rw (ap pairs_of c.give_back.ensures.queue, c.give_back.ensures.dropped) added.queues;
       out_is = c.give_back.ensures.out ∙ (λ i. with_others (worker i) (added.out i));
       read = c.self.invariant.read;
       events = c.push_reserved.ensures.items
@@ -78,6 +76,7 @@ pub invariant_of-self-2 : goal.invariant_of-self-2
 invariant_of-self-2 c =
     put_kept c.self.inside c.args.outcome c.add_members.new.members c.give_back.new.self c.push_reserved.new.self
     c.self.invariant c.in_default.ensures.shared (has_put c) (c.give_back.ensures.leads ∙ c.in_default.ensures.leads)
+    (c.give_back.ensures.update ∙ c.in_default.ensures.update)
     (omega (arith, c.in_default.ensures.history_room, c.push_reserved.ensures.capacity))
 
 pub returns-clause-step : goal.returns-clause-step
@@ -86,23 +85,16 @@ returns-clause-step c =
     let n : ℕ = variables_of s in
     let put = has_put c in
     let list : List Tracked = c.add_members.new.members.list in
-    let t : Shown = record (after_put s list (pairs_of c.give_back.new.self.queue) c.give_back.new.self.out c.push_reserved.new.self.items)
-    { shared = c.add_members.new.members.shared } in
-    let step : Puts (run_of n s) (state_of n s) c.args.outcome.job.worker (members_of n (put.made).made) (state_of n t) =
-    put_step n s c.args.outcome list (pairs_of c.give_back.new.self.queue) c.give_back.new.self.out c.push_reserved.new.self.items put in
-    subst (λ (z : Shown). (made : List (PlainMember (variables_of z)))
-    × Puts (run_of (variables_of z) z) (state_of (variables_of z) z) c.args.outcome.job.worker made (state_of (variables_of z) t)) c.self.view_is
-    (members_of n (put.made).made, step)
-
-pub returns-clause-event : goal.returns-clause-event
-returns-clause-event c =
-    let s : Shown = shown c.self.inside in
-    let w : ℕ = c.args.outcome.job.worker in
-    let put = has_put c in
-    let list : List Tracked = c.add_members.new.members.list in
-    let t : Shown = record (after_put s list (pairs_of c.give_back.new.self.queue) c.give_back.new.self.out c.push_reserved.new.self.items)
-    { shared = c.add_members.new.members.shared } in
-    subst (λ (z : Shown). AddsPut w z t) c.self.view_is
-    (puts_more s t c.self.invariant.replays c.self.invariant.read (record { shared = c.in_default.ensures.shared; budget = refl; workers = refl }) w
-    (put.made).made (put.made).same
-    (put.events ∙ ap (λ (k : ℕ). s.history ++ (Put w k (length list - k) ∷ [])) put.first_is))
+    let t : Shown = record (after_put s list (pairs_of c.give_back.new.self.queue) c.give_back.new.self.dropped c.give_back.new.self.out c.push_reserved.new.self.items)
+    { shared = c.add_members.new.members.shared; update = c.give_back.new.self.update } in
+    subst (λ (z : Shown). (made : List Tracked) × PutsOutcome (variables_of z) z c.args.outcome made t) c.self.view_is (
+      (put.made).made,
+      record {
+        puts = put_step n s c.args.outcome list (pairs_of c.give_back.new.self.queue) c.give_back.new.self.dropped c.give_back.new.self.out
+            c.push_reserved.new.self.items put;
+        members = (put.made).same;
+        adds = puts_more s t c.self.invariant.replays c.self.invariant.read (record { shared = c.in_default.ensures.shared; budget = refl; workers = refl; update = c.give_back.ensures.update ∙ c.in_default.ensures.update })
+            c.args.outcome.job.worker (put.made).made (put.made).same
+            (put.events ∙ ap (λ (k : ℕ). s.history ++ (Put c.args.outcome.job.worker k (length list - k) ∷ [])) put.first_is);
+      },
+    )

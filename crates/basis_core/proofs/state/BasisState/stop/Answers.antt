@@ -50,4 +50,4 @@ returns-clause-event c =
     let t : Shown = after_stop s c.keep_first-later.new.kept c.push_reserved.new.self.items in
     subst (λ (z : Shown). Adds (StopNote w) z t) c.self.view_is
     (stops_more s t c.self.invariant.replays c.self.invariant.read
-    (record { shared = refl; budget = refl; workers = refl }) refl w c.keep_first-later.result c.push_reserved.ensures.items)
+    (record { shared = refl; budget = refl; workers = refl; update = refl }) refl w c.keep_first-later.result c.push_reserved.ensures.items)

@@ -72,8 +72,8 @@ returns-clause-step c =
     let s : Shown = shown i in
     let g = c.in_ok-given.given in
     let w = c.args.worker in
-    let t : Shown = after_take s (pairs_of c.take.new.self.queue) c.take.new.self.out
-    (i.taken + c.len.result) c.keep_stop.new.stop c.push_reserved.new.self.items in
+    let t : Shown = record (after_take s (pairs_of c.take.new.self.queue) c.take.new.self.dropped c.take.new.self.out
+    (i.taken + c.len.result) c.keep_stop.new.stop c.push_reserved.new.self.items) { update = c.take.new.self.update } in
     let takes : steps.Takes (run_of (variables_of s) s) (state_of (variables_of s) s) w c.args.most g.skipped.items (pairs_of g.pairs.items)
     (pairs_of (found_here c).left) (state_of (variables_of s) t) =
     subst (λ k. steps.Takes (run_of (variables_of s) s) (state_of (variables_of s) s) w c.args.most g.skipped.items (pairs_of g.pairs.items)
@@ -82,7 +82,7 @@ returns-clause-step c =
     let given : pairs_of g.pairs.items ≡ pairs_given c.answer.result = sym c.answer.ensures.given in
     let adds =
     takes_more s t c.self.invariant.replays c.self.invariant.read
-    (record { shared = refl; budget = refl; workers = refl }) refl w g.skipped g.given g.skipped.items (pairs_given c.answer.result)
+    (record { shared = refl; budget = refl; workers = refl; update = (found_here c).update }) refl w g.skipped g.given g.skipped.items (pairs_given c.answer.result)
     refl ((found_here c).given ∙ given) (noted c) in (
       g.skipped.items,
       subst (λ (z : Shown). Adds (TakeNote w g.skipped.items (pairs_given c.answer.result)) z t) c.self.view_is adds,
@@ -100,8 +100,8 @@ returns-clause-answer c =
     let i : Inside = c.self.inside in
     let s : Shown = shown i in
     let g = c.in_ok-given.given in
-    let t : Shown = after_take s (pairs_of c.take.new.self.queue) c.take.new.self.out
-    (i.taken + c.len.result) c.keep_stop.new.stop c.push_reserved.new.self.items in
+    let t : Shown = record (after_take s (pairs_of c.take.new.self.queue) c.take.new.self.dropped c.take.new.self.out
+    (i.taken + c.len.result) c.keep_stop.new.stop c.push_reserved.new.self.items) { update = c.take.new.self.update } in
     c.answer.ensures.answers t refl (ap (λ (m : MembersShown). m.shared) (sym c.in_ok-members.ensures))
     (ap (λ (m : MembersShown). m.list) (sym c.in_ok-members.ensures))
     (λ unstopped empty. none_left i c.args.worker c.args.most g c.take.new.self c.keep_stop.new.stop

@@ -1,7 +1,6 @@
 use Rattle.std.proofs.Common.{ap, length, sym, ◌∙◌}
 use Rattle.basis_core.specs.Logs.{number_at_beginning}
 use Rattle.basis_core.proofs.Logging.{length_notes}
-use Rattle.basis_lock.proofs.Acting.{runs_out}
 use Rattle.basis_lock.proofs.locked.BasisStateCoreNoteRunBase.count.Goals as goal
 
 pub returns : goal.returns

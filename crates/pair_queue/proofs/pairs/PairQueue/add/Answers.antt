@@ -13,24 +13,24 @@ use Rattle.pair_queue.specs.Skipping.{IsKnown}
 use Rattle.pair_queue.specs.Tables.{AreIndices, flag}
 use Rattle.pair_queue.proofs.pairs.PairQueue.add.Goals as goal
 
-pub queue_new_pairs-requires-clause-real : goal.queue_new_pairs-requires-clause-real
-queue_new_pairs-requires-clause-real c =
+pub queue_by-requires-clause-real : goal.queue_by-requires-clause-real
+queue_by-requires-clause-real c =
     subst (λ (z : LeadsShown). Each (IsRealPair z) c.self.inside.queue.items) (sym c.in_ok-append.ensures.ok)
     (reals_added c.self.inside.leads c.args.keys.items c.self.inside.queue.items c.self.invariant.real)
 
-pub queue_new_pairs-requires-clause-within : goal.queue_new_pairs-requires-clause-within
-queue_new_pairs-requires-clause-within c =
+pub queue_by-requires-clause-within : goal.queue_by-requires-clause-within
+queue_by-requires-clause-within c =
     subst (λ k. Each (AreIndices k) (pairs_of c.self.inside.queue.items)) (sym c.len-first.ensures)
     (indices_queued c.self.inside.leads c.self.inside.queue.items c.self.invariant.real)
 
-pub queue_new_pairs-requires-clause-sorted : goal.queue_new_pairs-requires-clause-sorted
-queue_new_pairs-requires-clause-sorted c =
+pub queue_by-requires-clause-sorted : goal.queue_by-requires-clause-sorted
+queue_by-requires-clause-sorted c =
     subst (λ (z : LeadsShown). IsSorted (setting_of z.variables z) (sums_shown z) (pairs_of c.self.inside.queue.items)) (sym c.in_ok-append.ensures.ok)
     (sorted_added c.self.inside.leads c.args.keys.items (pairs_of c.self.inside.queue.items)
     (indices_queued c.self.inside.leads c.self.inside.queue.items c.self.invariant.real) c.self.invariant.sorted)
 
 pub invariant_of-self : goal.invariant_of-self
-invariant_of-self c = same_coherent c.self.inside c.append.new.self c.self.inside.queue c.self.inside.waits c.self.inside.due
+invariant_of-self c = same_coherent c.self.inside c.append.new.self c.self.inside.queue c.self.inside.dropped c.self.inside.waits c.self.inside.due
     c.in_err-append.ensures.err refl (no_change c.self.inside.waits) (no_change c.self.inside.due) c.self.invariant
 
 pub invariant_of-self-in-Err : goal.invariant_of-self-in-Err
@@ -39,7 +39,7 @@ invariant_of-self-in-Err c =
     let back : c.truncate.new.self ≡ c.self.inside.leads =
     c.truncate.ensures ∙ ap (λ (z : LeadsShown). record z { keys = take first z.keys }) c.in_ok-append.ensures.ok
     ∙ leads_back c.self.inside.leads c.args.keys.items first c.len-first.ensures in
-    same_coherent c.self.inside c.truncate.new.self c.queue_new_pairs.new.queue c.queue_new_pairs.new.waits c.queue_new_pairs.new.due back
+    same_coherent c.self.inside c.truncate.new.self c.queue_by.new.queue c.queue_by.new.dropped c.queue_by.new.waits c.queue_by.new.due back
     c.in-Err.ensures.queue_kept c.in-Err.ensures.waits_kept c.in-Err.ensures.due_kept c.self.invariant
 
 pub invariant_of-self-in_default : goal.invariant_of-self-in_default
@@ -56,12 +56,12 @@ invariant_of-self-in_default c =
     let h = c.in_default.ensures in
     record {
       real = h.real;
-      sorted = h.queues.sorted;
+      sorted = h.sorted;
       within = each_within (length i.leads.keys) (length new.keys) (pairs_out (outs_of i.out.items)) more inv.within;
       waits_size = h.waits;
       due_size = h.due;
-      table = h.table (outs_of i.out.items)
-          (subst (λ k. Each (AreIndices k) (pairs_out (outs_of i.out.items))) (sym c.len-first.ensures) inv.within) inv.table;
-      known = h.known (outs_of i.out.items) inv.table
-          (subst (λ (z : LeadsShown). Each (IsKnown z (flag i.waits) (flag i.due)) (pairs_of i.queue.items)) (sym back) inv.known);
+      table = λ e. h.table e (outs_of i.out.items)
+          (subst (λ k. Each (AreIndices k) (pairs_out (outs_of i.out.items))) (sym c.len-first.ensures) inv.within) (inv.table e);
+      known = λ e. h.known e (outs_of i.out.items) (inv.table e)
+          (subst (λ (z : LeadsShown). Each (IsKnown z (flag i.waits) (flag i.due)) (pairs_of i.queue.items)) (sym back) (inv.known e));
     }

@@ -9,8 +9,8 @@ use Rattle.pair_queue.specs.Pairs.{outs_of, pairs_of}
 use Rattle.pair_queue.specs.Tables.{AreIndices}
 use Rattle.pair_queue.proofs.pairs.PairQueue.give_back.Goals as goal
 
-pub close_job-requires-clause-within : goal.close_job-requires-clause-within
-close_job-requires-clause-within c = each_out (AreIndices (length c.self.inside.leads.keys)) c.self.inside.out.items c.self.invariant.within
+pub close_by_update-requires-clause-within : goal.close_by_update-requires-clause-within
+close_by_update-requires-clause-within c = each_out (AreIndices (length c.self.inside.leads.keys)) c.self.inside.out.items c.self.invariant.within
 
 pub invariant_of-self : goal.invariant_of-self
 invariant_of-self c =
@@ -19,10 +19,10 @@ invariant_of-self c =
     record {
       real = inv.real;
       sorted = inv.sorted;
-      within = subst (λ (l : List (Pair × ℕ)). Each (AreIndices (length i.leads.keys)) (pairs_out l)) (sym c.close_job.ensures.out)
+      within = subst (λ (l : List (Pair × ℕ)). Each (AreIndices (length i.leads.keys)) (pairs_out l)) (sym c.close_by_update.ensures.out)
           (others_within (AreIndices (length i.leads.keys)) c.args.worker (outs_of i.out.items) inv.within);
-      waits_size = c.close_job.ensures.waits_size ∙ inv.waits_size;
-      due_size = c.close_job.ensures.due_size ∙ inv.due_size;
-      table = c.close_job.ensures.table (pairs_of i.queue.items) inv.table;
-      known = c.close_job.ensures.known (pairs_of i.queue.items) (indices_queued i.leads i.queue.items inv.real) inv.table inv.known;
+      waits_size = λ e. c.close_by_update.ensures.waits_size e ∙ inv.waits_size e;
+      due_size = λ e. c.close_by_update.ensures.due_size e ∙ inv.due_size e;
+      table = λ e. c.close_by_update.ensures.table e (pairs_of i.queue.items) (inv.table e);
+      known = λ e. c.close_by_update.ensures.known e (pairs_of i.queue.items) (indices_queued i.leads i.queue.items inv.real) (inv.table e) (inv.known e);
     }

@@ -1,0 +1,57 @@
+use Rattle.std.proofs.Common.{refl, subst, sym}
+use Rattle.basis_steps.specs.Updates.{QueuesPairs}
+use Rattle.pair_queue.specs.Dropping.{drops_of}
+use Rattle.pair_queue.specs.Leads.{setting_of, sums_shown}
+use Rattle.pair_queue.specs.Pairs.{pairs_of}
+use Rattle.pair_queue.proofs.queueing.queue_by.Goals as goal
+
+pub queue_new_pairs-requires : goal.queue_new_pairs-requires
+queue_new_pairs-requires c = record {
+  first = c.requires.first;
+  real = c.requires.real;
+  within = c.requires.within;
+  sorted = c.requires.sorted;
+  waits = c.requires.waits c.in-Plain.is;
+  due = c.requires.due c.in-Plain.is;
+}
+
+pub update_queue-requires : goal.update_queue-requires
+update_queue-requires c = record { first = c.requires.first; real = c.requires.real; earlier = c.requires.within; sorted = c.requires.sorted }
+
+pub returns-in_ok-queue_new_pairs-in-Plain : goal.returns-in_ok-queue_new_pairs-in-Plain
+returns-in_ok-queue_new_pairs-in-Plain c =
+    let m = c.args.leads.now in
+    let h = c.in_ok-queue_new_pairs-in-Plain.ensures in
+    record {
+      real = h.real;
+      queues = subst (λ u. QueuesPairs u (setting_of m.variables m) c.args.first (sums_shown m) (pairs_of c.args.queue.now.items) (drops_of c.args.dropped.now.items)
+          (pairs_of c.queue_new_pairs.new.queue.items) (drops_of c.args.dropped.now.items)) (sym c.in-Plain.is) (h.queues, refl);
+      sorted = h.queues.sorted;
+      waits = λ e. h.waits;
+      due = λ e. h.due;
+      table = λ e. h.table;
+      known = λ e. h.known;
+      queue_kept = tt;
+      dropped_kept = tt;
+      waits_kept = tt;
+      due_kept = tt;
+    }
+
+pub returns-in_ok-update_queue-in-Gebauer : goal.returns-in_ok-update_queue-in-Gebauer
+returns-in_ok-update_queue-in-Gebauer c =
+    let m = c.args.leads.now in
+    let h = c.in_ok-update_queue-in-Gebauer.ensures in
+    record {
+      real = h.real;
+      queues = subst (λ u. QueuesPairs u (setting_of m.variables m) c.args.first (sums_shown m) (pairs_of c.args.queue.now.items) (drops_of c.args.dropped.now.items)
+          (pairs_of c.update_queue.new.queue.items) (drops_of c.update_queue.new.dropped.items)) (sym c.in-Gebauer.is) h.updates;
+      sorted = h.updates.sorted;
+      waits = λ e. absurd cc;
+      due = λ e. absurd cc;
+      table = λ e. absurd cc;
+      known = λ e. absurd cc;
+      queue_kept = tt;
+      dropped_kept = tt;
+      waits_kept = tt;
+      due_kept = tt;
+    }
