@@ -2,6 +2,7 @@
 and others of the usual test sets, all over Z/32003 in grevlex."""
 import os
 import random
+import re
 import subprocess
 import tempfile
 import time
@@ -125,3 +126,16 @@ def singular(command, names, generators):
     done = subprocess.run(["timeout", str(LIMIT), "Singular", "-q"], input=script.encode(), stdout=subprocess.PIPE)
     lines = done.stdout.decode().split()
     return f"{int(lines[-1]) / 1000:.3f} s" if done.returncode == 0 and lines else "-"
+
+
+def minors(columns):
+    names = [f"{v}{i}" for v in "abc" for i in range(columns)]
+    places = [(i, j) for i in range(columns) for j in range(i + 1, columns)]
+    return names, [f"{v}{i}*{w}{j}-{v}{j}*{w}{i}" for v, w in ("ab", "ac", "bc") for i, j in places]
+
+
+def leads(program, names, generators):
+    """The leads of the reduced basis that the program computes."""
+    _, _, status, printed = run(["timeout", str(LIMIT), program, "run"], script_of(names, generators).replace("size", "gb"))
+    lines = printed.decode().split("\n")[1:-1] if status == 0 else []
+    return names, [re.split(r"\+", line)[0] for line in lines]

@@ -16,3 +16,7 @@ pub mod Lengths
 pub mod Finding
 pub mod Pairing
 pub mod Dropping
+pub mod NumberedSums
+pub mod Substitution
+pub mod Rows
+pub mod SharedColumns

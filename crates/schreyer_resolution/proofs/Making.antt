@@ -135,6 +135,12 @@ module _ {n : ℕ} (S : Setting n) (lawful : IsLawful S) (F : List (FormalSum n)
       vanishes = IsSame_trans (IsSame_append (IsSame_refl p top) tail_sum) (none_left p top (positive S lawful));
     }
 
+-- the terms of quotients with the other sign
+pub terms_negated : (n p : ℕ) (xs : List ScaledProduct) → sum_of n (map (negated_term p) xs) ≡ negated p (cofactors_of n xs)
+unfolding negated
+terms_negated n p [] = refl
+terms_negated n p (q ∷ xs) = ap (λ z. ((q.index, exponents_of n q.monomial.exponents), (p - q.residue) % p) ∷ z) (terms_negated n p xs)
+
 -- ---- from the code's lists
 module _ (ring : Ring) (compare : (n : ℕ) → Key n → Key n → Ordering) (rank : ℕ) (lawful : IsLawful (setting ring (variables ring) (compare (variables ring)) rank)) (cols : List Terms)
     (monic : IsMonicList (setting ring (variables ring) (compare (variables ring)) rank) (sums_of (variables ring) cols))
@@ -222,14 +228,9 @@ module _ (ring : Ring) (compare : (n : ℕ) → Key n → Key n → Ordering) (r
     all_below [] h b = tt
     all_below (q ∷ xs) h b = (one_below q h.0 b.0, all_below xs h.1 b.1)
 
-    terms_are : (xs : List ScaledProduct) → sum_of (variables ring) (map (negated_term ring.modulus.value) xs) ≡ negated S.modulus (cofactors_of (variables ring) xs)
-    unfolding negated
-    terms_are [] = refl
-    terms_are (q ∷ xs) = ap (λ z. ((q.index, exponents_of (variables ring) q.monomial.exponents), (ring.modulus.value - q.residue) % ring.modulus.value) ∷ z) (terms_are xs)
-
     stands : (w items : Terms) → items ≡ (key, 1) ∷ map (negated_term ring.modulus.value) qs → StandsFor ring w (sum_of (variables ring) items)
         → IsSame S.modulus (sum_of (variables ring) w) ((kk, 1) ∷ negated S.modulus (cofactors_of (variables ring) qs))
-    stands w items is sw = subst (IsSame S.modulus (sum_of (variables ring) w)) (ap (sum_of (variables ring)) is ∙ ap (λ z. (kk, 1) ∷ z) (terms_are qs)) sw
+    stands w items is sw = subst (IsSame S.modulus (sum_of (variables ring) w)) (ap (sum_of (variables ring)) is ∙ ap (λ z. (kk, 1) ∷ z) (terms_negated (variables ring) ring.modulus.value qs)) sw
 
     -- a vector in the order above that stands for the column's terms is the column
     pub column_is :

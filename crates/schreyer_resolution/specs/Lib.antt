@@ -13,4 +13,5 @@ pub mod Sorting
 pub mod Progress
 pub mod Joining
 pub mod Spans
+pub mod Sharing
 pub mod Sifting

@@ -233,8 +233,8 @@ fn first_term(alloc: Global, key: &Key, count: usize) -> Result<Vec<(Key, u32)>,
     Ok(terms)
 }
 
-// The terms of the column: 1 at its lead, and minus the quotients.
-fn column_terms(
+/// The terms of the column: 1 at its lead, and minus the quotients.
+pub(crate) fn column_terms(
     alloc: Global,
     modulus: &Modulus,
     key: &Key,

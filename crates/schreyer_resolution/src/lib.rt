@@ -13,10 +13,13 @@ mod divisors;
 mod head;
 mod induced;
 mod maps;
+mod numbered;
 mod pair_leads;
 mod resolving;
+mod shared;
 mod sifting;
 mod sorting;
+mod substituting;
 mod trails;
 
 pub use induced::Induced;

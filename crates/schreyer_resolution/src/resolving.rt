@@ -10,16 +10,49 @@ ghost use Rattle.schreyer_resolution.specs.Columns.{AreColumnsTo, ColumnStops, I
 ghost use Rattle.schreyer_resolution.specs.Inducing.{Columns, maps_of};
 ghost use Rattle.schreyer_resolution.specs.Progress.{AreResolvedTo, HavePositions, IsNext, IsTopMap};
 ghost use Rattle.schreyer_resolution.specs.Resolved.{AreJoined, AreVectorsThrough, ResolutionStops, columns_of};
+ghost use Rattle.schreyer_resolution.specs.Spans.{IsIndexOf};
 ghost use Rattle.schreyer_resolution.specs.Steps.{ArePairLeads};
 
 use crate::column::column;
-use crate::divisors::index_leads;
+use crate::divisors::{LeadIndex, index_leads};
 use crate::maps::{joined_maps, positions_of_zero};
 use crate::pair_leads::pair_leads;
+use crate::shared::shared_columns;
 use crate::sorting::sorted_columns;
 use crate::{Induced, Resolution};
 use module_vectors::{Frame, Key, NoMemory, Ring, VectList, WorkStop, lawful_setting};
 use std::alloc::Global;
+
+// The columns with these leads, each by a division of its own, which has the trail where a product is too great.
+fn divided_columns<F: Frame>(
+    alloc: Global,
+    frame: &F,
+    induced: &Induced<'_>,
+    below: &[VectList],
+    columns: &VectList,
+    index: &LeadIndex,
+    keys: &[Key],
+) -> Result<VectList, WorkStop>
+    requires over { induced.now.ring ≡ F.over frame.now }
+    requires above { IsAbove (F.over frame.now) (F.compare frame.now) columns.now induced.now }
+    requires vectors { AreVectorsOver (F.over frame.now) (F.compare frame.now) columns.now }
+    requires base { IsBase (F.over frame.now) (F.compare frame.now) columns.now }
+    requires index { IsIndexOf columns.now index.now }
+    requires monomials { Each (λ k. IsMonomialOver (F.over frame.now) k.monomial) keys.now }
+    requires pairs { let n = variables (F.over frame.now) in ArePairLeads (sums_of n columns.now) (map (key_of n) keys.now) }
+    ensures columns { IfOk result (AreColumnsTo (F.over frame.now) (F.compare frame.now) columns.now induced.now keys.now (length keys.now)) }
+    ensures stop { IfErr result (ColumnStops (F.over frame.now) below.now columns.now) }
+{
+    let mut next = Vec::new(alloc);
+    for key in keys {
+        let made = match column(alloc, frame, induced, below, columns, index, key) {
+            Ok(made) => made,
+            Err(stop) => return Err(stop),
+        };
+        next.push(made)?;
+    }
+    Ok(VectList::from_vec(next))
+}
 
 // The columns with these leads.
 fn columns_at<F: Frame>(
@@ -40,15 +73,10 @@ fn columns_at<F: Frame>(
     ensures stop { IfErr result (ColumnStops (F.over frame.now) below.now columns.now) }
 {
     let index = index_leads(alloc, columns.as_slice())?;
-    let mut next = Vec::new(alloc);
-    for key in keys {
-        let made = match column(alloc, frame, induced, below, columns, &index, key) {
-            Ok(made) => made,
-            Err(stop) => return Err(stop),
-        };
-        next.push(made)?;
+    match shared_columns(alloc, frame, induced, columns, &index, keys) {
+        Some(next) => Ok(next),
+        None => divided_columns(alloc, frame, induced, below, columns, &index, keys),
     }
-    Ok(VectList::from_vec(next))
 }
 
 // The next map above one that stands on no other.

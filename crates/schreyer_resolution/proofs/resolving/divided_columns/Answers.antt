@@ -5,7 +5,7 @@ use Rattle.schreyer_resolution.specs.Columns.{AreColumnsTo}
 use Rattle.schreyer_resolution.proofs.LeastLeads.{each_at}
 use Rattle.schreyer_resolution.proofs.FirstMaps.{columns_next, pair_at}
 use Rattle.schreyer_resolution.proofs.Starting.{columns_none}
-use Rattle.schreyer_resolution.proofs.resolving.columns_at.Goals as goal
+use Rattle.schreyer_resolution.proofs.resolving.divided_columns.Goals as goal
 
 pub column-requires-clause-pair : goal.column-requires-clause-pair
 column-requires-clause-pair g c =

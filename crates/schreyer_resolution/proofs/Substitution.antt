@@ -1,0 +1,117 @@
+-- Quotients by shared products: a product is taken away as often as its lead is there
+use Rattle.std.proofs.Common.{List, [], ap, append-nil, arith, get_or, length, subst, sym, ℕ, ◌%◌, ◌*◌, ◌+◌, ◌++◌, ◌-◌, ◌<◌, ◌∙◌, ◌∷◌, ◌≡◌}
+use Rattle.std.proofs.lemmas.List.{map-append}
+use Rattle.residues.proofs.Congruences.{IsCongruent_add, IsCongruent_minus, IsCongruent_mod, IsCongruent_multiply, IsCongruent_of, IsCongruent_refl, IsCongruent_sym, IsCongruent_trans}
+use Rattle.residues.specs.Residues.{IsCongruent}
+use Rattle.monomials.specs.Exponents.{exponents_of, unit}
+use Rattle.formal_sums.proofs.Combining.{combination-append, scale-one}
+use Rattle.formal_sums.proofs.Sameness.{IsSame_append, IsSame_of, IsSame_refl, IsSame_sym, IsSame_trans, coefficient-scale_unit}
+use Rattle.formal_sums.proofs.WeightedSums.{Each_append, coefficient-append, weighted_sum-scale}
+use Rattle.formal_sums.specs.Combinations.{combination}
+use Rattle.formal_sums.specs.FormalSums.{FormalSum, IsSame, coefficient, indicator, scale, shift, weighted_sum}
+use Rattle.module_vectors.specs.Rings.{variables}
+use Rattle.module_vectors.specs.Vectors.{sum_of, sums_of}
+use Rattle.module_vectors.specs.declared.key.Key.{Key as CodeKey}
+use Rattle.module_vectors.specs.declared.ring.Ring.{Ring}
+use Rattle.vector_division.proofs.Members.{sums_at}
+use Rattle.vector_division.specs.Reductions.{cofactors_of}
+use Rattle.vector_division.specs.declared.reduction.ScaledProduct.{ScaledProduct}
+use Rattle.row_matrix.specs.Rows.{Entry, column_key, row_sum}
+use Rattle.schreyer_resolution.proofs.NumberedSums.{idle_sums}
+use Rattle.schreyer_resolution.specs.Sharing.{AddsMultiple, AreLastQuotients, AreSmall, AreTaken, AreTouched, IsIdle, IsLastProduct, IsProductRow, numbered_sum, product_of}
+use Rattle.schreyer_resolution.specs.declared.numbered.Product.{Product}
+
+-- a residue and the one with the other sign
+pub cancelled : (p r : ℕ) → r < p → IsCongruent p ((p - r) % p + r) 0
+cancelled p r lt =
+    let pos : 0 < p = omega (arith, lt) in
+    let whole : (p - r) + r ≡ 1 + (p - 1) * 1 = omega (arith, lt) in
+    IsCongruent_trans (IsCongruent_add (IsCongruent_mod p (p - r)) (IsCongruent_refl p r))
+    (IsCongruent_trans (IsCongruent_of p _ _ whole) (IsCongruent_minus p 1 pos))
+
+-- what is added to the sums is taken away of the whole
+sum_taken :
+    {n : ℕ} (p r f : ℕ) (m : List ℕ) (top a old new row g : FormalSum n) → IsCongruent p (f + r) 0
+    → row ≡ scale 1 (exponents_of n m) g → IsSame p top (a ++ old) → IsSame p new (old ++ scale f (unit n) row)
+    → IsSame p top ((a ++ scale r (exponents_of n m) g) ++ new)
+sum_taken {n} p r f m top a old new row g z is h h' = record {
+  by_key = λ k.
+      let w = weighted_sum (λ l. indicator k (shift (exponents_of n m) l)) g in
+      let A = coefficient a k in
+      let D = coefficient old k in
+      let x : coefficient (scale r (exponents_of n m) g) k ≡ r * w = weighted_sum-scale (indicator k) r (exponents_of n m) g in
+      let y : coefficient row k ≡ w = ap (λ v. coefficient v k) is ∙ weighted_sum-scale (indicator k) 1 (exponents_of n m) g ∙ omega arith in
+      let q : coefficient (scale f (unit n) row) k ≡ f * w = coefficient-scale_unit f row k ∙ ap (λ v. f * v) y in
+      let one = IsCongruent_trans (h.by_key k) (IsCongruent_of p _ _ (coefficient-append a old k)) in
+      let two = IsCongruent_trans (h'.by_key k) (IsCongruent_of p _ _ (coefficient-append old (scale f (unit n) row) k ∙ ap (λ v. D + v) q)) in
+      let whole : coefficient ((a ++ scale r (exponents_of n m) g) ++ new) k ≡ (A + r * w) + coefficient new k =
+      coefficient-append (a ++ scale r (exponents_of n m) g) new k ∙ ap (λ v. v + coefficient new k) (coefficient-append a (scale r (exponents_of n m) g) k ∙ ap (λ v. A + v) x) in
+      IsCongruent_trans one
+      (IsCongruent_trans (IsCongruent_of p (A + D) (A + D + 0 * w) (omega arith))
+      (IsCongruent_trans (IsCongruent_add (IsCongruent_refl p (A + D)) (IsCongruent_multiply (IsCongruent_sym z) (IsCongruent_refl p w)))
+      (IsCongruent_trans (IsCongruent_of p (A + D + (f + r) * w) ((A + r * w) + (D + f * w)) (omega arith))
+      (IsCongruent_trans (IsCongruent_add (IsCongruent_refl p (A + r * w)) (IsCongruent_sym two)) (IsCongruent_of p _ _ (sym whole))))));
+}
+
+module _ (ring : Ring) (columns : List (List (CodeKey × ℕ))) (keys : List CodeKey) (key : CodeKey) where
+  abbrev F : List (FormalSum (variables ring))
+  F = sums_of (variables ring) columns
+
+  -- the combination by one quotient more
+  combination_more :
+      (qs : List ScaledProduct) (q : ScaledProduct)
+      → combination F (cofactors_of (variables ring) (qs ++ q ∷ [])) ≡ combination F (cofactors_of (variables ring) qs) ++ scale q.residue (exponents_of (variables ring) q.monomial.exponents) (sum_of (variables ring) (get_or columns q.index []))
+  combination_more qs q =
+      ap (combination F) (map-append (λ (x : ScaledProduct). ((x.index, exponents_of (variables ring) x.monomial.exponents), x.residue)) qs (q ∷ []))
+      ∙ combination-append F (cofactors_of (variables ring) qs) (cofactors_of (variables ring) (q ∷ []))
+      ∙ ap (λ v. combination F (cofactors_of (variables ring) qs) ++ v)
+      (append-nil (scale q.residue (exponents_of (variables ring) q.monomial.exponents) (get_or F q.index []))
+      ∙ ap (scale q.residue (exponents_of (variables ring) q.monomial.exponents)) (sums_at (variables ring) columns q.index))
+
+  -- nothing is taken yet
+  pub taken_start :
+      (row : List Entry) (old sums touched : List ℕ) → length old ≡ length keys → IsIdle old
+      → IsProductRow ring columns keys key.position key.monomial row → AddsMultiple ring.modulus.value 1 row old sums
+      → AreSmall sums → AreTouched touched sums → AreTaken ring columns keys key [] sums touched
+  taken_start row old sums touched is idle h adds small marked =
+      let K = column_key (variables ring) keys in
+      let R = row_sum K row in
+      let whole : IsSame ring.modulus.value (numbered_sum K 0 sums) R =
+      IsSame_trans (adds.sum (variables ring) K) (IsSame_trans (IsSame_append (idle_sums ring.modulus.value K 0 old idle) (IsSame_refl ring.modulus.value (scale 1 (unit (variables ring)) R))) (IsSame_of ring.modulus.value _ _ (scale-one R))) in
+      record {
+        quotients = tt;
+        count = adds.count ∙ is;
+        small = small;
+        marked = marked;
+        sum = IsSame_sym (subst (IsSame ring.modulus.value (numbered_sum K 0 sums)) h.sum whole);
+      }
+
+  -- one product is taken away
+  pub taken_more :
+      (qs : List ScaledProduct) (r f : ℕ) (old new before touched : List ℕ) (s : Product) → AreTaken ring columns keys key qs old before → IsLastProduct ring columns keys s
+      → 0 < r → r < ring.modulus.value → IsCongruent ring.modulus.value (f + r) 0 → AddsMultiple ring.modulus.value f s.entries.items old new → AreSmall new → AreTouched touched new
+      → AreTaken ring columns keys key (qs ++ (record { index = s.index; residue = r; monomial = s.monomial }) ∷ []) new touched
+  taken_more qs r f old new before touched s t h pos lt z adds small marked =
+      let q : ScaledProduct = record { index = s.index; residue = r; monomial = s.monomial } in
+      let K = column_key (variables ring) keys in
+      record {
+        quotients = Each_append _ qs (q ∷ []) t.quotients (record { index = h.index; weighed = h.weighed; nonzero = pos; reduced = lt; last = h.last }, tt);
+        count = adds.count ∙ t.count;
+        small = small;
+        marked = marked;
+        sum = subst (λ v. IsSame ring.modulus.value (product_of ring columns key.position key.monomial) (v ++ numbered_sum K 0 new)) (sym (combination_more qs q))
+            (sum_taken ring.modulus.value r f s.monomial.exponents (product_of ring columns key.position key.monomial) (combination F (cofactors_of (variables ring) qs))
+            (numbered_sum K 0 old) (numbered_sum K 0 new) (row_sum K s.entries.items) (sum_of (variables ring) (get_or columns s.index [])) z h.row.sum t.sum (adds.sum (variables ring) K));
+      }
+
+  -- nothing is left
+  pub taken_all :
+      (qs : List ScaledProduct) (sums touched : List ℕ) → AreTaken ring columns keys key qs sums touched
+      → IsSame ring.modulus.value (numbered_sum (column_key (variables ring) keys) 0 sums) []
+      → AreLastQuotients ring columns key qs
+  taken_all qs sums touched t none =
+      let A = combination F (cofactors_of (variables ring) qs) in
+      record {
+        each = t.quotients;
+        sum = IsSame_trans t.sum (IsSame_trans (IsSame_append (IsSame_refl ring.modulus.value A) none) (IsSame_of ring.modulus.value _ _ (append-nil A)));
+      }

@@ -1,0 +1,11 @@
+use Rattle.formal_sums.specs.FormalSums.{Each}
+use Rattle.module_vectors.specs.Rings.{variables}
+use Rattle.row_matrix.specs.Rows.{AreKeys}
+use Rattle.schreyer_resolution.specs.Sharing.{IsLastProduct}
+use Rattle.schreyer_resolution.proofs.numbered.all_products.Given as goal
+
+abbrev pub invariant-loop-number : goal.invariant-loop-number
+invariant-loop-number l = record {
+  keys : AreKeys (variables l.ring) l.ring.weights l.numbers;
+  products : Each (IsLastProduct l.ring l.columns l.numbers) l.products.items;
+}

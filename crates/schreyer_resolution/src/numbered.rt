@@ -1,0 +1,205 @@
+// Products of columns over numbers of their keys, each made once for all columns of the next map.
+ghost use Rattle.std.specs.Prelude.{◌≡◌, ◌<◌, ◌++◌, ◌∷◌, [], List, ℕ, IfOk, OnOk, length};
+ghost use Rattle.formal_sums.specs.FormalSums.{Each};
+ghost use Rattle.module_vectors.specs.Rings.{variables};
+ghost use Rattle.module_vectors.specs.Vectors.{IsMonomialOver};
+ghost use Rattle.vector_division.specs.Progress.{AreWeighed};
+ghost use Rattle.row_matrix.specs.Naming.{IsGrown};
+ghost use Rattle.row_matrix.specs.Rows.{AreKeys};
+ghost use Rattle.schreyer_resolution.specs.Pairs.{AreNonzero};
+ghost use Rattle.schreyer_resolution.specs.Sharing.{AreColumnHashes, AreReduced, IsLastProduct, IsProductRow};
+ghost use Rattle.schreyer_resolution.specs.Spans.{IsIndexOf};
+
+use crate::divisors::{LeadIndex, last_divisor};
+use module_vectors::{Key, NoMemory, Ring, Vect};
+use monomial_orders::Mono;
+use row_matrix::{KeyTable, ProductStop, TermHashes, kept_number, product_row};
+use std::alloc::Global;
+
+// More keys than these are not numbered.
+const MOST_KEYS: usize = 1 << 22;
+
+/// The product of a monomial and the last column whose lead divides a key, by the column's index: the number of the key, which
+/// is its lead, and each of its keys by its number, with its residue.
+pub(crate) struct Product {
+    pub(crate) number: u32,
+    pub(crate) index: u64,
+    pub(crate) monomial: Mono,
+    pub(crate) entries: Vec<(u32, u32)>,
+}
+
+// By hand, so that each drop of one is a call.
+impl Drop for Product {
+    fn drop(self) {
+        let Product {
+            number: _,
+            index: _,
+            monomial: _,
+            entries: _,
+        } = self;
+    }
+}
+
+/// The hashes of each column's keys.
+pub(crate) fn column_hashes(alloc: Global, columns: &[Vect]) -> Result<Vec<TermHashes>, NoMemory>
+    ensures { IfOk result (λ hashes. AreColumnHashes columns.now hashes.items) }
+{
+    let mut hashes = Vec::with_capacity(alloc, columns.len())?;
+    for column in columns {
+        hashes.push_reserved(TermHashes::of(alloc, column.terms())?);
+    }
+    Ok(hashes)
+}
+
+/// The product of a monomial and the column with this index. Its keys have numbers from then on.
+pub(crate) fn column_product(
+    alloc: Global,
+    ring: &Ring,
+    columns: &[Vect],
+    hashes: &[TermHashes],
+    index: usize,
+    monomial: &Mono,
+    numbers: &mut KeyTable,
+) -> Result<Vec<(u32, u32)>, ProductStop>
+    requires index { index < length columns.now }
+    requires monomial { IsMonomialOver ring.now monomial.now }
+    requires weighed { AreWeighed (variables ring.now) ring.now.weights columns.now }
+    requires reduced { AreReduced ring.now.modulus.value columns.now }
+    requires hashes { AreColumnHashes columns.now hashes.now }
+    requires keys { AreKeys (variables ring.now) ring.now.weights numbers.old }
+    ensures row { IfOk result (λ row. IsProductRow ring.now columns.now numbers.new index monomial.now row.items) }
+    ensures keys { OnOk result (AreKeys (variables ring.now) ring.now.weights numbers.new) }
+    ensures grown { IfOk result (λ row. IsGrown numbers.old numbers.new row.items) }
+{
+    let _ring = ring;
+    product_row(
+        alloc,
+        numbers,
+        monomial,
+        columns[index].terms(),
+        &hashes[index],
+    )
+}
+
+/// Gives numbers to the keys of the products of these keys' monomials and their columns.
+pub(crate) fn number_products(
+    alloc: Global,
+    ring: &Ring,
+    columns: &[Vect],
+    hashes: &[TermHashes],
+    keys: &[Key],
+    numbers: &mut KeyTable,
+) -> Result<(), ProductStop>
+    requires positions { Each (λ k. k.position < length columns.now) keys.now }
+    requires monomials { Each (λ k. IsMonomialOver ring.now k.monomial) keys.now }
+    requires weighed { AreWeighed (variables ring.now) ring.now.weights columns.now }
+    requires reduced { AreReduced ring.now.modulus.value columns.now }
+    requires hashes { AreColumnHashes columns.now hashes.now }
+    requires keys { AreKeys (variables ring.now) ring.now.weights numbers.old }
+    ensures keys { OnOk result (AreKeys (variables ring.now) ring.now.weights numbers.new) }
+{
+    for key in keys {
+        let _row = column_product(
+            alloc,
+            ring,
+            columns,
+            hashes,
+            key.position as usize,
+            &key.monomial,
+            numbers,
+        )?;
+    }
+    Ok(())
+}
+
+// Puts the product behind the others.
+fn keep_product(product: Product, products: &mut Vec<Product>) -> Result<(), NoMemory>
+    ensures { OnOk result (products.new.items ≡ products.old.items ++ product ∷ []) }
+{
+    products.push(product)?;
+    Ok(())
+}
+
+// Puts the product of the key with this number behind the others, if a lead divides the key.
+fn push_product(
+    alloc: Global,
+    ring: &Ring,
+    columns: &[Vect],
+    index: &LeadIndex,
+    hashes: &[TermHashes],
+    number: usize,
+    numbers: &mut KeyTable,
+    products: &mut Vec<Product>,
+) -> Result<(), ProductStop>
+    requires number { number < length numbers.old }
+    requires some { AreNonzero columns.now }
+    requires weighed { AreWeighed (variables ring.now) ring.now.weights columns.now }
+    requires reduced { AreReduced ring.now.modulus.value columns.now }
+    requires index { IsIndexOf columns.now index.now }
+    requires hashes { AreColumnHashes columns.now hashes.now }
+    requires keys { AreKeys (variables ring.now) ring.now.weights numbers.old }
+    requires products { Each (IsLastProduct ring.now columns.now numbers.old) products.old.items }
+    ensures keys { OnOk result (AreKeys (variables ring.now) ring.now.weights numbers.new) }
+    ensures products { OnOk result (Each (IsLastProduct ring.now columns.now numbers.new) products.new.items) }
+{
+    let found = last_divisor(alloc, ring, columns, index, &numbers.keys()[number])?;
+    match found {
+        None => Ok(()),
+        Some((at, monomial)) => {
+            let entries = column_product(
+                alloc,
+                ring,
+                columns,
+                hashes,
+                at as usize,
+                &monomial,
+                numbers,
+            )?;
+            let product = Product {
+                number: kept_number(number)?,
+                index: at,
+                monomial,
+                entries,
+            };
+            keep_product(product, products)?;
+            Ok(())
+        }
+    }
+}
+
+/// The product of each key that has a number or gets one in such a product, where a lead divides the key.
+pub(crate) fn all_products(
+    alloc: Global,
+    ring: &Ring,
+    columns: &[Vect],
+    index: &LeadIndex,
+    hashes: &[TermHashes],
+    numbers: &mut KeyTable,
+) -> Result<Vec<Product>, ProductStop>
+    requires some { AreNonzero columns.now }
+    requires weighed { AreWeighed (variables ring.now) ring.now.weights columns.now }
+    requires reduced { AreReduced ring.now.modulus.value columns.now }
+    requires index { IsIndexOf columns.now index.now }
+    requires hashes { AreColumnHashes columns.now hashes.now }
+    requires keys { AreKeys (variables ring.now) ring.now.weights numbers.old }
+    ensures keys { OnOk result (AreKeys (variables ring.now) ring.now.weights numbers.new) }
+    ensures products { IfOk result (λ products. Each (IsLastProduct ring.now columns.now numbers.new) products.items) }
+{
+    let mut products = Vec::new(alloc);
+    for number in 0..MOST_KEYS {
+        if number >= numbers.len() {
+            return Ok(products);
+        }
+        push_product(
+            alloc,
+            ring,
+            columns,
+            index,
+            hashes,
+            number,
+            numbers,
+            &mut products,
+        )?;
+    }
+    Err(ProductStop::Memory)
+}

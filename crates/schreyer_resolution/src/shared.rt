@@ -1,0 +1,327 @@
+// The columns of the next map by products that they share.
+ghost use Rattle.std.specs.Prelude.{List, ℕ, ◌≡◌, ◌<◌, ◌++◌, ◌∷◌, [], IfOk, IfSome, IsTrue, OnOk, length, map};
+ghost use Rattle.std.specs.declared.cmp.Ordering.TheVariants.{Greater};
+ghost use Rattle.formal_sums.specs.FormalSums.{Each};
+ghost use Rattle.orders.specs.KeyOrders.{Descends};
+ghost use Rattle.module_vectors.specs.Rings.{variables};
+ghost use Rattle.module_vectors.specs.Vectors.{AreVectorsOver, IsMonomialOver, IsTerm, IsVectorOver, key_of, sum_of, sums_of};
+ghost use Rattle.vector_division.specs.Progress.{AreWeighed};
+ghost use Rattle.row_matrix.specs.Rows.{AreKeys};
+ghost use Rattle.schreyer_resolution.specs.Columns.{AreColumnsTo, IsAbove, IsBase};
+ghost use Rattle.schreyer_resolution.specs.Inducing.{tower_comparison};
+ghost use Rattle.schreyer_resolution.specs.Pairs.{AreNonzero};
+ghost use Rattle.schreyer_resolution.specs.Sharing.{AreColumnHashes, AreMade, AreReduced, IsIdle, IsLastProduct, IsMade, IsProductRow};
+ghost use Rattle.schreyer_resolution.specs.Spans.{IsIndexOf};
+ghost use Rattle.schreyer_resolution.specs.Steps.{ArePairLeads};
+
+use crate::Induced;
+use crate::column::column_terms;
+use crate::divisors::LeadIndex;
+use crate::numbered::{Product, all_products, column_hashes, column_product, number_products};
+use crate::substituting::{Order, Work, no_work, place_at, quotients_of};
+use module_vectors::{Frame, Key, NoMemory, Ring, Vect, VectList, lawful_setting};
+use row_matrix::{KeyTable, ProductStop, TermHashes, kept_number, number_columns};
+use std::alloc::Global;
+use std::cmp::Ordering;
+
+// Puts a copy of the key with this number behind the others.
+fn push_lead(alloc: Global, keys: &[Key], number: u32, leads: &mut Vec<Key>) -> Result<(), NoMemory>
+    ensures { OnOk result ((n : ℕ) (ws : List ℕ) → AreKeys n ws keys.now → AreKeys n ws leads.old.items → AreKeys n ws leads.new.items) }
+{
+    let at = number as usize;
+    if at >= keys.len() {
+        return Ok(());
+    }
+    leads.push(keys[at].try_copy(alloc)?)?;
+    Ok(())
+}
+
+// Copies of the products' leads, which are keys of the table.
+fn product_leads(
+    alloc: Global,
+    numbers: &KeyTable,
+    products: &[Product],
+) -> Result<Vec<Key>, NoMemory>
+    ensures { (n : ℕ) (ws : List ℕ) → AreKeys n ws numbers.now → IfOk result (λ leads. AreKeys n ws leads.items) }
+{
+    let keys = numbers.keys();
+    let mut leads = Vec::with_capacity(alloc, products.len())?;
+    for i in 0..products.len() {
+        push_lead(alloc, keys, products[i].number, &mut leads)?;
+    }
+    Ok(leads)
+}
+
+// The places of the products' leads among these, the products' indices by these places, and for each other key a place past the end.
+fn order_of<F: Frame>(
+    alloc: Global,
+    frame: &F,
+    numbers: &KeyTable,
+    products: &[Product],
+) -> Result<Order, NoMemory>
+    requires { AreKeys (variables (F.over frame.now)) (F.over frame.now).weights numbers.now }
+{
+    let leads = product_leads(alloc, numbers, products)?;
+    let numbering = number_columns(alloc, frame, leads.as_slice())?;
+    let mut places = vec![in alloc; u32::MAX; numbers.len()]?;
+    let mut turns = vec![in alloc; u32::MAX; products.len()]?;
+    for i in 0..products.len() {
+        let turn = kept_number(i)?;
+        let place = place_at(&numbering.places, turn);
+        let number = products[i].number as usize;
+        if place < turns.len() && number < places.len() {
+            turns[place] = turn;
+            places[number] = kept_number(place)?;
+        }
+    }
+    Ok(Order { places, turns })
+}
+
+// Is this `Greater`?
+fn is_greater(order: Ordering) -> bool
+    ensures { IsTrue result → order ≡ Greater }
+{
+    match order {
+        Ordering::Greater => true,
+        _ => false,
+    }
+}
+
+// Do the terms strictly descend in the frame's order?
+fn descends<F: Frame>(frame: &F, terms: &[(Key, u32)]) -> bool
+    requires { Each (λ t. IsMonomialOver (F.over frame.now) t.0.monomial) terms.now }
+    ensures { let n = variables (F.over frame.now) in IsTrue result → Descends (F.compare frame.now n) (sum_of n terms.now) }
+{
+    for i in 1..terms.len() {
+        let above = &terms[i - 1].0;
+        let below = &terms[i].0;
+        if !is_greater(frame.cmp(above, below)) {
+            return false;
+        }
+    }
+    true
+}
+
+// The vector of these terms; none where they do not strictly descend.
+fn ordered_column(induced: &Induced<'_>, terms: Vec<(Key, u32)>) -> Option<Vect>
+    requires { let ring = induced.now.ring in Each (IsTerm (variables ring) ring.weights ring.modulus.value) terms.items }
+    ensures is { IfSome result (λ v. v ≡ terms.items) }
+    ensures vector { IfSome result (λ _. IsVectorOver induced.now.ring (tower_comparison induced.now) terms.items) }
+{
+    if descends(induced, &terms) {
+        return Some(Vect::from_ordered(induced, terms));
+    }
+    None
+}
+
+// The column with this lead; none where a test fails.
+fn shared_column(
+    alloc: Global,
+    ring: &Ring,
+    induced: &Induced<'_>,
+    columns: &[Vect],
+    numbers: &KeyTable,
+    key: &Key,
+    products: &[Product],
+    order: &Order,
+    start: &[(u32, u32)],
+    work: &mut Work,
+) -> Result<Option<Vect>, NoMemory>
+    requires over { induced.now.ring ≡ ring.now }
+    requires monomial { IsMonomialOver ring.now key.now.monomial }
+    requires products { Each (IsLastProduct ring.now columns.now numbers.now) products.now }
+    requires start { IsProductRow ring.now columns.now numbers.now key.now.position key.now.monomial start.now }
+    requires count { length work.old.sums.items ≡ length numbers.now }
+    requires idle { IsIdle work.old.sums.items }
+    ensures made { IfOk result (λ made. IfSome made (IsMade ring.now columns.now induced.now key.now)) }
+    ensures idle { IfOk result (λ made. IfSome made (λ _. IsIdle work.new.sums.items)) }
+{
+    let modulus = &ring.modulus;
+    modulus.domain();
+    let found = quotients_of(
+        alloc, ring, columns, numbers, key, products, order, start, work,
+    )?;
+    match found {
+        None => Ok(None),
+        Some(quotients) => {
+            let terms = column_terms(alloc, modulus, key, quotients)?;
+            Ok(ordered_column(induced, terms))
+        }
+    }
+}
+
+// The product of the key's monomial and its column. The products stay what they are.
+fn next_start(
+    alloc: Global,
+    ring: &Ring,
+    columns: &[Vect],
+    hashes: &[TermHashes],
+    key: &Key,
+    products: &[Product],
+    numbers: &mut KeyTable,
+) -> Result<Vec<(u32, u32)>, ProductStop>
+    requires position { key.now.position < length columns.now }
+    requires monomial { IsMonomialOver ring.now key.now.monomial }
+    requires weighed { AreWeighed (variables ring.now) ring.now.weights columns.now }
+    requires reduced { AreReduced ring.now.modulus.value columns.now }
+    requires hashes { AreColumnHashes columns.now hashes.now }
+    requires keys { AreKeys (variables ring.now) ring.now.weights numbers.old }
+    requires products { Each (IsLastProduct ring.now columns.now numbers.old) products.now }
+    ensures row { IfOk result (λ row. IsProductRow ring.now columns.now numbers.new key.now.position key.now.monomial row.items) }
+    ensures keys { OnOk result (AreKeys (variables ring.now) ring.now.weights numbers.new) }
+    ensures products { OnOk result (Each (IsLastProduct ring.now columns.now numbers.new) products.now) }
+{
+    let _products = products;
+    let at = key.position as usize;
+    column_product(alloc, ring, columns, hashes, at, &key.monomial, numbers)
+}
+
+// The next column, whose product's keys have numbers; none where a test fails.
+fn next_column(
+    alloc: Global,
+    ring: &Ring,
+    induced: &Induced<'_>,
+    columns: &[Vect],
+    hashes: &[TermHashes],
+    key: &Key,
+    products: &[Product],
+    order: &Order,
+    numbers: &mut KeyTable,
+    work: &mut Work,
+) -> Result<Option<Vect>, ProductStop>
+    requires over { induced.now.ring ≡ ring.now }
+    requires position { key.now.position < length columns.now }
+    requires monomial { IsMonomialOver ring.now key.now.monomial }
+    requires weighed { AreWeighed (variables ring.now) ring.now.weights columns.now }
+    requires reduced { AreReduced ring.now.modulus.value columns.now }
+    requires hashes { AreColumnHashes columns.now hashes.now }
+    requires keys { AreKeys (variables ring.now) ring.now.weights numbers.old }
+    requires products { Each (IsLastProduct ring.now columns.now numbers.old) products.now }
+    requires idle { IsIdle work.old.sums.items }
+    ensures made { IfOk result (λ made. IfSome made (IsMade ring.now columns.now induced.now key.now)) }
+    ensures keys { OnOk result (AreKeys (variables ring.now) ring.now.weights numbers.new) }
+    ensures products { OnOk result (Each (IsLastProduct ring.now columns.now numbers.new) products.now) }
+    ensures idle { IfOk result (λ made. IfSome made (λ _. IsIdle work.new.sums.items)) }
+{
+    let start = next_start(alloc, ring, columns, hashes, key, products, numbers)?;
+    if work.sums.len() != numbers.len() {
+        return Ok(None);
+    }
+    let made = shared_column(
+        alloc, ring, induced, columns, numbers, key, products, order, &start, work,
+    )?;
+    Ok(made)
+}
+
+// Puts the column behind the others.
+fn push_column(made: Vect, next: &mut Vec<Vect>) -> Result<(), NoMemory>
+    ensures { OnOk result (next.new.items ≡ next.old.items ++ made ∷ []) }
+{
+    next.push(made)?;
+    Ok(())
+}
+
+// The columns with these leads, whose products' keys have numbers; none where a test fails.
+fn columns_by(
+    alloc: Global,
+    ring: &Ring,
+    induced: &Induced<'_>,
+    columns: &[Vect],
+    hashes: &[TermHashes],
+    keys: &[Key],
+    products: &[Product],
+    order: &Order,
+    numbers: &mut KeyTable,
+    work: &mut Work,
+) -> Result<Option<Vec<Vect>>, ProductStop>
+    requires over { induced.now.ring ≡ ring.now }
+    requires positions { Each (λ k. k.position < length columns.now) keys.now }
+    requires monomials { Each (λ k. IsMonomialOver ring.now k.monomial) keys.now }
+    requires weighed { AreWeighed (variables ring.now) ring.now.weights columns.now }
+    requires reduced { AreReduced ring.now.modulus.value columns.now }
+    requires hashes { AreColumnHashes columns.now hashes.now }
+    requires keys { AreKeys (variables ring.now) ring.now.weights numbers.old }
+    requires products { Each (IsLastProduct ring.now columns.now numbers.old) products.now }
+    requires idle { IsIdle work.old.sums.items }
+    ensures { IfOk result (λ made. IfSome made (λ next. AreMade ring.now columns.now induced.now keys.now (length keys.now) next.items)) }
+{
+    let mut next = Vec::new(alloc);
+    for key in keys {
+        match next_column(
+            alloc, ring, induced, columns, hashes, key, products, order, numbers, work,
+        )? {
+            None => return Ok(None),
+            Some(made) => push_column(made, &mut next)?,
+        }
+    }
+    Ok(Some(next))
+}
+
+// The columns with these leads; none where a test fails.
+fn made_columns<F: Frame>(
+    alloc: Global,
+    frame: &F,
+    ring: &Ring,
+    induced: &Induced<'_>,
+    columns: &[Vect],
+    index: &LeadIndex,
+    keys: &[Key],
+) -> Result<Option<Vec<Vect>>, ProductStop>
+    requires frame { F.over frame.now ≡ ring.now }
+    requires over { induced.now.ring ≡ ring.now }
+    requires some { AreNonzero columns.now }
+    requires index { IsIndexOf columns.now index.now }
+    requires positions { Each (λ k. k.position < length columns.now) keys.now }
+    requires monomials { Each (λ k. IsMonomialOver ring.now k.monomial) keys.now }
+    requires weighed { AreWeighed (variables ring.now) ring.now.weights columns.now }
+    requires reduced { AreReduced ring.now.modulus.value columns.now }
+    ensures { IfOk result (λ made. IfSome made (λ next. AreMade ring.now columns.now induced.now keys.now (length keys.now) next.items)) }
+{
+    let hashes = column_hashes(alloc, columns)?;
+    let mut numbers = KeyTable::new(alloc)?;
+    number_products(alloc, ring, columns, &hashes, keys, &mut numbers)?;
+    let products = all_products(alloc, ring, columns, index, &hashes, &mut numbers)?;
+    let order = order_of(alloc, frame, &numbers, &products)?;
+    let mut work = no_work(alloc, numbers.len())?;
+    columns_by(
+        alloc,
+        ring,
+        induced,
+        columns,
+        &hashes,
+        keys,
+        &products,
+        &order,
+        &mut numbers,
+        &mut work,
+    )
+}
+
+/// The columns with these leads, each product of a column made once for all of them. None where a product is too great or
+/// there is no room for all of them.
+pub(crate) fn shared_columns<F: Frame>(
+    alloc: Global,
+    frame: &F,
+    induced: &Induced<'_>,
+    columns: &VectList,
+    index: &LeadIndex,
+    keys: &[Key],
+) -> Option<VectList>
+    requires over { induced.now.ring ≡ F.over frame.now }
+    requires above { IsAbove (F.over frame.now) (F.compare frame.now) columns.now induced.now }
+    requires vectors { AreVectorsOver (F.over frame.now) (F.compare frame.now) columns.now }
+    requires base { IsBase (F.over frame.now) (F.compare frame.now) columns.now }
+    requires index { IsIndexOf columns.now index.now }
+    requires monomials { Each (λ k. IsMonomialOver (F.over frame.now) k.monomial) keys.now }
+    requires pairs { let n = variables (F.over frame.now) in ArePairLeads (sums_of n columns.now) (map (key_of n) keys.now) }
+    ensures { IfSome result (AreColumnsTo (F.over frame.now) (F.compare frame.now) columns.now induced.now keys.now (length keys.now)) }
+{
+    lawful_setting(frame);
+    let ring = frame.ring();
+    let made = made_columns(alloc, frame, ring, induced, columns.as_slice(), index, keys);
+    match made {
+        Ok(Some(next)) => Some(VectList::from_vec(next)),
+        Ok(None) => None,
+        Err(_stop) => None,
+    }
+}
