@@ -82,6 +82,14 @@ pub record HasFaultCause (before now : ℕ) (result : Result Next LinesStop) : T
   pub later : before ≤ now
   pub failed : result ≡ Err stop.Fault → Rose before now
 
+-- the source told once that it is at its end, where that is the answer, and else never
+abbrev pub CountsEnd : (before now : ℕ) → Result Next LinesStop → Type 0
+CountsEnd before now (Ok next.Line) = now ≡ before
+CountsEnd before now (Ok next.Last) = now ≡ next_count before
+CountsEnd before now (Ok next.End) = now ≡ next_count before
+CountsEnd before now (Ok next.Long) = now ≡ before
+CountsEnd before now (Err stop) = now ≡ before
+
 -- a read that failed is one fault more, and all else is none
 abbrev pub CountsFaults : (before now : ℕ) → Result Next LinesStop → Type 0
 CountsFaults before now (Ok next) = now ≡ before

@@ -1,8 +1,8 @@
 // The lines of a source, one after another, each as soon as its newline is read.
 ghost use Rattle.std.specs.Prelude.{◌≡◌, ◌<◌, ◌≤◌, ◌+◌, ◌-◌, true, [], ◌∷◌, ◌++◌, length, take, drop, vec_len, vec_capacity, Ok, Err, IfOk, OnErr, MatchOption, MatchResult};
 ghost use Rattle.std.specs.Io.KnownBytes.{Consumes, IsAtEnd, Keeps};
-ghost use Rattle.byte_ports.specs.Causes.{HasCause, IsCounted};
-ghost use Rattle.byte_ports.specs.Lines.{Reading, HasNoNewline, NeedsMore, Answers, CountsFaults, HasFaultCause, goes_on};
+ghost use Rattle.byte_ports.specs.Causes.{CountsEmpty, HasCause, IsCounted};
+ghost use Rattle.byte_ports.specs.Lines.{Reading, HasNoNewline, NeedsMore, Answers, CountsEnd, CountsFaults, HasFaultCause, goes_on};
 
 use crate::{Failed, NoMemory, Source};
 use std::alloc::Global;
@@ -86,9 +86,9 @@ impl Lines {
 
     /// The next line of the source, in the place of what `line` holds, without its newline.
     ///
-    /// No call before this one answered anything but `Line`. The source is read only where no newline is held, and not once it is
-    /// at its end; what is read ahead is held for the calls that follow. `Last` and `End` come at the end of the input, with the
-    /// bytes behind the last newline or where there are none. `Long` comes exactly where more bytes were taken than may stand in
+    /// No call before this one answered anything but `Line`. The source is read only where no newline is held, and no more once a
+    /// read moved nothing; what is read ahead is held for the calls that follow. `Last` and `End` come at the end of the input,
+    /// with the bytes behind the last newline or where there are none: one read moved nothing then, and else none did. `Long` comes exactly where more bytes were taken than may stand in
     /// lines, and no newline stands among those that may and are in no line yet. `Fault` is one fault more of the source. `Memory`
     /// comes only where `line` has not the capacity for all bytes that may still stand in lines.
     pub fn next<S: Source>(&mut self, source: &mut S, line: &mut Vec<u8>) -> Result<Next, LinesStop>
@@ -99,6 +99,7 @@ impl Lines {
         ensures unread { (NeedsMore self.old → ⊥) → source.new ≡ source.old }
         ensures cause { HasFaultCause (S.faults source.old) (S.faults source.new) result }
         ensures counted { CountsFaults (S.faults source.old) (S.faults source.new) result }
+        ensures ended { CountsEnd (S.empty_reads source.old) (S.empty_reads source.new) result }
         ensures memory { result ≡ Err LinesStop.Memory → vec_capacity line.old < self.old.room }
         ensures capacity { vec_capacity line.old ≤ vec_capacity line.new }
     {
@@ -113,6 +114,7 @@ impl Lines {
         ensures unread { (NeedsMore self.old → ⊥) → source.new ≡ source.old }
         ensures cause { HasFaultCause (S.faults source.old) (S.faults source.new) result }
         ensures counted { CountsFaults (S.faults source.old) (S.faults source.new) result }
+        ensures ended { CountsEnd (S.empty_reads source.old) (S.empty_reads source.new) result }
         ensures memory { result ≡ Err LinesStop.Memory → vec_capacity line.old < self.old.room }
         ensures capacity { vec_capacity line.old ≤ vec_capacity line.new }
     {
@@ -133,6 +135,7 @@ impl Lines {
         ensures answer { Answers (record self.old { held = line.old.items }) self.new (S.left source.old) (S.left source.new) line.new.items result }
         ensures cause { HasFaultCause (S.faults source.old) (S.faults source.new) result }
         ensures counted { CountsFaults (S.faults source.old) (S.faults source.new) result }
+        ensures ended { CountsEnd (S.empty_reads source.old) (S.empty_reads source.new) result }
         ensures memory { result ≡ Err LinesStop.Memory → vec_capacity line.old < self.old.room }
         ensures capacity { vec_capacity line.old ≤ vec_capacity line.new }
     {
@@ -202,6 +205,7 @@ impl Lines {
         ensures room { self.new.room ≡ self.old.room }
         ensures cause { HasCause (S.faults source.old) (S.faults source.new) result }
         ensures counted { IsCounted (S.faults source.old) (S.faults source.new) result }
+        ensures empty { CountsEmpty (S.empty_reads source.old) (S.empty_reads source.new) result }
     {
         self.start = 0;
         self.end = 0;

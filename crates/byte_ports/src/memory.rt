@@ -3,7 +3,7 @@ ghost use Rattle.std.specs.Prelude.{◌≡◌, ◌<◌, ◌≤◌, ◌+◌, ◌=
 ghost use Rattle.std.specs.Result.{is_err};
 ghost use Rattle.std.specs.Io.{ReadsAtMost, WritesAtMost};
 ghost use Rattle.std.specs.Io.KnownBytes.{ReadConsumes, WriteAppends};
-ghost use Rattle.byte_ports.specs.Causes.{HasCause, IsCounted};
+ghost use Rattle.byte_ports.specs.Causes.{CountsEmpty, HasCause, IsCounted};
 ghost use Rattle.risen_counts.specs.Counts.{next_count};
 ghost use Rattle.byte_ports.specs.InMemory.{Giving, Taking, is_failing, given, not_given, taken_of, not_taken, taken_count};
 
@@ -31,6 +31,7 @@ pub struct MemSource {
     failing: Vec<u64>,
     calls: u64,
     faults: u64,
+    empty: u64,
 }
 
 impl Model for MemSource {
@@ -42,6 +43,7 @@ impl Model for MemSource {
       failing = s.failing.items;
       calls = s.calls;
       faults = s.faults;
+      empty = s.empty;
     } };
 
     ghost invariant = { λ s. (s.at ≤ vec_len s.bytes) × (0 < s.piece) };
@@ -52,7 +54,7 @@ impl MemSource {
     /// in `failing`, counted from 1.
     pub fn new(bytes: Vec<u8>, piece: usize, failing: Vec<u64>) -> MemSource
         requires { 0 < piece }
-        ensures { result ≡ record { left = bytes.items; piece = piece; failing = failing.items; calls = 0; faults = 0 } }
+        ensures { result ≡ record { left = bytes.items; piece = piece; failing = failing.items; calls = 0; faults = 0; empty = 0 } }
     {
         MemSource {
             bytes,
@@ -61,6 +63,7 @@ impl MemSource {
             failing,
             calls: 0,
             faults: 0,
+            empty: 0,
         }
     }
 }
@@ -70,11 +73,14 @@ impl Source for MemSource {
 
     ghost faults = { λ s. s.faults };
 
+    ghost empty_reads = { λ s. s.empty };
+
     fn read(&mut self, into: &mut [u8]) -> Result<usize, Failed>
         ensures bound { ReadsAtMost result into.new }
         ensures bytes { ReadConsumes (Some self.old.left) (Some self.new.left) result into.new }
         ensures cause { HasCause self.old.faults self.new.faults result }
         ensures counted { IsCounted self.old.faults self.new.faults result }
+        ensures empty { CountsEmpty self.old.empty self.new.empty result }
 
         // It fails exactly at the calls that it was told.
         ensures fails { is_err result ≡ is_failing self.old.failing (next_count self.old.calls) }
@@ -88,6 +94,9 @@ impl Source for MemSource {
         }
         let count = move_front(&self.bytes[self.at..], into, self.piece);
         self.at += count;
+        if count == 0 {
+            self.empty = self.empty.saturating_add(1);
+        }
         Ok(count)
     }
 }

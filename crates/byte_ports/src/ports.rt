@@ -3,7 +3,7 @@ ghost use Rattle.std.specs.Prelude.{ℕ, ◌≡◌, ◌<◌, List, length, take,
 ghost use Rattle.std.specs.declared.option.Option.{Option};
 ghost use Rattle.std.specs.Io.{ReadsAtMost, WritesAtMost};
 ghost use Rattle.std.specs.Io.KnownBytes.{Appends, ReadConsumes, WriteAppends};
-ghost use Rattle.byte_ports.specs.Causes.{HasCause, AppendsFront, IsCounted};
+ghost use Rattle.byte_ports.specs.Causes.{AppendsFront, CountsEmpty, HasCause, IsCounted};
 
 /// A read or a write failed, and the source or the sink has counted it.
 #[derive(Clone, Copy, Debug, PartialEq, Eq)]
@@ -17,15 +17,20 @@ pub trait Source {
     /// How often a read has failed: it never falls, and stands still at 2 ^ 64 - 1.
     ghost faults: { Self → ℕ };
 
+    /// How often a read has moved nothing, as it does at the end of the input: it never falls, and stands still at 2 ^ 64 - 1.
+    ghost empty_reads: { Self → ℕ };
+
     /// Moves the first bytes that are left into the front of the buffer, and answers how many.
     ///
-    /// None are moved only where the buffer is empty or the input is at its end. `Failed` is one
-    /// fault more, and nothing was moved then; else the count stays.
+    /// None are moved only where the buffer is empty or the input is at its end, and that is one empty
+    /// read more; else their count stays. `Failed` is one fault more, and nothing was moved then; else
+    /// the count of faults stays.
     fn read(&mut self, into: &mut [u8]) -> Result<usize, Failed>
         ensures bound { ReadsAtMost result into.new }
         ensures bytes { ReadConsumes (left self.old) (left self.new) result into.new }
         ensures cause { HasCause (faults self.old) (faults self.new) result }
-        ensures counted { IsCounted (faults self.old) (faults self.new) result };
+        ensures counted { IsCounted (faults self.old) (faults self.new) result }
+        ensures empty { CountsEmpty (empty_reads self.old) (empty_reads self.new) result };
 }
 
 /// What bytes are written to.

@@ -1,9 +1,8 @@
-// The ports of the system: they count faults and tell no bytes.
-ghost use Rattle.std.specs.Prelude.{◌≡◌, ◌≢◌, ◌<◌, length, None, IfErr, IfOk};
+// The ports of the system: they count faults and empty reads, and tell no bytes.
+ghost use Rattle.std.specs.Prelude.{◌≡◌, ◌<◌, ◌≤◌, length, None, IfOk};
 ghost use Rattle.std.specs.Io.{ReadsAtMost, WritesAtMost};
 ghost use Rattle.std.specs.Io.KnownBytes.{ReadConsumes, WriteAppends};
-ghost use Rattle.std.specs.IoError.{error_kind};
-ghost use Rattle.byte_ports.specs.Causes.{HasCause, IsCounted};
+ghost use Rattle.byte_ports.specs.Causes.{CountsEmpty, CountsErrors, HasCause, IsCounted};
 
 use crate::{Failed, Sink, Source};
 use std::io;
@@ -12,59 +11,108 @@ use std::io::{ErrorKind, Read, Write};
 #[cfg(test)]
 mod std_tests;
 
-/// A read that is tried again where a signal interrupts it. The tries are counted, so that it ends.
-fn read_again<R: Read>(reader: &mut R, into: &mut [u8]) -> io::Result<usize>
+/// One read. An error that is no interruption is counted.
+fn read_once<R: Read>(reader: &mut R, faults: &mut u64, into: &mut [u8]) -> io::Result<usize>
     ensures bound { ReadsAtMost result into.new }
     ensures bytes { ReadConsumes (R.remaining reader.old) (R.remaining reader.new) result into.new }
-    ensures retried { IfErr result (λ e. error_kind e ≢ ErrorKind.Interrupted) }
+    ensures counted { CountsErrors faults.old faults.new result }
+    ensures later { faults.old ≤ faults.new }
+{
+    match reader.read(into) {
+        Ok(count) => Ok(count),
+        Err(error) => {
+            if error.kind() != ErrorKind::Interrupted {
+                *faults = faults.saturating_add(1);
+            }
+            Err(error)
+        }
+    }
+}
+
+/// A read that is tried again where a signal interrupts it. The tries are counted, so that it ends.
+fn read_again<R: Read>(reader: &mut R, faults: &mut u64, into: &mut [u8]) -> Result<usize, Failed>
+    ensures bound { ReadsAtMost result into.new }
+    ensures bytes { ReadConsumes (R.remaining reader.old) (R.remaining reader.new) result into.new }
+    ensures cause { HasCause faults.old faults.new result }
+    ensures counted { IsCounted faults.old faults.new result }
 {
     for _ in 0..u64::MAX {
-        match reader.read(into) {
+        match read_once(reader, faults, into) {
             Ok(count) => return Ok(count),
             Err(error) => {
                 if error.kind() != ErrorKind::Interrupted {
-                    return Err(error);
+                    return Err(Failed);
                 }
             }
         }
     }
-    Err(io::Error::from(ErrorKind::TimedOut))
+    *faults = faults.saturating_add(1);
+    Err(Failed)
+}
+
+/// One write. An error that is no interruption is counted.
+fn write_once<W: Write>(writer: &mut W, faults: &mut u64, piece: &[u8]) -> io::Result<usize>
+    ensures bound { WritesAtMost result piece.now }
+    ensures bytes { WriteAppends (W.contents writer.old) (W.contents writer.new) result piece.now }
+    ensures counted { CountsErrors faults.old faults.new result }
+    ensures later { faults.old ≤ faults.new }
+{
+    match writer.write(piece) {
+        Ok(count) => Ok(count),
+        Err(error) => {
+            if error.kind() != ErrorKind::Interrupted {
+                *faults = faults.saturating_add(1);
+            }
+            Err(error)
+        }
+    }
 }
 
 /// A write that is tried again where a signal interrupts it. The tries are counted, so that it ends.
-fn write_again<W: Write>(writer: &mut W, piece: &[u8]) -> io::Result<usize>
+fn write_again<W: Write>(writer: &mut W, faults: &mut u64, piece: &[u8]) -> Result<usize, Failed>
     ensures bound { WritesAtMost result piece.now }
     ensures bytes { WriteAppends (W.contents writer.old) (W.contents writer.new) result piece.now }
-    ensures retried { IfErr result (λ e. error_kind e ≢ ErrorKind.Interrupted) }
+    ensures cause { HasCause faults.old faults.new result }
+    ensures counted { IsCounted faults.old faults.new result }
 {
     for _ in 0..u64::MAX {
-        match writer.write(piece) {
+        match write_once(writer, faults, piece) {
             Ok(count) => return Ok(count),
             Err(error) => {
                 if error.kind() != ErrorKind::Interrupted {
-                    return Err(error);
+                    return Err(Failed);
                 }
             }
         }
     }
-    Err(io::Error::from(ErrorKind::TimedOut))
+    *faults = faults.saturating_add(1);
+    Err(Failed)
 }
 
-/// A source over a reader of the system. It tells no bytes. Each error of the reader is one fault, but an
-/// interrupted read is none: it is tried again.
+/// A source over a reader of the system. It tells no bytes: it passes on what the reader gave, and counts its
+/// faults and its empty reads.
+///
+/// A read that a signal interrupts is tried again, and each other error of the reader is one fault. A reader
+/// tells no errors, so no clause says which of them are tried again: tests do.
 #[derive(Drop)]
 pub struct StdSource<R: Read + Drop> {
     inner: R,
     faults: u64,
+    empty: u64,
 }
 
 impl<R: Read + Drop> StdSource<R> {
-    /// Reads from this reader. There was no fault yet.
+    /// Reads from this reader. There was no fault and no empty read yet.
     pub fn new(inner: R) -> StdSource<R>
         ensures unread { result.inner ≡ inner }
         ensures faults { result.faults ≡ 0 }
+        ensures empty { result.empty ≡ 0 }
     {
-        StdSource { inner, faults: 0 }
+        StdSource {
+            inner,
+            faults: 0,
+            empty: 0,
+        }
     }
 }
 
@@ -73,27 +121,31 @@ impl<R: Read + Drop> Source for StdSource<R> {
 
     ghost faults = { λ s. s.faults };
 
+    ghost empty_reads = { λ s. s.empty };
+
     fn read(&mut self, into: &mut [u8]) -> Result<usize, Failed>
         ensures bound { ReadsAtMost result into.new }
         ensures bytes { ReadConsumes None None result into.new }
         ensures cause { HasCause self.old.faults self.new.faults result }
         ensures counted { IsCounted self.old.faults self.new.faults result }
+        ensures empty { CountsEmpty self.old.empty self.new.empty result }
 
         // What the reader gave is passed on, and its error.
         ensures passed { ReadConsumes (R.remaining self.old.inner) (R.remaining self.new.inner) result into.new }
     {
-        match read_again(&mut self.inner, into) {
-            Ok(count) => Ok(count),
-            Err(_) => {
-                self.faults = self.faults.saturating_add(1);
-                Err(Failed)
-            }
+        let count = read_again(&mut self.inner, &mut self.faults, into)?;
+        if count == 0 {
+            self.empty = self.empty.saturating_add(1);
         }
+        Ok(count)
     }
 }
 
-/// A sink over a writer of the system. It tells no bytes. Each error of the writer is one fault, and each
-/// write that took nothing of a piece that has bytes; but an interrupted write is none: it is tried again.
+/// A sink over a writer of the system. It tells no bytes: it passes on what the writer took, and counts its
+/// faults. A write that took nothing of a piece that has bytes is one.
+///
+/// A write that a signal interrupts is tried again, and each other error of the writer is one fault. A writer
+/// tells no errors, so no clause says which of them are tried again: tests do.
 #[derive(Drop)]
 pub struct StdSink<W: Write + Drop> {
     inner: W,
@@ -125,12 +177,11 @@ impl<W: Write + Drop> Sink for StdSink<W> {
         // What the writer took is told, and its error.
         ensures passed { WriteAppends (W.contents self.old.inner) (W.contents self.new.inner) result piece.now }
     {
-        match write_again(&mut self.inner, piece) {
-            Ok(count) if count > 0 || piece.is_empty() => Ok(count),
-            _ => {
-                self.faults = self.faults.saturating_add(1);
-                Err(Failed)
-            }
+        let count = write_again(&mut self.inner, &mut self.faults, piece)?;
+        if count > 0 || piece.is_empty() {
+            return Ok(count);
         }
+        self.faults = self.faults.saturating_add(1);
+        Err(Failed)
     }
 }

@@ -2,7 +2,7 @@
 ghost use Rattle.std.specs.Prelude.{◌≡◌, ◌<◌, ◌≤◌, length, min, vec_len, drop, Ok, Some, None};
 ghost use Rattle.std.specs.Io.{ReadsAtMost};
 ghost use Rattle.std.specs.Io.KnownBytes.{ReadConsumes};
-ghost use Rattle.byte_ports.specs.Causes.{HasCause, IsCounted};
+ghost use Rattle.byte_ports.specs.Causes.{CountsEmpty, HasCause, IsCounted};
 
 use crate::ports::move_front;
 use crate::{Failed, Sink, Source};
@@ -13,6 +13,7 @@ pub struct SureSource {
     bytes: Vec<u8>,
     at: usize,
     piece: usize,
+    empty: u64,
     ghost within: { at ≤ vec_len bytes },
     ghost moves: { 0 < piece },
 }
@@ -28,6 +29,7 @@ impl SureSource {
             bytes,
             at: 0,
             piece,
+            empty: 0,
         }
     }
 }
@@ -37,11 +39,14 @@ impl Source for SureSource {
 
     ghost faults = { λ s. 0 };
 
+    ghost empty_reads = { λ s. s.empty };
+
     fn read(&mut self, into: &mut [u8]) -> Result<usize, Failed>
         ensures bound { ReadsAtMost result into.new }
         ensures bytes { ReadConsumes (Some (drop self.old.at self.old.bytes.items)) (Some (drop self.new.at self.new.bytes.items)) result into.new }
         ensures cause { HasCause 0 0 result }
         ensures counted { IsCounted 0 0 result }
+        ensures empty { CountsEmpty self.old.empty self.new.empty result }
 
         // It gives what is left and finds room, but at most a piece.
         ensures moved { result ≡ Ok (min (min (length (drop self.old.at self.old.bytes.items)) (length into.old)) self.old.piece) }
@@ -49,6 +54,9 @@ impl Source for SureSource {
     {
         let count = move_front(&self.bytes[self.at..], into, self.piece);
         self.at += count;
+        if count == 0 {
+            self.empty = self.empty.saturating_add(1);
+        }
         Ok(count)
     }
 }

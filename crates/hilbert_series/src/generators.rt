@@ -152,7 +152,8 @@ fn exponents_at(alloc: Global, list: &[Mono], i: usize) -> Result<Vec<u16>, NoMe
 }
 
 /// The power of a variable to divide by: the variable that occurs most often, to the lower of its middle exponents;
-/// none where no variable occurs twice.
+/// none where no variable occurs twice. No clause says which power it is, or that there is one: the numerator is the same
+/// by any, and only the number of steps hangs on it.
 pub(crate) fn pivot(
     alloc: Global,
     weights: &Weights,

@@ -120,7 +120,8 @@ fn without_zeros(mut list: Vec<i128>) -> Vec<i128>
 /// polynomial K, without zeros at its end, such that K(t) over the product of 1 - t^w for the weights w counts by degree the monomials
 /// that no lead divides. UAG chapter 6, section 4.
 ///
-/// Leads at positions from the rank on count for nothing. `Leads` exactly where a position below the rank has more than 120 leads, with
+/// No clause bounds the steps, which may be as many as 2^120 where pivots are chosen badly, and whatever the choice grow
+/// exponentially with the variables in the worst case. Leads at positions from the rank on count for nothing. `Leads` exactly where a position below the rank has more than 120 leads, with
 /// the number of leads of the first such position; never `Large`.
 pub fn numerator(
     alloc: Global,

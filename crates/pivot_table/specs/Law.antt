@@ -1,5 +1,6 @@
 -- The rule of a pass's words, and what each step tells.
-use Rattle.std.specs.Prelude.{◌≡◌, ℕ, zero, suc, cond, ◌+◌, ◌-◌, ◌<◌, ◌≤◌, ◌==◌, List, [], ◌∷◌, ◌++◌, length, slice_index, slice_get, slice_index_or, Option, Some, None, All}
+use Rattle.std.specs.Prelude.{◌≡◌, ℕ, zero, suc, cond, ◌+◌, ◌-◌, ◌^◌, ◌<◌, ◌≤◌, ◌==◌, ◌⊎◌, List, [], ◌∷◌, ◌++◌, length}
+use Rattle.std.specs.Prelude.{slice_index, slice_get, slice_index_or, Option, Some, None, All, Contains}
 use mathlib.Core.Option as maybe
 use lib.ListN.{get_elem?}
 use prog.Atomic.{either}
@@ -14,8 +15,8 @@ use Rattle.pivot_table.specs.declared.claims.Claim.TheVariants.{Won, Lost}
 abbrev pub entry : ℕ → ℕ → ℕ → Entry
 entry column before after = record { column = column; before = before; after = after }
 
-abbrev pub view : List ℕ → List Entry → View
-view leads told = record { leads = leads; told = told }
+abbrev pub view : List ℕ → List Entry → List ℕ → View
+view leads told shares = record { leads = leads; told = told; shares = shares }
 
 -- a word that is not 0 names a row whose lead is the column
 abbrev pub NamesRowOf : List ℕ → ℕ → ℕ → Type 0
@@ -44,6 +45,27 @@ abbrev pub total : {A : Type 0} → (A → ℕ) → List A → ℕ
 total f [] = 0
 total f (x ∷ xs) = f x + total f xs
 
+-- of a pass in 2 ^ d parts: how many these shares have, of which one that was halved e times has 2 ^ (d - e)
+abbrev pub parts : ℕ → List ℕ → ℕ
+parts d shares = total (λ e. 2 ^ (d - e)) shares
+
+-- how often they were halved, all together
+abbrev pub halvings : List ℕ → ℕ
+halvings shares = total (λ e. e) shares
+
+-- together the shares are the pass, however finely it is cut
+abbrev pub AreWhole : List ℕ → Type 0
+AreWhole shares = (d : ℕ) → halvings shares ≤ d → parts d shares ≡ 2 ^ d
+
+-- what is kept of shares of which half of the first is given away, and that half
+abbrev pub kept_half : List ℕ → List ℕ
+kept_half [] = []
+kept_half (e ∷ shares) = (e + 1) ∷ shares
+
+abbrev pub given_half : List ℕ → List ℕ
+given_half [] = []
+given_half (e ∷ shares) = (e + 1) ∷ []
+
 abbrev pub unit : ℕ → ℕ
 unit zero = 0
 unit (suc n) = 1
@@ -65,13 +87,17 @@ pub record Kept {S : Type 0} (leads : List ℕ) (held : List (Option ℕ)) (s : 
   pub each_seat : (j : ℕ) (v : View) → get_elem? s.views j ≡ maybe.some v → Agrees s.words v.told
   -- a column that has a row had it at the start, or one seat was told once that it gave it
   pub once : (column : ℕ) → column < length s.words → total (wins column) s.views + was_held held column ≡ unit (slice_index s.words column)
+  -- the shares of all seats are the pass
+  pub shared : (d : ℕ) → total (λ v. halvings v.shares) s.views ≤ d → total (λ v. parts d v.shares) s.views ≡ 2 ^ d
+  -- a seat without a share gave no column a row, and gives none
+  pub spent : (j : ℕ) (v : View) → get_elem? s.views j ≡ maybe.some v → v.shares ≡ [] → (v.leads ≡ []) × ((column : ℕ) → wins column v ≡ 0)
 
 abbrev Sat : Type 0 → Type 0
 Sat S = Me S View
 
 module _ {S : Type 0} where
   abbrev pub Tells : Sat S → ℕ → ℕ → ℕ → Sat S → Type 0
-  Tells m column before after m' = (m' ≡ (view m.0.leads (m.0.told ++ entry column before after ∷ []), m.1)) × NamesRowOf m.0.leads column after
+  Tells m column before after m' = (m' ≡ (view m.0.leads (m.0.told ++ entry column before after ∷ []) m.0.shares, m.1)) × NamesRowOf m.0.leads column after
 
   abbrev pub claimed : Step S → Sat S → ℕ → Sat S → Type 0
   claimed st m r m' = Tells m st.word r (either (r == 0) st.second r) m'
@@ -81,6 +107,10 @@ module _ {S : Type 0} where
 
   abbrev pub told : Seat S View → List Entry
   told seat = seat.me.0.told
+
+  -- the seat's shares of the pass: the first seat has all of it, a split halves one, and a join adds
+  abbrev pub shares : Seat S View → List ℕ
+  shares seat = seat.me.0.shares
 
   -- a seat of this table, which knows the leads
   abbrev pub IsSeatOf : TableId → List ℕ → Seat S View → Type 0
@@ -101,3 +131,8 @@ pub record Tallies (leads : List ℕ) (held : List (Option ℕ)) (told : List En
   pub fits : LeadsFit leads rows
   pub stayed : (column row : ℕ) → slice_get held column ≡ Some (Some row) → slice_get rows column ≡ Some (Some row)
   pub as_told : All (λ (e : Entry). (k : ℕ) → e.after ≡ k + 1 → slice_get rows e.column ≡ Some (Some k)) told
+
+-- each column that names a row had it before the pass, or it was told that the row's claim found the column free
+abbrev pub AreHeldOrWon : List (Option ℕ) → List Entry → List (Option ℕ) → Type 0
+AreHeldOrWon held told rows = (column row : ℕ) → slice_get rows column ≡ Some (Some row)
+    → (slice_get held column ≡ Some (Some row)) ⊎ Contains told (entry column 0 (row + 1))

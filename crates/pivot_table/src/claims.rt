@@ -1,6 +1,7 @@
 // Claims.
 ghost use Rattle.std.specs.Prelude.{◌≡◌, ℕ, ◌<◌, [], ◌∷◌, ◌++◌, length, slice_index, IfOk};
-ghost use Rattle.pivot_table.specs.Law.{LeadsFit, IsSeatOf, NamesRowOf, Tallies, entry, found_by, option_word, told, word_of};
+ghost use Rattle.pivot_table.specs.Law.{AreHeldOrWon, IsSeatOf, LeadsFit, NamesRowOf, Tallies, entry, found_by, option_word, told, word_of};
+ghost use Rattle.pivot_table.specs.Law.{AreWhole, given_half, kept_half, shares};
 
 use crate::law::{ClaimSeat, Law, Rows, View};
 use crate::plays::{Claimed, Cut, Glue, Looked};
@@ -65,7 +66,7 @@ fn lead_of(leads: &[u64], row: u64) -> u64
 
 impl Claims {
     /// A pass over so many columns, of rows with these leads, where each column has the old row that `held` names, or none: the
-    /// words, and the first seat, which was told nothing yet.
+    /// words, and the first seat, which was told nothing yet and has the whole pass.
     ///
     /// There is a column, each lead is one of them, and an old row's lead is its column. `NoMemory` where there is none.
     pub fn new(
@@ -80,6 +81,7 @@ impl Claims {
         requires held { LeadsFit leads.now held.now }
         ensures rows { IfOk result (λ c. (c.0.rows.leads.items ≡ leads.now) × (c.0.rows.held.items ≡ held.now)) }
         ensures seat { IfOk result (λ c. IsSeatOf c.0.table.shared.table_id leads.now c.1 × (told c.1 ≡ [])) }
+        ensures whole { IfOk result (λ c. shares c.1 ≡ 0 ∷ []) }
     {
         let rows = copied(alloc, columns, leads, held)?;
         let words = words_of(alloc, leads, held)?;
@@ -87,21 +89,23 @@ impl Claims {
         Ok((Claims { table, rows }, seat))
     }
 
-    /// A new seat, which was told nothing yet.
+    /// A new seat, which was told nothing yet. It has half of the first share of the old one, which keeps the other half.
     pub fn split(&self, seat: &mut ClaimSeat) -> ClaimSeat
         requires { IsSeatOf self.now.table.shared.table_id self.now.rows.leads.items seat.old }
         ensures old { IsSeatOf self.now.table.shared.table_id self.now.rows.leads.items seat.new × (told seat.new ≡ told seat.old) }
         ensures new { IsSeatOf self.now.table.shared.table_id self.now.rows.leads.items result × (told result ≡ []) }
+        ensures shares { (shares seat.new ≡ kept_half (shares seat.old)) × (shares result ≡ given_half (shares seat.old)) }
     {
         self.table.shared.split_seat::<Cut>(seat)
     }
 
-    /// Joins a seat into another, which now was told what both were. No memory.
+    /// Joins a seat into another, which now was told what both were and has the shares of both. No memory.
     pub fn join(&self, seat: &mut ClaimSeat, other: ClaimSeat)
         requires seat { IsSeatOf self.now.table.shared.table_id self.now.rows.leads.items seat.old }
         requires other { IsSeatOf self.now.table.shared.table_id self.now.rows.leads.items other }
         ensures seat { IsSeatOf self.now.table.shared.table_id self.now.rows.leads.items seat.new }
         ensures told { told seat.new ≡ told seat.old ++ told other }
+        ensures shares { shares seat.new ≡ shares seat.old ++ shares other }
     {
         self.table.shared.join_seat::<Glue>(seat, other);
     }
@@ -114,6 +118,7 @@ impl Claims {
         ensures seat { IsSeatOf self.now.table.shared.table_id self.now.rows.leads.items seat.new }
         ensures told { told seat.new ≡ told seat.old ++ entry (slice_index self.now.rows.leads.items row) (found_by result) (word_of row result) ∷ [] }
         ensures names { NamesRowOf self.now.rows.leads.items (slice_index self.now.rows.leads.items row) (word_of row result) }
+        ensures shares { shares seat.new ≡ shares seat.old }
     {
         let column = lead_of(self.rows.leads.as_slice(), row);
         let found = self
@@ -134,15 +139,19 @@ impl Claims {
         ensures seat { IsSeatOf self.now.table.shared.table_id self.now.rows.leads.items seat.new }
         ensures told { told seat.new ≡ told seat.old ++ entry column (option_word result) (option_word result) ∷ [] }
         ensures names { NamesRowOf self.now.rows.leads.items column (option_word result) }
+        ensures shares { shares seat.new ≡ shares seat.old }
     {
         let found = self.table.shared.load::<Looked>(seat, column as usize);
         if found == 0 { None } else { Some(found - 1) }
     }
 
-    /// The row that each column has. Each is what was told to the seat and to those that were joined into it. No memory.
+    /// The row that each column has. Each is what was told to the seat and to those that were joined into it. Where these are all
+    /// seats, so that this one has the whole pass, each column that has a row had it before, or the row's claim won it and one of
+    /// them was told so. No memory.
     pub fn close(self, seat: ClaimSeat) -> Vec<Option<u64>>
         requires { IsSeatOf self.table.shared.table_id self.rows.leads.items seat }
-        ensures { Tallies self.rows.leads.items self.rows.held.items (told seat) result.items }
+        ensures tallies { Tallies self.rows.leads.items self.rows.held.items (told seat) result.items }
+        ensures won { AreWhole (shares seat) → AreHeldOrWon self.rows.held.items (told seat) result.items }
     {
         let Claims { table, rows } = self;
         let Rows { leads: _, held } = rows;

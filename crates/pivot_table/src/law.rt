@@ -9,10 +9,11 @@ pub struct Entry {
     pub after: u64,
 }
 
-/// What a seat was told, with the leads of the rows. No value of it is made.
+/// What a seat was told, with the leads of the rows and its shares of the pass: each was halved so many times. No value of it is made.
 pub struct View {
     pub leads: LinkedList<u64>,
     pub told: LinkedList<Entry>,
+    pub shares: LinkedList<u64>,
 }
 
 /// The lead column of each row, and the old row of each column.
@@ -26,13 +27,13 @@ pub struct Rows {
 pub struct Law;
 
 impl<S> TableRule<S, View, Rows> for Law {
-    ghost use Rattle.std.specs.Prelude.{[]};
+    ghost use Rattle.std.specs.Prelude.{[], ◌∷◌};
     ghost use Rattle.pivot_table.specs.Law.{Kept, view};
 
     ghost holds = { λ key. Kept key.leads.items key.held.items };
 
-    ghost first = { λ key. view key.leads.items [] };
+    ghost first = { λ key. view key.leads.items [] (0 ∷ []) };
 }
 
-/// The seat of one helper: what it was told.
+/// The seat of one helper: what it was told, and its shares of the pass.
 pub type ClaimSeat = Seat<(), View>;

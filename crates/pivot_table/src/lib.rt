@@ -3,8 +3,9 @@
 //!
 //! What is proved: a word that names a row never changes; a claim of a row acts on the word of the row's lead column alone, and
 //! answers what the word held at that step; each answer is told to the seat that asked; and `close` gives words that are what was
-//! told to each seat that is the closing one or was joined into it. So of all rows with one lead exactly one has the column, and
-//! each other one knows which.
+//! told to each seat that is the closing one or was joined into it. Where all seats were joined, each column that has a row had it
+//! before the pass, or one of them was told that the row's claim won it. So of all rows with one lead exactly one has the column,
+//! and each other one knows which.
 //!
 //! What is not claimed: which of several rows wins.
 #![tactic(auto)]

@@ -1,6 +1,6 @@
 //! What each step on the words tells.
 ghost use Rattle.std.specs.Prelude.{[], ◌++◌};
-ghost use Rattle.pivot_table.specs.Law.{claimed, looked, view};
+ghost use Rattle.pivot_table.specs.Law.{claimed, given_half, kept_half, looked, view};
 
 use crate::View;
 use atomic_table::{Join, Play, Split};
@@ -20,15 +20,15 @@ impl<S> Play<S, View> for Looked {
 pub(crate) struct Cut;
 
 impl Split<View> for Cut {
-    ghost left = { λ v. v };
+    ghost left = { λ v. view v.leads v.told (kept_half v.shares) };
 
-    ghost right = { λ v. view v.leads [] };
+    ghost right = { λ v. view v.leads [] (given_half v.shares) };
 }
 
 pub(crate) struct Glue;
 
 impl Join<View> for Glue {
-    ghost both = { λ v w. view v.leads (v.told ++ w.told) };
+    ghost both = { λ v w. view v.leads (v.told ++ w.told) (v.shares ++ w.shares) };
 
-    ghost spent = { view [] [] };
+    ghost spent = { view [] [] [] };
 }

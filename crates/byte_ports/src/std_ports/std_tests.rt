@@ -47,12 +47,14 @@ impl<'a> Write for Told<'a> {
     }
 }
 
-const ACTS: [Act; 7] = [
+const ACTS: [Act; 9] = [
     Act::Moves(2),
     Act::Fails(ErrorKind::Interrupted),
     Act::Fails(ErrorKind::Interrupted),
     Act::Moves(1),
     Act::Fails(ErrorKind::BrokenPipe),
+    Act::Fails(ErrorKind::WouldBlock),
+    Act::Fails(ErrorKind::TimedOut),
     Act::Fails(ErrorKind::Other),
     Act::Moves(3),
 ];
@@ -60,13 +62,15 @@ const ACTS: [Act; 7] = [
 /// An answer, the faults, and the calls of the reader or the writer, after each call.
 type Row = (Result<usize, Failed>, u64, usize);
 
-const READS: [Row; 6] = [
+const READS: [Row; 8] = [
     (Ok(2), 0, 1),
     (Ok(1), 0, 4),
     (Err(Failed), 1, 5),
     (Err(Failed), 2, 6),
-    (Ok(3), 2, 7),
-    (Ok(0), 2, 8),
+    (Err(Failed), 3, 7),
+    (Err(Failed), 4, 8),
+    (Ok(3), 4, 9),
+    (Ok(0), 4, 10),
 ];
 
 #[test]
@@ -94,7 +98,7 @@ fn errors_and_writes_of_nothing_are_faults(rt: HostRuntime) -> Result<(), Fail> 
     let mut sink = StdSink::new(told);
     for (answer, faults, calls) in READS {
         let (answer, faults) = match answer {
-            Ok(0) => (Err(Failed), 3),
+            Ok(0) => (Err(Failed), 5),
             answer => (answer, faults),
         };
         assert_eq!(rt; sink.write(b"abcd"), answer);

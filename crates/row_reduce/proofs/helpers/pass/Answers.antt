@@ -21,7 +21,7 @@ returns g c =
     passed p columns inputs rows c.args.leads.now made.leads.items pending c.args.held.now made.held.items c.close-words.result.items
     all c.in_ok-left.left.items c.requires.ready.known c.in-Ok.ensures.rows.0 c.in-Ok.ensures.rows.1
     (subst (λ r. IfOk r (λ left. AreHelped p columns inputs rows pending all left.items)) c.in_ok-left.was c.help_all-left.ensures.helped)
-    c.close-words.ensures
+    c.close-words.ensures.tallies
 
 pub help_all-left-requires-clause-free : goal.help_all-left-requires-clause-free
 help_all-left-requires-clause-free g c κs within = c.front-first.ensures (length c.args.rows.now) c.requires.pending

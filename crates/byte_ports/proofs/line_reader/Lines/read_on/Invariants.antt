@@ -10,6 +10,7 @@ invariant-loop-count g l = record {
   counts : length l.line.items ≤ l.self.room;
   line : HasNoNewline l.line.items;
   kept : g.S.Source.faults l.source ≡ g.S.Source.faults l.initial.source;
+  going : g.S.Source.empty_reads l.source ≡ g.S.Source.empty_reads l.initial.source;
   capacity : vec_capacity l.initial.line ≤ vec_capacity l.line;
 }
 
