@@ -1,3 +1,4 @@
 mod AtOne
 pub mod LastVariable
+mod OneTerms
 mod Resorting

@@ -10,6 +10,7 @@ use crate::attempt::{Attempts, Unanswered};
 use crate::by_change::by_change;
 use crate::by_degrees::by_degrees;
 use crate::directness::goes_directly;
+use crate::one_terms::{by_terms, have_one_term};
 use groebner_iface::{Groebner, Stop};
 use module_vectors::{Ring, VectList};
 use monomial_orders::Order;
@@ -17,10 +18,13 @@ use std::alloc::Global;
 use std::sync::Wait;
 use std::thread::Threads;
 
-/// An engine over another. A list that is not homogeneous is first run homogenised, and before that, where the order is not by
-/// degree, the basis of an ideal is taken from the one in the graded order if it has few standard monomials. Each attempt has an
-/// engine of its own. Where none has an answer, or the list goes directly, the engine `direct` runs the list itself. What
-/// stopped early is of that one alone.
+// From this number of vectors on a list of one term each has many pairs.
+const LONG: usize = 64;
+
+/// An engine over another. A long list of vectors of one term each is a basis as it stands. One that is not homogeneous is first run
+/// homogenised, and before that, where the order is not by degree, the basis of an ideal is taken from the one in the graded order
+/// if it has few standard monomials. Each attempt has an engine of its own. Where none has an answer, or the list goes directly,
+/// the engine `direct` runs the list itself. What stopped early is of that one alone.
 pub struct DegreeEngine<A, E> {
     pub attempts: A,
     pub direct: E,
@@ -56,6 +60,11 @@ fn attempted<R: Threads + Wait + Sync, A: Attempts<E>, E: Groebner + Drop>(
     requires positions { Each (HasPositions rank) list.now }
     ensures { IfOk result (IsReducedBasisOf ring.now rank list.now) }
 {
+    if list.len() >= LONG {
+        if have_one_term(list) {
+            return by_terms(rt, alloc, ring, rank, list);
+        }
+    }
     if goes_directly(alloc, ring, rank, list)? {
         return Err(Unanswered::Other);
     }

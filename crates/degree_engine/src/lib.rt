@@ -1,5 +1,6 @@
-//! An engine over another one. A list that is not homogeneous is run homogenised, and in an order that is not by degree the basis of
-//! an ideal with few standard monomials comes by a change of order; where such an attempt has no answer the list itself is run.
+//! An engine over another one. A long list of vectors of one term each is a basis as it stands; one that is not homogeneous is run
+//! homogenised, and in an order that is not by degree the basis of an ideal with few standard monomials comes by a change of order.
+//! Where such an attempt has no answer the list itself is run.
 #![tactic(auto)]
 
 mod attempt;
@@ -9,6 +10,7 @@ mod directness;
 mod engine;
 mod homogeneity;
 mod last_variable;
+mod one_terms;
 
 pub use attempt::Attempts;
 pub use engine::DegreeEngine;

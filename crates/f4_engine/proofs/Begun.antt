@@ -1,11 +1,11 @@
 -- A run at its beginning, and the state that its workers leave
-use Rattle.std.proofs.Common.{Bool, Err, IfErr, IfOk, List, None, Ok, Option, Result, Some, [], ap, cond, false, inl, inr, length, refl, subst, sym, true, ℕ, ◌<◌, ◌==◌, ◌∙◌, ◌∷◌, ◌≡◌}
+use Rattle.std.proofs.Common.{Bool, Err, IfErr, IfOk, List, None, Ok, Option, Result, Some, [], ap, cond, false, inl, inr, refl, subst, sym, true, ℕ, ◌<◌, ◌==◌, ◌∙◌, ◌∷◌, ◌≡◌}
 use Rattle.module_vectors.specs.Rings.{variables}
 use Rattle.module_vectors.specs.declared.key.Key.{Key as CodeKey}
 use Rattle.module_vectors.specs.declared.ring.Ring.{Ring}
 use Rattle.module_vectors.specs.declared.trail.WorkStop.{WorkStop}
+use Rattle.queue_updates.specs.declared.Update.{Update}
 use Rattle.basis_steps.specs.Invariant.{HaveAllEnded}
-use Rattle.basis_steps.specs.States as plain
 use Rattle.basis_steps.specs.Steps.{Begins, Replays}
 use Rattle.budget_stops.proofs.Moments.{taken_at_stop}
 use Rattle.basis_core.specs.declared.event.Event.{Event}
@@ -33,19 +33,19 @@ no_events n ms kept [] h = refl
 no_events n ms kept (e ∷ es) h = absurd cc
 
 -- a run at its beginning has an empty log
-new_at_beginning : (shared : Shared) (budget workers : ℕ) (s : Shown) → 0 < workers → IsRunOf shared budget workers s → Begins (run_of (variables shared.ring) s) (state_of (variables shared.ring) s) → IsNew s
-new_at_beginning shared budget workers s some run begins = record {
+new_at_beginning : (shared : Shared) (budget workers : ℕ) (update : Update) (s : Shown) → 0 < workers → IsRunOf shared budget workers update s → Begins (run_of (variables shared.ring) s) (state_of (variables shared.ring) s) → IsNew s
+new_at_beginning shared budget workers update s some run begins = record {
   empty = ap (λ es. notes_from (number_at_beginning s) s.members es) (no_events (variables shared.ring) s.members s.stop s.history begins.history);
   some = subst (λ k. 0 < k) (sym run.number) some;
 }
 
 pub begins_new :
-    (ring : Ring) (rank : ℕ) (generators : List (List (CodeKey × ℕ))) (budget workers : ℕ) (r : Result Shown WorkStop) → 0 < workers
-    → IfOk r (IsRunOf (record { ring = ring; rank = rank; generators = generators }) budget workers)
+    (ring : Ring) (rank : ℕ) (generators : List (List (CodeKey × ℕ))) (budget workers : ℕ) (update : Update) (r : Result Shown WorkStop) → 0 < workers
+    → IfOk r (IsRunOf (record { ring = ring; rank = rank; generators = generators }) budget workers update)
     → IfOk r (λ s. Begins (run_of (variables ring) s) (state_of (variables ring) s))
     → IfOk r IsNew
-begins_new ring rank generators budget workers (Ok s) some run begins = new_at_beginning (record { ring = ring; rank = rank; generators = generators }) budget workers s some run begins
-begins_new ring rank generators budget workers (Err e) some run begins = tt
+begins_new ring rank generators budget workers update (Ok s) some run begins = new_at_beginning (record { ring = ring; rank = rank; generators = generators }) budget workers update s some run begins
+begins_new ring rank generators budget workers update (Err e) some run begins = tt
 
 -- who has ended by its events has ended
 pub all_ended : (s : Shown) → Replays (run_of (variables_of s) s) (state_of (variables_of s) s) → EachDone s.workers (log s) → HaveAllEnded (run_of (variables_of s) s) (state_of (variables_of s) s)
@@ -103,13 +103,15 @@ pub state_stopped : {A : Type 0} (P : Shown → Type 0) (s : Shown) (r : Result 
 state_stopped P s (Ok t) e h = tt
 state_stopped P s (Err stop) e h = of_state P s stop e h
 
--- the workers leave a run with the budget and the number of workers that it began with
-pub left_by : (shared : Shared) (pairs workers : ℕ) (s t : Shown) → IsRunOf shared pairs workers s → IsRunBy s.budget s.workers t → IsRunBy pairs workers t
-left_by shared pairs workers s t run by = record { budget = by.budget ∙ run.most; workers_are = by.workers_are ∙ run.number }
+-- the workers leave a run with the budget, the number of workers and the update that it began with
+pub left_by : (shared : Shared) (pairs workers : ℕ) (update : Update) (s t : Shown) → IsRunOf shared pairs workers update s → IsRunBy s.budget s.workers s.update t
+    → IsRunBy pairs workers update t
+left_by shared pairs workers update s t run by = record { budget = by.budget ∙ run.most; workers_are = by.workers_are ∙ run.number; update_is = by.update_is ∙ run.queues }
 
 -- a stop of the closing is one of the run
 pub closing_stops :
-    {A : Type 0} (pairs workers : ℕ) (shared : Shared) (s : Shown) (r : Result A RunStop) → s.shared ≡ shared → IsRunBy pairs workers s
-    → IfErr r (λ stop. (pairs workers : ℕ) → IsRunBy pairs workers s → RunStops pairs workers s.shared stop) → IfErr r (RunStops pairs workers shared)
-closing_stops pairs workers shared s (Ok t) over by h = tt
-closing_stops pairs workers shared s (Err stop) over by h = subst (λ (sh : Shared). RunStops pairs workers sh stop) over (h pairs workers by)
+    {A : Type 0} (pairs workers : ℕ) (update : Update) (shared : Shared) (s : Shown) (r : Result A RunStop) → s.shared ≡ shared → IsRunBy pairs workers update s
+    → IfErr r (λ stop. (pairs workers : ℕ) (update : Update) → IsRunBy pairs workers update s → RunStops pairs workers update s.shared stop)
+    → IfErr r (RunStops pairs workers update shared)
+closing_stops pairs workers update shared s (Ok t) over by h = tt
+closing_stops pairs workers update shared s (Err stop) over by h = subst (λ (sh : Shared). RunStops pairs workers update sh stop) over (h pairs workers update by)

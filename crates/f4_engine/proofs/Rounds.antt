@@ -1,16 +1,14 @@
 -- What a worker's seat tells after each call of a round
-use Rattle.std.proofs.Common.{Bool, List, [], ap, arith, false, get_or, inl, inr, length, length-append, refl, subst, sym, take, true, ℕ, ◌++◌, ◌+◌, ◌<◌, ◌∙◌, ◌∷◌, ◌≡◌, ◌≤◌, ◌⊎◌}
+use Rattle.std.proofs.Common.{Bool, List, [], ap, arith, false, get_or, inl, inr, length, length-append, refl, subst, sym, true, ℕ, ◌++◌, ◌<◌, ◌∙◌, ◌∷◌, ◌≡◌}
 use Rattle.std.specs.Prelude.{MatchBool}
-use Rattle.module_vectors.specs.declared.trail.KeptTrail.{KeptTrail}
 use Rattle.module_vectors.specs.declared.trail.WorkStop.{WorkStop}
 use Rattle.module_vectors.specs.declared.trail.WorkStop.TheVariants as works
 use Rattle.basis_steps.specs.Pairs.{Pair}
 use Rattle.basis_steps.specs.States as plain
-use Rattle.basis_core.specs.declared.ending.Ending.{Ending}
 use Rattle.basis_core.specs.declared.ending.Ending.TheVariants as endings
 use Rattle.basis_core.specs.declared.stop.StopReason.{StopReason}
 use Rattle.basis_core.specs.declared.taken.Taken.{Taken}
-use Rattle.basis_core.specs.declared.taken.Taken.TheVariants.{Job as TookJob, Empty, Stopped as ToldStopped}
+use Rattle.basis_core.specs.declared.taken.Taken.TheVariants.{Job as TookJob}
 use Rattle.basis_core.specs.Answers.{pairs_given}
 use Rattle.basis_core.specs.Jobs.{JobShown, pairs_of}
 use Rattle.basis_core.proofs.JobTrails.{trail_of_job}
@@ -20,11 +18,10 @@ use Rattle.basis_core.specs.Shown.{Shown}
 use Rattle.basis_core.specs.Stops.{IsTrailBy}
 use Rattle.s_vectors.specs.Trails.{JobStops}
 use Rattle.ruled_lock.specs.declared.law.View.{View}
-use Rattle.ruled_lock.specs.Plays.{Holds, Makes}
-use Rattle.ruled_lock.specs.Events.{StartsWith}
+use Rattle.ruled_lock.specs.Plays.{Holds}
 use Rattle.basis_lock.specs.Acts.{Act, Asked, HandedIn, Stopped, Took, act_of, acts_of, has_ended, has_stop, has_take, held_after, took_after}
-use Rattle.basis_lock.specs.Calls.{Finishes, HandsIn, HasGivenSeen, IsHold, IsWorkStopSeen, MayFinish, MayHandIn, MayReport, MayTakeJob, Reports, TakesJob, own}
-use Rattle.basis_core.specs.Logs.{Base, End, Noted, Put, Stop, Take, base, by, log, members_after}
+use Rattle.basis_lock.specs.Calls.{Finishes, HandsIn, HasGivenSeen, IsHold, IsWorkStopSeen, MayFinish, MayHandIn, Reports, TakesJob, own}
+use Rattle.basis_core.specs.Logs.{Base, End, Noted, Put, Stop, Take, by, log, members_after}
 use Rattle.basis_core.proofs.Logging.{members_told, take_whole}
 use Rattle.f4_engine.specs.Workers.{AreDone, HasDone, HasJob, HasNone, IsFresh, IsSameWorker, IsWorking, MayGiveUp, RoundEnds}
 
@@ -261,7 +258,7 @@ job_trail_seen b v job (works.Degree t) has h =
       pair = by.pair;
       job = pairs_of job.pairs;
       given = has.given;
-      way = trail_of_job b.shared b.budget b.workers job.members (members_after b v.seen) (pairs_of job.pairs) t has.members has.had by;
+      way = trail_of_job b.shared b.budget b.workers b.update job.members (members_after b v.seen) (pairs_of job.pairs) t has.members has.had by;
     }
 
 pub known_same : (b : Base) (v w : View Noted Base) → IsSameWorker v w → v.worker < b.workers → w.worker < b.workers

@@ -1,5 +1,5 @@
 -- What a run of workers leaves
-use Rattle.std.proofs.Common.{◌≡◌, ◌≢◌, ◌⊎◌, inl, inr, ⊎_elim, Bool, true, false, not, ℕ, zero, suc, ◌+◌, ◌-◌, ◌<◌, ◌≤◌, cond, eqb, List, [], ◌∷◌, ◌++◌, length, map, sym, refl, ap, ◌∙◌, subst, arith, ne_eqb}
+use Rattle.std.proofs.Common.{◌≡◌, ◌≢◌, ◌⊎◌, inl, inr, ⊎_elim, Bool, true, false, not, ℕ, zero, suc, ◌+◌, ◌-◌, ◌<◌, ◌≤◌, cond, eqb, List, [], ◌∷◌, ◌++◌, map, sym, refl, ◌∙◌, subst, arith, ne_eqb}
 use Rattle.std.specs.Prelude.{All}
 use Rattle.std.specs.List.{Contains, range_with_len}
 use Rattle.std.proofs.lemmas.List.Elements.{All-cons, All-append, All-nil, All-contains, All-map, Contains-append_left, Contains-append_right, Contains-append_cases, Contains-push, Contains-push_cases}
@@ -10,11 +10,10 @@ use Rattle.ruled_lock.specs.declared.law.Old.{Old}
 use Rattle.ruled_lock.specs.declared.law.View.{View}
 use Rattle.ruled_lock.specs.Events.{calls_by}
 use Rattle.ruled_lock.specs.Law.{without, parted, joined, newcomer, opener, old_of}
-use Rattle.ruled_lock.specs.Plays.{AllBack, Tallied, OldSees}
+use Rattle.ruled_lock.specs.Plays.{AllBack, Tallied}
 use Rattle.basis_lock.specs.Acts.{acts_of}
-use Rattle.basis_lock.specs.Calls.{own}
 use Rattle.basis_core.specs.Logs.{Base, Noted, by, workers}
-use Rattle.f4_engine.specs.Workers.{AllDone, AreDone, CanGive, EachDone, HasDone, IsBack, IsFresh, IsReady, OldIsDone}
+use Rattle.f4_engine.specs.Workers.{AllDone, AreDone, EachDone, HasDone, IsFresh, IsReady, OldIsDone}
 
 none : (x : ℕ) → Contains [] x → ⊥
 none x (k, l, e) = omega arith

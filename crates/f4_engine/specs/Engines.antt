@@ -1,6 +1,7 @@
 -- What contracts see of the engine
 use Rattle.std.specs.Prelude.{IfSome, Option, Some, min, ℕ, ◌+◌, ◌-◌, ◌<◌, ◌^◌, ◌≡◌, ◌≤◌}
 use Rattle.module_vectors.specs.declared.trail.KeptTrail.{KeptTrail}
+use Rattle.queue_updates.specs.declared.Update.{Update}
 use Rattle.basis_core.specs.Members.{Shared}
 use Rattle.basis_core.specs.Shown.{Shown}
 use Rattle.groebner_iface.specs.declared.stop.Stop.{Stop}
@@ -8,12 +9,13 @@ use Rattle.groebner_iface.specs.declared.stop.Stop.TheVariants.{Memory, Pairs, D
 use Rattle.run_endings.specs.Stops.{IsKeptWhereCounted, IsStop, stopped_on, stopped_run}
 use Rattle.f4_engine.specs.Runs.{IsLastRun, IsWorkedByAll}
 
--- its budget of pairs, its number of workers and that of helpers for one job; how many runs stopped; the state and the trail that are
--- kept of the last one of them; and the state of the last one that answered
+-- its budget of pairs, its number of workers, that of helpers for one job, and what its runs queue as members come; how many runs
+-- stopped; the state and the trail that are kept of the last one of them; and the state of the last one that answered
 pub record EngineShown : Type 0 where
   pub pairs : ℕ
   pub workers : ℕ
   pub helpers : ℕ
+  pub update : Update
   pub stops : ℕ
   pub state : Option Shown
   pub trail : Option KeptTrail
@@ -23,16 +25,17 @@ pub record EngineShown : Type 0 where
 pub record IsKeptBy (e : EngineShown) : Type 0 where
   pub some : 0 < e.workers
   pub helped : 0 < e.helpers
-  pub stop : IsStop e.pairs e.workers e.state e.trail
+  pub stop : IsStop e.pairs e.workers e.update e.state e.trail
   pub counted : IsKeptWhereCounted e.stops (stopped_run e.state e.trail)
   pub by_all : IfSome e.state IsWorkedByAll
-  pub last : IsLastRun e.pairs e.workers e.last
+  pub last : IsLastRun e.pairs e.workers e.update e.last
 
 -- one more run that stopped is counted, up to 2 ^ 64 - 1; all else is the same
 pub record Counts (old new : EngineShown) : Type 0 where
   pub pairs : new.pairs ≡ old.pairs
   pub workers : new.workers ≡ old.workers
   pub helpers : new.helpers ≡ old.helpers
+  pub update : new.update ≡ old.update
   pub last : new.last ≡ old.last
   pub stops : new.stops ≡ min (old.stops + 1) (2 ^ 64 - 1)
   pub later : old.stops ≤ new.stops

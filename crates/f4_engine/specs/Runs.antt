@@ -1,5 +1,6 @@
 -- A run by its workers: at its beginning, when they have ended, and at a stop
 use Rattle.std.specs.Prelude.{None, Option, Some, [], ⊤, ℕ, ◌<◌, ◌≡◌}
+use Rattle.queue_updates.specs.declared.Update.{Update}
 use Rattle.basis_steps.specs.Invariant.{HaveAllEnded}
 use Rattle.basis_core.specs.Shown.{Shown}
 use Rattle.basis_core.specs.Views.{run_of, state_of, variables_of}
@@ -27,7 +28,7 @@ pub record IsFinished (s : Shown) : Type 0 where
 -- the state that the workers leave
 pub record IsLeft (old new : Shown) : Type 0 where
   pub shared : new.shared ≡ old.shared
-  pub by_these : IsRunBy old.budget old.workers new
+  pub by_these : IsRunBy old.budget old.workers old.update new
   pub by_all : IsWorkedByAll new
   pub ended : HaveAllEnded (run_of (variables_of new) new) (state_of (variables_of new) new)
   pub took : new.stop ≡ None → EachTook new.workers (log new)
@@ -40,6 +41,6 @@ EndsAs s ends.Memory = ⊤
 EndsAs s (ends.Degree t) = IsDegreeStop s t
 
 -- what is kept of the last run that answered
-abbrev pub IsLastRun : (pairs workers : ℕ) → Option Shown → Type 0
-IsLastRun pairs workers None = ⊤
-IsLastRun pairs workers (Some s) = IsRunBy pairs workers s × IsWorkedByAll s × IsFinished s
+abbrev pub IsLastRun : (pairs workers : ℕ) → Update → Option Shown → Type 0
+IsLastRun pairs workers update None = ⊤
+IsLastRun pairs workers update (Some s) = IsRunBy pairs workers update s × IsWorkedByAll s × IsFinished s

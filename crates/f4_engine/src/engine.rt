@@ -13,6 +13,7 @@ use crate::runs::run;
 use basis_core::BasisState;
 use groebner_iface::{Groebner, Stop};
 use module_vectors::{KeptTrail, Ring, VectList};
+use queue_updates::Update;
 use run_endings::RunStop;
 use std::alloc::Global;
 use std::marker::Model;
@@ -28,6 +29,7 @@ pub struct F4Engine {
     pairs: u64,
     workers: u32,
     helpers: u32,
+    update: Update,
     thread: usize,
     gate: SharedGate,
     stops: u64,
@@ -43,6 +45,7 @@ impl Drop for F4Engine {
             pairs: _,
             workers: _,
             helpers: _,
+            update: _,
             thread: _,
             gate: _,
             stops: _,
@@ -62,6 +65,7 @@ impl Model for F4Engine {
       pairs = e.pairs;
       workers = e.workers;
       helpers = e.helpers;
+      update = e.update;
       stops = e.stops;
       state = e.state;
       trail = e.trail;
@@ -72,6 +76,7 @@ impl Model for F4Engine {
       pairs = e.pairs;
       workers = e.workers;
       helpers = e.helpers;
+      update = e.update;
       stops = e.stops;
       state = e.state;
       trail = e.trail;
@@ -81,14 +86,22 @@ impl Model for F4Engine {
 
 impl F4Engine {
     /// An engine whose runs take at most so many pairs each, by so many workers, each of which solves its jobs with so many
-    /// helpers: one in its own thread, and one more for each `thread` additions that a pass over rows makes. The workers pass this
-    /// gate with each job, and the helpers with each row whose lead column they claim.
-    pub fn new(pairs: u64, workers: u32, helpers: u32, thread: usize, gate: SharedGate) -> F4Engine
+    /// helpers: one in its own thread, and one more for each `thread` additions that a pass over rows makes. This is what its runs
+    /// queue as members come. The workers pass this gate with each job, and the helpers with each row whose lead column they claim.
+    pub fn new(
+        pairs: u64,
+        workers: u32,
+        helpers: u32,
+        update: Update,
+        thread: usize,
+        gate: SharedGate,
+    ) -> F4Engine
         requires workers { 0 < workers }
         requires helpers { 0 < helpers }
         ensures pairs { result.pairs ≡ pairs }
         ensures workers { result.workers ≡ workers }
         ensures helpers { result.helpers ≡ helpers }
+        ensures update { result.update ≡ update }
         ensures stops { result.stops ≡ 0 }
         ensures state { result.state ≡ None }
         ensures trail { result.trail ≡ None }
@@ -98,6 +111,7 @@ impl F4Engine {
             pairs,
             workers,
             helpers,
+            update,
             thread,
             gate,
             stops: 0,
@@ -128,6 +142,13 @@ impl F4Engine {
         ensures some { 0 < result }
     {
         self.helpers
+    }
+
+    /// What its runs queue as members come.
+    pub fn update(&self) -> Update
+        ensures { result ≡ self.now.update }
+    {
+        self.update
     }
 
     /// How many additions of a pass are worth a helper more.
@@ -175,6 +196,7 @@ impl F4Engine {
             pairs: _,
             workers: _,
             helpers: _,
+            update: _,
             thread: _,
             gate: _,
             stops: _,
@@ -188,7 +210,7 @@ impl F4Engine {
     // Counts a run that stopped, and keeps this of it.
     fn keep(&mut self, state: Option<BasisState>, trail: Option<KeptTrail>)
         requires some { (run : StoppedRun) × (stopped_run state trail ≡ Some run) }
-        requires stop { IsStop self.old.pairs self.old.workers state trail }
+        requires stop { IsStop self.old.pairs self.old.workers self.old.update state trail }
         requires by_all { IfSome state IsWorkedByAll }
         ensures counts { Counts self.old self.new }
         ensures state { self.new.state ≡ state }
@@ -201,9 +223,9 @@ impl F4Engine {
 
     // Counts and keeps a run that stopped, unless memory was wanting.
     fn keep_stop(&mut self, stop: RunStop) -> Stop
-        requires stop { (shared : Shared) × RunStops self.old.pairs self.old.workers shared stop }
+        requires stop { (shared : Shared) × RunStops self.old.pairs self.old.workers self.old.update shared stop }
         requires by_all { OfState IsWorkedByAll stop }
-        ensures { (shared : Shared) → RunStops self.old.pairs self.old.workers shared stop → EngineStops self.old self.new shared result }
+        ensures { (shared : Shared) → RunStops self.old.pairs self.old.workers self.old.update shared stop → EngineStops self.old self.new shared result }
     {
         match stop {
             RunStop::Memory => Stop::Memory,
@@ -224,7 +246,7 @@ impl F4Engine {
 
     // Keeps the state of a run that answered.
     fn keep_last(&mut self, state: BasisState)
-        requires by { IsRunBy self.old.pairs self.old.workers state × IsWorkedByAll state }
+        requires by { IsRunBy self.old.pairs self.old.workers self.old.update state × IsWorkedByAll state }
         requires finished { IsFinished state }
         ensures { Answers self.old self.new state.shared }
     {
@@ -253,6 +275,7 @@ impl F4Engine {
             self.pairs,
             self.workers,
             self.helpers,
+            self.update,
             self.thread,
             &self.gate,
             ring,
@@ -270,13 +293,13 @@ impl F4Engine {
 
 impl Groebner for F4Engine {
     ghost use Rattle.std.specs.Prelude.{[], ◌∷◌};
-    ghost use Rattle.run_endings.specs.Stops.{stopped_run};
+    ghost use Rattle.run_endings.specs.Stops.{number_of_update, stopped_run};
 
     ghost stops = { λ e. e.stops };
 
     ghost stopped = { λ e. stopped_run e.state e.trail };
 
-    ghost settings = { λ e. e.pairs ∷ e.workers ∷ e.helpers ∷ [] };
+    ghost settings = { λ e. e.pairs ∷ e.workers ∷ e.helpers ∷ number_of_update e.update ∷ [] };
 
     fn reduced<R: Threads + Wait + Sync>(
         &mut self,

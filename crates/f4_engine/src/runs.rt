@@ -11,7 +11,9 @@ ghost use Rattle.f4_engine.specs.Runs.{EndsAs, IsFinished, IsLeft, IsNew, IsWork
 use crate::work::Turn;
 use crate::workers::work_all;
 use basis_core::{BasisState, StopReason};
-use module_vectors::{KeptTrail, Ring, VectList, WorkStop};
+use module_vectors::{KeptTrail, Ring, Vect, VectList, WorkStop};
+use monomial_orders::Order;
+use queue_updates::Update;
 use ruled_lock::Lock;
 use run_endings::{RunStop, close, copy_trail};
 use std::alloc::Global;
@@ -24,6 +26,7 @@ fn begin(
     alloc: Global,
     pairs: u64,
     workers: u32,
+    update: Update,
     ring: &Ring,
     rank: u128,
     list: &VectList,
@@ -31,17 +34,49 @@ fn begin(
     requires workers { 0 < workers }
     requires vectors { AreVectorsOver ring.now (ring_comparison ring.now) list.now }
     requires positions { Each (HasPositions rank) list.now }
-    ensures run { IfOk result (IsRunOf (shared_on ring.now rank list.now) pairs workers) }
+    ensures run { IfOk result (IsRunOf (shared_on ring.now rank list.now) pairs workers update) }
     ensures new { IfOk result IsNew }
     ensures stop { IfErr result (BeginningStops (variables ring.now) (shared_on ring.now rank list.now)) }
 {
     let ring = ring.try_copy(alloc)?;
     let generators = VectList::copy_of(alloc, list)?;
-    BasisState::begin(alloc, ring, rank, generators, pairs, workers)
+    BasisState::begin(alloc, ring, rank, generators, pairs, workers, update)
 }
 
-// How many workers have a pair to begin with, and at least one.
+// Have all terms of the vector one degree?
+fn is_homogeneous(v: &Vect) -> bool {
+    let Some(lead) = v.lead() else {
+        return true;
+    };
+    let degree = lead.key.monomial.degree();
+    for term in v.terms() {
+        if term.0.monomial.degree() != degree {
+            return false;
+        }
+    }
+    true
+}
+
+// Do the pairs come by degree, whoever takes them? In another order than the graded one the lead of a vector tells little of its
+// tail where the list is not homogeneous: what a run makes, and how much of it, hangs on who takes when.
+fn goes_by_degree(state: &BasisState) -> bool {
+    if state.members().ring().order == Order::Grevlex {
+        return true;
+    }
+    for v in state.generators().as_slice() {
+        if !is_homogeneous(v) {
+            return false;
+        }
+    }
+    true
+}
+
+// How many workers go side by side: as many as have a pair to begin with, and at least one. Where pairs do not come by degree the
+// workers go one after another, so that such a run is the same each time.
 fn threads_for(state: &BasisState) -> u32 {
+    if !goes_by_degree(state) {
+        return 1;
+    }
     let pairs = u32::try_from(state.queued().len()).unwrap_or(u32::MAX);
     state.workers().min(pairs).max(1)
 }
@@ -110,6 +145,7 @@ pub(crate) fn run<R: Threads + Wait + Sync>(
     pairs: u64,
     workers: u32,
     helpers: u32,
+    update: Update,
     thread: usize,
     gate: &SharedGate,
     ring: &Ring,
@@ -122,11 +158,11 @@ pub(crate) fn run<R: Threads + Wait + Sync>(
     requires positions { Each (HasPositions rank) list.now }
     ensures basis { IfOk result (λ t. IsReducedBasisOf ring.now rank list.now t.0) }
     ensures shared { IfOk result (λ t. t.1.shared ≡ shared_on ring.now rank list.now) }
-    ensures finished { IfOk result (λ t. IsRunBy pairs workers t.1 × IsWorkedByAll t.1 × IsFinished t.1) }
-    ensures stop { IfErr result (RunStops pairs workers (shared_on ring.now rank list.now)) }
+    ensures finished { IfOk result (λ t. IsRunBy pairs workers update t.1 × IsWorkedByAll t.1 × IsFinished t.1) }
+    ensures stop { IfErr result (RunStops pairs workers update (shared_on ring.now rank list.now)) }
     ensures stopped { IfErr result (OfState IsWorkedByAll) }
 {
-    let state = match begin(alloc, pairs, workers, ring, rank, list) {
+    let state = match begin(alloc, pairs, workers, update, ring, rank, list) {
         Ok(state) => state,
         Err(WorkStop::Memory) => return Err(RunStop::Memory),
         Err(WorkStop::Degree(trail)) => return Err(RunStop::Beginning(trail)),

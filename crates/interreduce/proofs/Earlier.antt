@@ -1,8 +1,9 @@
 -- A member whose tail the list itself reduced, or the members that were reduced before it
-use Rattle.std.proofs.Common.{Greater, Less, List, Ordering, [], ap, arith, drop, get_or, inl, inr, length, refl, subst, suc, sym, zero, ℕ, ◌<◌, ◌∙◌, ◌∷◌, ◌≡◌, ◌≤◌, ◌⊎◌}
+use Rattle.std.proofs.Common.{Greater, Less, List, Ordering, [], ap, arith, drop, get_or, inl, inr, length, map, refl, subst, suc, sym, take, zero, ℕ, ◌++◌, ◌+◌, ◌-◌, ◌<◌, ◌∙◌, ◌∷◌, ◌≡◌, ◌≤◌, ◌⊎◌}
 use Rattle.std.proofs.lemmas.Bool.{cases_lt}
-use Rattle.std.proofs.lemmas.List.{get_or_default, length-map}
+use Rattle.std.proofs.lemmas.List.{get_or-append_right, get_or-drop, get_or-map, get_or-take, get_or_append_left, get_or_default, length-append, length-drop, length-map, length-take-le, take-append-le, take_all}
 use Rattle.formal_sums.proofs.Combining.{IsMember_each, IsMember_through}
+use Rattle.formal_sums.proofs.WeightedSums.{Each_append}
 use Rattle.formal_sums.specs.Combinations.{IsMember}
 use Rattle.formal_sums.specs.FormalSums.{Each, FormalSum, Key}
 use Rattle.orders.proofs.KeyOrdering.{KeyDivides_trans, less_of_greater}
@@ -10,19 +11,57 @@ use Rattle.orders.specs.KeyOrders.{KeyDivides}
 use Rattle.bases.proofs.Leading.{positive}
 use Rattle.bases.specs.Leads.{head_coefficient, head_key, leads}
 use Rattle.bases.specs.Settings.{IsLawful}
+use Rattle.module_vectors.proofs.SumsOfProducts.{Each_member}
 use Rattle.module_vectors.specs.Rings.{setting, variables}
 use Rattle.module_vectors.specs.Trails.{lead_at}
-use Rattle.module_vectors.specs.Vectors.{sum_of, sums_of}
+use Rattle.module_vectors.specs.Vectors.{AreVectorsOver, IsVectorOver, sum_of, sums_of}
 use Rattle.module_vectors.specs.declared.ring.Ring.{Ring}
 use Rattle.vector_division.proofs.Members.{sums_at}
 use Rattle.vector_division.specs.Divisions.{IsFreeOfLeads, IsUncovered}
 use Rattle.interreduce.specs.Leads.{AreNeeded, IsCoveredBy}
-use Rattle.interreduce.specs.Members.{HasReducedTail, IsReducedMember}
+use Rattle.interreduce.specs.Members.{AreBatchOf, HasReducedTail, IsReducedMember}
 use Rattle.interreduce.proofs.Choosing.{apart_at}
 use Rattle.interreduce.proofs.Leading.{Terms}
+use Rattle.interreduce.proofs.Reducing.{each_index}
+use Rattle.interreduce.proofs.Tails.{each_at_index}
 
 not_zero : {n : ℕ} (v : FormalSum n) → head_coefficient v ≡ 1 → v ≡ [] → ⊥
 not_zero v h e = let z : head_coefficient v ≡ 0 = ap head_coefficient e in absurd (omega arith)
+
+some_sum : (n : ℕ) (v : Terms) → 0 < length v → sum_of n v ≡ [] → ⊥
+some_sum n [] some e = omega arith
+some_sum n (t ∷ v) some e = absurd (cc)
+
+-- members are vectors, also where there is none
+pub vectors_at :
+    (ring : Ring) (compare : (n : ℕ) → Key n → Key n → Ordering) (list : List Terms) → AreVectorsOver ring compare list
+    → (indices : List ℕ) → AreVectorsOver ring compare (map (λ i. get_or list i []) indices)
+vectors_at ring compare list vectors [] = tt
+vectors_at ring compare list vectors (i ∷ indices) =
+    (each_at_index (IsVectorOver ring compare) list i (record { each = tt; descends = tt }) vectors, vectors_at ring compare list vectors indices)
+
+-- the list that a batch is divided by
+pub list_known :
+    (at : ℕ → Terms) (batch : List ℕ) (reduced unneeded vectors whole known : List Terms) (n : ℕ) → vectors ≡ reduced ++ map at (take n batch) → n ≡ length batch - 1
+    → whole ≡ vectors ++ unneeded → known ≡ whole → known ≡ (reduced ++ map at (take (length batch - 1) batch)) ++ unneeded
+list_known at batch reduced unneeded vectors whole known n a e b c = c ∙ b ∙ ap (λ z. z ++ unneeded) (a ∙ ap (λ m. reduced ++ map at (take m batch)) e)
+
+pub known_vectors :
+    (ring : Ring) (compare : (n : ℕ) → Key n → Key n → Ordering) (list : List Terms) → AreVectorsOver ring compare list
+    → (reduced unneeded : List Terms) (indices : List ℕ) → AreVectorsOver ring compare reduced → AreVectorsOver ring compare unneeded
+    → AreVectorsOver ring compare ((reduced ++ map (λ i. get_or list i []) indices) ++ unneeded)
+known_vectors ring compare list vectors reduced unneeded indices a b =
+    Each_append (IsVectorOver ring compare) (reduced ++ map (λ i. get_or list i []) indices) unneeded
+    (Each_append (IsVectorOver ring compare) reduced (map (λ i. get_or list i []) indices) a (vectors_at ring compare list vectors indices)) b
+
+-- what is left of the front of a list
+pub front_again :
+    (reduced vectors others whole split cut : List Terms) (width end : ℕ) → cut ≡ take width split → split ≡ take end whole → whole ≡ vectors ++ others
+    → (more : List Terms) → vectors ≡ reduced ++ more → width ≡ length reduced → end ≡ length vectors → cut ≡ reduced
+front_again reduced vectors others whole split cut width end a b c more d w e =
+    let one : take end whole ≡ vectors = ap (take end) c ∙ take-append-le end vectors others (omega (arith, e)) ∙ take_all end vectors (omega (arith, e)) in
+    let two : take width vectors ≡ reduced = ap (take width) d ∙ take-append-le width reduced more (omega (arith, w)) ∙ take_all width reduced (omega (arith, w)) in
+    a ∙ ap (take width) (b ∙ one) ∙ two
 
 has_term : (n : ℕ) (w : Terms) → (sum_of n w ≡ [] → ⊥) → 0 < length w
 has_term n [] some = absurd (some refl)
@@ -63,15 +102,12 @@ module _ (ring : Ring) (compare : (n : ℕ) → Key n → Key n → Ordering)
     tail = h.tail;
   }
 
-  -- the members with lower leads are reduced
-  module _ (kept : List ℕ) (needed : AreNeeded (variables ring) (compare (variables ring)) list kept) (earlier : List Terms) (i : ℕ)
-      (count : length earlier ≡ i) (within : i < length kept)
-      (each : (k : ℕ) → k < i → IsReducedMember ring compare list (get_or kept k 0) (get_or earlier k [])) where
+  -- vectors that the list generates, among them some with the lower leads
+  module _ (kept : List ℕ) (needed : AreNeeded (variables ring) (compare (variables ring)) list kept) (known : List Terms) (i : ℕ)
+      (each : (k : ℕ) → k < length known → IsMember ring.modulus.value F (sum_of (variables ring) (get_or known k [])))
+      (serves : (k : ℕ) → k < i → (p : ℕ) × (p < length known) × (0 < length (get_or known p [])) × (lead_at (variables ring) known p ≡ lead_at (variables ring) list (get_or kept k 0))) where
     abbrev lead : Key (variables ring)
     lead = lead_at (variables ring) list (get_or kept i 0)
-
-    lead_of_earlier : (k : ℕ) → k < i → leads (sums_of (variables ring) earlier) k ≡ lead_at (variables ring) list (get_or kept k 0)
-    lead_of_earlier k lt = ap head_key (sums_at (variables ring) earlier k) ∙ (each k lt).lead
 
     -- what stands below the member's lead stands below those of the members that are not yet reduced
     below_later :
@@ -87,21 +123,22 @@ module _ (ring : Ring) (compare : (n : ℕ) → Key n → Key n → Ordering)
 
     -- no lead of a needed member divides a key below the member's that no lead of the reduced ones divides
     by_kept :
-        (l : Key (variables ring)) (k : ℕ) → compare (variables ring) l lead ≡ Less → IsUncovered (sums_of (variables ring) earlier) l → k < length kept
+        (l : Key (variables ring)) (k : ℕ) → compare (variables ring) l lead ≡ Less → IsUncovered (sums_of (variables ring) known) l → k < length kept
         → KeyDivides (lead_at (variables ring) list (get_or kept k 0)) l → ⊥
     by_kept l k below free lt d = go (cases_lt k i)
       where
         go : (k < i) ⊎ (i ≤ k) → ⊥
         go (inl before) =
-            free k (subst (λ z. k < z) (sym (length-map earlier (λ w. sum_of (variables ring) w) ∙ count)) before)
-            (λ e. not_zero (sum_of (variables ring) (get_or earlier k [])) (each k before).monic (sym (sums_at (variables ring) earlier k) ∙ e))
-            (subst (λ z. KeyDivides z l) (sym (lead_of_earlier k before)) d)
+            let s = serves k before in
+            free s.0 (subst (λ z. s.0 < z) (sym (length-map known (λ w. sum_of (variables ring) w))) s.1)
+            (λ e. some_sum (variables ring) (get_or known s.0 []) s.2 (sym (sums_at (variables ring) known s.0) ∙ e))
+            (subst (λ z. KeyDivides z l) (sym (ap head_key (sums_at (variables ring) known s.0) ∙ s.3)) d)
         go (inr le) =
             (lawful 0).order.not_below d.0 (lead_at (variables ring) list (get_or kept k 0))
             (subst (λ z. compare (variables ring) z (lead_at (variables ring) list (get_or kept k 0)) ≡ Less) (sym d.1) (below_later l k below le lt))
 
     by_covering :
-        (l m : Key (variables ring)) (j : ℕ) → compare (variables ring) l lead ≡ Less → IsUncovered (sums_of (variables ring) earlier) l
+        (l m : Key (variables ring)) (j : ℕ) → compare (variables ring) l lead ≡ Less → IsUncovered (sums_of (variables ring) known) l
         → IsCoveredBy (variables ring) list kept j → m ≡ lead_at (variables ring) list j → KeyDivides m l → ⊥
     by_covering l m j below free (k, (p, lt, e), c) em d =
         let same : k ≡ get_or kept p 0 = sym (get_or_default kept p 0 k lt ∙ e) in
@@ -110,7 +147,7 @@ module _ (ring : Ring) (compare : (n : ℕ) → Key n → Key n → Ordering)
         subst (λ z. KeyDivides (lead_at (variables ring) list z) (lead_at (variables ring) list j)) same c in
         by_kept l p below free lt (KeyDivides_trans kept_lead (lead_at (variables ring) list j) l first (subst (λ z. KeyDivides z l) em d))
 
-    uncovered : (l : Key (variables ring)) → compare (variables ring) l lead ≡ Less → IsUncovered (sums_of (variables ring) earlier) l → IsUncovered F l
+    uncovered : (l : Key (variables ring)) → compare (variables ring) l lead ≡ Less → IsUncovered (sums_of (variables ring) known) l → IsUncovered F l
     uncovered l below free j lt some d =
         by_covering l (leads F j) j below free
         (needed.covers j (subst (λ z. j < z) (length-map list (λ w. sum_of (variables ring) w)) lt)
@@ -119,24 +156,127 @@ module _ (ring : Ring) (compare : (n : ℕ) → Key n → Key n → Ordering)
 
     keys_free :
         (k : Key (variables ring)) (v : FormalSum (variables ring)) → k ≡ lead → Each (λ t. compare (variables ring) k t.0 ≡ Greater) v
-        → IsFreeOfLeads (sums_of (variables ring) earlier) v → IsFreeOfLeads F v
+        → IsFreeOfLeads (sums_of (variables ring) known) v → IsFreeOfLeads F v
     keys_free k [] e below free = tt
     keys_free k (t ∷ v) e below free =
         let lower : compare (variables ring) t.0 lead ≡ Less =
         subst (λ z. compare (variables ring) t.0 z ≡ Less) e (less_of_greater (lawful 0).order k t.0 below.0) in
         (uncovered t.0 lower free.0, keys_free k v e below.1 free.1)
 
-    tail_free : (v : Terms) → HasReducedTail ring compare earlier (get_or list (get_or kept i 0) []) v → IsFreeOfLeads F (drop 1 (sum_of (variables ring) v))
+    tail_free : (v : Terms) → HasReducedTail ring compare known (get_or list (get_or kept i 0) []) v → IsFreeOfLeads F (drop 1 (sum_of (variables ring) v))
     tail_free [] h = tt
     tail_free (t ∷ v) h = keys_free (head_key (sum_of (variables ring) (t ∷ v))) (sum_of (variables ring) v) h.lead h.vector.descends.0 h.tail
 
-    pub by_earlier :
-        (v : Terms) → HasReducedTail ring compare earlier (get_or list (get_or kept i 0) []) v
+    by_known :
+        (v : Terms) → HasReducedTail ring compare known (get_or list (get_or kept i 0) []) v
         → IsReducedMember ring compare list (get_or kept i 0) v
-    by_earlier v h = record {
+    by_known v h = record {
       vector = h.vector;
       lead = h.lead;
       monic = h.monic;
-      generated = generated (get_or kept i 0) earlier v (λ k lt. (each k (subst (λ z. k < z) count lt)).generated) h.generated;
+      generated = generated (get_or kept i 0) known v each h.generated;
       tail = tail_free v h;
     }
+
+  abbrev at_index : ℕ → Terms
+  at_index i = get_or list i []
+
+  -- what holds of each member, and of none past the end, holds of those with these indices
+  members_at : (P : Terms → Type 0) → ((i : ℕ) → P (get_or list i [])) → (indices : List ℕ) → Each P (map at_index indices)
+  members_at P h [] = tt
+  members_at P h (i ∷ indices) = (h i, members_at P h indices)
+
+  -- the members that were reduced, those of the batch but its last one, and some others
+  abbrev together : List Terms → List ℕ → List ℕ → List Terms
+  together reduced batch rest = (reduced ++ map at_index (take (length batch - 1) batch)) ++ map at_index rest
+
+  pub each_together :
+      (P : Terms → Type 0) → ((i : ℕ) → P (get_or list i [])) → (reduced : List Terms) (batch rest : List ℕ) → Each P reduced → Each P (together reduced batch rest)
+  each_together P h reduced batch rest e =
+      Each_append P (reduced ++ map at_index (take (length batch - 1) batch)) (map at_index rest)
+      (Each_append P reduced (map at_index (take (length batch - 1) batch)) e (members_at P h (take (length batch - 1) batch))) (members_at P h rest)
+
+  -- a batch of the needed members, of which the earlier ones are reduced
+  module _ (kept : List ℕ) (needed : AreNeeded (variables ring) (compare (variables ring)) list kept) (reduced : List Terms) (s : ℕ)
+      (count : length reduced ≡ s) (done : (k : ℕ) → k < s → IsReducedMember ring compare list (get_or kept k 0) (get_or reduced k []))
+      (batch rest : List ℕ) (is : (k : ℕ) → k < length batch → get_or batch k 0 ≡ get_or kept (s + k) 0) (fits : s + length batch ≤ length kept) where
+    known_members : (k : ℕ) → k < length (together reduced batch rest) → IsMember ring.modulus.value F (sum_of (variables ring) (get_or (together reduced batch rest) k []))
+    known_members k lt =
+        Each_member (λ v. IsMember ring.modulus.value F (sum_of (variables ring) v)) (together reduced batch rest) k []
+        (each_together (λ v. IsMember ring.modulus.value F (sum_of (variables ring) v)) member_at reduced batch rest
+        (each_index (λ v. IsMember ring.modulus.value F (sum_of (variables ring) v)) reduced (λ j l. (done j (subst (λ z. j < z) count l)).generated))) lt
+
+    abbrev raw : List Terms
+    raw = map at_index (take (length batch - 1) batch)
+
+    length-raw : length raw ≡ length batch - 1
+    length-raw = length-map (take (length batch - 1) batch) at_index ∙ length-take-le (length batch - 1) batch (omega arith)
+
+    -- a member that is reduced, and one of the batch
+    known_reduced : (k : ℕ) → k < s → get_or (together reduced batch rest) k [] ≡ get_or reduced k []
+    known_reduced k lt =
+        get_or_append_left (reduced ++ raw) (map at_index rest) [] k (omega (arith, length-append reduced raw, lt, count))
+        ∙ get_or_append_left reduced raw [] k (omega (arith, lt, count))
+
+    known_raw : (k : ℕ) → s ≤ k → k + 1 < s + length batch → get_or (together reduced batch rest) k [] ≡ get_or list (get_or kept k 0) []
+    known_raw k le lt =
+        get_or_append_left (reduced ++ raw) (map at_index rest) [] k (omega (arith, length-append reduced raw, length-raw, lt, count))
+        ∙ get_or-append_right reduced raw s k [] count le
+        ∙ get_or-map at_index (take (length batch - 1) batch) (k - s) 0 [] (omega (arith, length-take-le (length batch - 1) batch (omega arith), lt, le))
+        ∙ ap at_index (get_or-take (length batch - 1) batch (k - s) 0 (omega arith) ∙ is (k - s) (omega arith) ∙ ap (λ z. get_or kept z 0) (omega arith))
+
+    known_serves :
+        (i : ℕ) → i < s + length batch → (k : ℕ) → k < i
+        → (p : ℕ) × (p < length (together reduced batch rest)) × (0 < length (get_or (together reduced batch rest) p [])) × (lead_at (variables ring) (together reduced batch rest) p ≡ lead_at (variables ring) list (get_or kept k 0))
+    known_serves i lt k below = go (cases_lt k s)
+      where
+        within : k < length (together reduced batch rest)
+        within = omega (arith, length-append (reduced ++ raw) (map at_index rest), length-append reduced raw, length-raw, lt, below, count)
+
+        go : (k < s) ⊎ (s ≤ k)
+            → (p : ℕ) × (p < length (together reduced batch rest)) × (0 < length (get_or (together reduced batch rest) p [])) × (lead_at (variables ring) (together reduced batch rest) p ≡ lead_at (variables ring) list (get_or kept k 0))
+        go (inl before) =
+            let e = known_reduced k before in
+            let d = done k before in (
+              k,
+              within,
+              subst (λ z. 0 < length z) (sym e) (has_term (variables ring) (get_or reduced k []) (not_zero (sum_of (variables ring) (get_or reduced k [])) d.monic)),
+              ap (λ z. head_key (sum_of (variables ring) z)) e ∙ d.lead,
+            )
+        go (inr le) =
+            let e = known_raw k le (omega arith) in (
+              k,
+              within,
+              subst (λ z. 0 < length z) (sym e) (Each_member (λ j. 0 < length (get_or list j [])) kept k 0 needed.leads (omega arith)),
+              ap (λ z. head_key (sum_of (variables ring) z)) e,
+            )
+
+    pub batch_reduced :
+        (answer : List Terms) → AreBatchOf ring compare list reduced (map at_index rest) batch answer
+        → (length answer ≡ s + length batch) × ((k : ℕ) → k < s + length batch → IsReducedMember ring compare list (get_or kept k 0) (get_or answer k []))
+    batch_reduced answer h = (ap length h.behind ∙ length-append reduced h.members ∙ omega (arith, count, h.tails.count), λ k lt. subst (λ z. IsReducedMember ring compare list (get_or kept k 0) (get_or z k [])) (sym h.behind) (go k lt (cases_lt k s)))
+      where
+        go : (k : ℕ) → k < s + length batch → (k < s) ⊎ (s ≤ k) → IsReducedMember ring compare list (get_or kept k 0) (get_or (reduced ++ h.members) k [])
+        go k lt (inl before) =
+            subst (IsReducedMember ring compare list (get_or kept k 0)) (sym (get_or_append_left reduced h.members [] k (omega (arith, before, count)))) (done k before)
+        go k lt (inr le) =
+            let at : get_or batch (k - s) 0 ≡ get_or kept k 0 = is (k - s) (omega arith) ∙ ap (λ z. get_or kept z 0) (omega arith) in
+            subst (IsReducedMember ring compare list (get_or kept k 0)) (sym (get_or-append_right reduced h.members s k [] count le))
+            (by_known kept needed (together reduced batch rest) k known_members (known_serves k lt) (get_or h.members (k - s) [])
+            (subst (λ z. HasReducedTail ring compare (together reduced batch rest) (get_or list z []) (get_or h.members (k - s) [])) at (h.tails.each (k - s) (omega (arith, h.tails.count)))))
+
+  -- a batch from one place to another of the needed members
+  pub next_batch :
+      (kept : List ℕ) (needed : AreNeeded (variables ring) (compare (variables ring)) list kept) (reduced : List Terms) (s : ℕ)
+      → length reduced ≡ s → ((k : ℕ) → k < s → IsReducedMember ring compare list (get_or kept k 0) (get_or reduced k []))
+      → (rest : List ℕ) (unneeded answer : List Terms) (end : ℕ) → unneeded ≡ map (λ i. get_or list i []) rest → (s < end) × (end ≤ length kept)
+      → AreBatchOf ring compare list reduced unneeded (take (end - s) (drop s kept)) answer
+      → (length answer ≡ end) × ((k : ℕ) → k < end → IsReducedMember ring compare list (get_or kept k 0) (get_or answer k []))
+  next_batch kept needed reduced s count done rest unneeded answer end u ends h =
+      let batch = take (end - s) (drop s kept) in
+      let behind : length (drop s kept) ≡ length kept - s = length-drop s kept in
+      let long : length batch ≡ end - s = length-take-le (end - s) (drop s kept) (omega (arith, behind, ends.1)) in
+      let r = batch_reduced kept needed reduced s count done batch rest
+      (λ k lt. get_or-take (end - s) (drop s kept) k 0 (omega (arith, long, lt)) ∙ get_or-drop s kept k 0) (omega (arith, long, ends.0, ends.1))
+      answer (subst (λ z. AreBatchOf ring compare list reduced z batch answer) u h) in
+      (r.0 ∙ omega (arith, long, ends.0), λ k lt. r.1 k (omega (arith, long, lt, ends.0)))

@@ -96,7 +96,7 @@ module _ {n r : ℕ} {compare : Key n → Key n → Ordering} (order : IsKeyOrde
       (λ l up_to. below_up_to k (shift e l) m h (up_to_trans order (shift e l) (shift e u.0) m (λ q. up_to (sym (order.kept e l u.0) ∙ q)) up))
       (none_above order u g d.0)
 
-each_at_index : {X : Type 0} (P : List X → Type 0) (xs : List (List X)) (i : ℕ) → P [] → Each P xs → P (get_or xs i [])
+pub each_at_index : {X : Type 0} (P : List X → Type 0) (xs : List (List X)) (i : ℕ) → P [] → Each P xs → P (get_or xs i [])
 each_at_index P [] i none h = none
 each_at_index P (x ∷ xs) zero none h = h.0
 each_at_index P (x ∷ xs) (suc i) none h = each_at_index P xs i none h.1

@@ -112,22 +112,34 @@ fn is_covered<L: Vectors>(list: &L, kept: &[usize], j: usize) -> bool
     false
 }
 
-/// The members that are needed, by ascending leads: each one that is not zero, and whose lead is divisible by none that was taken before it,
-/// so that of members with one lead one stays.
+/// The members that are needed, by ascending leads: each one that is not zero, and whose lead is divisible by none that was taken
+/// before it, so that of members with one lead one stays; and the others that are not zero, by ascending leads too.
 pub(crate) fn needed_members<F: Frame, L: Vectors>(
     alloc: Global,
     frame: &F,
     list: &L,
-) -> Result<Vec<usize>, NoMemory>
+) -> Result<(Vec<usize>, Vec<usize>), NoMemory>
     requires { AreVectorsOver (F.over frame.now) (F.compare frame.now) (L.listed list.now) }
-    ensures { let n = variables (F.over frame.now) in IfOk result (λ kept. AreNeeded n (F.compare frame.now n) (L.listed list.now) kept.items) }
+    ensures needed { let n = variables (F.over frame.now) in IfOk result (λ m. AreNeeded n (F.compare frame.now n) (L.listed list.now) m.0.items) }
+    ensures others { IfOk result (λ m. Each (λ i. i < length (L.listed list.now)) m.1.items) }
 {
     let order = by_ascending_lead(alloc, frame, list)?;
     let mut kept = Vec::new(alloc);
+    let mut others = Vec::new(alloc);
     for i in &order {
         if !is_covered(list, &kept, *i) {
             kept.push(*i)?;
+        } else {
+            others.push(*i)?;
         }
     }
-    Ok(kept)
+    Ok((kept, others))
+}
+
+/// The degree of a member's lead, 0 where it has none.
+pub(crate) fn lead_degree<L: Vectors>(list: &L, index: usize) -> u128 {
+    match lead_of(list, index) {
+        Some(lead) => lead.key.monomial.degree(),
+        None => 0,
+    }
 }

@@ -1,6 +1,7 @@
 //! From a Gröbner basis to the reduced one: the members whose leads are needed, each with its tail reduced.
 #![tactic(auto)]
 
+mod batches;
 mod interreduction;
 mod leads;
 mod member;

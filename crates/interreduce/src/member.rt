@@ -7,10 +7,12 @@ ghost use Rattle.module_vectors.specs.Rings.{variables};
 ghost use Rattle.module_vectors.specs.Vectors.{AreVectorsOver, IsVectorOver, sum_of};
 ghost use Rattle.vector_division.specs.Divisions.{DivisionStops, IsDivisionTrail};
 ghost use Rattle.vector_division.specs.Divisors.{AreDivisors};
-ghost use Rattle.interreduce.specs.Members.{HasReducedTail, IsReducedMember};
+ghost use Rattle.interreduce.specs.Members.{HasDivision, HasReducedTail, IsDividedMember, ReducesTail};
 ghost use Rattle.interreduce.specs.Trails.{MemberStops};
 
-use module_vectors::{Frame, KeptTrail, NoMemory, Vect, Vectors, WorkStop, lawful_setting};
+use module_vectors::{
+    Frame, KeptTrail, NoMemory, Vect, VectList, Vectors, WorkStop, lawful_setting,
+};
 use std::alloc::Global;
 use vector_division::{Divisor, reduce_by};
 
@@ -71,6 +73,7 @@ pub(crate) fn reduced_by<F: Frame, L: Vectors>(
     requires list { AreVectorsOver (F.over frame.now) (F.compare frame.now) (L.listed list.now) }
     requires divisors { AreDivisors (variables (F.over frame.now)) (L.listed list.now) divisors.now }
     ensures reduced { IfOk result (HasReducedTail (F.over frame.now) (F.compare frame.now) (L.listed list.now) member.now) }
+    ensures divided { IfOk result (λ _. HasDivision (F.over frame.now) (L.listed list.now) (drop 1 member.now)) }
     ensures stop { IfErr result (DivisionStops (F.over frame.now) member.now (L.listed list.now)) }
 {
     lawful_setting(frame);
@@ -103,7 +106,7 @@ pub(crate) fn reduced_member<F: Frame, L: Vectors>(
     requires index { index < length (L.listed list.now) }
     requires vectors { AreVectorsOver (F.over frame.now) (F.compare frame.now) (L.listed list.now) }
     requires some { 0 < length (get_or (L.listed list.now) index []) }
-    ensures reduced { IfOk result (IsReducedMember (F.over frame.now) (F.compare frame.now) (L.listed list.now) index) }
+    ensures reduced { IfOk result (IsDividedMember (F.over frame.now) (F.compare frame.now) (L.listed list.now) index) }
     ensures stop { IfErr result (MemberStops (F.over frame.now) (L.listed list.now) index) }
 {
     lawful_setting(frame);
@@ -111,5 +114,28 @@ pub(crate) fn reduced_member<F: Frame, L: Vectors>(
         Ok(reduced) => Ok(reduced),
         Err(WorkStop::Memory) => Err(WorkStop::Memory),
         Err(WorkStop::Degree(trail)) => Err(WorkStop::Degree(trail)),
+    }
+}
+
+/// Member `index`, monic and with its tail divided by these vectors, of which these divisors are tried. It stops as `reduced_by`
+/// does.
+pub(crate) fn member_reduced_by<F: Frame, L: Vectors>(
+    alloc: Global,
+    frame: &F,
+    list: &L,
+    known: &VectList,
+    divisors: &[Divisor],
+    index: usize,
+) -> Result<Vect, WorkStop>
+    requires divisors { AreDivisors (variables (F.over frame.now)) known.now divisors.now }
+    requires index { index < length (L.listed list.now) }
+    requires vectors { AreVectorsOver (F.over frame.now) (F.compare frame.now) (L.listed list.now) }
+    requires known { AreVectorsOver (F.over frame.now) (F.compare frame.now) known.now }
+    requires some { 0 < length (get_or (L.listed list.now) index []) }
+    ensures { ReducesTail (F.over frame.now) (F.compare frame.now) (L.listed list.now) known.now index result }
+{
+    match reduced_by(alloc, frame, list.at(index), known, divisors) {
+        Ok(reduced) => Ok(reduced),
+        Err(stop) => Err(stop),
     }
 }

@@ -6,10 +6,10 @@ ghost use Rattle.module_vectors.specs.Rings.{variables};
 ghost use Rattle.module_vectors.specs.Vectors.{AreVectorsOver};
 ghost use Rattle.vector_division.specs.Divisors.{AreDivisors};
 ghost use Rattle.interreduce.specs.Leads.{HaveLeads};
-ghost use Rattle.interreduce.specs.Members.{AreReducedMembers, IsFirstRefusal, ReducesMember, StopsAtFirst};
+ghost use Rattle.interreduce.specs.Members.{AreReducedMembers, HaveReducedTails, IsFirstRefusal, ReducesMember, ReducesTail, StopsAtFirst};
 
-use crate::member::reduced_member;
-use module_vectors::{Frame, Vect, Vectors, WorkStop};
+use crate::member::{member_reduced_by, reduced_member};
+use module_vectors::{Frame, Vect, VectList, Vectors, WorkStop};
 use rayon::prelude::*;
 use std::alloc::Global;
 use std::thread::Threads;
@@ -74,6 +74,46 @@ pub(crate) fn reduced_side_by_side<R: Threads + Sync, F: Frame + Sync, L: Vector
                 requires some { 0 < length (get_or (L.listed list.now) index.now []) }
                 ensures { ReducesMember (F.over frame.entry.now) (F.compare frame.entry.now) (L.listed list.entry.now) index.now result }
             { reduced_member(alloc, frame, list, divisors, *index) },
+        )
+        .collect::<Vec<Result<Vect, WorkStop>>>(rt, alloc)?;
+    all_or_first_refusal(alloc, answers)
+}
+
+/// The members with these indices, each with its tail divided by these vectors, in the same order: by several threads where there
+/// is work for them.
+pub(crate) fn reduced_by_known<R: Threads + Sync, F: Frame + Sync, L: Vectors + Sync>(
+    rt: &R,
+    alloc: Global,
+    frame: &F,
+    list: &L,
+    known: &VectList,
+    divisors: &[Divisor],
+    indices: &[usize],
+) -> Result<Vec<Vect>, WorkStop>
+    requires divisors { AreDivisors (variables (F.over frame.now)) known.now divisors.now }
+    requires indices { Each (λ i. i < length (L.listed list.now)) indices.now }
+    requires vectors { AreVectorsOver (F.over frame.now) (F.compare frame.now) (L.listed list.now) }
+    requires known { AreVectorsOver (F.over frame.now) (F.compare frame.now) known.now }
+    requires leads { HaveLeads (L.listed list.now) indices.now }
+    ensures { IfOk result (λ members. HaveReducedTails (F.over frame.now) (F.compare frame.now) (L.listed list.now) known.now indices.now members.items) }
+{
+    let least = if is_worth_threads(list, indices) {
+        1
+    } else {
+        indices.len()
+    };
+    let answers = indices
+        .par_iter()
+        .with_min_len(least)
+        .map(
+            |index: &usize| -> Result<Vect, WorkStop>
+                requires divisors { AreDivisors (variables (F.over frame.now)) known.now divisors.now }
+                requires index { index.now < length (L.listed list.now) }
+                requires vectors { AreVectorsOver (F.over frame.now) (F.compare frame.now) (L.listed list.now) }
+                requires known { AreVectorsOver (F.over frame.now) (F.compare frame.now) known.now }
+                requires some { 0 < length (get_or (L.listed list.now) index.now []) }
+                ensures { ReducesTail (F.over frame.entry.now) (F.compare frame.entry.now) (L.listed list.entry.now) known.entry.now index.now result }
+            { member_reduced_by(alloc, frame, list, known, divisors, *index) },
         )
         .collect::<Vec<Result<Vect, WorkStop>>>(rt, alloc)?;
     all_or_first_refusal(alloc, answers)

@@ -13,4 +13,4 @@ begin-requires-clause-generators c =
     (are_generators c.args.ring.now c.args.rank c.args.list.now c.requires.vectors c.requires.positions))
 
 pub returns-clause-new : goal.returns-clause-new
-returns-clause-new c = begins_new c.in_ok-ring.ring c.args.rank c.in_ok-generators.generators c.args.pairs c.args.workers c.begin.result c.requires.workers c.begin.ensures.run c.begin.ensures.begins
+returns-clause-new c = begins_new c.in_ok-ring.ring c.args.rank c.in_ok-generators.generators c.args.pairs c.args.workers c.args.update c.begin.result c.requires.workers c.begin.ensures.run c.begin.ensures.begins

@@ -29,7 +29,7 @@ returns-in-Ok g c =
     let all : EachDone t.workers (log t) = subst (λ (n : ℕ). EachDone n (log t)) (sym (ap (λ (b : Base). b.workers) c.close-state.ensures.base)) done in
     record {
       shared = ap (λ (b : Base). b.shared) same;
-      by_these = record { budget = ap (λ (b : Base). b.budget) same; workers_are = ap (λ (b : Base). b.workers) same };
+      by_these = record { budget = ap (λ (b : Base). b.budget) same; workers_are = ap (λ (b : Base). b.workers) same; update_is = ap (λ (b : Base). b.update) same };
       by_all = all;
       ended = all_ended t c.kept.ensures.replays all;
       took = all_took t c.kept.ensures.replays all;

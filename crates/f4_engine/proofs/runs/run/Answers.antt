@@ -29,14 +29,14 @@ returns-in-Finished g c =
     let s = c.in-Some.state in
     let left = c.in-Some.ensures in
     let over = left.shared ∙ c.in-Ok.ensures.run.over in
-    let by = left_by shared c.args.pairs c.args.workers c.in-Ok.state s c.in-Ok.ensures.run left.by_these in
+    let by = left_by shared c.args.pairs c.args.workers c.args.update c.in-Ok.state s c.in-Ok.ensures.run left.by_these in
     record {
       basis = subst (λ (sh : Shared). IfOk c.close.result (λ t. IsReducedBasisOf sh.ring sh.rank sh.generators t.0)) over c.close.ensures.basis;
       shared = state_back (λ (t : Shown). t.shared ≡ shared) s c.close.result c.close.ensures.state over;
       finished =
-          state_back (λ (t : Shown). IsRunBy c.args.pairs c.args.workers t × IsWorkedByAll t × IsFinished t) s c.close.result c.close.ensures.state
+          state_back (λ (t : Shown). IsRunBy c.args.pairs c.args.workers c.args.update t × IsWorkedByAll t × IsFinished t) s c.close.result c.close.ensures.state
           (by, left.by_all, record { closed = record { stop = c.in-Finished.ensures; ended = left.ended }; took = left.took c.in-Finished.ensures });
-      stop = closing_stops c.args.pairs c.args.workers shared s c.close.result over by c.close.ensures.stop;
+      stop = closing_stops c.args.pairs c.args.workers c.args.update shared s c.close.result over by c.close.ensures.stop;
       stopped = state_stopped IsWorkedByAll s c.close.result c.close.ensures.stopped left.by_all;
     }
 
@@ -45,7 +45,7 @@ returns-in-Pairs-clause-stop g c =
     let shared = shared_on c.args.ring.now c.args.rank c.args.list.now in
     let left = c.in-Some.ensures in (
       left.shared ∙ c.in-Ok.ensures.run.over,
-      (left_by shared c.args.pairs c.args.workers c.in-Ok.state c.in-Some.state c.in-Ok.ensures.run left.by_these, c.in-Pairs.ensures),
+      (left_by shared c.args.pairs c.args.workers c.args.update c.in-Ok.state c.in-Some.state c.in-Ok.ensures.run left.by_these, c.in-Pairs.ensures),
     )
 
 pub returns-in-Pairs-clause-stopped : goal.returns-in-Pairs-clause-stopped
@@ -56,7 +56,7 @@ returns-in-Degree-clause-stop g c =
     let shared = shared_on c.args.ring.now c.args.rank c.args.list.now in
     let left = c.in-Some.ensures in (
       left.shared ∙ c.in-Ok.ensures.run.over,
-      (left_by shared c.args.pairs c.args.workers c.in-Ok.state c.in-Some.state c.in-Ok.ensures.run left.by_these, inl c.in-Degree.ensures),
+      (left_by shared c.args.pairs c.args.workers c.args.update c.in-Ok.state c.in-Some.state c.in-Ok.ensures.run left.by_these, inl c.in-Degree.ensures),
     )
 
 pub returns-in-Degree-clause-stopped : goal.returns-in-Degree-clause-stopped

@@ -1,8 +1,4 @@
-use Rattle.std.proofs.Common.{subst}
-use Rattle.basis_core.specs.declared.ending.Ending.{Ending}
-use Rattle.ruled_lock.specs.declared.law.View.{View}
-use Rattle.basis_lock.specs.Calls.{Finishes}
-use Rattle.basis_core.specs.Logs.{Base, Noted, base}
+use Rattle.basis_core.specs.Logs.{base}
 use Rattle.f4_engine.proofs.Rounds.{ends_done, ends_with_more, may_finish}
 use Rattle.f4_engine.proofs.work.ask_to_end.Goals as goal
 

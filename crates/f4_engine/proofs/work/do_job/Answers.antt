@@ -1,4 +1,4 @@
-use Rattle.std.proofs.Common.{ap, subst, sym, ◌∙◌, true}
+use Rattle.std.proofs.Common.{ap, ◌∙◌}
 use Rattle.basis_lock.specs.Acts.{has_ended, has_stop}
 use Rattle.basis_core.specs.Logs.{Base, Noted, base}
 use Rattle.ruled_lock.specs.declared.law.View.{View}

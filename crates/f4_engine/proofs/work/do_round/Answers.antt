@@ -1,4 +1,4 @@
-use Rattle.std.proofs.Common.{ap, arith, refl, subst, sym, ◌∙◌}
+use Rattle.std.proofs.Common.{ap, arith, refl, ◌∙◌}
 use Rattle.basis_lock.specs.Acts.{has_ended, has_stop}
 use Rattle.basis_core.specs.Logs.{Base, Noted, base}
 use Rattle.basis_core.specs.declared.taken.Taken.TheVariants.{Empty, Stopped}

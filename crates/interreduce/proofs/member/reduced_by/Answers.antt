@@ -1,5 +1,6 @@
 use Rattle.std.proofs.Common.{subst, subst₂}
 use Rattle.vector_division.specs.Divisions.{DivisionStops, IsDivisionTrail}
+use Rattle.interreduce.specs.Members.{HasDivision}
 use Rattle.interreduce.proofs.Tails.{reduced, rest_below}
 use Rattle.interreduce.proofs.member.reduced_by.Goals as goal
 
@@ -18,6 +19,19 @@ returns-in-Ok-clause-reduced g c =
     let list = g.L.Vectors.listed c.args.list.now in
     reduced ring compare 0 (c.lawful_setting.ensures 0) list c.requires.list c.args.member.now c.in_ok-tail.tail c.in-Ok.reduction.rest c.in_ok-reduced-in-Ok.reduced c.monic.new.self c.in-Ok.reduction.quotients.items
     c.requires.some c.in_ok-tail.ensures c.in-Ok.ensures.quotients c.in-Ok.ensures.sum c.in-Ok.ensures.reduced c.in_ok-reduced-in-Ok.ensures.terms c.monic.ensures.vector c.monic.ensures.monic
+
+pub returns-in-Ok-clause-divided : goal.returns-in-Ok-clause-divided
+returns-in-Ok-clause-divided g c =
+    let ring = g.F.Frame.over c.args.frame.now in
+    let list = g.L.Vectors.listed c.args.list.now in
+    subst (HasDivision ring list) c.in_ok-tail.ensures (record {
+      products = c.in-Ok.reduction.quotients.items;
+      rest = c.in-Ok.reduction.rest;
+      known = c.in-Ok.ensures.quotients;
+      met = c.in-Ok.ensures.met;
+      sum = c.in-Ok.ensures.sum;
+      free = c.in-Ok.ensures.reduced;
+    })
 
 pub returns-clause-stop : goal.returns-clause-stop
 returns-clause-stop g c =

@@ -1,7 +1,7 @@
-use Rattle.std.proofs.Common.{[], length, subst, sym, ◌<◌}
+use Rattle.std.proofs.Common.{[], drop, length, subst, sym, ◌<◌}
 use Rattle.module_vectors.proofs.SumsOfProducts.{Each_member}
 use Rattle.module_vectors.specs.Vectors.{IsVectorOver}
-use Rattle.interreduce.specs.Members.{HasReducedTail}
+use Rattle.interreduce.specs.Members.{HasDivision, HasReducedTail}
 use Rattle.interreduce.proofs.Earlier.{by_list}
 use Rattle.interreduce.proofs.member.reduced_member.Goals as goal
 
@@ -18,8 +18,12 @@ returns-in-Ok-clause-reduced g c =
     let ring = g.F.Frame.over c.args.frame.now in
     let compare = g.F.Frame.compare c.args.frame.now in
     let list = g.L.Vectors.listed c.args.list.now in
-    by_list ring compare c.lawful_setting.ensures list c.args.index c.in-Ok.reduced
-    (subst (λ w. HasReducedTail ring compare list w c.in-Ok.reduced) c.at.ensures c.in-Ok.ensures.reduced)
+    record {
+      member =
+          by_list ring compare c.lawful_setting.ensures list c.args.index c.in-Ok.reduced
+          (subst (λ w. HasReducedTail ring compare list w c.in-Ok.reduced) c.at.ensures c.in-Ok.ensures.reduced);
+      divided = subst (λ w. HasDivision ring list (drop 1 w)) c.at.ensures c.in-Ok.ensures.divided;
+    }
 
 pub reduced_by-requires-clause-list : goal.reduced_by-requires-clause-list
 reduced_by-requires-clause-list g c = c.requires.vectors

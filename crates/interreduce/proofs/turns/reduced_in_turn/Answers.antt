@@ -1,13 +1,13 @@
-use Rattle.std.proofs.Common.{[], get_or, length, rules, subst, sym, ◌<◌}
+use Rattle.std.proofs.Common.{[], below_more, drop, get_or, length, rules, subst, sym, ◌<◌}
 use Rattle.module_vectors.proofs.SumsOfProducts.{Each_member}
-use Rattle.interreduce.specs.Members.{IsReducedMember}
+use Rattle.interreduce.specs.Members.{HasDivision, IsReducedMember}
 use Rattle.interreduce.proofs.Gathering.{one_more, stopped_in_turn}
 use Rattle.interreduce.proofs.turns.reduced_in_turn.Goals as goal
 
 pub returns-in-Err-clause-stop : goal.returns-in-Err-clause-stop
 returns-in-Err-clause-stop g c =
     stopped_in_turn (g.F.Frame.over c.args.frame.now) (g.F.Frame.compare c.args.frame.now) (g.L.Vectors.listed c.args.list.now) c.args.indices.now c.loop-index.members.items
-    c.loop-index.index-index c.in-Err.stop c.loop-index.invariant.count c.loop-index-test.true c.loop-index.invariant.each c.in-Err.ensures.stop
+    c.loop-index.index-index c.in-Err.stop c.loop-index.invariant.count c.loop-index-test.true c.loop-index.invariant.each c.loop-index.invariant.divided c.in-Err.ensures.stop
 
 pub loop-index-preserved : goal.loop-index-preserved
 loop-index-preserved g c = record {
@@ -17,7 +17,9 @@ loop-index-preserved g c = record {
       subst (λ vs. IsReducedMember (g.F.Frame.over c.args.frame.now) (g.F.Frame.compare c.args.frame.now) (g.L.Vectors.listed c.args.list.now) (get_or c.args.indices.now k 0) (get_or vs k []))
       (sym c.push_reserved.ensures.items)
       (one_more (g.F.Frame.over c.args.frame.now) (g.F.Frame.compare c.args.frame.now) (g.L.Vectors.listed c.args.list.now) (λ j. get_or c.args.indices.now j 0) c.loop-index.members.items
-      c.loop-index.index-index c.in-Ok.member c.loop-index.invariant.count c.loop-index.invariant.each c.in-Ok.ensures.reduced k l);
+      c.loop-index.index-index c.in-Ok.member c.loop-index.invariant.count c.loop-index.invariant.each c.in-Ok.ensures.reduced.member k l);
+  divided = below_more (λ k. HasDivision (g.F.Frame.over c.args.frame.now) (g.L.Vectors.listed c.args.list.now) (drop 1 (get_or (g.L.Vectors.listed c.args.list.now) (get_or c.args.indices.now k 0) [])))
+      c.loop-index.index-index c.loop-index.invariant.divided c.in-Ok.ensures.reduced.divided;
 }
 
 pub reduced_member-requires-clause-divisors : goal.reduced_member-requires-clause-divisors

@@ -10,6 +10,7 @@ invariant_of-self c =
       pairs = c.self.inside.pairs;
       workers = c.self.inside.workers;
       helpers = c.self.inside.helpers;
+      update = c.self.inside.update;
       stops = c.saturating_add-self-inside.result;
       state = state;
       trail = trail;
@@ -18,7 +19,7 @@ invariant_of-self c =
     (sym c.replace.ensures.after) (sym c.replace-2.ensures.after) (record {
       some = c.self.invariant.some;
       helped = c.self.invariant.helped;
-      stop = subst (λ (e : EngineShown). IsStop e.pairs e.workers c.args.state c.args.trail) (sym c.self.view_is) c.requires.stop;
+      stop = subst (λ (e : EngineShown). IsStop e.pairs e.workers e.update c.args.state c.args.trail) (sym c.self.view_is) c.requires.stop;
       counted = subst (IsKeptWhereCounted c.saturating_add-self-inside.result) (sym c.requires.some.1) more;
       by_all = c.requires.by_all;
       last = c.self.invariant.last;

@@ -6,9 +6,9 @@ use Rattle.f4_engine.proofs.engine.F4Engine.run.Goals as goal
 pub keep_stop-requires-clause-stop : goal.keep_stop-requires-clause-stop
 keep_stop-requires-clause-stop g c =
     let shared = shared_on c.args.ring.now c.args.rank c.args.list.now in
-    (shared, subst (λ (e : EngineShown). RunStops e.pairs e.workers shared c.in-Err.stop) c.self.view_is c.in-Err.ensures.stop)
+    (shared, subst (λ (e : EngineShown). RunStops e.pairs e.workers e.update shared c.in-Err.stop) c.self.view_is c.in-Err.ensures.stop)
 
 pub returns-in-Err-clause-stop : goal.returns-in-Err-clause-stop
 returns-in-Err-clause-stop g c =
     let shared = shared_on c.args.ring.now c.args.rank c.args.list.now in
-    c.keep_stop.ensures shared (subst (λ (e : EngineShown). RunStops e.pairs e.workers shared c.in-Err.stop) c.self.view_is c.in-Err.ensures.stop)
+    c.keep_stop.ensures shared (subst (λ (e : EngineShown). RunStops e.pairs e.workers e.update shared c.in-Err.stop) c.self.view_is c.in-Err.ensures.stop)
