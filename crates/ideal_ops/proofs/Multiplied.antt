@@ -15,7 +15,7 @@ use Rattle.monomial_orders.specs.Kept.{IsWeighed, Monomial}
 use Rattle.module_vectors.specs.Rings.{ring_comparison, setting, variables}
 use Rattle.module_vectors.specs.Stops.{CombinationStops, HasMonomial}
 use Rattle.module_vectors.specs.Trails.{IsOfProduct, IsStart}
-use Rattle.module_vectors.specs.Vectors.{HasPositions, IsTerm, sum_of, sums_of}
+use Rattle.module_vectors.specs.Vectors.{AreVectorsOver, HasPositions, IsTerm, IsVectorOver, sum_of, sums_of}
 use Rattle.module_vectors.specs.declared.ring.Ring.{Ring}
 use Rattle.module_vectors.specs.declared.stop.VectStop.TheVariants.{Degree}
 use Rattle.module_vectors.specs.declared.trail.KeptTrail.{KeptTrail}
@@ -51,22 +51,22 @@ weighed : (ring : Ring) (v : Terms) (m : Monomial) → Each (IsTerm (variables r
 weighed ring v m h k = subst (IsWeighed (variables ring) ring.weights) k.2 (contained (IsTerm (variables ring) ring.weights ring.modulus.value) v k.0 h k.1).weighed
 
 pub product_trail :
-    (ring : Ring) (b c : Terms) (s m : Monomial) (t : KeptTrail)
-    → Each (IsTerm (variables ring) ring.weights ring.modulus.value) b → HasPositions 1 b → Each (IsTerm (variables ring) ring.weights ring.modulus.value) c
-    → CombinationStops b (c ∷ []) (Degree s m)
-    → t.ring ≡ ring → t.rank ≡ 0 → t.generators ≡ [] → t.below.items ≡ [] → t.start ≡ Product → t.vector ≡ b → t.members ≡ c ∷ []
-    → t.products.items ≡ (0, s) ∷ [] → t.last ≡ m → IsProductTrail ring b c t
-product_trail ring b c s m t hb low hc stops ering erank egen ebelow estart evector emembers esteps elast = record {
+    (ring : Ring) (b : Terms) (members : List Terms) (k : ℕ) (s m : Monomial) (t : KeptTrail)
+    → Each (IsTerm (variables ring) ring.weights ring.modulus.value) b → HasPositions 1 b → AreVectorsOver ring (ring_comparison ring) members
+    → k < length members → CombinationStops b (get_or members k [] ∷ []) (Degree s m)
+    → t.ring ≡ ring → t.rank ≡ 0 → t.generators ≡ [] → t.below.items ≡ [] → t.start ≡ Product → t.vector ≡ b → t.members ≡ members
+    → t.products.items ≡ (k, s) ∷ [] → t.last ≡ m → IsProductTrail ring b members k t
+product_trail ring b members k s m t hb low over below stops ering erank egen ebelow estart evector emembers esteps elast = record {
   trail = (
-    (0, s),
+    (k, s),
     [],
     record {
       products = esteps;
-      known = (subst (λ l. 0 < length l) (sym emembers) (omega arith), tt);
+      known = (subst (λ l. k < length l) (sym emembers) below, tt);
       variables = (subst (λ r. IsWeighed (variables r) r.weights s) (sym ering) (weighed ring b s hb of_b), tt);
-      begins = subst (λ st. IsStart (variables t.ring) st t.vector t.members (0, s) []) (sym estart) (subst (λ v. HasMonomial v s) (sym evector) of_b, refl);
+      begins = subst (λ st. IsStart (variables t.ring) st t.vector t.members (k, s) []) (sym estart) (subst (λ v. HasMonomial v s) (sym evector) of_b, refl);
       met = tt;
-      last = subst (λ l. IsOfProduct l (0, s) t.last) (sym emembers) (subst (HasMonomial c) (sym elast) of_c);
+      last = subst (λ l. IsOfProduct l (k, s) t.last) (sym emembers) (subst (HasMonomial c) (sym elast) of_c);
       last_variables = subst (λ r. IsWeighed (variables r) r.weights t.last) (sym ering) (subst (IsWeighed (variables ring) ring.weights) (sym elast) (weighed ring c m hc of_c));
       too_great = subst (λ z. 65535 < s.degree + z.degree) (sym elast) stops.4;
     },
@@ -77,9 +77,17 @@ product_trail ring b c s m t hb low hc stops ering erank egen ebelow estart evec
   below = ebelow;
   start = estart;
   vector_is = evector;
-  members = emembers;
+  members_are = emembers;
+  factor = s;
+  product = esteps;
 }
   where
+    c : Terms
+    c = get_or members k []
+
+    hc : Each (IsTerm (variables ring) ring.weights ring.modulus.value) c
+    hc = (each_at (IsVectorOver ring (ring_comparison ring)) [] members k over below).each
+
     of_b : HasMonomial b s
     of_b = (stops.0, stops.1, sym stops.2)
 

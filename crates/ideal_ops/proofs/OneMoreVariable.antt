@@ -1,7 +1,7 @@
 -- Vectors over a ring with one more variable in front
 use Rattle.std.proofs.Common.{Bool, List, [], ap, append-nil, ap₂, arith, drop, false, get_or, length, map, refl, subst, suc, sym, true, zero, ℕ, ◌*◌, ◌++◌, ◌+◌, ◌-◌, ◌<◌, ◌∙◌, ◌∷◌, ◌≡◌}
 use Rattle.std.proofs.lemmas.Bool.Decides.{nat_tests}
-use Rattle.std.proofs.lemmas.List.{map-append}
+use Rattle.std.proofs.lemmas.List.{length-map, map-append}
 use Rattle.std.specs.Ordering.{nat_cmp, ordering_then}
 use Rattle.std.specs.Prelude.{Contains, nat_eq, ◌&&◌}
 use Rattle.std.specs.declared.cmp.Ordering.TheVariants.{Greater}
@@ -24,7 +24,7 @@ use Rattle.monomial_orders.specs.Monomials.{IsMonomial, variable}
 use Rattle.module_vectors.specs.FrontVariables.{HaveNoFront, front_ring, with_front, without_front}
 use Rattle.module_vectors.specs.Rings.{ring_comparison, variables}
 use Rattle.module_vectors.specs.Stops.{CombinationStops, HasMonomial, ScaledStops}
-use Rattle.module_vectors.specs.Vectors.{AreTermsOver, HasPositions, IsVectorOver, StandsFor, sum_of}
+use Rattle.module_vectors.specs.Vectors.{AreTermsOver, HasPositions, IsVectorOver, StandsFor, sum_of, sums_of}
 use Rattle.module_vectors.specs.declared.ring.Ring.{Ring}
 use Rattle.module_vectors.specs.declared.stop.VectStop.{VectStop}
 use Rattle.module_vectors.specs.declared.stop.VectStop.TheVariants.{Memory, Degree}
@@ -34,8 +34,10 @@ use Rattle.ideal_ops.specs.Components.{placed}
 use Rattle.ideal_ops.specs.FrontSteps.{IsFrontMonomial, IsRestOf}
 use Rattle.ideal_ops.specs.FrontVariable.{IsFrontTrail, IsFrontVector, front_polynomial, rest_polynomial}
 use Rattle.ideal_ops.specs.Products.{IsProductTrail}
+use Rattle.ideal_ops.specs.Runs.{AreVectorsFor}
 use Rattle.ideal_ops.proofs.Dividing.{sum_placed}
 use Rattle.ideal_ops.proofs.Free.{free_kept, free_left}
+use Rattle.ideal_ops.proofs.Shared.{vectors_next, vectors_none}
 
 -- ---- the new variable
 pub front_monomial :
@@ -194,12 +196,40 @@ rest_is ring r t one c b e ec is whole = record {
 }
 
 -- ---- stops
+each_at : {X : Type 0} (P : X → Type 0) (d : X) (xs : List X) (i : ℕ) → Each P xs → i < length xs → P (get_or xs i d)
+each_at P d [] i h lt = absurd (omega (arith, lt))
+each_at P d (x ∷ xs) zero h lt = h.0
+each_at P d (x ∷ xs) (suc i) h lt = each_at P d xs i h.1 (omega (arith, lt))
+
 -- the trail of a product over the ring with the new variable
 pub front_trail :
-    (ring r : Ring) (B G : FormalSum (suc (variables ring))) (b u : Terms) → r ≡ front_ring ring → IsFrontVector ring B b → IsFrontVector ring G u
-    → (t : KeptTrail) → IsProductTrail r b u t → IsFrontTrail ring B G t
-front_trail ring r B G b u e hb hu t h =
-    record { vector = b; vector_for = hb; member = u; member_for = hu; trail = subst (λ q. IsProductTrail q b u t) e h }
+    (ring r : Ring) (B : FormalSum (suc (variables ring))) (G : List (FormalSum (suc (variables ring)))) (b : Terms) (members : List Terms) (k : ℕ) → r ≡ front_ring ring
+    → IsFrontVector ring B b → AreVectorsFor (front_ring ring) G members → (t : KeptTrail) → IsProductTrail r b members k t → IsFrontTrail ring B G k t
+front_trail ring r B G b members k e hb hm t h =
+    record { vector = b; vector_for = hb; members = members; members_for = hm; trail = subst (λ q. IsProductTrail q b members k t) e h }
+
+-- one vector of the ring with the new variable is a list of vectors of it
+pub front_alone : (ring : Ring) (g : FormalSum (suc (variables ring))) (u : Terms) → IsFrontVector ring g u → AreVectorsFor (front_ring ring) (g ∷ []) (u ∷ [])
+front_alone ring g u h = vectors_next (front_ring ring) [] [] u g (vectors_none (front_ring ring)) h.vector h.stand
+
+-- and a list of them has such vectors
+pub front_at :
+    (ring : Ring) (G : List (FormalSum (suc (variables ring)))) (list : List Terms) (i : ℕ) → AreVectorsFor (front_ring ring) G list → i < length list
+    → IsFrontVector ring (get_or G i []) (get_or list i [])
+front_at ring G list i h lt = record {
+  vector = each_at (IsVectorOver (front_ring ring) (ring_comparison (front_ring ring))) [] list i h.vectors lt;
+  stand = h.stand.each i;
+}
+
+pub moved_at : (n : ℕ) (list : List Terms) (i : ℕ) → get_or (map with_first (sums_of n list)) i [] ≡ with_first (sum_of n (get_or list i []))
+moved_at n [] i = refl
+moved_at n (v ∷ list) zero = refl
+moved_at n (v ∷ list) (suc i) = moved_at n list i
+
+-- the vectors moved are as many as the list has
+pub moved_count : (ring : Ring) (list moved : List Terms) → AreVectorsFor (front_ring ring) (map with_first (sums_of (variables ring) list)) moved → length moved ≡ length list
+moved_count ring list moved h =
+    h.stand.count ∙ length-map (sums_of (variables ring) list) with_first ∙ length-map list (λ v. sum_of (variables ring) v)
 
 pub rest_low : (ring : Ring) (t : Monomial) (b : Terms) → IsRestOf ring t b → HasPositions 1 b
 rest_low ring t b is = subst (HasPositions 1) (sym is.terms_are) (omega arith, (omega arith, tt))
@@ -217,11 +247,6 @@ rest_stops ring t b u c Memory is h = h
 rest_stops ring t b u c (Degree x y) is h =
     subst (λ v. CombinationStops v (u ∷ []) (Degree x y)) (sym is.terms_are)
     ((record { position = 0; monomial = t }, ring.modulus.value - 1), (0, omega arith, refl), h.1, h.2, h.3)
-
-each_at : {X : Type 0} (P : X → Type 0) (d : X) (xs : List X) (i : ℕ) → Each P xs → i < length xs → P (get_or xs i d)
-each_at P d [] i h lt = absurd (omega (arith, lt))
-each_at P d (x ∷ xs) zero h lt = h.0
-each_at P d (x ∷ xs) (suc i) h lt = each_at P d xs i h.1 (omega (arith, lt))
 
 pub turned_stops :
     (t : Monomial) (u one : Terms) (c : ℕ) (a b : Monomial) → HasPositions 1 u → one ≡ (record { position = 0; monomial = t }, 1) ∷ []

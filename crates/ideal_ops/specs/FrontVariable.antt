@@ -1,5 +1,5 @@
 -- Runs with one more variable in front (IVA chapter 4, sections 3 and 4)
-use Rattle.std.specs.Prelude.{List, [], get_or, length, suc, ℕ, ◌<◌, ◌⊎◌}
+use Rattle.std.specs.Prelude.{List, [], length, map, suc, ℕ, ◌<◌, ◌∷◌, ◌⊎◌}
 use Rattle.formal_sums.specs.FormalSums.{FormalSum}
 use Rattle.operation_laws.specs.Operations.{back, basis_vector, intersection_list, saturation_list, times_first, times_rest, with_first}
 use Rattle.module_vectors.specs.FrontVariables.{front_ring}
@@ -36,13 +36,13 @@ pub record IsFrontVector (ring : Ring) (g : FormalSum (suc (variables ring))) (v
   pub vector : IsVectorOver (front_ring ring) (ring_comparison (front_ring ring)) v
   pub stand : StandsFor (front_ring ring) v g
 
--- the trail, over the ring with a front variable, of a monomial of b times the one member c
-pub record IsFrontTrail (ring : Ring) (b c : FormalSum (suc (variables ring))) (t : KeptTrail) : Type 0 where
+-- the trail, over the ring with a front variable, of a monomial of b times the one of the members with this index, which stand for G
+pub record IsFrontTrail (ring : Ring) (b : FormalSum (suc (variables ring))) (G : List (FormalSum (suc (variables ring)))) (k : ℕ) (t : KeptTrail) : Type 0 where
   pub vector : List (CodeKey × ℕ)
   pub vector_for : IsFrontVector ring b vector
-  pub member : List (CodeKey × ℕ)
-  pub member_for : IsFrontVector ring c member
-  pub trail : IsProductTrail (front_ring ring) vector member t
+  pub members : List (List (CodeKey × ℕ))
+  pub members_for : AreVectorsFor (front_ring ring) G members
+  pub trail : IsProductTrail (front_ring ring) vector members k t
 
 -- the front variable t, as a polynomial
 abbrev pub front_polynomial : (n : ℕ) → FormalSum (suc n)
@@ -52,9 +52,9 @@ front_polynomial n = times_first (basis_vector {n = n} 0)
 abbrev pub rest_polynomial : (n p : ℕ) → FormalSum (suc n)
 rest_polynomial n p = times_rest p (basis_vector {n = n} 0)
 
--- the trail of a monomial of b times a member of the list
+-- the trail of a monomial of b times a member of the list: the list is what it has as its members, without the front variable
 abbrev pub IsFrontTrailOf : (ring : Ring) → FormalSum (suc (variables ring)) → List (List (CodeKey × ℕ)) → KeptTrail → Type 0
-IsFrontTrailOf ring b list t = (i : ℕ) × (i < length list) × IsFrontTrail ring b (with_first (sum_of (variables ring) (get_or list i []))) t
+IsFrontTrailOf ring b list t = (i : ℕ) × (i < length list) × IsFrontTrail ring b (map with_first (sums_of (variables ring) list)) i t
 
 -- the trail of an intersection: t times a member of the one list, or 1 - t times one of the other
 abbrev pub IsTrailOfIntersection : Ring → List (List (CodeKey × ℕ)) → List (List (CodeKey × ℕ)) → KeptTrail → Type 0
@@ -66,4 +66,4 @@ IsTrailOfIntersection ring left right t =
 abbrev pub IsTrailOfSaturation : Ring → List (List (CodeKey × ℕ)) → List (CodeKey × ℕ) → KeptTrail → Type 0
 IsTrailOfSaturation ring list f t =
     let n = variables ring in
-    IsFrontTrail ring (with_first (sum_of n f)) (front_polynomial n) t
+    IsFrontTrail ring (with_first (sum_of n f)) (front_polynomial n ∷ []) 0 t

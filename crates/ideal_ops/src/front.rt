@@ -1,5 +1,5 @@
 // Vectors in one more variable t in front: multiples by t and by 1 - t, with the trails of those that are too great.
-ghost use Rattle.std.specs.Prelude.{◌≡◌, ◌<◌, ◌-◌, ◌∷◌, [], IfErr, IfOk, map, suc};
+ghost use Rattle.std.specs.Prelude.{◌≡◌, ◌<◌, ◌-◌, ◌++◌, ◌∷◌, [], IfErr, IfOk, List, get_or, length, map, suc};
 ghost use Rattle.monomials.specs.Exponents.{exponents_of};
 ghost use Rattle.formal_sums.specs.FormalSums.{Each, FormalSum, HasRank, scale};
 ghost use Rattle.operation_laws.specs.Operations.{first_variable, times_first, times_rest, with_first};
@@ -71,11 +71,11 @@ pub(crate) fn product_stop(
     requires b_positions { HasPositions 1 b.now }
     requires u { IsVectorOver front.now (ring_comparison front.now) u }
     requires stop { CombinationStops b.now (u ∷ []) stop }
-    ensures { WorkStops (IsProductTrail front.now b.now u) result }
+    ensures { WorkStops (IsProductTrail front.now b.now (u ∷ []) 0) result }
 {
     let mut one = VectList::new(alloc);
     match one.push(u) {
-        Ok(()) => stop_of(alloc, front, b, one, stop),
+        Ok(()) => stop_of(alloc, front, b, one, 0, stop),
         Err(_none) => WorkStop::Memory,
     }
 }
@@ -141,93 +141,94 @@ fn rest_vector(alloc: Global, _ring: &Ring, front: &Ring, t: &Mono) -> Result<Ve
     Ok(Vect::from_ordered(front, terms))
 }
 
-// The stop of t u, with its trail.
+// The stop of t times the member with this index, with its trail.
 fn variable_stop(
     alloc: Global,
     _ring: &Ring,
     front: &Ring,
     t: &Mono,
-    u: Vect,
+    members: VectList,
+    index: usize,
     stop: VectStop,
 ) -> WorkStop
     requires front { front.now ≡ front_ring _ring.now }
     requires variable { IsFrontMonomial _ring.now t.now }
-    requires u { IsVectorOver front.now (ring_comparison front.now) u }
-    requires stop { ScaledStops 1 t.now u stop }
-    ensures { (g : FormalSum (suc (variables _ring.now))) → IsFrontVector _ring.now g u
-        → WorkStops (IsFrontTrail _ring.now (front_polynomial (variables _ring.now)) g) result }
+    requires members { AreVectorsOver front.now (ring_comparison front.now) members }
+    requires index { index < length members }
+    requires stop { ScaledStops 1 t.now (get_or members index []) stop }
+    ensures { (G : List (FormalSum (suc (variables _ring.now)))) → AreVectorsFor (front_ring _ring.now) G members
+        → WorkStops (IsFrontTrail _ring.now (front_polynomial (variables _ring.now)) G index) result }
 {
     match variable_vector(alloc, front, t) {
-        Ok(b) => product_stop(alloc, front, &b, u, stop),
+        Ok(b) => stop_of(alloc, front, &b, members, index, stop),
         Err(_none) => WorkStop::Memory,
     }
 }
 
-// The stop of (1 - t) u, with its trail.
+// The stop of 1 - t times the member with this index, with its trail.
 fn rest_stop(
     alloc: Global,
     ring: &Ring,
     front: &Ring,
     t: &Mono,
-    u: Vect,
+    members: VectList,
+    index: usize,
     stop: VectStop,
 ) -> WorkStop
     requires front { front.now ≡ front_ring ring.now }
     requires variable { IsFrontMonomial ring.now t.now }
-    requires u { IsVectorOver front.now (ring_comparison front.now) u }
-    requires stop { ScaledStops (ring.now.modulus.value - 1) t.now u stop }
-    ensures { (g : FormalSum (suc (variables ring.now))) → IsFrontVector ring.now g u
-        → WorkStops (IsFrontTrail ring.now (rest_polynomial (variables ring.now) ring.now.modulus.value) g) result }
+    requires members { AreVectorsOver front.now (ring_comparison front.now) members }
+    requires index { index < length members }
+    requires stop { ScaledStops (ring.now.modulus.value - 1) t.now (get_or members index []) stop }
+    ensures { (G : List (FormalSum (suc (variables ring.now)))) → AreVectorsFor (front_ring ring.now) G members
+        → WorkStops (IsFrontTrail ring.now (rest_polynomial (variables ring.now) ring.now.modulus.value) G index) result }
 {
     match rest_vector(alloc, ring, front, t) {
-        Ok(b) => product_stop(alloc, front, &b, u, stop),
+        Ok(b) => stop_of(alloc, front, &b, members, index, stop),
         Err(_none) => WorkStop::Memory,
     }
 }
 
-// t v, for a vector v of the ring.
+// t u, for a vector u with the new variable.
 fn variable_multiple(
     alloc: Global,
     ring: &Ring,
     front: &Ring,
     t: &Mono,
-    v: &Vect,
-) -> Result<Vect, WorkStop>
+    u: &Vect,
+) -> Result<Vect, VectStop>
     requires front { front.now ≡ front_ring ring.now }
     requires variable { IsFrontMonomial ring.now t.now }
-    requires vector { AreTermsOver ring.now v.now }
-    ensures vector { let n = variables ring.now in IfOk result (IsFrontVector ring.now (times_first (sum_of n v.now))) }
-    ensures stop { let n = variables ring.now in
-        IfErr result (WorkStops (IsFrontTrail ring.now (front_polynomial n) (with_first (sum_of n v.now)))) }
+    requires vector { IsVectorOver front.now (ring_comparison front.now) u.now }
+    ensures vector { (g : FormalSum (suc (variables ring.now))) → IsFrontVector ring.now g u.now
+        → IfOk result (IsFrontVector ring.now (scale 1 (first_variable (variables ring.now)) g)) }
+    ensures stop { IfErr result (ScaledStops 1 t.now u.now) }
 {
     ring.modulus.domain();
-    let u = in_front(alloc, ring, front, v)?;
-    match Vect::scaled(alloc, front, 1, t, &u) {
+    match Vect::scaled(alloc, front, 1, t, u) {
         Ok(w) => Ok(w),
-        Err(stop) => Err(variable_stop(alloc, ring, front, t, u, stop)),
+        Err(stop) => Err(stop),
     }
 }
 
-// (1 - t) v, for a vector v of the ring.
+// (1 - t) u, for a vector u with the new variable.
 fn rest_multiple(
     alloc: Global,
     ring: &Ring,
     front: &Ring,
     t: &Mono,
-    v: &Vect,
-) -> Result<Vect, WorkStop>
+    u: &Vect,
+) -> Result<Vect, VectStop>
     requires front { front.now ≡ front_ring ring.now }
     requires variable { IsFrontMonomial ring.now t.now }
-    requires vector { AreTermsOver ring.now v.now }
-    ensures vector { let n = variables ring.now in
-        IfOk result (IsFrontVector ring.now (times_rest ring.now.modulus.value (sum_of n v.now))) }
-    ensures stop { let n = variables ring.now in
-        IfErr result (WorkStops (IsFrontTrail ring.now (rest_polynomial n ring.now.modulus.value) (with_first (sum_of n v.now)))) }
+    requires vector { IsVectorOver front.now (ring_comparison front.now) u.now }
+    ensures vector { (g : FormalSum (suc (variables ring.now))) → IsFrontVector ring.now g u.now
+        → IfOk result (IsFrontVector ring.now (g ++ scale (ring.now.modulus.value - 1) (first_variable (variables ring.now)) g)) }
+    ensures stop { IfErr result (ScaledStops (ring.now.modulus.value - 1) t.now u.now) }
 {
-    let u = in_front(alloc, ring, front, v)?;
-    match Vect::multiple_and_itself(alloc, front, minus_one(ring), t, &u) {
+    match Vect::multiple_and_itself(alloc, front, minus_one(ring), t, u) {
         Ok(w) => Ok(w),
-        Err(stop) => Err(rest_stop(alloc, ring, front, t, u, stop)),
+        Err(stop) => Err(stop),
     }
 }
 
@@ -246,12 +247,12 @@ pub(crate) fn variable_multiples(
         IfOk result (AreVectorsFor (front_ring ring.now) (map times_first (sums_of n list.now))) }
     ensures stop { IfErr result (WorkStops (IsFrontTrailOf ring.now (front_polynomial (variables ring.now)) list.now)) }
 {
-    let mut multiples = Vec::with_capacity(alloc, list.len())?;
-    for i in 0..list.len() {
-        let v = &list.as_slice()[i];
-        let w = match variable_multiple(alloc, ring, front, t, v) {
+    let moved = all_in_front(alloc, ring, front, list)?;
+    let mut multiples = Vec::with_capacity(alloc, moved.len())?;
+    for i in 0..moved.len() {
+        let w = match variable_multiple(alloc, ring, front, t, &moved.as_slice()[i]) {
             Ok(w) => w,
-            Err(stop) => return Err(stop),
+            Err(stop) => return Err(variable_stop(alloc, ring, front, t, moved, i, stop)),
         };
         multiples.push(w)?;
     }
@@ -273,12 +274,12 @@ pub(crate) fn rest_multiples(
         IfOk result (AreVectorsFor (front_ring ring.now) (map (times_rest ring.now.modulus.value) (sums_of n list.now))) }
     ensures stop { IfErr result (WorkStops (IsFrontTrailOf ring.now (rest_polynomial (variables ring.now) ring.now.modulus.value) list.now)) }
 {
-    let mut multiples = Vec::with_capacity(alloc, list.len())?;
-    for i in 0..list.len() {
-        let v = &list.as_slice()[i];
-        let w = match rest_multiple(alloc, ring, front, t, v) {
+    let moved = all_in_front(alloc, ring, front, list)?;
+    let mut multiples = Vec::with_capacity(alloc, moved.len())?;
+    for i in 0..moved.len() {
+        let w = match rest_multiple(alloc, ring, front, t, &moved.as_slice()[i]) {
             Ok(w) => w,
-            Err(stop) => return Err(stop),
+            Err(stop) => return Err(rest_stop(alloc, ring, front, t, moved, i, stop)),
         };
         multiples.push(w)?;
     }

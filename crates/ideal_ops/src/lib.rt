@@ -27,6 +27,7 @@ pub use comparing::equal;
 pub use eliminating::eliminate;
 pub use groebner_iface::OpStop;
 pub use intersecting::intersect;
+pub use modulo::kernel_modulo;
 pub use multiplying::product;
 pub use quotients::quotient;
 pub use saturating::saturate;

@@ -84,7 +84,7 @@ fn modulo_basis<R: Threads + Wait + Sync, B: Groebner>(
 ///
 /// `Pairs` and `Degree` are those of one of the runs, which the engine counted and kept; `Memory` where there is none;
 /// `Trail` never.
-pub(crate) fn kernel_modulo<R: Threads + Wait + Sync, B: Groebner>(
+pub fn kernel_modulo<R: Threads + Wait + Sync, B: Groebner>(
     rt: &R,
     alloc: Global,
     engine: &mut B,

@@ -1,5 +1,5 @@
 // The product of an ideal and a module.
-ghost use Rattle.std.specs.Prelude.{◌≡◌, ◌≤◌, ◌++◌, ◌∷◌, [], List, IfErr, IfOk, OnOk, map};
+ghost use Rattle.std.specs.Prelude.{◌≡◌, ◌<◌, ◌≤◌, ◌++◌, ◌∷◌, [], IfErr, IfOk, OnOk, get_or, length, map};
 ghost use Rattle.formal_sums.specs.FormalSums.{Each, FormalSum, product};
 ghost use Rattle.formal_sums.specs.Combinations.{IsMember};
 ghost use Rattle.operation_laws.specs.Operations.{products_of};
@@ -30,29 +30,30 @@ fn copy_parts(alloc: Global, ring: &Ring, b: &Vect) -> Result<(Ring, Vect), NoMe
     Ok((copied_ring, vector))
 }
 
-// The product of this monomial and the first member.
-fn first_product(alloc: Global, s: Mono) -> Result<Vec<(u64, Mono)>, NoMemory>
-    ensures { IfOk result (λ products. products.items ≡ (0, s) ∷ []) }
+// The product of this monomial and the member with this index.
+fn one_product(alloc: Global, index: usize, s: Mono) -> Result<Vec<(u64, Mono)>, NoMemory>
+    ensures { IfOk result (λ products. products.items ≡ (index, s) ∷ []) }
 {
     let mut products = Vec::new(alloc);
-    products.push((0, s))?;
+    products.push((index as u64, s))?;
     Ok(products)
 }
 
-// The trail of the product of a monomial of b and one of the member.
+// The trail of the product of a monomial of b and one of the member with this index.
 fn trail_of(
     alloc: Global,
     ring: &Ring,
     b: &Vect,
-    member: VectList,
+    members: VectList,
+    index: usize,
     s: Mono,
     t: Mono,
 ) -> Result<KeptTrail, NoMemory>
     ensures of { IfOk result (λ r. (r.ring ≡ ring.now) × (r.rank ≡ 0) × (r.generators ≡ []) × (r.below.items ≡ [])
-        × (r.start ≡ Product) × (r.vector ≡ b.now) × (r.members ≡ member)) }
-    ensures step { IfOk result (λ r. (r.products.items ≡ (0, s) ∷ []) × (r.last ≡ t)) }
+        × (r.start ≡ Product) × (r.vector ≡ b.now) × (r.members ≡ members)) }
+    ensures step { IfOk result (λ r. (r.products.items ≡ (index, s) ∷ []) × (r.last ≡ t)) }
 {
-    let products = first_product(alloc, s)?;
+    let products = one_product(alloc, index, s)?;
     let (copied_ring, vector) = copy_parts(alloc, ring, b)?;
     Ok(KeptTrail {
         ring: copied_ring,
@@ -61,32 +62,56 @@ fn trail_of(
         below: Vec::new(alloc),
         start: TrailStart::Product,
         vector,
-        members: member,
+        members,
         products,
         last: t,
     })
 }
 
-/// The stop of the product with its trail.
+/// The stop of the product of b and the member with this index, with its trail.
 pub(crate) fn stop_of(
     alloc: Global,
     ring: &Ring,
     b: &Vect,
-    member: VectList,
+    members: VectList,
+    index: usize,
     stop: VectStop,
 ) -> WorkStop
     requires b { IsVectorOver ring.now (ring_comparison ring.now) b.now }
     requires b_positions { HasPositions 1 b.now }
-    requires stop { CombinationStops b.now member stop }
-    ensures { (c : _) → IsVectorOver ring.now (ring_comparison ring.now) c → member ≡ c ∷ []
-        → WorkStops (IsProductTrail ring.now b.now c) result }
+    requires members { AreVectorsOver ring.now (ring_comparison ring.now) members }
+    requires index { index < length members }
+    requires stop { CombinationStops b.now (get_or members index [] ∷ []) stop }
+    ensures { WorkStops (IsProductTrail ring.now b.now members index) result }
 {
     match stop {
         VectStop::Memory => WorkStop::Memory,
-        VectStop::Degree(s, t) => match trail_of(alloc, ring, b, member, s, t) {
+        VectStop::Degree(s, t) => match trail_of(alloc, ring, b, members, index, s, t) {
             Ok(trail) => WorkStop::Degree(trail),
             Err(_none) => WorkStop::Memory,
         },
+    }
+}
+
+// The same of a list that is copied.
+fn stop_in(
+    alloc: Global,
+    ring: &Ring,
+    b: &Vect,
+    list: &VectList,
+    index: usize,
+    stop: VectStop,
+) -> WorkStop
+    requires b { IsVectorOver ring.now (ring_comparison ring.now) b.now }
+    requires b_positions { HasPositions 1 b.now }
+    requires list { AreVectorsOver ring.now (ring_comparison ring.now) list.now }
+    requires index { index < length list.now }
+    requires stop { CombinationStops b.now (get_or list.now index [] ∷ []) stop }
+    ensures { WorkStops (IsProductTrail ring.now b.now list.now index) result }
+{
+    match VectList::copy_of(alloc, list) {
+        Ok(members) => stop_of(alloc, ring, b, members, index, stop),
+        Err(_none) => WorkStop::Memory,
     }
 }
 
@@ -100,19 +125,27 @@ fn alone(alloc: Global, c: &Vect) -> Result<VectList, NoMemory>
     Ok(list)
 }
 
-// b c, for a polynomial b.
-fn times(alloc: Global, ring: &Ring, b: &Vect, c: &Vect) -> Result<Vect, WorkStop>
+// b times the member with this index, for a polynomial b.
+fn times(
+    alloc: Global,
+    ring: &Ring,
+    b: &Vect,
+    right: &VectList,
+    index: usize,
+) -> Result<Vect, WorkStop>
     requires b { IsVectorOver ring.now (ring_comparison ring.now) b.now }
     requires b_positions { HasPositions 1 b.now }
-    requires c { IsVectorOver ring.now (ring_comparison ring.now) c.now }
+    requires right { AreVectorsOver ring.now (ring_comparison ring.now) right.now }
+    requires index { index < length right.now }
     ensures vector { IfOk result (IsVectorOver ring.now (ring_comparison ring.now)) }
-    ensures product { let n = variables ring.now in IfOk result (λ v. StandsFor ring.now v (product (sum_of n b.now) (sum_of n c.now))) }
-    ensures stop { IfErr result (WorkStops (IsProductTrail ring.now b.now c.now)) }
+    ensures product { let n = variables ring.now in
+        IfOk result (λ v. StandsFor ring.now v (product (sum_of n b.now) (sum_of n (get_or right.now index [])))) }
+    ensures stop { IfErr result (WorkStops (IsProductTrail ring.now b.now right.now index)) }
 {
-    let one = alone(alloc, c)?;
+    let one = alone(alloc, &right.as_slice()[index])?;
     match Vect::combine(alloc, ring, b, &one) {
         Ok(v) => Ok(v),
-        Err(stop) => Err(stop_of(alloc, ring, b, one, stop)),
+        Err(stop) => Err(stop_in(alloc, ring, b, right, index, stop)),
     }
 }
 
@@ -127,8 +160,7 @@ fn row(alloc: Global, ring: &Ring, b: &Vect, right: &VectList) -> Result<VectLis
 {
     let mut list = Vec::new(alloc);
     for j in 0..right.len() {
-        let c = &right.as_slice()[j];
-        let v = match times(alloc, ring, b, c) {
+        let v = match times(alloc, ring, b, right, j) {
             Ok(v) => v,
             Err(stop) => return Err(stop),
         };
@@ -177,7 +209,7 @@ fn products(
 /// (IVA chapter 4, section 3).
 ///
 /// `Pairs` and `Degree` are the run's, which the engine counted and kept; `Trail` comes with that of the product of two
-/// members; `Memory` where there is none.
+/// members, whose vector is that of the first list and whose members are the second list; `Memory` where there is none.
 pub fn product<R: Threads + Wait + Sync, B: Groebner>(
     rt: &R,
     alloc: Global,

@@ -1,5 +1,5 @@
 // The saturation of a module by a polynomial.
-ghost use Rattle.std.specs.Prelude.{◌≡◌, ◌≤◌, ◌<◌, ◌-◌, ◌++◌, IfOk, IfErr, OnOk, suc};
+ghost use Rattle.std.specs.Prelude.{◌≡◌, ◌≤◌, ◌<◌, ◌-◌, ◌++◌, ◌∷◌, [], IfOk, IfErr, OnOk, suc};
 ghost use Rattle.formal_sums.specs.FormalSums.{Each, FormalSum, IsOfRank, scale};
 ghost use Rattle.operation_laws.specs.Operations.{IsInSaturation, basis_vector, first_variable, inverse_vector, listed, saturation_list, with_first};
 ghost use Rattle.module_vectors.specs.FrontVariables.{front_ring};
@@ -41,7 +41,7 @@ fn turned_stop(
     requires u_positions { HasPositions 1 u.now }
     requires stop { ScaledStops (ring.now.modulus.value - 1) t.now u.now stop }
     ensures { (g : FormalSum (suc (variables ring.now))) → IsFrontVector ring.now g u.now
-        → WorkStops (IsFrontTrail ring.now g (front_polynomial (variables ring.now))) result }
+        → WorkStops (IsFrontTrail ring.now g (front_polynomial (variables ring.now) ∷ []) 0) result }
 {
     match stop {
         VectStop::Memory => WorkStop::Memory,
@@ -67,7 +67,7 @@ fn negative_multiple(
     ensures vector { let n = variables ring.now in IfOk result
         (IsFrontVector ring.now (scale (ring.now.modulus.value - 1) (first_variable n) (with_first (sum_of n f.now)))) }
     ensures stop { let n = variables ring.now in
-        IfErr result (WorkStops (IsFrontTrail ring.now (with_first (sum_of n f.now)) (front_polynomial n))) }
+        IfErr result (WorkStops (IsFrontTrail ring.now (with_first (sum_of n f.now)) (front_polynomial n ∷ []) 0)) }
 {
     lawful_setting(ring);
     let u = in_front(alloc, ring, front, f)?;

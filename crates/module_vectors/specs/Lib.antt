@@ -6,5 +6,6 @@ pub mod Stops
 pub mod Multiples
 pub mod Trails
 pub mod FrontVariables
+pub mod Doubling
 -- invariants of loops
 pub mod Merging

@@ -8,7 +8,7 @@ use Rattle.zp_field.specs.Moduli.{is_modulus}
 use Rattle.module_vectors.specs.declared.ring.Ring.{Ring}
 use Rattle.script_parse.specs.Answers.{AnswersLine}
 use Rattle.script_parse.specs.Forms.{IsFormOf, IsLineOf, head_of}
-use Rattle.script_parse.specs.Tests.{AnswersForm, HoldsOf, IsFormed, IsPolynomial, IsStated, elimination_fits, known_names, low_degree, rank_fits, repeats, right_kinds}
+use Rattle.script_parse.specs.Tests.{AnswersForm, HoldsOf, IsFormed, IsPolynomial, IsStated, known_names, low_degree, number_fits, rank_fits, repeats, right_kinds}
 use Rattle.script_parse.specs.RingForms.{ring_line_of}
 use Rattle.script_parse.specs.Refusals.{HasFaultyRing, HasGreatDegree, HasGreatNumeral, HasOtherElim, HasOtherFactor, HasOtherKind, HasOtherModulus, HasOtherRank, HasOtherWeights, HasUnknownName, RefusalHolds, LacksRing, place}
 use Rattle.script_parse.specs.Statements.{Makes}
@@ -83,7 +83,7 @@ module _ (ring : Option Ring) (infos : List NameInfo) (line : List ℕ) (w : Wri
   of_form kinds.Modulus h = subst (λ v. HasOtherModulus line v) (one_line line h.0 w h.1 is) h.2
   of_form kinds.Name h = subst (λ v. HasUnknownName ring infos line v) (one_line line h.0 w h.1 is) h.2
   of_form kinds.OfKind h = subst (λ v. HasOtherKind ring infos line v) (one_line line h.0 w h.1 is) h.2
-  of_form kinds.Rank h = subst (λ v. HasOtherRank infos line v) (one_line line h.0 w h.1 is) h.2
+  of_form kinds.Rank h = subst (λ v. HasOtherRank ring infos line v) (one_line line h.0 w h.1 is) h.2
   of_form kinds.Degree h = subst (λ v. HasGreatDegree ring line v) (one_line line h.0 w h.1 is) h.2
   of_form kinds.Homogeneous h = h
   of_form kinds.Leads h = h
@@ -259,16 +259,16 @@ no_other_modulus line _ head e h = h
 module _ (o : Option Ring) (ring : Ring) (infos : List NameInfo) (line : List ℕ) (w : Written) (head : Head) (pieces : List (Vec Step Global)) (stated : o ≡ Some ring) (is : IsLineOf head pieces w) where
   -- no kind before the place n holds, by the tests that were passed
   record Passed (n : ℕ) : Type 0 where
-    eliminates : 3 < n → elimination_fits (length ring.vars) line head ≡ true
+    number : 3 < n → number_fits (length ring.vars) line head ≡ true
     name : 5 < n → known_names ring.vars infos line head pieces ≡ true
     kind : 6 < n → right_kinds ring.vars infos line head pieces ≡ true
-    rank : 7 < n → rank_fits infos line head (length pieces) ≡ true
+    rank : 7 < n → rank_fits (length ring.vars) infos line head (length pieces) ≡ true
     degree : 8 < n → list_all (λ v. low_degree ring line v.items) pieces ≡ true
 
   none_before : (n : ℕ) → Passed n → (earlier : Kind) → place earlier < n → HoldsOf (Some ring) infos line w earlier → ⊥
   none_before n p kinds.Syntax lt h = h
   none_before n p kinds.Numeral lt h = h
-  none_before n p kinds.Ring lt h = has_ring ring infos line w head pieces is (p.eliminates lt) h
+  none_before n p kinds.Ring lt h = has_ring ring infos line w head pieces is (p.number lt) h
   none_before n p kinds.Modulus lt h = no_other_modulus line w head is.head_is h
   none_before n p kinds.Name lt h = each_known ring infos line w head pieces is (p.name lt) h
   none_before n p kinds.OfKind lt h = each_right ring infos line w head pieces is (p.kind lt) h
@@ -283,22 +283,22 @@ module _ (o : Option Ring) (ring : Ring) (infos : List NameInfo) (line : List �
   refused : (kind : Kind) → Passed (place kind) → HoldsOf (Some ring) infos line w kind → AnswersForm o infos line w (Err (Refused kind))
   refused kind p h = subst (λ r. AnswersForm r infos line w (Err (Refused kind))) (sym stated) (h, none_before (place kind) p)
 
-  pub ring_refused : elimination_fits (length ring.vars) line head ≡ false → AnswersForm o infos line w (Err (Refused kinds.Ring))
-  ring_refused e = refused kinds.Ring (record { eliminates = λ lt. absurd (omega (arith, lt)); name = λ lt. absurd (omega (arith, lt)); kind = λ lt. absurd (omega (arith, lt)); rank = λ lt. absurd (omega (arith, lt)); degree = λ lt. absurd (omega (arith, lt)) }) (lacks_ring ring infos line w head pieces is e)
+  pub ring_refused : number_fits (length ring.vars) line head ≡ false → AnswersForm o infos line w (Err (Refused kinds.Ring))
+  ring_refused e = refused kinds.Ring (record { number = λ lt. absurd (omega (arith, lt)); name = λ lt. absurd (omega (arith, lt)); kind = λ lt. absurd (omega (arith, lt)); rank = λ lt. absurd (omega (arith, lt)); degree = λ lt. absurd (omega (arith, lt)) }) (lacks_ring ring infos line w head pieces is e)
 
-  pub name_refused : elimination_fits (length ring.vars) line head ≡ true → known_names ring.vars infos line head pieces ≡ false → AnswersForm o infos line w (Err (Refused kinds.Name))
-  name_refused m e = refused kinds.Name (record { eliminates = λ lt. m; name = λ lt. absurd (omega (arith, lt)); kind = λ lt. absurd (omega (arith, lt)); rank = λ lt. absurd (omega (arith, lt)); degree = λ lt. absurd (omega (arith, lt)) }) (unknown_name ring infos line w head pieces is e)
+  pub name_refused : number_fits (length ring.vars) line head ≡ true → known_names ring.vars infos line head pieces ≡ false → AnswersForm o infos line w (Err (Refused kinds.Name))
+  name_refused m e = refused kinds.Name (record { number = λ lt. m; name = λ lt. absurd (omega (arith, lt)); kind = λ lt. absurd (omega (arith, lt)); rank = λ lt. absurd (omega (arith, lt)); degree = λ lt. absurd (omega (arith, lt)) }) (unknown_name ring infos line w head pieces is e)
 
-  pub kind_refused : elimination_fits (length ring.vars) line head ≡ true → known_names ring.vars infos line head pieces ≡ true → right_kinds ring.vars infos line head pieces ≡ false → AnswersForm o infos line w (Err (Refused kinds.OfKind))
-  kind_refused m n e = refused kinds.OfKind (record { eliminates = λ lt. m; name = λ lt. n; kind = λ lt. absurd (omega (arith, lt)); rank = λ lt. absurd (omega (arith, lt)); degree = λ lt. absurd (omega (arith, lt)) }) (other_kind ring infos line w head pieces is e)
+  pub kind_refused : number_fits (length ring.vars) line head ≡ true → known_names ring.vars infos line head pieces ≡ true → right_kinds ring.vars infos line head pieces ≡ false → AnswersForm o infos line w (Err (Refused kinds.OfKind))
+  kind_refused m n e = refused kinds.OfKind (record { number = λ lt. m; name = λ lt. n; kind = λ lt. absurd (omega (arith, lt)); rank = λ lt. absurd (omega (arith, lt)); degree = λ lt. absurd (omega (arith, lt)) }) (other_kind ring infos line w head pieces is e)
 
-  pub rank_refused : elimination_fits (length ring.vars) line head ≡ true → known_names ring.vars infos line head pieces ≡ true → right_kinds ring.vars infos line head pieces ≡ true → rank_fits infos line head (length pieces) ≡ false → AnswersForm o infos line w (Err (Refused kinds.Rank))
-  rank_refused m n k e = refused kinds.Rank (record { eliminates = λ lt. m; name = λ lt. n; kind = λ lt. k; rank = λ lt. absurd (omega (arith, lt)); degree = λ lt. absurd (omega (arith, lt)) }) (other_rank ring infos line w head pieces is e)
+  pub rank_refused : number_fits (length ring.vars) line head ≡ true → known_names ring.vars infos line head pieces ≡ true → right_kinds ring.vars infos line head pieces ≡ true → rank_fits (length ring.vars) infos line head (length pieces) ≡ false → AnswersForm o infos line w (Err (Refused kinds.Rank))
+  rank_refused m n k e = refused kinds.Rank (record { number = λ lt. m; name = λ lt. n; kind = λ lt. k; rank = λ lt. absurd (omega (arith, lt)); degree = λ lt. absurd (omega (arith, lt)) }) (other_rank ring infos line w head pieces is e)
 
   pub degree_refused :
-      elimination_fits (length ring.vars) line head ≡ true → known_names ring.vars infos line head pieces ≡ true → right_kinds ring.vars infos line head pieces ≡ true → rank_fits infos line head (length pieces) ≡ true
+      number_fits (length ring.vars) line head ≡ true → known_names ring.vars infos line head pieces ≡ true → right_kinds ring.vars infos line head pieces ≡ true → rank_fits (length ring.vars) infos line head (length pieces) ≡ true
       → list_all (λ v. low_degree ring line v.items) pieces ≡ false → AnswersForm o infos line w (Err (Refused kinds.Degree))
-  degree_refused m n k r e = refused kinds.Degree (record { eliminates = λ lt. m; name = λ lt. n; kind = λ lt. k; rank = λ lt. r; degree = λ lt. absurd (omega (arith, lt)) }) (great_degree ring infos line w head pieces is e)
+  degree_refused m n k r e = refused kinds.Degree (record { number = λ lt. m; name = λ lt. n; kind = λ lt. k; rank = λ lt. r; degree = λ lt. absurd (omega (arith, lt)) }) (great_degree ring infos line w head pieces is e)
 
   place_small : (kind : Kind) → place kind < 14
   place_small kinds.Syntax = omega arith
@@ -316,11 +316,11 @@ module _ (o : Option Ring) (ring : Ring) (infos : List NameInfo) (line : List �
   place_small kinds.Many = omega arith
 
   pub line_stated :
-      elimination_fits (length ring.vars) line head ≡ true → known_names ring.vars infos line head pieces ≡ true → right_kinds ring.vars infos line head pieces ≡ true → rank_fits infos line head (length pieces) ≡ true → list_all (λ v. low_degree ring line v.items) pieces ≡ true
+      number_fits (length ring.vars) line head ≡ true → known_names ring.vars infos line head pieces ≡ true → right_kinds ring.vars infos line head pieces ≡ true → rank_fits (length ring.vars) infos line head (length pieces) ≡ true → list_all (λ v. low_degree ring line v.items) pieces ≡ true
       → (result : Result Statement ParseStop) → IsStated ring line head pieces result → AnswersForm o infos line w result
   line_stated m n k r d result h = subst (λ x. AnswersForm x infos line w result) (sym stated) (by_result result h)
     where
       by_result : (result : Result Statement ParseStop) → IsStated ring line head pieces result → AnswersForm (Some ring) infos line w result
-      by_result (Ok statement) h = (h w is, λ kind. none_before 14 (record { eliminates = λ lt. m; name = λ lt. n; kind = λ lt. k; rank = λ lt. r; degree = λ lt. d }) kind (place_small kind))
+      by_result (Ok statement) h = (h w is, λ kind. none_before 14 (record { number = λ lt. m; name = λ lt. n; kind = λ lt. k; rank = λ lt. r; degree = λ lt. d }) kind (place_small kind))
       by_result (Err Memory) h = tt
       by_result (Err (Refused kind)) h = absurd h

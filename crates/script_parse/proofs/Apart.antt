@@ -1,9 +1,9 @@
 -- Words and heads that differ, told by numbers
 use Rattle.std.proofs.Common.{◌≡◌, ℕ, nat_eq, false, Option, Some, None, sym, ap, ◌∙◌}
 use Rattle.std.proofs.lemmas.Bool.{eq-eqb, false≢true}
-use Rattle.script_parse.specs.Written.{Word, change_word, division_word, equal_word, ideal_word, let_word, module_word, question_word, ring_word, show_word}
+use Rattle.script_parse.specs.Written.{Word, change_word, division_word, equal_word, express_word, ext_word, ideal_word, let_word, module_word, question_word, ring_word, show_word}
 use Rattle.script_parse.specs.declared.form.Head.{Head}
-use Rattle.script_parse.specs.declared.form.Head.TheVariants.{Ask, Change, Divide, Equal, Ideal, Let, Module, Show}
+use Rattle.script_parse.specs.declared.form.Head.TheVariants.{Ask, Change, Divide, Equal, Express, Ext, Ideal, Let, Module, Show}
 
 abbrev word_number : Option Word → ℕ
 word_number None = 0
@@ -16,6 +16,8 @@ word_number (Some (question_word question)) = 6
 word_number (Some (division_word division)) = 7
 word_number (Some equal_word) = 8
 word_number (Some change_word) = 9
+word_number (Some express_word) = 10
+word_number (Some ext_word) = 11
 
 -- two words with other numbers are not the same
 pub words_apart : {v w : Option Word} → v ≡ w → nat_eq (word_number v) (word_number w) ≡ false → ⊥
@@ -31,6 +33,8 @@ head_number (Some (Ask question value)) = 5
 head_number (Some (Divide division value)) = 6
 head_number (Some (Equal left right)) = 7
 head_number (Some (Change value order)) = 8
+head_number (Some Express) = 9
+head_number (Some (Ext value count)) = 10
 
 -- two heads with other numbers are not the same
 pub heads_apart : {g h : Option Head} → g ≡ h → nat_eq (head_number g) (head_number h) ≡ false → ⊥

@@ -13,14 +13,14 @@ use Rattle.poly_grammar.specs.declared.stop.ReadStop.{ReadStop}
 use Rattle.poly_grammar.specs.declared.stop.ReadStop.TheVariants.{Memory, Syntax}
 use Rattle.poly_grammar.proofs.Unique.{one_tree}
 use Rattle.script_parse.specs.Forms.{AreOperandsRead, AreReadAs, IsOperationRead}
-use Rattle.script_parse.specs.Written.{AreOperands, IsOnePoly, IsOperation, OperationWord, WrittenOperation, elimination, elimination_word, of_polynomial, of_two, operation_text, operation_word, polynomial_word, syzygies, syzygies_word, two_word}
+use Rattle.script_parse.specs.Written.{AreOperands, ArePolys, IsOnePoly, IsOperation, OperationWord, WrittenOperation, elimination, elimination_word, of_polynomial, of_two, operation_text, operation_word, polynomial_word, preimage, preimage_word, syzygies, syzygies_word, two_word}
 use Rattle.script_parse.specs.declared.operands.Binary.{Binary}
 use Rattle.script_parse.specs.declared.operands.Binary.TheVariants.{Colon, Intersect, Product, Sum}
 use Rattle.script_parse.specs.declared.operands.ByPolynomial.{ByPolynomial}
 use Rattle.script_parse.specs.declared.operands.ByPolynomial.TheVariants.{Quotient, Saturate}
 use Rattle.script_parse.specs.declared.operands.Operands.{Operands}
 use Rattle.script_parse.specs.declared.operands.Operands.TheVariants as shapes
-use Rattle.script_parse.proofs.Pieces.{name_is, named}
+use Rattle.script_parse.proofs.Pieces.{name_is, named, one_list}
 
 -- the word that a text is
 abbrev said : List ℕ → List ℕ → OperationWord → Option OperationWord → Option OperationWord
@@ -30,7 +30,7 @@ abbrev word_named : List ℕ → Option OperationWord
 word_named text =
     said text (codes "sum") (two_word Sum) (said text (codes "product") (two_word Product) (said text (codes "intersect") (two_word Intersect)
     (said text (codes "colon") (two_word Colon) (said text (codes "quotient") (polynomial_word Quotient) (said text (codes "saturate") (polynomial_word Saturate)
-    (said text (codes "eliminate") elimination_word (said text (codes "syz") syzygies_word None)))))))
+    (said text (codes "eliminate") elimination_word (said text (codes "syz") syzygies_word (said text (codes "preimage") preimage_word None))))))))
 
 word_again : (w : OperationWord) → word_named (operation_text w) ≡ Some w
 word_again (two_word Sum) = refl
@@ -41,6 +41,7 @@ word_again (polynomial_word Quotient) = refl
 word_again (polynomial_word Saturate) = refl
 word_again elimination_word = refl
 word_again syzygies_word = refl
+word_again preimage_word = refl
 
 -- no text is that of two words
 one_word : (text : List ℕ) (a b : OperationWord) → text ≡ operation_text a → text ≡ operation_text b → a ≡ b
@@ -97,6 +98,20 @@ module _ (xs rest : List Lexeme) (t : Token) (is : xs ≡ name t ∷ rest) where
           h (p ∷ []) (p, refl, subst (λ l. Reads l p) (sym same) k.2)
       go _ e k = absurd cc
 
+  pub preimage_read : (found : Vec (Vec Step Global) Global) → AreReadAs (ArePolys rest) (Ok found) → AreOperandsRead preimage_word xs (Ok (shapes.Preimage t, found))
+  preimage_read found (images, are, items) = (preimage t images, refl, (rest, is, are), refl, items)
+
+  pub preimage_none : (stop : ReadStop) → AreReadAs (ArePolys rest) (Err stop) → AreOperandsRead preimage_word xs (Err stop)
+  preimage_none Memory h = tt
+  preimage_none Syntax h = go
+    where
+      go : (operation : WrittenOperation) → operation_word operation ≡ preimage_word → AreOperands xs operation → ⊥
+      go (preimage value images) e k =
+          let all : name t ∷ rest ≡ name value ∷ k.0 = sym is ∙ k.1 in
+          let same : rest ≡ k.0 = cc in
+          h images (subst (λ l. ArePolys l images) (sym same) k.2)
+      go _ e k = absurd cc
+
 same_operands : (xs : List Lexeme) (v w : WrittenOperation) → operation_word v ≡ operation_word w → AreOperands xs v → AreOperands xs w → v ≡ w
 same_operands xs (of_two a l r) (of_two b l' r') e h k =
     let all : name l ∷ name r ∷ [] ≡ name l' ∷ name r' ∷ [] = sym h ∙ k in
@@ -120,6 +135,11 @@ same_operands xs (syzygies t) (syzygies t') e h k =
     let all : name t ∷ [] ≡ name t' ∷ [] = sym h ∙ k in
     let values : t ≡ t' = cc in
     ap syzygies values
+same_operands xs (preimage t ps) (preimage t' qs) e h k =
+    let all : name t ∷ h.0 ≡ name t' ∷ k.0 = sym h.1 ∙ k.1 in
+    let values : t ≡ t' = cc in
+    let rest : h.0 ≡ k.0 = cc in
+    ap₂ preimage values (one_list k.0 ps qs (subst (λ l. ArePolys l ps) rest h.2) k.2)
 same_operands xs v w e h k = absurd cc
 
 -- an operation is written in one way

@@ -1,6 +1,7 @@
 pub mod Answering
 pub mod Apart
 pub mod Chains
+pub mod Expressed
 pub mod LetLines
 pub mod Lines
 pub mod Listing
@@ -10,6 +11,7 @@ pub mod Pieces
 pub mod Ranks
 pub mod RingLines
 pub mod RingNumbers
+pub mod States
 pub mod Stating
 pub mod Testing
 pub mod Texts

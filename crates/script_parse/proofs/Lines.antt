@@ -14,9 +14,9 @@ use Rattle.poly_grammar.specs.Trees.{Poly}
 use Rattle.poly_grammar.specs.declared.step.Step.{Step}
 use Rattle.poly_grammar.proofs.Unique.{one_tree}
 use Rattle.poly_grammar.specs.Machine.{Gives}
-use Rattle.script_parse.specs.Forms.{AreReadAs, AreVectorsRead, IsOperationRead, IsRead, IsReadBehind, head_of}
+use Rattle.script_parse.specs.Forms.{AreExpressed, AreReadAs, AreVectorsRead, IsOperationRead, IsRead, IsReadBehind, head_of}
 use Rattle.script_parse.specs.RingForms.{ring_line_of, ring_of}
-use Rattle.script_parse.specs.Written.{AreEntries, ArePolys, AreVectors, IsOnePoly, IsOperation, IsOrder, Written, ask_line, change_line, change_word, divide_line, equal_line, ideal_line, let_line, module_line, nothing, ring_line, show_line, Word, division_word, equal_word, ideal_word, let_word, module_word, question_word, ring_word, show_word, polys_of, word_text, word_of, IsBehind, IsLine, IsRingLine, IsWritten, IsWrittenAs}
+use Rattle.script_parse.specs.Written.{AreEntries, ArePolys, AreVectors, IsOnePoly, IsOperation, IsOrder, Written, ask_line, change_line, change_word, divide_line, equal_line, express_line, ext_line, ideal_line, let_line, module_line, nothing, ring_line, show_line, Word, division_word, equal_word, express_word, ext_word, ideal_word, let_word, module_word, question_word, ring_word, show_word, polys_of, word_text, word_of, IsBehind, IsLine, IsRingLine, IsWritten, IsWrittenAs}
 use Rattle.script_parse.specs.declared.form.Division.{Division}
 use Rattle.script_parse.specs.declared.form.Division.TheVariants.{Lift, Member, NormalForm}
 use Rattle.script_parse.specs.declared.form.Head.{Head}
@@ -29,6 +29,7 @@ use Rattle.script_parse.specs.declared.operands.Operands.{Operands}
 use Rattle.script_parse.specs.declared.ring_words.RingForm.{RingForm}
 use Rattle.script_parse.specs.declared.vectors.Shape.{Shape}
 use Rattle.script_parse.proofs.Apart.{words_apart}
+use Rattle.script_parse.proofs.Expressed.{one_expression}
 use Rattle.script_parse.proofs.LetLines.{same_operation}
 use Rattle.script_parse.proofs.Pieces.{name_is, named, one_list, one_vector}
 use Rattle.script_parse.proofs.VectorLists.{one_list_of_vectors}
@@ -47,7 +48,7 @@ word_named text =
     (said text (codes "member") (division_word Member) (said text (codes "equal") equal_word (said text (codes "module") module_word
     (said text (codes "let") let_word (said text (codes "hilb") (question_word Hilbert) (said text (codes "lift") (division_word Lift) (said text (codes "fglm") change_word (said text (codes "res") (question_word Resolution)
     (said text (codes "minres") (question_word Minimal) (said text (codes "betti") (question_word Betti)
-    (said text (codes "reg") (question_word Regularity) None)))))))))))))))))
+    (said text (codes "reg") (question_word Regularity) (said text (codes "express") express_word (said text (codes "ext") ext_word None)))))))))))))))))))
 
 word_again : (w : Word) → word_named (word_text w) ≡ Some w
 word_again ring_word = refl
@@ -68,6 +69,8 @@ word_again (division_word Member) = refl
 word_again (division_word Lift) = refl
 word_again equal_word = refl
 word_again change_word = refl
+word_again express_word = refl
+word_again ext_word = refl
 
 -- no text is that of two words
 one_word : (text : List ℕ) (a b : Word) → text ≡ word_text a → text ≡ word_text b → a ≡ b
@@ -143,6 +146,15 @@ pub show_split : (line : List ℕ) (xs : List Lexeme) (w : Written) → word_of 
 show_split line xs (show_line p) e h = (p ∷ [], (p, refl, h))
 show_split line xs _ e h = absurd (words_apart e refl)
 
+pub express_made : (line : List ℕ) (xs : List Lexeme) (ps : List Poly) → AreExpressed line xs ps → (w : Written) × (word_of w ≡ Some express_word) × IsBehind line xs w × (head_of w ≡ Some heads.Express) × (polys_of w ≡ ps)
+express_made line xs [] k = absurd k
+express_made line xs (p ∷ images) k = (express_line p images, refl, k, refl, refl)
+
+pub express_split : (line : List ℕ) (xs : List Lexeme) (w : Written) → word_of w ≡ Some express_word → IsBehind line xs w → (ps : List Poly) × AreExpressed line xs ps
+express_split line xs (express_line p images) e h = (p ∷ images, h)
+express_split line xs nothing e h = absurd h
+express_split line xs _ e h = absurd (words_apart e refl)
+
 module _ (line : List ℕ) (xs rest : List Lexeme) (t : Token) (is : xs ≡ name t ∷ rest) where
   -- what stands behind the first name
   behind_name : (s : Token) (ys : List Lexeme) → xs ≡ name s ∷ ys → rest ≡ ys
@@ -214,6 +226,9 @@ module _ (line : List ℕ) (xs rest : List Lexeme) (t : Token) (is : xs ≡ name
   pub equal_read : (s : Token) (after : List Lexeme) (found : Vec (Vec Step Global) Global) → rest ≡ name s ∷ after → after ≡ [] → found.items ≡ [] → IsReadBehind equal_word line xs (Ok (forms.Line (heads.Equal t s) found))
   equal_read s after found e f none = (equal_line t s, refl, is ∙ ap (λ l. name t ∷ l) (e ∙ ap (λ l. name s ∷ l) f), record { head_is = refl; steps_are = ap (λ l. map (λ v. v.items) l) none })
 
+  pub ext_read : (k : Token) (after : List Lexeme) (found : Vec (Vec Step Global) Global) → rest ≡ number k ∷ after → after ≡ [] → found.items ≡ [] → IsReadBehind ext_word line xs (Ok (forms.Line (heads.Ext t k) found))
+  ext_read k after found e f none = (ext_line t k, refl, is ∙ ap (λ l. name t ∷ l) (e ∙ ap (λ l. number k ∷ l) f), record { head_is = refl; steps_are = ap (λ l. map (λ v. v.items) l) none })
+
   -- a parser of an order gives a `fglm` line, or there is none
   pub change_read : (order : OrderName) (found : Vec (Vec Step Global) Global) → IsOrder line rest order → found.items ≡ []
       → IsReadBehind change_word line xs (Ok (forms.Line (heads.Change t order) found))
@@ -273,6 +288,12 @@ same_behind line xs (change_line a o) (change_line b q) word e f h k =
     let values : a ≡ b = cc in
     let rest : h.0 ≡ k.0 = cc in
     ap₂ change_line values (one_order line k.0 o q (subst (λ l. IsOrder line l o) rest h.2) k.2)
+same_behind line xs (express_line p ps) (express_line q qs) word e f h k = let one = one_expression line xs p q ps qs h k in ap₂ express_line one.0 one.1
+same_behind line xs (ext_line a c) (ext_line b d) word e f h k =
+    let all : name a ∷ number c ∷ [] ≡ name b ∷ number d ∷ [] = sym h ∙ k in
+    let values : a ≡ b = cc in
+    let counts : c ≡ d = cc in
+    ap₂ ext_line values counts
 same_behind line xs v w word e f h k = absurd (words_apart (e ∙ sym f) refl)
 
 blank_written : (line : List ℕ) (w : Written) → IsWritten line [] w → w ≡ nothing

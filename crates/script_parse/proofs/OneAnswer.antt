@@ -12,7 +12,7 @@ use Rattle.poly_grammar.specs.Trees.{Poly}
 use Rattle.poly_value.specs.Values.{IsValue}
 use Rattle.script_parse.specs.Refusals.{Refuses, place}
 use Rattle.script_parse.specs.Statements.{ArePolynomialsOf, AreVectorsOf, HasEntries, IsOperationOf, IsSameOperation, IsSameStatement, Says, States, entries_from}
-use Rattle.script_parse.specs.Written.{Written, WrittenOperation, ask_line, change_line, divide_line, elimination, equal_line, ideal_line, let_line, module_line, nothing, of_polynomial, of_two, ring_line, show_line, syzygies}
+use Rattle.script_parse.specs.Written.{Written, WrittenOperation, ask_line, change_line, divide_line, elimination, equal_line, express_line, ext_line, ideal_line, let_line, module_line, nothing, of_polynomial, of_two, preimage, ring_line, show_line, syzygies}
 use Rattle.script_parse.specs.declared.form.Division.TheVariants as divisions
 use Rattle.script_parse.specs.declared.form.Question.TheVariants as questions
 use Rattle.script_parse.specs.declared.kind.Kind.{Kind}
@@ -122,6 +122,9 @@ operation_same ring line (elimination t c) _ b h k = absurd h
 operation_same ring line (syzygies t) (operations.Syzygies a) (operations.Syzygies b) h k = h ∙ sym k
 operation_same ring line (syzygies t) (operations.Syzygies a) _ h k = absurd k
 operation_same ring line (syzygies t) _ b h k = absurd h
+operation_same ring line (preimage t ps) (operations.Preimage a v) (operations.Preimage b w) h k = (h.0 ∙ sym k.0, same_values ring line ps v w h.1 k.1)
+operation_same ring line (preimage t ps) (operations.Preimage a v) _ h k = absurd k
+operation_same ring line (preimage t ps) _ b h k = absurd h
 
 says_same : (ring : Option Ring) (line : List ℕ) (w : Written) (a b : Statement) → Says ring line w a → Says ring line w b → IsSameStatement a b
 says_same ring line nothing statements.Nothing statements.Nothing h k = tt
@@ -192,6 +195,13 @@ says_same ring line (equal_line s t) _ b h k = absurd h
 says_same ring line (change_line t q) (statements.Change a o) (statements.Change b r) h k = (h.0 ∙ sym k.0, h.1 ∙ sym k.1)
 says_same ring line (change_line t q) (statements.Change a o) _ h k = absurd k
 says_same ring line (change_line t q) _ b h k = absurd h
+says_same (Some ring) line (express_line p ps) (statements.Express f v) (statements.Express g w) h k = (same_value ring line p f g h.0.0 k.0.0 h.0.2 k.0.2, same_values ring line ps v w h.1 k.1)
+says_same (Some ring) line (express_line p ps) (statements.Express f v) _ h k = absurd k
+says_same (Some ring) line (express_line p ps) _ b h k = absurd h
+says_same None line (express_line p ps) a b h k = absurd h
+says_same ring line (ext_line t c) (statements.Ext a m) (statements.Ext b n) h k = (h.0 ∙ sym k.0, h.1 ∙ sym k.1)
+says_same ring line (ext_line t c) (statements.Ext a m) _ h k = absurd k
+says_same ring line (ext_line t c) _ b h k = absurd h
 
 pub one_statement : (ring : Option Ring) (infos : List NameInfo) (line : List ℕ) (a b : Statement) → States ring infos line a → States ring infos line b → IsSameStatement a b
 one_statement ring infos line a b s t =

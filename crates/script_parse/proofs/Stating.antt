@@ -20,7 +20,7 @@ use Rattle.script_parse.specs.Forms.{IsLineOf, operands_of, shape_behind}
 use Rattle.script_parse.specs.Tests.{AreVectorWorths, AreWorths, HaveNumerals, IsWorkable, IsWorth, StandsForEntries, is_known, is_no_value, known_names, knows, low_degree, module_fits, names_pass, right_kinds}
 use Rattle.script_parse.specs.Refusals.{rank_named}
 use Rattle.script_parse.specs.Statements.{ArePolynomialsOf, AreVectorsOf, IsOperationOf, IsPolynomialOf, IsVectorWith, Says}
-use Rattle.script_parse.specs.Written.{Written, WrittenOperation, divide_line, ideal_line, module_line, of_polynomial, operation_polys, show_line}
+use Rattle.script_parse.specs.Written.{Written, WrittenOperation, divide_line, express_line, ideal_line, module_line, of_polynomial, operation_polys, preimage, show_line}
 use Rattle.script_parse.specs.declared.form.Division.TheVariants.{Lift, Member, NormalForm}
 use Rattle.script_parse.specs.declared.form.Head.{Head}
 use Rattle.script_parse.specs.declared.form.Head.TheVariants as heads
@@ -136,6 +136,24 @@ show_says ring line pieces more v u e able worth (show_line p) is =
     let one = subst (λ l. AllByRecursion (IsWorkable ring line) l) e able in
     polynomial_of ring line p v u head one.0 worth
 show_says ring line pieces more v u e able worth _ is = absurd (heads_apart is.head_is refl)
+
+-- so is a polynomial that is expressed
+pub is_expressed : (pieces : List (Vec Step Global)) (w : Written) → IsLineOf heads.Express pieces w → 0 < length pieces
+is_expressed (v ∷ pieces) w is = omega arith
+is_expressed [] (express_line p images) is = let e = is.steps_are in absurd cc
+is_expressed [] _ is = absurd (heads_apart is.head_is refl)
+
+pub express_says :
+    (ring : Ring) (line : List ℕ) (pieces more : List (Vec Step Global)) (v : Vec Step Global) (u : List (Key × ℕ)) (us : List (List (Key × ℕ))) → pieces ≡ v ∷ more
+    → AllByRecursion (IsWorkable ring line) pieces → IsWorth ring line v.items u → AreWorths ring line more us
+    → (w : Written) → IsLineOf heads.Express pieces w → Says (Some ring) line w (statements.Express u us)
+express_says ring line pieces more v u us e able worth worths (express_line p images) is =
+    let all : map (λ v. v.items) (v ∷ more) ≡ steps p ∷ map steps images = ap (λ l. map (λ v. v.items) l) (sym e) ∙ is.steps_are in
+    let head : v.items ≡ steps p = cc in
+    let tail : map (λ v. v.items) more ≡ map steps images = cc in
+    let each = subst (λ l. AllByRecursion (IsWorkable ring line) l) e able in
+    (polynomial_of ring line p v u head each.0 worth, polynomials_are ring line more images us tail each.1 worths)
+express_says ring line pieces more v u us e able worth worths _ is = absurd (heads_apart is.head_is refl)
 
 pub ideal_says : (ring : Ring) (line : List ℕ) (pieces : List (Vec Step Global)) (given : Token) (name : _) (us : List (List (Key × ℕ))) → string_bytes name ≡ text_of line given → AllByRecursion (IsWorkable ring line) pieces → AreWorths ring line pieces us
     → (w : Written) → IsLineOf (heads.Ideal given) pieces w → Says (Some ring) line w (statements.Ideal name us)
@@ -284,3 +302,11 @@ saturation_says ring line pieces value name u d (of_polynomial Saturate t p) e s
     let same : value ≡ t = cc in (d.name_is ∙ ap (text_of line) same, divisor_of ring line pieces value (string_bytes name) u p d s)
 saturation_says ring line pieces value name u d (of_polynomial Quotient t p) e s = absurd cc
 saturation_says ring line pieces value name u d _ e s = absurd cc
+
+pub preimage_says :
+    (ring : Ring) (line : List ℕ) (pieces : List (Vec Step Global)) (value : Token) (name : _) (us : List (List (Key × ℕ))) → string_bytes name ≡ text_of line value
+    → AllByRecursion (IsWorkable ring line) pieces → AreWorths ring line pieces us
+    → (w : WrittenOperation) → operands_of w ≡ shapes.Preimage value → map (λ v. v.items) pieces ≡ map steps (operation_polys w) → IsOperationOf ring line w (operations.Preimage name us)
+preimage_says ring line pieces value name us n able worths (preimage t images) e s =
+    let same : value ≡ t = cc in (n ∙ ap (text_of line) same, polynomials_are ring line pieces images us s able worths)
+preimage_says ring line pieces value name us n able worths _ e s = absurd cc

@@ -19,11 +19,11 @@ use Rattle.poly_grammar.proofs.Names.{steps_have_names}
 use Rattle.poly_value.specs.Values.{place_of}
 use Rattle.module_vectors.specs.declared.ring.Ring.{Ring}
 use Rattle.script_parse.specs.Forms.{IsLineOf, head_of, operands_of, shape_behind}
-use Rattle.script_parse.specs.Tests.{elimination_fits, factor_fits, given_name, is_known, is_no_value, is_no_variable, known_names, low_degree, names_pass, operand_places, operands_eliminate, operands_fit, operands_multiply, order_eliminates, places, rank_fits, right_kinds, same_rank}
-use Rattle.script_parse.specs.Refusals.{HasElimOutside, HasGreatDegree, HasOtherFactor, HasOtherKind, HasOtherOperands, HasOtherRank, HasUnknownName, IsNamed, LacksRing, StandsInPoly, length_named, rank_named}
+use Rattle.script_parse.specs.Tests.{factor_fits, given_name, is_known, is_no_value, is_no_variable, known_names, low_degree, names_pass, number_fits, operand_places, operands_eliminate, operands_fit, operands_low, order_eliminates, places, rank_fits, right_kinds, same_rank}
+use Rattle.script_parse.specs.Refusals.{HasElimOutside, HasGreatDegree, HasOtherFactor, HasOtherImages, HasOtherKind, HasOtherOperands, HasOtherRank, HasUnknownName, IsNamed, LacksRing, StandsInPoly, length_named, rank_named}
 use Rattle.script_parse.specs.declared.ring_words.OrderName.{OrderName}
 use Rattle.script_parse.specs.declared.ring_words.OrderName.TheVariants.{Elim, Grevlex, Lex}
-use Rattle.script_parse.specs.Written.{Written, WrittenOperation, ask_line, change_line, divide_line, elimination, equal_line, given_by, ideal_line, let_line, module_line, nothing, of_polynomial, of_two, operation_places, polys_of, ring_line, show_line, syzygies, value_places}
+use Rattle.script_parse.specs.Written.{Written, WrittenOperation, ask_line, change_line, divide_line, elimination, equal_line, express_line, ext_line, given_by, ideal_line, let_line, module_line, nothing, of_polynomial, of_two, operation_places, operation_polys, polys_of, preimage, ring_line, show_line, syzygies, value_places}
 use Rattle.script_parse.specs.declared.form.Head.{Head}
 use Rattle.script_parse.specs.declared.form.Head.TheVariants as heads
 use Rattle.script_parse.specs.declared.named.NameInfo.{NameInfo}
@@ -132,6 +132,7 @@ operand_places_are (of_two word left right) = refl
 operand_places_are (of_polynomial word value p) = refl
 operand_places_are (elimination value count) = refl
 operand_places_are (syzygies value) = refl
+operand_places_are (preimage value images) = refl
 
 places_are : (w : Written) (head : Head) → head_of w ≡ Some head → places head ≡ value_places w
 places_are nothing head e = absurd cc
@@ -144,6 +145,8 @@ places_are (ask_line question value) head e = let is : heads.Ask question value 
 places_are (divide_line division value ps) head e = let is : heads.Divide division value ≡ head = same_Some _ _ e in ap places (sym is)
 places_are (equal_line left right) head e = let is : heads.Equal left right ≡ head = same_Some _ _ e in ap places (sym is)
 places_are (change_line value order) head e = let is : heads.Change value order ≡ head = same_Some _ _ e in ap places (sym is)
+places_are (express_line p images) head e = let is : heads.Express ≡ head = same_Some _ _ e in ap places (sym is)
+places_are (ext_line value count) head e = let is : heads.Ext value count ≡ head = same_Some _ _ e in ap places (sym is)
 
 given_are : (w : Written) (head : Head) → head_of w ≡ Some head → given_name head ≡ given_by w
 given_are nothing head e = absurd cc
@@ -156,6 +159,8 @@ given_are (ask_line question value) head e = let is : heads.Ask question value �
 given_are (divide_line division value ps) head e = let is : heads.Divide division value ≡ head = same_Some _ _ e in ap given_name (sym is)
 given_are (equal_line left right) head e = let is : heads.Equal left right ≡ head = same_Some _ _ e in ap given_name (sym is)
 given_are (change_line value order) head e = let is : heads.Change value order ≡ head = same_Some _ _ e in ap given_name (sym is)
+given_are (express_line p images) head e = let is : heads.Express ≡ head = same_Some _ _ e in ap given_name (sym is)
+given_are (ext_line value count) head e = let is : heads.Ext value count ≡ head = same_Some _ _ e in ap given_name (sym is)
 
 some_rank : (o : Option ℕ) → is_some o ≡ true → (r : ℕ) × (o ≡ Some r)
 some_rank None e = absurd cc
@@ -185,7 +190,7 @@ few n m e f lt = let le : n ≤ 1000 = leb-true n 1000 f in omega arith
 
 -- the tests of an operation
 
-other_factor_of : (names : List NameInfo) (line : List ℕ) (given : Token) (operation : WrittenOperation) → operands_multiply names line (operands_of operation) ≡ false → HasOtherFactor names line (let_line given operation)
+other_factor_of : (names : List NameInfo) (line : List ℕ) (given : Token) (operation : WrittenOperation) → operands_low names line (operands_of operation) ≡ false → HasOtherFactor names line (let_line given operation)
 other_factor_of names line given (of_two Product left right) e = rank_above (rank_named names (text_of line left)) e
 other_factor_of names line given (of_two Sum left right) e = absurd cc
 other_factor_of names line given (of_two Intersect left right) e = absurd cc
@@ -193,8 +198,9 @@ other_factor_of names line given (of_two Colon left right) e = absurd cc
 other_factor_of names line given (of_polynomial word value p) e = absurd cc
 other_factor_of names line given (elimination value count) e = absurd cc
 other_factor_of names line given (syzygies value) e = absurd cc
+other_factor_of names line given (preimage value images) e = rank_above (rank_named names (text_of line value)) e
 
-no_other_factor : (names : List NameInfo) (line : List ℕ) (given : Token) (operation : WrittenOperation) → operands_multiply names line (operands_of operation) ≡ true → HasOtherFactor names line (let_line given operation) → ⊥
+no_other_factor : (names : List NameInfo) (line : List ℕ) (given : Token) (operation : WrittenOperation) → operands_low names line (operands_of operation) ≡ true → HasOtherFactor names line (let_line given operation) → ⊥
 no_other_factor names line given (of_two Product left right) e h = low_not (rank_named names (text_of line left)) h.0 e h.1 h.2
 no_other_factor names line given (of_two Sum left right) e h = h
 no_other_factor names line given (of_two Intersect left right) e h = h
@@ -202,30 +208,43 @@ no_other_factor names line given (of_two Colon left right) e h = h
 no_other_factor names line given (of_polynomial word value p) e h = h
 no_other_factor names line given (elimination value count) e h = h
 no_other_factor names line given (syzygies value) e h = h
+no_other_factor names line given (preimage value images) e h = low_not (rank_named names (text_of line value)) h.0 e h.1 h.2
 
-other_operands_of : (names : List NameInfo) (line : List ℕ) (operation : WrittenOperation) → operands_fit names line (operands_of operation) ≡ false → HasOtherOperands names line operation
-other_operands_of names line (of_two Product left right) e = absurd cc
-other_operands_of names line (of_two Sum left right) e = ranks_differ (rank_named names (text_of line left)) (rank_named names (text_of line right)) e
-other_operands_of names line (of_two Intersect left right) e = ranks_differ (rank_named names (text_of line left)) (rank_named names (text_of line right)) e
-other_operands_of names line (of_two Colon left right) e = ranks_differ (rank_named names (text_of line left)) (rank_named names (text_of line right)) e
-other_operands_of names line (of_polynomial word value p) e = absurd cc
-other_operands_of names line (elimination value count) e = absurd cc
-other_operands_of names line (syzygies value) e = length_other (length_named names (text_of line value)) e
+-- images that are not as many as the variables
+images_differ : (ring : Ring) (images : List Poly) (count : ℕ) → count ≡ length images → nat_eq count (length ring.vars) ≡ false → HasOtherImages (Some ring) images
+images_differ ring images count n e same = eqb-false count (length ring.vars) e (n ∙ same)
 
-no_other_operands : (names : List NameInfo) (line : List ℕ) (operation : WrittenOperation) → operands_fit names line (operands_of operation) ≡ true → HasOtherOperands names line operation → ⊥
-no_other_operands names line (of_two Product left right) e h = h
-no_other_operands names line (of_two Sum left right) e h = h.4 (ranks_same (rank_named names (text_of line left)) (rank_named names (text_of line right)) h.0 h.1 e h.2 h.3)
-no_other_operands names line (of_two Intersect left right) e h = h.4 (ranks_same (rank_named names (text_of line left)) (rank_named names (text_of line right)) h.0 h.1 e h.2 h.3)
-no_other_operands names line (of_two Colon left right) e h = h.4 (ranks_same (rank_named names (text_of line left)) (rank_named names (text_of line right)) h.0 h.1 e h.2 h.3)
-no_other_operands names line (of_polynomial word value p) e h = h
-no_other_operands names line (elimination value count) e h = h
-no_other_operands names line (syzygies value) e h = length_low (length_named names (text_of line value)) h.0 e h.1 h.2
+images_same : (ring : Ring) (images : List Poly) (count : ℕ) → count ≡ length images → nat_eq count (length ring.vars) ≡ true → HasOtherImages (Some ring) images → ⊥
+images_same ring images count n e h = h (sym n ∙ eqb-true count (length ring.vars) e)
+
+other_operands_of : (ring : Ring) (names : List NameInfo) (line : List ℕ) (operation : WrittenOperation) (count : ℕ) → count ≡ length (operation_polys operation)
+    → operands_fit (length ring.vars) names line (operands_of operation) count ≡ false → HasOtherOperands (Some ring) names line operation
+other_operands_of ring names line (of_two Product left right) count n e = absurd cc
+other_operands_of ring names line (of_two Sum left right) count n e = ranks_differ (rank_named names (text_of line left)) (rank_named names (text_of line right)) e
+other_operands_of ring names line (of_two Intersect left right) count n e = ranks_differ (rank_named names (text_of line left)) (rank_named names (text_of line right)) e
+other_operands_of ring names line (of_two Colon left right) count n e = ranks_differ (rank_named names (text_of line left)) (rank_named names (text_of line right)) e
+other_operands_of ring names line (of_polynomial word value p) count n e = absurd cc
+other_operands_of ring names line (elimination value k) count n e = absurd cc
+other_operands_of ring names line (syzygies value) count n e = length_other (length_named names (text_of line value)) e
+other_operands_of ring names line (preimage value images) count n e = images_differ ring images count n e
+
+no_other_operands : (ring : Ring) (names : List NameInfo) (line : List ℕ) (operation : WrittenOperation) (count : ℕ) → count ≡ length (operation_polys operation)
+    → operands_fit (length ring.vars) names line (operands_of operation) count ≡ true → HasOtherOperands (Some ring) names line operation → ⊥
+no_other_operands ring names line (of_two Product left right) count n e h = h
+no_other_operands ring names line (of_two Sum left right) count n e h = h.4 (ranks_same (rank_named names (text_of line left)) (rank_named names (text_of line right)) h.0 h.1 e h.2 h.3)
+no_other_operands ring names line (of_two Intersect left right) count n e h = h.4 (ranks_same (rank_named names (text_of line left)) (rank_named names (text_of line right)) h.0 h.1 e h.2 h.3)
+no_other_operands ring names line (of_two Colon left right) count n e h = h.4 (ranks_same (rank_named names (text_of line left)) (rank_named names (text_of line right)) h.0 h.1 e h.2 h.3)
+no_other_operands ring names line (of_polynomial word value p) count n e h = h
+no_other_operands ring names line (elimination value k) count n e h = h
+no_other_operands ring names line (syzygies value) count n e h = length_low (length_named names (text_of line value)) h.0 e h.1 h.2
+no_other_operands ring names line (preimage value images) count n e h = images_same ring images count n e h
 
 outside_of : (ring : Ring) (line : List ℕ) (given : Token) (operation : WrittenOperation) → operands_eliminate (length ring.vars) line (operands_of operation) ≡ false → LacksRing (Some ring) line (let_line given operation)
 outside_of ring line given (elimination value count) e = inr (not_within (length ring.vars) (value_of line count) e)
 outside_of ring line given (of_two word left right) e = absurd cc
 outside_of ring line given (of_polynomial word value p) e = absurd cc
 outside_of ring line given (syzygies value) e = absurd cc
+outside_of ring line given (preimage value images) e = absurd cc
 
 not_outside : (ring : Ring) (line : List ℕ) (given : Token) (operation : WrittenOperation) → operands_eliminate (length ring.vars) line (operands_of operation) ≡ true → LacksRing (Some ring) line (let_line given operation) → ⊥
 not_outside ring line given (elimination value count) e (inl h) = absurd cc
@@ -233,54 +252,68 @@ not_outside ring line given (elimination value count) e (inr h) = within_not (le
 not_outside ring line given (of_two word left right) e h = absurd cc
 not_outside ring line given (of_polynomial word value p) e h = absurd cc
 not_outside ring line given (syzygies value) e h = absurd cc
+not_outside ring line given (preimage value images) e h = absurd cc
 
-other_rank_of : (names : List NameInfo) (line : List ℕ) (w : Written) (head : Head) (count : ℕ) → head_of w ≡ Some head → count ≡ length (polys_of w) → rank_fits names line head count ≡ false → HasOtherRank names line w
-other_rank_of names line nothing head count e n f = absurd cc
-other_rank_of names line (ring_line r) head count e n f = absurd cc
-other_rank_of names line (show_line p) head count e n f =
-    let is : head ≡ heads.Show = sym (same_Some _ _ e) in let no : true ≡ false = subst (λ h. rank_fits names line h count ≡ false) is f in absurd (false≢true (sym no))
-other_rank_of names line (ideal_line given ps) head count e n f =
-    let is : head ≡ heads.Ideal given = sym (same_Some _ _ e) in many count (length ps) n (subst (λ h. rank_fits names line h count ≡ false) is f)
-other_rank_of names line (module_line given rank vectors) head count e n f =
+-- the same with the polynomial that is expressed in front of them
+expressed_differ : (ring : Ring) (images : List Poly) (count : ℕ) → count ≡ suc (length images) → nat_eq count (length ring.vars + 1) ≡ false → HasOtherImages (Some ring) images
+expressed_differ ring images count n e same = eqb-false count (length ring.vars + 1) e (omega (arith, n, same))
+
+expressed_same : (ring : Ring) (images : List Poly) (count : ℕ) → count ≡ suc (length images) → nat_eq count (length ring.vars + 1) ≡ true → HasOtherImages (Some ring) images → ⊥
+expressed_same ring images count n e h = let q : count ≡ length ring.vars + 1 = eqb-true count (length ring.vars + 1) e in h (omega (arith, n, q))
+
+other_rank_of : (ring : Ring) (names : List NameInfo) (line : List ℕ) (w : Written) (head : Head) (count : ℕ) → head_of w ≡ Some head → count ≡ length (polys_of w) → rank_fits (length ring.vars) names line head count ≡ false → HasOtherRank (Some ring) names line w
+other_rank_of ring names line nothing head count e n f = absurd cc
+other_rank_of ring names line (ring_line r) head count e n f = absurd cc
+other_rank_of ring names line (show_line p) head count e n f =
+    let is : head ≡ heads.Show = sym (same_Some _ _ e) in let no : true ≡ false = subst (λ h. rank_fits (length ring.vars) names line h count ≡ false) is f in absurd (false≢true (sym no))
+other_rank_of ring names line (ideal_line given ps) head count e n f =
+    let is : head ≡ heads.Ideal given = sym (same_Some _ _ e) in many count (length ps) n (subst (λ h. rank_fits (length ring.vars) names line h count ≡ false) is f)
+other_rank_of ring names line (module_line given rank vectors) head count e n f =
     let is : head ≡ heads.Module given rank (shape_behind Empty vectors) = sym (same_Some _ _ e) in
-    vectors_other (value_of line rank) vectors count n (subst (λ h. rank_fits names line h count ≡ false) is f)
-other_rank_of names line (let_line given operation) head count e n f =
+    vectors_other (value_of line rank) vectors count n (subst (λ h. rank_fits (length ring.vars) names line h count ≡ false) is f)
+other_rank_of ring names line (let_line given operation) head count e n f =
     let is : head ≡ heads.Let given (operands_of operation) = sym (same_Some _ _ e) in
-    other_operands_of names line operation (subst (λ h. rank_fits names line h count ≡ false) is f)
-other_rank_of names line (ask_line question value) head count e n f =
-    let is : head ≡ heads.Ask question value = sym (same_Some _ _ e) in let no : true ≡ false = subst (λ h. rank_fits names line h count ≡ false) is f in absurd (false≢true (sym no))
-other_rank_of names line (divide_line division value ps) head count e n f =
+    other_operands_of ring names line operation count n (subst (λ h. rank_fits (length ring.vars) names line h count ≡ false) is f)
+other_rank_of ring names line (ask_line question value) head count e n f =
+    let is : head ≡ heads.Ask question value = sym (same_Some _ _ e) in let no : true ≡ false = subst (λ h. rank_fits (length ring.vars) names line h count ≡ false) is f in absurd (false≢true (sym no))
+other_rank_of ring names line (divide_line division value ps) head count e n f =
     let is : head ≡ heads.Divide division value = sym (same_Some _ _ e) in
-    let d = ranks_differ (rank_named names (text_of line value)) (Some count) (subst (λ h. rank_fits names line h count ≡ false) is f) in
+    let d = ranks_differ (rank_named names (text_of line value)) (Some count) (subst (λ h. rank_fits (length ring.vars) names line h count ≡ false) is f) in
     (d.0, d.2, λ same. d.4 (let c : count ≡ d.1 = (let q = d.3 in cc) in sym same ∙ sym n ∙ c))
-other_rank_of names line (equal_line left right) head count e n f =
+other_rank_of ring names line (equal_line left right) head count e n f =
     let is : head ≡ heads.Equal left right = sym (same_Some _ _ e) in
-    ranks_differ (rank_named names (text_of line left)) (rank_named names (text_of line right)) (subst (λ h. rank_fits names line h count ≡ false) is f)
-other_rank_of names line (change_line value order) head count e n f =
+    ranks_differ (rank_named names (text_of line left)) (rank_named names (text_of line right)) (subst (λ h. rank_fits (length ring.vars) names line h count ≡ false) is f)
+other_rank_of ring names line (change_line value order) head count e n f =
     let is : head ≡ heads.Change value order = sym (same_Some _ _ e) in
-    let d = ranks_differ (rank_named names (text_of line value)) (Some 1) (subst (λ h. rank_fits names line h count ≡ false) is f) in
+    let d = ranks_differ (rank_named names (text_of line value)) (Some 1) (subst (λ h. rank_fits (length ring.vars) names line h count ≡ false) is f) in
     (d.0, d.2, λ one. d.4 (let c : 1 ≡ d.1 = (let q = d.3 in cc) in one ∙ c))
+other_rank_of ring names line (express_line p images) head count e n f =
+    let is : head ≡ heads.Express = sym (same_Some _ _ e) in expressed_differ ring images count n (subst (λ h. rank_fits (length ring.vars) names line h count ≡ false) is f)
+other_rank_of ring names line (ext_line value k) head count e n f =
+    let is : head ≡ heads.Ext value k = sym (same_Some _ _ e) in let no : true ≡ false = subst (λ h. rank_fits (length ring.vars) names line h count ≡ false) is f in absurd (false≢true (sym no))
 
-right_rank_of : (names : List NameInfo) (line : List ℕ) (w : Written) (head : Head) (count : ℕ) → head_of w ≡ Some head → count ≡ length (polys_of w) → rank_fits names line head count ≡ true → HasOtherRank names line w → ⊥
-right_rank_of names line (ideal_line given ps) head count e n f h =
-    let is : head ≡ heads.Ideal given = sym (same_Some _ _ e) in few count (length ps) n (subst (λ d. rank_fits names line d count ≡ true) is f) h
-right_rank_of names line (module_line given rank vectors) head count e n f h =
+right_rank_of : (ring : Ring) (names : List NameInfo) (line : List ℕ) (w : Written) (head : Head) (count : ℕ) → head_of w ≡ Some head → count ≡ length (polys_of w) → rank_fits (length ring.vars) names line head count ≡ true → HasOtherRank (Some ring) names line w → ⊥
+right_rank_of ring names line (ideal_line given ps) head count e n f h =
+    let is : head ≡ heads.Ideal given = sym (same_Some _ _ e) in few count (length ps) n (subst (λ d. rank_fits (length ring.vars) names line d count ≡ true) is f) h
+right_rank_of ring names line (module_line given rank vectors) head count e n f h =
     let is : head ≡ heads.Module given rank (shape_behind Empty vectors) = sym (same_Some _ _ e) in
-    vectors_fit (value_of line rank) vectors count n (subst (λ d. rank_fits names line d count ≡ true) is f) h
-right_rank_of names line (let_line given operation) head count e n f h =
+    vectors_fit (value_of line rank) vectors count n (subst (λ d. rank_fits (length ring.vars) names line d count ≡ true) is f) h
+right_rank_of ring names line (let_line given operation) head count e n f h =
     let is : head ≡ heads.Let given (operands_of operation) = sym (same_Some _ _ e) in
-    no_other_operands names line operation (subst (λ d. rank_fits names line d count ≡ true) is f) h
-right_rank_of names line (divide_line division value ps) head count e n f h =
+    no_other_operands ring names line operation count n (subst (λ d. rank_fits (length ring.vars) names line d count ≡ true) is f) h
+right_rank_of ring names line (divide_line division value ps) head count e n f h =
     let is : head ≡ heads.Divide division value = sym (same_Some _ _ e) in
-    let same = ranks_same (rank_named names (text_of line value)) (Some count) h.0 count (subst (λ d. rank_fits names line d count ≡ true) is f) h.1 refl in
+    let same = ranks_same (rank_named names (text_of line value)) (Some count) h.0 count (subst (λ d. rank_fits (length ring.vars) names line d count ≡ true) is f) h.1 refl in
     h.2 (sym n ∙ sym same)
-right_rank_of names line (equal_line left right) head count e n f h =
+right_rank_of ring names line (equal_line left right) head count e n f h =
     let is : head ≡ heads.Equal left right = sym (same_Some _ _ e) in
-    h.4 (ranks_same (rank_named names (text_of line left)) (rank_named names (text_of line right)) h.0 h.1 (subst (λ d. rank_fits names line d count ≡ true) is f) h.2 h.3)
-right_rank_of names line (change_line value order) head count e n f h =
+    h.4 (ranks_same (rank_named names (text_of line left)) (rank_named names (text_of line right)) h.0 h.1 (subst (λ d. rank_fits (length ring.vars) names line d count ≡ true) is f) h.2 h.3)
+right_rank_of ring names line (change_line value order) head count e n f h =
     let is : head ≡ heads.Change value order = sym (same_Some _ _ e) in
-    h.2 (ranks_same (rank_named names (text_of line value)) (Some 1) h.0 1 (subst (λ d. rank_fits names line d count ≡ true) is f) h.1 refl)
-right_rank_of names line _ head count e n f h = h
+    h.2 (ranks_same (rank_named names (text_of line value)) (Some 1) h.0 1 (subst (λ d. rank_fits (length ring.vars) names line d count ≡ true) is f) h.1 refl)
+right_rank_of ring names line (express_line p images) head count e n f h =
+    let is : head ≡ heads.Express = sym (same_Some _ _ e) in expressed_same ring images count n (subst (λ d. rank_fits (length ring.vars) names line d count ≡ true) is f) h
+right_rank_of ring names line _ head count e n f h = h
 
 -- the same of a line
 
@@ -303,6 +336,10 @@ other_factor names line (equal_line left right) head e f =
     let is : head ≡ heads.Equal left right = sym (same_Some _ _ e) in let no : true ≡ false = subst (λ h. factor_fits names line h ≡ false) is f in absurd (false≢true (sym no))
 other_factor names line (change_line value order) head e f =
     let is : head ≡ heads.Change value order = sym (same_Some _ _ e) in let no : true ≡ false = subst (λ h. factor_fits names line h ≡ false) is f in absurd (false≢true (sym no))
+other_factor names line (express_line p images) head e f =
+    let is : head ≡ heads.Express = sym (same_Some _ _ e) in let no : true ≡ false = subst (λ h. factor_fits names line h ≡ false) is f in absurd (false≢true (sym no))
+other_factor names line (ext_line value count) head e f =
+    let is : head ≡ heads.Ext value count = sym (same_Some _ _ e) in let no : true ≡ false = subst (λ h. factor_fits names line h ≡ false) is f in absurd (false≢true (sym no))
 
 right_factor : (names : List NameInfo) (line : List ℕ) (w : Written) (head : Head) → head_of w ≡ Some head → factor_fits names line head ≡ true → HasOtherFactor names line w → ⊥
 right_factor names line (let_line given operation) head e f h =
@@ -319,32 +356,40 @@ order_not_outside ring line (Elim k) e h = within_not (length ring.vars) (value_
 order_not_outside ring line Lex e h = h
 order_not_outside ring line Grevlex e h = h
 
-outside : (ring : Ring) (line : List ℕ) (w : Written) (head : Head) → head_of w ≡ Some head → elimination_fits (length ring.vars) line head ≡ false → LacksRing (Some ring) line w
+outside : (ring : Ring) (line : List ℕ) (w : Written) (head : Head) → head_of w ≡ Some head → number_fits (length ring.vars) line head ≡ false → LacksRing (Some ring) line w
 outside ring line (let_line given operation) head e f =
-    let is : head ≡ heads.Let given (operands_of operation) = sym (same_Some _ _ e) in outside_of ring line given operation (subst (λ h. elimination_fits (length ring.vars) line h ≡ false) is f)
+    let is : head ≡ heads.Let given (operands_of operation) = sym (same_Some _ _ e) in outside_of ring line given operation (subst (λ h. number_fits (length ring.vars) line h ≡ false) is f)
 outside ring line nothing head e f = absurd cc
 outside ring line (ring_line r) head e f = absurd cc
 outside ring line (show_line p) head e f =
-    let is : head ≡ heads.Show = sym (same_Some _ _ e) in let no : true ≡ false = subst (λ h. elimination_fits (length ring.vars) line h ≡ false) is f in absurd (false≢true (sym no))
+    let is : head ≡ heads.Show = sym (same_Some _ _ e) in let no : true ≡ false = subst (λ h. number_fits (length ring.vars) line h ≡ false) is f in absurd (false≢true (sym no))
 outside ring line (ideal_line given ps) head e f =
-    let is : head ≡ heads.Ideal given = sym (same_Some _ _ e) in let no : true ≡ false = subst (λ h. elimination_fits (length ring.vars) line h ≡ false) is f in absurd (false≢true (sym no))
+    let is : head ≡ heads.Ideal given = sym (same_Some _ _ e) in let no : true ≡ false = subst (λ h. number_fits (length ring.vars) line h ≡ false) is f in absurd (false≢true (sym no))
 outside ring line (module_line given rank vectors) head e f =
-    let is : head ≡ heads.Module given rank (shape_behind Empty vectors) = sym (same_Some _ _ e) in let no : true ≡ false = subst (λ h. elimination_fits (length ring.vars) line h ≡ false) is f in absurd (false≢true (sym no))
+    let is : head ≡ heads.Module given rank (shape_behind Empty vectors) = sym (same_Some _ _ e) in let no : true ≡ false = subst (λ h. number_fits (length ring.vars) line h ≡ false) is f in absurd (false≢true (sym no))
 outside ring line (ask_line question value) head e f =
-    let is : head ≡ heads.Ask question value = sym (same_Some _ _ e) in let no : true ≡ false = subst (λ h. elimination_fits (length ring.vars) line h ≡ false) is f in absurd (false≢true (sym no))
+    let is : head ≡ heads.Ask question value = sym (same_Some _ _ e) in let no : true ≡ false = subst (λ h. number_fits (length ring.vars) line h ≡ false) is f in absurd (false≢true (sym no))
 outside ring line (divide_line division value ps) head e f =
-    let is : head ≡ heads.Divide division value = sym (same_Some _ _ e) in let no : true ≡ false = subst (λ h. elimination_fits (length ring.vars) line h ≡ false) is f in absurd (false≢true (sym no))
+    let is : head ≡ heads.Divide division value = sym (same_Some _ _ e) in let no : true ≡ false = subst (λ h. number_fits (length ring.vars) line h ≡ false) is f in absurd (false≢true (sym no))
 outside ring line (equal_line left right) head e f =
-    let is : head ≡ heads.Equal left right = sym (same_Some _ _ e) in let no : true ≡ false = subst (λ h. elimination_fits (length ring.vars) line h ≡ false) is f in absurd (false≢true (sym no))
+    let is : head ≡ heads.Equal left right = sym (same_Some _ _ e) in let no : true ≡ false = subst (λ h. number_fits (length ring.vars) line h ≡ false) is f in absurd (false≢true (sym no))
 outside ring line (change_line value order) head e f =
-    let is : head ≡ heads.Change value order = sym (same_Some _ _ e) in inr (order_outside ring line order (subst (λ h. elimination_fits (length ring.vars) line h ≡ false) is f))
+    let is : head ≡ heads.Change value order = sym (same_Some _ _ e) in inr (order_outside ring line order (subst (λ h. number_fits (length ring.vars) line h ≡ false) is f))
+outside ring line (express_line p images) head e f =
+    let is : head ≡ heads.Express = sym (same_Some _ _ e) in let no : true ≡ false = subst (λ h. number_fits (length ring.vars) line h ≡ false) is f in absurd (false≢true (sym no))
+outside ring line (ext_line value count) head e f =
+    let is : head ≡ heads.Ext value count = sym (same_Some _ _ e) in inr (leb-false (value_of line count) (length ring.vars) (subst (λ h. number_fits (length ring.vars) line h ≡ false) is f))
 
-inside : (ring : Ring) (line : List ℕ) (w : Written) (head : Head) → head_of w ≡ Some head → elimination_fits (length ring.vars) line head ≡ true → LacksRing (Some ring) line w → ⊥
+inside : (ring : Ring) (line : List ℕ) (w : Written) (head : Head) → head_of w ≡ Some head → number_fits (length ring.vars) line head ≡ true → LacksRing (Some ring) line w → ⊥
 inside ring line (let_line given operation) head e f h =
-    let is : head ≡ heads.Let given (operands_of operation) = sym (same_Some _ _ e) in not_outside ring line given operation (subst (λ d. elimination_fits (length ring.vars) line d ≡ true) is f) h
+    let is : head ≡ heads.Let given (operands_of operation) = sym (same_Some _ _ e) in not_outside ring line given operation (subst (λ d. number_fits (length ring.vars) line d ≡ true) is f) h
 inside ring line (change_line value order) head e f (inl h) = absurd cc
 inside ring line (change_line value order) head e f (inr h) =
-    let is : head ≡ heads.Change value order = sym (same_Some _ _ e) in order_not_outside ring line order (subst (λ d. elimination_fits (length ring.vars) line d ≡ true) is f) h
+    let is : head ≡ heads.Change value order = sym (same_Some _ _ e) in order_not_outside ring line order (subst (λ d. number_fits (length ring.vars) line d ≡ true) is f) h
+inside ring line (ext_line value count) head e f (inl h) = absurd cc
+inside ring line (ext_line value count) head e f (inr h) =
+    let is : head ≡ heads.Ext value count = sym (same_Some _ _ e) in
+    let le : value_of line count ≤ length ring.vars = leb-true (value_of line count) (length ring.vars) (subst (λ d. number_fits (length ring.vars) line d ≡ true) is f) in omega (arith, h)
 inside ring line nothing head e f h = h
 inside ring line (ring_line r) head e f h = absurd cc
 inside ring line _ head e f h = absurd cc
@@ -445,10 +490,10 @@ module _ (ring : Ring) (names : List NameInfo) (line : List ℕ) (w : Written) (
       go (inl (t, inr c, no_var, no_val)) = not_unknown (text_of line t) (all_pass (λ t. known (text_of line t)) (places head) t front.0 (of_place t c)) no_var no_val
       go (inr (t, c, v)) = not_variable (text_of line t) (all_pass (λ t. no_variable (text_of line t)) (given_name head) t front.1 (subst (λ l. Contains l t) (sym (given_are w head is.head_is)) c)) v
 
-  pub lacks_ring : elimination_fits (length vars) line head ≡ false → LacksRing (Some ring) line w
+  pub lacks_ring : number_fits (length vars) line head ≡ false → LacksRing (Some ring) line w
   lacks_ring e = outside ring line w head is.head_is e
 
-  pub has_ring : elimination_fits (length vars) line head ≡ true → LacksRing (Some ring) line w → ⊥
+  pub has_ring : number_fits (length vars) line head ≡ true → LacksRing (Some ring) line w → ⊥
   has_ring e = inside ring line w head is.head_is e
 
   pub other_kind : right_kinds vars names line head pieces ≡ false → HasOtherKind (Some ring) names line w
@@ -481,11 +526,11 @@ module _ (ring : Ring) (names : List NameInfo) (line : List ℕ) (w : Written) (
   count : length pieces ≡ length (polys_of w)
   count = sym (length-map pieces (λ v. v.items)) ∙ ap length is.steps_are ∙ length-map (polys_of w) steps
 
-  pub other_rank : rank_fits names line head (length pieces) ≡ false → HasOtherRank names line w
-  other_rank e = other_rank_of names line w head (length pieces) is.head_is count e
+  pub other_rank : rank_fits (length vars) names line head (length pieces) ≡ false → HasOtherRank (Some ring) names line w
+  other_rank e = other_rank_of ring names line w head (length pieces) is.head_is count e
 
-  pub right_rank : rank_fits names line head (length pieces) ≡ true → HasOtherRank names line w → ⊥
-  right_rank e = right_rank_of names line w head (length pieces) is.head_is count e
+  pub right_rank : rank_fits (length vars) names line head (length pieces) ≡ true → HasOtherRank (Some ring) names line w → ⊥
+  right_rank e = right_rank_of ring names line w head (length pieces) is.head_is count e
 
   degrees_in : list_all (λ v. low_degree ring line v.items) pieces ≡ list_all (λ p. is_some (formal_degree (weight_of ring line) (value_of line) p)) (polys_of w)
   degrees_in = same_tests (low_degree ring line) (λ p. is_some (formal_degree (weight_of ring line) (value_of line) p)) (low_poly ring line) pieces (polys_of w) is.steps_are

@@ -24,7 +24,7 @@ use Rattle.poly_grammar.proofs.NumbersOfSteps.{steps_have_numbers}
 use Rattle.script_parse.specs.Forms.{IsFormOf, head_of, operands_of, shape_behind}
 use Rattle.script_parse.specs.Tests.{IsPolynomial, IsWellFormed, head_names, operand_places, repeats, stands_among}
 use Rattle.script_parse.specs.Refusals.{HasGreatNumeral, HasRepeat}
-use Rattle.script_parse.specs.Written.{AreEntries, AreListedNames, ArePolys, AreVectors, IsOperation, IsWritten, Written, WrittenOperation, ask_line, change_line, comma_list, divide_line, elimination, equal_line, ideal_line, let_line, module_line, nothing, of_polynomial, of_two, operation_polys, polys_of, ring_line, show_line, syzygies}
+use Rattle.script_parse.specs.Written.{AreEntries, AreListedNames, ArePolys, AreVectors, IsExpression, IsOperation, IsWritten, Written, WrittenOperation, ask_line, change_line, comma_list, divide_line, elimination, equal_line, express_line, ext_line, ideal_line, let_line, module_line, nothing, of_polynomial, of_two, operation_polys, polys_of, preimage, ring_line, show_line, syzygies}
 use Rattle.script_parse.specs.declared.form.Form.{Form}
 use Rattle.script_parse.specs.declared.form.Form.TheVariants as forms
 use Rattle.script_parse.specs.declared.form.Head.{Head}
@@ -94,6 +94,8 @@ places_among P line xs (elimination value count) h all =
     let names = subst (λ l. AllByRecursion P (names_in l)) (h.1.2 ∙ ap (λ l. name h.1.0 ∷ l) h.2) all in (names.1.0, tt)
 places_among P line xs (syzygies value) h all =
     let names = subst (λ l. AllByRecursion P (names_in l)) (h.1.2 ∙ ap (λ l. name h.1.0 ∷ l) h.2) all in (names.1.0, tt)
+places_among P line xs (preimage value images) h all =
+    let names = subst (λ l. AllByRecursion P (names_in l)) (h.1.2 ∙ ap (λ l. name h.1.0 ∷ l) h.2.1) all in (names.1.0, tt)
 
 -- the names of a line's head are among its names
 head_among : (P : Token → Type 0) (line : List ℕ) (xs : List Lexeme) (w : Written) (head : Head) → head_of w ≡ Some head → IsWritten line xs w → AllByRecursion P (names_in xs) → AllByRecursion P (head_names head)
@@ -128,6 +130,12 @@ head_among P line xs (equal_line left right) head e h all =
 head_among P line xs (change_line value order) head e h all =
     let is : heads.Change value order ≡ head = cc in
     let names = subst (λ l. AllByRecursion P (names_in l)) (h.1.2 ∙ ap (λ l. name h.1.0 ∷ l) h.2.1) all in
+    subst (λ d. AllByRecursion P (head_names d)) is (names.1.0, tt)
+head_among P line xs (express_line p images) head e h all =
+    let is : heads.Express ≡ head = cc in subst (λ d. AllByRecursion P (head_names d)) is tt
+head_among P line xs (ext_line value count) head e h all =
+    let is : heads.Ext value count ≡ head = cc in
+    let names = subst (λ l. AllByRecursion P (names_in l)) (h.1.2 ∙ ap (λ l. name h.1.0 ∷ l) h.2) all in
     subst (λ d. AllByRecursion P (head_names d)) is (names.1.0, tt)
 
 numbers_in_both : (a b : List Lexeme) → numbers_in (a ++ b) ≡ numbers_in a ++ numbers_in b
@@ -166,7 +174,13 @@ module _ (P : Token → Type 0) where
 
   in_operation : (line : List ℕ) (xs : List Lexeme) (operation : WrittenOperation) → IsOperation line xs operation → AllByRecursion P (numbers_in xs) → InPolys (operation_polys operation)
   in_operation line xs (of_polynomial word value p) h all = in_poly h.2.0 p h.2.2 (subst (λ l. AllByRecursion P (numbers_in l)) (h.1.2 ∙ ap (λ l. name h.1.0 ∷ l) h.2.1) all)
+  in_operation line xs (preimage value images) h all = in_polys h.2.0 images h.2.2 (subst (λ l. AllByRecursion P (numbers_in l)) (h.1.2 ∙ ap (λ l. name h.1.0 ∷ l) h.2.1) all)
   in_operation line xs _ h all = tt
+
+  in_expression : (line : List ℕ) (xs : List Lexeme) (p : Poly) (images : List Poly) → IsExpression line xs p images → AllByRecursion P (numbers_in xs) → InPolys (p ∷ images)
+  in_expression line xs p images e all =
+      let both = subst (λ l. AllByRecursion P l) (ap numbers_in (e.spelled ∙ ap (λ l. e.front ++ l) e.word.2) ∙ numbers_in_both e.front (name e.word.0 ∷ e.rest)) all in
+      ((in_poly e.front p e.first (all_front P (numbers_in e.front) (numbers_in e.rest) both)).0, in_polys e.rest images e.others (all_back P (numbers_in e.front) (numbers_in e.rest) both))
 
   in_line : (line : List ℕ) (xs : List Lexeme) (w : Written) → IsWritten line xs w → AllByRecursion P (numbers_in xs) → InPolys (polys_of w)
   in_line line xs (show_line p) h all = in_poly h.0 p h.2 (subst (λ l. AllByRecursion P (numbers_in l)) h.1.2 all)
@@ -174,6 +188,7 @@ module _ (P : Token → Type 0) where
   in_line line xs (module_line given rank vectors) h all = in_vectors h.2.0 vectors h.2.2 (subst (λ l. AllByRecursion P (numbers_in l)) (h.1.2 ∙ ap (λ l. name h.1.0 ∷ l) h.2.1) all).1
   in_line line xs (let_line given operation) h all = in_operation line h.2.0 operation h.2.2 (subst (λ l. AllByRecursion P (numbers_in l)) (h.1.2 ∙ ap (λ l. name h.1.0 ∷ l) h.2.1) all)
   in_line line xs (divide_line division value ps) h all = in_entries h.2.0 ps h.2.2 (subst (λ l. AllByRecursion P (numbers_in l)) (h.1.2 ∙ ap (λ l. name h.1.0 ∷ l) h.2.1) all)
+  in_line line xs (express_line p images) h all = in_expression line h.0 p images h.2 (subst (λ l. AllByRecursion P (numbers_in l)) h.1.2 all)
   in_line line xs _ h all = tt
 
   in_pieces : (pieces : List (Vec Step Global)) (ps : List Poly) → map (λ v. v.items) pieces ≡ map steps ps → InPolys ps → AllByRecursion (λ v. AllByRecursion P (numbers_of_steps v.items)) pieces

@@ -1,6 +1,6 @@
 -- Lists of VECs: a comma outside square brackets stands in none
-use Rattle.std.proofs.Common.{◌≡◌, Bool, true, false, ℕ, ◌+◌, ◌<◌, inl, inr, get_or, List, [], ◌∷◌, ◌++◌, map, take, drop, Option, Some, None, option_and_then, Ok, Err, Vec, Global, length, refl, sym, ap, ap₂, subst, ◌∙◌, append_assoc}
-use Rattle.std.proofs.lemmas.List.{append-nil, get_or_default, map-append}
+use Rattle.std.proofs.Common.{◌≡◌, Bool, true, false, ℕ, ◌+◌, inl, inr, List, [], ◌∷◌, ◌++◌, map, take, drop, Some, None, option_and_then, Ok, Err, Vec, Global, length, refl, sym, ap, ap₂, subst, ◌∙◌, append_assoc}
+use Rattle.std.proofs.lemmas.List.{append-nil, map-append}
 use Rattle.std.specs.List.{AllByRecursion}
 use Rattle.std.specs.Prelude.{flat_map}
 use Rattle.script_tokens.specs.declared.token.Token.{Token}
@@ -10,33 +10,12 @@ use Rattle.poly_grammar.specs.Trees.{Poly}
 use Rattle.poly_grammar.specs.declared.step.Step.{Step}
 use Rattle.poly_grammar.specs.declared.stop.ReadStop.{ReadStop}
 use Rattle.poly_grammar.specs.declared.stop.ReadStop.TheVariants.{Memory, Syntax}
-use Rattle.module_vectors.proofs.Scaling.{take_item}
 use Rattle.script_parse.specs.Forms.{AreVectorsRead, IsAtOuterComma, IsVectorPushed, bracketed, bracketed_behind, further, shape_behind}
 use Rattle.script_parse.specs.Written.{AreEntries, ArePolys, AreVectors}
 use Rattle.script_parse.specs.declared.vectors.Shape.{Shape}
 use Rattle.script_parse.specs.declared.vectors.Shape.TheVariants.{Empty}
 use Rattle.script_parse.proofs.Pieces.{all_append, one_vector, reads_pass}
-
--- brackets behind lexemes and further ones
-behind_append : (b : Bool) (xs ys : List Lexeme) → bracketed_behind b (xs ++ ys) ≡ option_and_then (λ c. bracketed_behind c ys) (bracketed_behind b xs)
-behind_append b [] ys = refl
-behind_append b (x ∷ xs) ys = by_lexeme (bracketed b x) (λ c. behind_append c xs ys)
-  where
-    by_lexeme :
-        (o : Option Bool) → ((c : Bool) → bracketed_behind c (xs ++ ys) ≡ option_and_then (λ c. bracketed_behind c ys) (bracketed_behind c xs))
-        → option_and_then (λ c. bracketed_behind c (xs ++ ys)) o ≡ option_and_then (λ c. bracketed_behind c ys) (option_and_then (λ c. bracketed_behind c xs) o)
-    by_lexeme None later = refl
-    by_lexeme (Some c) later = later c
-
--- one token more
-pub brackets_go :
-    (tokens : List Token) (at : ℕ) (d : Token) (inside next : Bool) → at < length tokens → bracketed_behind false (map lexeme (take at tokens)) ≡ Some inside
-    → Some next ≡ bracketed inside (lexeme (get_or tokens at d)) → bracketed_behind false (map lexeme (take (at + 1) tokens)) ≡ Some next
-brackets_go tokens at d inside next lt h n =
-    let t = get_or tokens at d in
-    ap (λ l. bracketed_behind false (map lexeme l)) (take_item tokens at t lt (get_or_default tokens at d t lt)) ∙ ap (bracketed_behind false) (map-append lexeme (take at tokens) (t ∷ []))
-    ∙ behind_append false (map lexeme (take at tokens)) (lexeme t ∷ []) ∙ ap (λ o. option_and_then (λ c. bracketed_behind c (lexeme t ∷ [])) o) h
-    ∙ ap (λ o. option_and_then (λ c. bracketed_behind c []) o) (sym n)
+use Rattle.script_parse.proofs.States.{same_stop, state_joins, state_stops}
 
 -- the lexemes of a POLY, and those of several
 abbrev IsPlain : Lexeme → Type 0
@@ -82,37 +61,10 @@ entries_pass : (xs : List Lexeme) (ps : List Poly) → AreEntries xs ps → brac
 entries_pass xs ps (inl h) = plain_passes false xs (reads_pass IsPlain (λ t. tt) (λ t. tt) tt tt tt tt tt tt xs h.0 h.2)
 entries_pass xs ps (inr h) =
     let inner = inner_passes h.0 (polys_inner h.0 ps h.2) in
-    ap (bracketed_behind false) h.1 ∙ behind_append true h.0 (close_bracket ∷ []) ∙ ap (λ o. option_and_then (λ c. bracketed_behind c (close_bracket ∷ [])) o) inner
-
-none_at_comma : (d : List Lexeme) → bracketed_behind false (comma ∷ d) ≡ Some false → ⊥
-none_at_comma d h = cc
-
-not_before : (b : Bool) (y : Lexeme) (d : List Lexeme) → y ≡ comma → b ≡ false → bracketed_behind b (y ∷ d) ≡ Some false → ⊥
-not_before b y d e f h = none_at_comma d (subst (λ x. bracketed_behind x (comma ∷ d) ≡ Some false) f (subst (λ x. bracketed_behind b (x ∷ d) ≡ Some false) e h))
-
--- a first comma outside brackets cuts in one way
-same_outer_cut :
-    (b : Bool) (a d c e : List Lexeme) → bracketed_behind b a ≡ Some false → bracketed_behind b d ≡ Some false → a ++ comma ∷ c ≡ d ++ comma ∷ e → (a ≡ d) × (c ≡ e)
-same_outer_cut b [] [] c e h k q = (refl, cc)
-same_outer_cut b [] (y ∷ d) c e h k q =
-    let is : y ≡ comma = cc in
-    let outside : b ≡ false = cc in absurd (not_before b y d is outside k)
-same_outer_cut b (x ∷ a) [] c e h k q =
-    let is : x ≡ comma = cc in
-    let outside : b ≡ false = cc in absurd (not_before b x a is outside h)
-same_outer_cut b (x ∷ a) (y ∷ d) c e h k q =
-    let heads : x ≡ y = cc in
-    let tails : a ++ comma ∷ c ≡ d ++ comma ∷ e = cc in
-    let r = go (bracketed b x) h (subst (λ z. bracketed_behind b (z ∷ d) ≡ Some false) (sym heads) k) (λ s f g. same_outer_cut s a d c e f g tails) in
-    (ap₂ (λ z l. z ∷ l) heads r.0, r.1)
-  where
-    go : (o : Option Bool) → option_and_then (λ s. bracketed_behind s a) o ≡ Some false → option_and_then (λ s. bracketed_behind s d) o ≡ Some false
-        → ((s : Bool) → bracketed_behind s a ≡ Some false → bracketed_behind s d ≡ Some false → (a ≡ d) × (c ≡ e)) → (a ≡ d) × (c ≡ e)
-    go None f g later = absurd cc
-    go (Some s) f g later = later s f g
+    ap (bracketed_behind false) h.1 ∙ state_joins bracketed true true false h.0 (close_bracket ∷ []) inner refl
 
 outer_none : (front behind : List Lexeme) → bracketed_behind false front ≡ Some false → bracketed_behind false (front ++ comma ∷ behind) ≡ None
-outer_none front behind h = behind_append false front (comma ∷ behind) ∙ ap (λ o. option_and_then (λ c. bracketed_behind c (comma ∷ behind)) o) h
+outer_none front behind h = state_stops bracketed false false comma front behind h refl
 
 -- before a first comma outside brackets stands the first VEC, and behind it the others
 record OuterCut (front behind : List Lexeme) (vectors : List (List Poly)) : Type 0 where
@@ -127,8 +79,9 @@ outer_cut xs front behind [] e h k = absurd k
 outer_cut xs front behind (es ∷ []) e h k =
     let no : None ≡ Some false = sym (outer_none front behind h) ∙ ap (bracketed_behind false) (sym e) ∙ entries_pass xs es k in absurd cc
 outer_cut xs front behind (es ∷ fs ∷ more) e h k =
-    let s = same_outer_cut false k.0 front k.1 behind (entries_pass k.0 es k.3) h (sym k.2 ∙ e) in
-    record { first = es; others = fs ∷ more; are = refl; reads = subst (λ l. AreEntries l es) s.0 k.3; rest = subst (λ l. AreVectors l (fs ∷ more)) s.1 k.4 }
+    let s = same_stop bracketed false false false k.0 front k.1 behind comma comma (entries_pass k.0 es k.3) refl h refl (sym k.2 ∙ e) in
+    let tail : k.1 ≡ behind = cc (s.1) in
+    record { first = es; others = fs ∷ more; are = refl; reads = subst (λ l. AreEntries l es) s.0 k.3; rest = subst (λ l. AreVectors l (fs ∷ more)) tail k.4 }
 
 -- lexemes without such a comma are one VEC or none
 outer_uncut : (xs : List Lexeme) (vectors : List (List Poly)) → ((b : Bool) × (bracketed_behind false xs ≡ Some b)) → AreVectors xs vectors → (es : List Poly) × (vectors ≡ es ∷ []) × AreEntries xs es

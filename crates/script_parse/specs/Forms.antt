@@ -3,14 +3,14 @@ use Rattle.std.specs.Prelude.{Bool, Err, List, None, Ok, Option, Result, Some, V
 use Rattle.std.specs.Global.{Global}
 use Rattle.std.specs.List.{AllByRecursion}
 use Rattle.script_tokens.specs.declared.token.Token.{Token}
-use Rattle.poly_grammar.specs.Lexemes.{Lexeme, close_bracket, comma, lexeme, open_bracket}
+use Rattle.poly_grammar.specs.Lexemes.{Lexeme, close_bracket, closed, comma, lexeme, name, number, open_bracket}
 use Rattle.poly_grammar.specs.Steps.{steps}
 use Rattle.poly_grammar.specs.Trees.{Poly, Reads}
 use Rattle.poly_grammar.specs.declared.step.Step.{Step}
 use Rattle.poly_grammar.specs.declared.stop.ReadStop.{ReadStop}
 use Rattle.poly_grammar.specs.declared.stop.ReadStop.TheVariants.{Memory, Syntax}
 use Rattle.script_parse.specs.RingForms.{ring_line_of}
-use Rattle.script_parse.specs.Written.{AreEntries, AreOperands, AreVectors, IsBehind, IsOperation, IsWritten, OperationWord, Word, Written, WrittenOperation, ask_line, change_line, divide_line, elimination, equal_line, ideal_line, let_line, module_line, nothing, of_polynomial, of_two, operation_polys, operation_word, polys_of, ring_line, show_line, syzygies, word_of}
+use Rattle.script_parse.specs.Written.{AreEntries, AreOperands, AreVectors, IsBehind, IsExpression, IsOperation, IsWritten, OperationWord, Word, Written, WrittenOperation, ask_line, change_line, divide_line, elimination, equal_line, express_line, ext_line, ideal_line, let_line, module_line, nothing, of_polynomial, of_two, operation_polys, operation_word, polys_of, preimage, ring_line, show_line, syzygies, word_of}
 use Rattle.script_parse.specs.declared.form.Form.{Form}
 use Rattle.script_parse.specs.declared.form.Form.TheVariants as forms
 use Rattle.script_parse.specs.declared.form.Head.{Head}
@@ -20,12 +20,13 @@ use Rattle.script_parse.specs.declared.operands.Operands.TheVariants as shapes
 use Rattle.script_parse.specs.declared.vectors.Shape.{Shape}
 use Rattle.script_parse.specs.declared.vectors.Shape.TheVariants.{Each, Empty, Mixed}
 
--- an operation without its POLY
+-- an operation without its POLYs
 abbrev pub operands_of : WrittenOperation → Operands
 operands_of (of_two word left right) = shapes.Two word left right
 operands_of (of_polynomial word value p) = shapes.Polynomial word value
 operands_of (elimination value count) = shapes.Eliminate value count
 operands_of (syzygies value) = shapes.Syzygies value
+operands_of (preimage value images) = shapes.Preimage value
 
 -- the shape of a list with one vector more, which has so many entries
 abbrev pub further : Shape → ℕ → Shape
@@ -48,6 +49,8 @@ head_of (ask_line question value) = Some (heads.Ask question value)
 head_of (divide_line division value entries) = Some (heads.Divide division value)
 head_of (equal_line left right) = Some (heads.Equal left right)
 head_of (change_line value order) = Some (heads.Change value order)
+head_of (express_line p images) = Some heads.Express
+head_of (ext_line value count) = Some (heads.Ext value count)
 head_of _ = None
 
 -- the line has this head, and these are the steps of its POLYs
@@ -100,6 +103,11 @@ pub record IsAtComma (tokens : List Token) (at : ℕ) : Type 0 where
   pub before : HasNoComma (map lexeme (take at tokens))
   pub cut : map lexeme (drop at tokens) ≡ comma ∷ map lexeme (drop (at + 1) tokens)
 
+-- a state behind lexemes, by what each makes of it; none behind one that has no place
+abbrev pub state_behind : (Bool → Lexeme → Option Bool) → Bool → List Lexeme → Option Bool
+state_behind step state [] = Some state
+state_behind step state (x ∷ xs) = option_and_then (λ s. state_behind step s xs) (step state x)
+
 -- whether square brackets are open behind the lexeme, by whether they are before it; none at a comma outside them
 abbrev pub bracketed : Bool → Lexeme → Option Bool
 bracketed inside open_bracket = Some true
@@ -109,8 +117,7 @@ bracketed inside _ = Some inside
 
 -- the same behind several
 abbrev pub bracketed_behind : Bool → List Lexeme → Option Bool
-bracketed_behind inside [] = Some inside
-bracketed_behind inside (x ∷ xs) = option_and_then (λ b. bracketed_behind b xs) (bracketed inside x)
+bracketed_behind inside xs = state_behind bracketed inside xs
 
 -- a comma outside square brackets stands at this place, and none before it
 pub record IsAtOuterComma (tokens : List Token) (at : ℕ) : Type 0 where
@@ -130,7 +137,31 @@ AreVectorsRead xs (Ok found) =
 AreVectorsRead xs (Err Memory) = Unit {0}
 AreVectorsRead xs (Err Syntax) = (vectors : List (List Poly)) → AreVectors xs vectors → ⊥
 
--- what is read behind the word of an operation is one, without its POLY and by the steps of that, and what is refused is none
+-- whether an atom of a POLY ends with the lexeme, by whether one ends before it; none at a NAME directly behind an atom, which
+-- stands in no POLY
+abbrev pub ended : Bool → Lexeme → Option Bool
+ended true (name t) = None
+ended false (name t) = Some true
+ended atom (number t) = Some true
+ended atom closed = Some true
+ended atom _ = Some false
+
+-- the same behind several
+abbrev pub ended_behind : Bool → List Lexeme → Option Bool
+ended_behind atom xs = state_behind ended atom xs
+
+-- a NAME stands at this place directly behind an atom, and none does before it
+pub record IsBehindAtom (tokens : List Token) (at : ℕ) : Type 0 where
+  pub before : ended_behind false (map lexeme (take at tokens)) ≡ Some true
+  pub word : Token
+  pub cut : map lexeme (drop at tokens) ≡ name word ∷ map lexeme (drop (at + 1) tokens)
+
+-- POLY by POLY {, POLY}, as one list
+abbrev pub AreExpressed : List ℕ → List Lexeme → List Poly → Type 0
+AreExpressed line xs [] = ⊥
+AreExpressed line xs (p ∷ images) = IsExpression line xs p images
+
+-- what is read behind the word of an operation is one, without its POLYs and by the steps of those, and what is refused is none
 abbrev pub AreOperandsRead : OperationWord → List Lexeme → Result (Operands × Vec (Vec Step Global) Global) ReadStop → Type 0
 AreOperandsRead word xs (Ok found) =
     (operation : WrittenOperation) × (operation_word operation ≡ word) × AreOperands xs operation × (operands_of operation ≡ found.0) × (map (λ v. v.items) found.1.items ≡ map steps (operation_polys operation))

@@ -12,7 +12,7 @@ use Rattle.zp_field.specs.Moduli.{is_modulus}
 use Rattle.module_vectors.specs.Rings.{variables}
 use Rattle.module_vectors.specs.declared.ring.Ring.{Ring}
 use Rattle.poly_value.specs.Values.{name_weight}
-use Rattle.script_parse.specs.Written.{IsLine, RingLine, Written, WrittenOperation, change_line, divide_line, elimination, equal_line, given_by, ideal_line, let_line, module_line, nothing, of_two, polys_of, ring_line, syzygies, value_places}
+use Rattle.script_parse.specs.Written.{IsLine, RingLine, Written, WrittenOperation, change_line, divide_line, elimination, equal_line, express_line, ext_line, given_by, ideal_line, let_line, module_line, nothing, of_two, polys_of, preimage, ring_line, syzygies, value_places}
 use Rattle.script_parse.specs.declared.kind.Kind.{Kind}
 use Rattle.script_parse.specs.declared.kind.Kind.TheVariants as kinds
 use Rattle.script_parse.specs.declared.named.NameInfo.{NameInfo}
@@ -65,13 +65,19 @@ abbrev pub HasElimOutside : Option Ring → List ℕ → OrderName → Type 0
 HasElimOutside None line order = ⊥
 HasElimOutside (Some ring) line order = HasOtherElim line (variables ring) order
 
+-- the number is above that of the ring's variables
+abbrev pub IsAboveRing : Option Ring → ℕ → Type 0
+IsAboveRing None k = ⊥
+IsAboveRing (Some ring) k = variables ring < k
+
 -- a ring line is faulty; another line that is not blank has no ring stated before it; `eliminate B K`, or `elim K` of `fglm`, has K
--- outside 1..n, where n is the number of the ring's variables
+-- outside 1..n, or `ext A K` has K above n, where n is the number of the ring's variables
 abbrev pub LacksRing : Option Ring → List ℕ → Written → Type 0
 LacksRing ring line nothing = ⊥
 LacksRing ring line (ring_line r) = HasFaultyRing line r
 LacksRing ring line (let_line given (elimination value count)) = (ring ≡ None) ⊎ IsOutsideRing ring (value_of line count)
 LacksRing ring line (change_line value order) = (ring ≡ None) ⊎ HasElimOutside ring line order
+LacksRing ring line (ext_line value count) = (ring ≡ None) ⊎ IsAboveRing ring (value_of line count)
 LacksRing ring line _ = ring ≡ None
 
 -- the first number of a ring line is not in the table
@@ -108,12 +114,17 @@ HasUnknownName ring names line w =
     ((t : Token) × (StandsInPoly w t ⊎ Contains (value_places w) t) × (IsVariable ring (text_of line t) → ⊥) × (IsNamed names (text_of line t) → ⊥))
     ⊎ ((t : Token) × Contains (given_by w) t × IsVariable ring (text_of line t))
 
--- `product` has a first operand of a rank above 1
+-- the value with this name has a rank above 1
+abbrev pub HasHighRank : List NameInfo → List ℕ → Token → Type 0
+HasHighRank names line value = (rank : ℕ) × (rank_named names (text_of line value) ≡ Some rank) × (1 < rank)
+
+-- `product` has a first operand, or `preimage` a value, of a rank above 1
 abbrev pub HasOtherFactor : List NameInfo → List ℕ → Written → Type 0
-HasOtherFactor names line (let_line given (of_two Product left right)) = (rank : ℕ) × (rank_named names (text_of line left) ≡ Some rank) × (1 < rank)
+HasOtherFactor names line (let_line given (of_two Product left right)) = HasHighRank names line left
+HasOtherFactor names line (let_line given (preimage value images)) = HasHighRank names line value
 HasOtherFactor names line _ = ⊥
 
--- a NAME in a POLY is a value; or a NAME in a value's place is a variable; or a factor is no ideal
+-- a NAME in a POLY is a value; or a NAME in a value's place is a variable; or a value that has to be an ideal is none
 abbrev pub HasOtherKind : Option Ring → List NameInfo → List ℕ → Written → Type 0
 HasOtherKind ring names line w =
     ((t : Token) × StandsInPoly w t × IsNamed names (text_of line t))
@@ -125,26 +136,35 @@ abbrev pub HaveOtherRanks : List NameInfo → List ℕ → Token → Token → T
 HaveOtherRanks names line left right =
     (r s : ℕ) × (rank_named names (text_of line left) ≡ Some r) × (rank_named names (text_of line right) ≡ Some s) × (r ≡ s → ⊥)
 
--- the operands of `sum`, `intersect` or `colon` have different ranks, or that of `syz` has a stored list of a length outside 1..64
-abbrev pub HasOtherOperands : List NameInfo → List ℕ → WrittenOperation → Type 0
-HasOtherOperands names line (of_two Sum left right) = HaveOtherRanks names line left right
-HasOtherOperands names line (of_two Intersect left right) = HaveOtherRanks names line left right
-HasOtherOperands names line (of_two Colon left right) = HaveOtherRanks names line left right
-HasOtherOperands names line (syzygies value) = (n : ℕ) × (length_named names (text_of line value) ≡ Some n) × IsOutside 64 n
-HasOtherOperands names line _ = ⊥
+-- the images are not as many as the ring's variables
+abbrev pub HasOtherImages : Option Ring → List Poly → Type 0
+HasOtherImages None images = ⊥
+HasOtherImages (Some ring) images = length images ≡ variables ring → ⊥
+
+-- the operands of `sum`, `intersect` or `colon` have different ranks, or that of `syz` has a stored list of a length outside 1..64, or
+-- the images of `preimage` are not as many as the ring's variables
+abbrev pub HasOtherOperands : Option Ring → List NameInfo → List ℕ → WrittenOperation → Type 0
+HasOtherOperands ring names line (of_two Sum left right) = HaveOtherRanks names line left right
+HasOtherOperands ring names line (of_two Intersect left right) = HaveOtherRanks names line left right
+HasOtherOperands ring names line (of_two Colon left right) = HaveOtherRanks names line left right
+HasOtherOperands ring names line (syzygies value) = (n : ℕ) × (length_named names (text_of line value) ≡ Some n) × IsOutside 64 n
+HasOtherOperands ring names line (preimage value images) = HasOtherImages ring images
+HasOtherOperands ring names line _ = ⊥
 
 -- an ideal or a module has more than 1,000 vectors; a module's rank is outside 1..64, or a VEC of it has another number of
 -- entries; the number of entries of a divided VEC is not the value's rank; the ranks of compared values differ; the
--- operands of an operation have other ranks or lengths than it takes; the value of `fglm` is of another rank than 1
-abbrev pub HasOtherRank : List NameInfo → List ℕ → Written → Type 0
-HasOtherRank names line (ideal_line given ps) = 1000 < length ps
-HasOtherRank names line (module_line given rank vectors) =
+-- operands of an operation have other ranks or lengths than it takes; the value of `fglm` is of another rank than 1; the images of
+-- `express` are not as many as the ring's variables
+abbrev pub HasOtherRank : Option Ring → List NameInfo → List ℕ → Written → Type 0
+HasOtherRank ring names line (ideal_line given ps) = 1000 < length ps
+HasOtherRank ring names line (module_line given rank vectors) =
     IsOutside 64 (value_of line rank) ⊎ ((es : List Poly) × Contains vectors es × (length es ≡ value_of line rank → ⊥)) ⊎ (1000 < length vectors)
-HasOtherRank names line (let_line given operation) = HasOtherOperands names line operation
-HasOtherRank names line (divide_line division value entries) = (rank : ℕ) × (rank_named names (text_of line value) ≡ Some rank) × (length entries ≡ rank → ⊥)
-HasOtherRank names line (equal_line left right) = HaveOtherRanks names line left right
-HasOtherRank names line (change_line value order) = (rank : ℕ) × (rank_named names (text_of line value) ≡ Some rank) × (rank ≡ 1 → ⊥)
-HasOtherRank names line _ = ⊥
+HasOtherRank ring names line (let_line given operation) = HasOtherOperands ring names line operation
+HasOtherRank ring names line (divide_line division value entries) = (rank : ℕ) × (rank_named names (text_of line value) ≡ Some rank) × (length entries ≡ rank → ⊥)
+HasOtherRank ring names line (equal_line left right) = HaveOtherRanks names line left right
+HasOtherRank ring names line (change_line value order) = (rank : ℕ) × (rank_named names (text_of line value) ≡ Some rank) × (rank ≡ 1 → ⊥)
+HasOtherRank ring names line (express_line p images) = HasOtherImages ring images
+HasOtherRank ring names line _ = ⊥
 
 -- the formal degree, by the ring's weights, of a POLY or of a part of it is above 1,000
 abbrev pub HasGreatDegree : Option Ring → List ℕ → Written → Type 0
@@ -161,7 +181,7 @@ RefusalHolds ring names line kinds.Ring = (w : Written) × IsLine line w × Lack
 RefusalHolds ring names line kinds.Modulus = (w : Written) × IsLine line w × HasOtherModulus line w
 RefusalHolds ring names line kinds.Name = (w : Written) × IsLine line w × HasUnknownName ring names line w
 RefusalHolds ring names line kinds.OfKind = (w : Written) × IsLine line w × HasOtherKind ring names line w
-RefusalHolds ring names line kinds.Rank = (w : Written) × IsLine line w × HasOtherRank names line w
+RefusalHolds ring names line kinds.Rank = (w : Written) × IsLine line w × HasOtherRank ring names line w
 RefusalHolds ring names line kinds.Degree = (w : Written) × IsLine line w × HasGreatDegree ring line w
 RefusalHolds ring names line kinds.Homogeneous = ⊥
 RefusalHolds ring names line kinds.Leads = ⊥

@@ -16,7 +16,7 @@ use Rattle.module_vectors.specs.Vectors.{HasPositions, IsVectorOver, StandsFor}
 use Rattle.module_vectors.specs.declared.key.Key.{Key}
 use Rattle.module_vectors.specs.declared.ring.Ring.{Ring}
 use Rattle.script_parse.specs.Refusals.{RefusalHolds}
-use Rattle.script_parse.specs.Written.{IsLine, RingLine, Written, WrittenOperation, ask_line, change_line, divide_line, elimination, equal_line, ideal_line, let_line, module_line, nothing, of_polynomial, of_two, ring_line, show_line, syzygies}
+use Rattle.script_parse.specs.Written.{IsLine, RingLine, Written, WrittenOperation, ask_line, change_line, divide_line, elimination, equal_line, express_line, ext_line, ideal_line, let_line, module_line, nothing, of_polynomial, of_two, preimage, ring_line, show_line, syzygies}
 use Rattle.script_parse.specs.declared.form.Division.TheVariants as divisions
 use Rattle.script_parse.specs.declared.form.Question.TheVariants as questions
 use Rattle.script_parse.specs.declared.kind.Kind.{Kind}
@@ -93,7 +93,7 @@ AreVectorsOf ring line rank _ _ = ⊥
 abbrev pub AreTextsOf : List ℕ → Token → Token → List ℕ → List ℕ → Type 0
 AreTextsOf line left right first second = (first ≡ text_of line left) × (second ≡ text_of line right)
 
--- the operation that is written: its names are the texts of its NAMEs, its polynomial is in the ring's own order, and
+-- the operation that is written: its names are the texts of its NAMEs, its polynomials are in the ring's own order, and
 -- its number is that of its NUM
 abbrev pub IsOperationOf : Ring → List ℕ → WrittenOperation → Operation → Type 0
 IsOperationOf ring line (of_two binaries.Sum left right) (operations.Sum b c) = AreTextsOf line left right (string_bytes b) (string_bytes c)
@@ -104,6 +104,7 @@ IsOperationOf ring line (of_polynomial divisors.Quotient value p) (operations.Qu
 IsOperationOf ring line (of_polynomial divisors.Saturate value p) (operations.Saturate b f) = (string_bytes b ≡ text_of line value) × IsPolynomialOf ring line p f
 IsOperationOf ring line (elimination value count) (operations.Eliminate b k) = (string_bytes b ≡ text_of line value) × (k ≡ value_of line count)
 IsOperationOf ring line (syzygies value) (operations.Syzygies b) = string_bytes b ≡ text_of line value
+IsOperationOf ring line (preimage value ps) (operations.Preimage b images) = (string_bytes b ≡ text_of line value) × ArePolynomialsOf ring line ps images
 IsOperationOf ring line _ _ = ⊥
 
 -- what a line states: its vectors are in the ring's own order, and its names are the texts of its NAMEs
@@ -128,6 +129,8 @@ Says (Some ring) line (divide_line divisions.Member value entries) (statements.M
 Says (Some ring) line (divide_line divisions.Lift value entries) (statements.Lift name v) = (string_bytes name ≡ text_of line value) × IsVectorWith ring line entries v
 Says ring line (equal_line left right) (statements.Equal first second) = (string_bytes first ≡ text_of line left) × (string_bytes second ≡ text_of line right)
 Says ring line (change_line value order) (statements.Change name made) = (string_bytes name ≡ text_of line value) × (made ≡ order_stated line order)
+Says (Some ring) line (express_line p ps) (statements.Express f images) = IsPolynomialOf ring line p f × ArePolynomialsOf ring line ps images
+Says ring line (ext_line value count) (statements.Ext name k) = (string_bytes name ≡ text_of line value) × (k ≡ value_of line count)
 Says ring line _ _ = ⊥
 
 -- the line states this, where this ring is stated and values have these names: it is written so, and no kind of refusal
@@ -148,6 +151,7 @@ IsSameOperation (operations.Quotient a f) (operations.Quotient b g) = (string_by
 IsSameOperation (operations.Saturate a f) (operations.Saturate b g) = (string_bytes a ≡ string_bytes b) × (f ≡ g)
 IsSameOperation (operations.Eliminate a j) (operations.Eliminate b k) = (string_bytes a ≡ string_bytes b) × (j ≡ k)
 IsSameOperation (operations.Syzygies a) (operations.Syzygies b) = string_bytes a ≡ string_bytes b
+IsSameOperation (operations.Preimage a v) (operations.Preimage b w) = (string_bytes a ≡ string_bytes b) × (v ≡ w)
 IsSameOperation _ _ = ⊥
 
 -- two statements are one: rings with the same modulus, names, orders and weights, or the same names, terms and numbers
@@ -172,4 +176,6 @@ IsSameStatement (statements.Member a v) (statements.Member b w) = (string_bytes 
 IsSameStatement (statements.Lift a v) (statements.Lift b w) = (string_bytes a ≡ string_bytes b) × (v ≡ w)
 IsSameStatement (statements.Equal a b) (statements.Equal c d) = (string_bytes a ≡ string_bytes c) × (string_bytes b ≡ string_bytes d)
 IsSameStatement (statements.Change a o) (statements.Change b q) = (string_bytes a ≡ string_bytes b) × (o ≡ q)
+IsSameStatement (statements.Express f v) (statements.Express g w) = (f ≡ g) × (v ≡ w)
+IsSameStatement (statements.Ext a j) (statements.Ext b k) = (string_bytes a ≡ string_bytes b) × (j ≡ k)
 IsSameStatement _ _ = ⊥

@@ -1,5 +1,5 @@
 -- What the tests of a line find, and what is worked out of it
-use Rattle.std.specs.Prelude.{Bool, Contains, Err, List, None, Ok, Option, Result, Some, Vec, [], false, if◌then◌else◌, is_some, drop, length, map, nat_eq, nat_le, not, take, true, ℕ, ◌&&◌, ◌*◌, ◌<◌, ◌^◌, ◌||◌, ◌∷◌, ◌≡◌}
+use Rattle.std.specs.Prelude.{Bool, Contains, Err, List, None, Ok, Option, Result, Some, Vec, [], false, if◌then◌else◌, is_some, drop, length, map, nat_eq, nat_le, not, take, true, ℕ, ◌&&◌, ◌*◌, ◌+◌, ◌<◌, ◌^◌, ◌||◌, ◌∷◌, ◌≡◌, ◌≤◌}
 use Rattle.std.specs.Global.{Global}
 use Rattle.std.specs.Cmp.Lexicographic.{pointwise}
 use Rattle.std.specs.List.{AllByRecursion, list_all}
@@ -32,7 +32,7 @@ use Rattle.script_parse.specs.declared.kind.ParseStop.TheVariants as stops
 use Rattle.script_parse.specs.declared.named.NameInfo.{NameInfo}
 use Rattle.script_parse.specs.declared.operands.Binary.TheVariants.{Product}
 use Rattle.script_parse.specs.declared.operands.Operands.{Operands}
-use Rattle.script_parse.specs.declared.operands.Operands.TheVariants.{Eliminate, Polynomial, Syzygies, Two}
+use Rattle.script_parse.specs.declared.operands.Operands.TheVariants.{Eliminate, Polynomial, Preimage, Syzygies, Two}
 use Rattle.script_parse.specs.declared.operation.Operation.{Operation}
 use Rattle.script_parse.specs.declared.ring_words.OrderName.{OrderName}
 use Rattle.script_parse.specs.declared.ring_words.OrderName.TheVariants.{Elim}
@@ -48,7 +48,7 @@ HoldsOf ring names line w kinds.Ring = LacksRing ring line w
 HoldsOf ring names line w kinds.Modulus = HasOtherModulus line w
 HoldsOf ring names line w kinds.Name = HasUnknownName ring names line w
 HoldsOf ring names line w kinds.OfKind = HasOtherKind ring names line w
-HoldsOf ring names line w kinds.Rank = HasOtherRank names line w
+HoldsOf ring names line w kinds.Rank = HasOtherRank ring names line w
 HoldsOf ring names line w kinds.Degree = HasGreatDegree ring line w
 HoldsOf ring names line w kinds.Homogeneous = ⊥
 HoldsOf ring names line w kinds.Leads = ⊥
@@ -68,6 +68,7 @@ operand_places (Two word left right) = left ∷ right ∷ []
 operand_places (Polynomial word value) = value ∷ []
 operand_places (Eliminate value count) = value ∷ []
 operand_places (Syzygies value) = value ∷ []
+operand_places (Preimage value) = value ∷ []
 
 -- the names of a head in a value's place
 abbrev pub places : Head → List Token
@@ -76,6 +77,7 @@ places (heads.Ask question value) = value ∷ []
 places (heads.Divide division value) = value ∷ []
 places (heads.Equal left right) = left ∷ right ∷ []
 places (heads.Change value order) = value ∷ []
+places (heads.Ext value count) = value ∷ []
 places _ = []
 
 -- the name of a head to be given
@@ -160,16 +162,18 @@ abbrev pub low_rank : Option ℕ → Bool
 low_rank (Some r) = nat_le r 1
 low_rank None = true
 
--- whether the first operand of `product` has no rank above 1
-abbrev pub operands_multiply : List NameInfo → List ℕ → Operands → Bool
-operands_multiply names line (Two Product left right) = low_rank (rank_named names (text_of line left))
-operands_multiply names line _ = true
+-- whether the first operand of `product`, or the value of `preimage`, has no rank above 1
+abbrev pub operands_low : List NameInfo → List ℕ → Operands → Bool
+operands_low names line (Two Product left right) = low_rank (rank_named names (text_of line left))
+operands_low names line (Preimage value) = low_rank (rank_named names (text_of line value))
+operands_low names line _ = true
 
+-- the same of a head
 abbrev pub factor_fits : List NameInfo → List ℕ → Head → Bool
-factor_fits names line (heads.Let given operands) = operands_multiply names line operands
+factor_fits names line (heads.Let given operands) = operands_low names line operands
 factor_fits names line _ = true
 
--- whether no name in a POLY is a value, none in a value's place a variable, and a factor an ideal
+-- whether no name in a POLY is a value, none in a value's place a variable, and a value that has to be an ideal is one
 abbrev pub right_kinds : List (List ℕ) → List NameInfo → List ℕ → Head → List (Vec Step Global) → Bool
 right_kinds vars names line head pieces =
     (list_all (λ t. is_no_variable vars (text_of line t)) (places head) && factor_fits names line head)
@@ -184,16 +188,22 @@ abbrev pub operands_eliminate : ℕ → List ℕ → Operands → Bool
 operands_eliminate n line (Eliminate value count) = within n (value_of line count)
 operands_eliminate n line _ = true
 
+-- an order is `elim K`, and K is 2^32 or more
+abbrev pub HasGreatElim : List ℕ → OrderName → Type 0
+HasGreatElim line (Elim k) = 2 ^ 32 ≤ value_of line k
+HasGreatElim line _ = ⊥
+
 -- whether an order `elim` has one
 abbrev pub order_eliminates : ℕ → List ℕ → OrderName → Bool
 order_eliminates n line (Elim k) = within n (value_of line k)
 order_eliminates n line _ = true
 
--- the same of a head
-abbrev pub elimination_fits : ℕ → List ℕ → Head → Bool
-elimination_fits n line (heads.Let given operands) = operands_eliminate n line operands
-elimination_fits n line (heads.Change value order) = order_eliminates n line order
-elimination_fits n line _ = true
+-- the same of a head, or whether the number of `ext` is at most n
+abbrev pub number_fits : ℕ → List ℕ → Head → Bool
+number_fits n line (heads.Let given operands) = operands_eliminate n line operands
+number_fits n line (heads.Change value order) = order_eliminates n line order
+number_fits n line (heads.Ext value count) = nat_le (value_of line count) n
+number_fits n line _ = true
 
 -- whether ranks are the same, where there are two
 abbrev pub same_rank : Option ℕ → Option ℕ → Bool
@@ -205,12 +215,13 @@ abbrev pub length_fits : Option ℕ → Bool
 length_fits (Some n) = within 64 n
 length_fits None = true
 
--- whether the ranks and lengths of operands fit
-abbrev pub operands_fit : List NameInfo → List ℕ → Operands → Bool
-operands_fit names line (Two Product left right) = true
-operands_fit names line (Two _ left right) = same_rank (rank_named names (text_of line left)) (rank_named names (text_of line right))
-operands_fit names line (Syzygies value) = length_fits (length_named names (text_of line value))
-operands_fit names line _ = true
+-- whether the ranks and lengths of operands fit, with so many polynomials in n variables
+abbrev pub operands_fit : ℕ → List NameInfo → List ℕ → Operands → ℕ → Bool
+operands_fit n names line (Two Product left right) count = true
+operands_fit n names line (Two _ left right) count = same_rank (rank_named names (text_of line left)) (rank_named names (text_of line right))
+operands_fit n names line (Syzygies value) count = length_fits (length_named names (text_of line value))
+operands_fit n names line (Preimage value) count = nat_eq count n
+operands_fit n names line _ count = true
 
 -- whether all vectors of the shape have so many entries
 abbrev pub has_width : ℕ → Shape → Bool
@@ -222,15 +233,16 @@ has_width rank widths.Mixed = false
 abbrev pub module_fits : ℕ → Shape → ℕ → Bool
 module_fits rank shape count = (within 64 rank && has_width rank shape) && nat_le count (1000 * rank)
 
--- whether the ranks of a head fit, with so many polynomials
-abbrev pub rank_fits : List NameInfo → List ℕ → Head → ℕ → Bool
-rank_fits names line (heads.Ideal given) count = nat_le count 1000
-rank_fits names line (heads.Module given rank shape) count = module_fits (value_of line rank) shape count
-rank_fits names line (heads.Let given operands) count = operands_fit names line operands
-rank_fits names line (heads.Divide division value) count = same_rank (rank_named names (text_of line value)) (Some count)
-rank_fits names line (heads.Equal left right) count = same_rank (rank_named names (text_of line left)) (rank_named names (text_of line right))
-rank_fits names line (heads.Change value order) count = same_rank (rank_named names (text_of line value)) (Some 1)
-rank_fits names line _ count = true
+-- whether the ranks of a head fit, with so many polynomials in n variables
+abbrev pub rank_fits : ℕ → List NameInfo → List ℕ → Head → ℕ → Bool
+rank_fits n names line (heads.Ideal given) count = nat_le count 1000
+rank_fits n names line (heads.Module given rank shape) count = module_fits (value_of line rank) shape count
+rank_fits n names line (heads.Let given operands) count = operands_fit n names line operands count
+rank_fits n names line (heads.Divide division value) count = same_rank (rank_named names (text_of line value)) (Some count)
+rank_fits n names line (heads.Equal left right) count = same_rank (rank_named names (text_of line left)) (rank_named names (text_of line right))
+rank_fits n names line (heads.Change value order) count = same_rank (rank_named names (text_of line value)) (Some 1)
+rank_fits n names line heads.Express count = nat_eq count (n + 1)
+rank_fits n names line _ count = true
 
 -- whether steps have a formal degree, by the ring's weights, of at most 1,000
 abbrev pub low_degree : Ring → List ℕ → List Step → Bool

@@ -2,10 +2,10 @@
 -- line := nothing | ring NUM NAME {, NAME} order [top] [weights NUM {, NUM}] | show POLY | ideal NAME = POLY {, POLY}
 --       | module NAME NUM = VEC {, VEC} | let NAME = operation
 --       | gens NAME | gb NAME | size NAME | hilb NAME | nf NAME VEC | member NAME VEC | lift NAME VEC | equal NAME NAME
---       | fglm NAME order | res NAME | minres NAME | betti NAME | reg NAME
+--       | fglm NAME order | res NAME | minres NAME | betti NAME | reg NAME | ext NAME NUM | express POLY by POLY {, POLY}
 -- order := lex | grevlex | elim NUM
 -- operation := sum NAME NAME | product NAME NAME | intersect NAME NAME | colon NAME NAME
---            | quotient NAME POLY | saturate NAME POLY | eliminate NAME NUM | syz NAME
+--            | quotient NAME POLY | saturate NAME POLY | eliminate NAME NUM | syz NAME | preimage NAME POLY {, POLY}
 -- VEC := POLY | [ POLY {, POLY} ]
 use Rattle.std.specs.Prelude.{Bool, List, None, Option, Some, [], codes, false, flat_map, map, true, ℕ, ◌++◌, ◌∷◌, ◌≡◌, ◌⊎◌}
 use Rattle.script_tokens.specs.Cuts.{HasTokens}
@@ -32,16 +32,19 @@ pub record RingLine : Type 0 where
   pub top : Bool
   pub weights : List Token
 
--- an operation: on two values; on a value by a POLY; `eliminate` on a value by its NUM; `syz` on a value
+-- an operation: on two values; on a value by a POLY; `eliminate` on a value by its NUM; `syz` on a value; `preimage` on a value by
+-- POLYs
 pub data WrittenOperation : Type 0 where
   of_two : Binary → Token → Token → WrittenOperation
   of_polynomial : ByPolynomial → Token → Poly → WrittenOperation
   elimination : Token → Token → WrittenOperation
   syzygies : Token → WrittenOperation
+  preimage : Token → List Poly → WrittenOperation
 
 -- a line: nothing; a ring; a shown polynomial; an ideal by its NAME and its POLYs; a module by its NAME, the NUM of its rank
 -- and the entries of each of its VECs; a NAME for what an operation gives; a question on a value; a division of a VEC, by
--- its entries, by a value; two values to be compared; an order for a value
+-- its entries, by a value; two values to be compared; an order for a value; a POLY to be expressed by others; the NUM of an Ext
+-- module of a value
 pub data Written : Type 0 where
   nothing : Written
   ring_line : RingLine → Written
@@ -53,6 +56,8 @@ pub data Written : Type 0 where
   divide_line : Division → Token → List Poly → Written
   equal_line : Token → Token → Written
   change_line : Token → OrderName → Written
+  express_line : Poly → List Poly → Written
+  ext_line : Token → Token → Written
 
 -- the words that lines begin with
 pub data Word : Type 0 where
@@ -65,6 +70,8 @@ pub data Word : Type 0 where
   division_word : Division → Word
   equal_word : Word
   change_word : Word
+  express_word : Word
+  ext_word : Word
 
 -- how a word is written
 abbrev pub word_text : Word → List ℕ
@@ -86,6 +93,8 @@ word_text (division_word Member) = codes "member"
 word_text (division_word Lift) = codes "lift"
 word_text equal_word = codes "equal"
 word_text change_word = codes "fglm"
+word_text express_word = codes "express"
+word_text ext_word = codes "ext"
 
 -- the word of a line, if it has any
 abbrev pub word_of : Written → Option Word
@@ -99,6 +108,8 @@ word_of (ask_line question value) = Some (question_word question)
 word_of (divide_line division value entries) = Some (division_word division)
 word_of (equal_line left right) = Some equal_word
 word_of (change_line value order) = Some change_word
+word_of (express_line p images) = Some express_word
+word_of (ext_line value count) = Some ext_word
 
 -- the words of operations
 pub data OperationWord : Type 0 where
@@ -106,6 +117,7 @@ pub data OperationWord : Type 0 where
   polynomial_word : ByPolynomial → OperationWord
   elimination_word : OperationWord
   syzygies_word : OperationWord
+  preimage_word : OperationWord
 
 -- how the word of an operation is written
 abbrev pub operation_text : OperationWord → List ℕ
@@ -117,6 +129,7 @@ operation_text (polynomial_word Quotient) = codes "quotient"
 operation_text (polynomial_word Saturate) = codes "saturate"
 operation_text elimination_word = codes "eliminate"
 operation_text syzygies_word = codes "syz"
+operation_text preimage_word = codes "preimage"
 
 -- the word of an operation
 abbrev pub operation_word : WrittenOperation → OperationWord
@@ -124,6 +137,7 @@ operation_word (of_two word left right) = two_word word
 operation_word (of_polynomial word value p) = polynomial_word word
 operation_word (elimination value count) = elimination_word
 operation_word (syzygies value) = syzygies_word
+operation_word (preimage value images) = preimage_word
 
 -- { , X } for tokens of the shape X, which is NAME or NUM
 abbrev pub comma_list : (Token → Lexeme) → List Token → List Lexeme
@@ -173,6 +187,16 @@ ArePolys xs [] = ⊥
 ArePolys xs (p ∷ []) = Reads xs p
 ArePolys xs (p ∷ q ∷ more) = (front behind : List Lexeme) × (xs ≡ front ++ comma ∷ behind) × Reads front p × ArePolys behind (q ∷ more)
 
+-- POLY by POLY { , POLY }
+pub record IsExpression (line : List ℕ) (xs : List Lexeme) (p : Poly) (images : List Poly) : Type 0 where
+  pub front : List Lexeme
+  pub behind : List Lexeme
+  pub rest : List Lexeme
+  pub spelled : xs ≡ front ++ behind
+  pub first : Reads front p
+  pub word : IsSaid line (codes "by") behind rest
+  pub others : ArePolys rest images
+
 -- POLY, as the list of one
 abbrev pub IsOnePoly : List Lexeme → List Poly → Type 0
 IsOnePoly xs ps = (p : Poly) × (ps ≡ p ∷ []) × Reads xs p
@@ -197,6 +221,7 @@ AreOperands xs (of_two word left right) = xs ≡ name left ∷ name right ∷ []
 AreOperands xs (of_polynomial word value p) = (rest : List Lexeme) × (xs ≡ name value ∷ rest) × Reads rest p
 AreOperands xs (elimination value count) = xs ≡ name value ∷ number count ∷ []
 AreOperands xs (syzygies value) = xs ≡ name value ∷ []
+AreOperands xs (preimage value images) = (rest : List Lexeme) × (xs ≡ name value ∷ rest) × ArePolys rest images
 
 -- an operation: its word, and what stands behind it
 abbrev pub IsOperation : List ℕ → List Lexeme → WrittenOperation → Type 0
@@ -214,10 +239,13 @@ IsBehind line xs (ask_line question value) = xs ≡ name value ∷ []
 IsBehind line xs (divide_line division value entries) = (rest : List Lexeme) × (xs ≡ name value ∷ rest) × AreEntries rest entries
 IsBehind line xs (equal_line left right) = xs ≡ name left ∷ name right ∷ []
 IsBehind line xs (change_line value order) = (rest : List Lexeme) × (xs ≡ name value ∷ rest) × IsOrder line rest order
+IsBehind line xs (express_line p images) = IsExpression line xs p images
+IsBehind line xs (ext_line value count) = xs ≡ name value ∷ number count ∷ []
 
 -- the POLYs of an operation
 abbrev pub operation_polys : WrittenOperation → List Poly
 operation_polys (of_polynomial word value p) = p ∷ []
+operation_polys (preimage value images) = images
 operation_polys _ = []
 
 -- the POLYs of a line
@@ -227,6 +255,7 @@ polys_of (ideal_line given ps) = ps
 polys_of (module_line given rank vectors) = flat_map (λ es. es) vectors
 polys_of (let_line given operation) = operation_polys operation
 polys_of (divide_line division value entries) = entries
+polys_of (express_line p images) = p ∷ images
 polys_of _ = []
 
 -- the NAMEs of an operation in a value's place
@@ -235,6 +264,7 @@ operation_places (of_two word left right) = left ∷ right ∷ []
 operation_places (of_polynomial word value p) = value ∷ []
 operation_places (elimination value count) = value ∷ []
 operation_places (syzygies value) = value ∷ []
+operation_places (preimage value images) = value ∷ []
 
 -- the NAMEs in a value's place
 abbrev pub value_places : Written → List Token
@@ -243,6 +273,7 @@ value_places (ask_line question value) = value ∷ []
 value_places (divide_line division value entries) = value ∷ []
 value_places (equal_line left right) = left ∷ right ∷ []
 value_places (change_line value order) = value ∷ []
+value_places (ext_line value count) = value ∷ []
 value_places _ = []
 
 -- the NAME to be given, if any

@@ -4,12 +4,12 @@ ghost use Rattle.std.specs.Prelude.{◌≡◌, IfOk, length};
 ghost use Rattle.std.specs.List.{AllByRecursion, list_all};
 ghost use Rattle.poly_grammar.specs.Numerals.{text_of, value_of};
 ghost use Rattle.script_parse.specs.Refusals.{length_named, rank_named};
-ghost use Rattle.script_parse.specs.Tests.{IsPolynomial, elimination_fits, factor_fits, given_name, has_width, is_known, is_no_value, is_no_variable, length_fits, low_degree, low_rank, module_fits, names_pass, operand_places, operands_fit, places, rank_fits, same_rank};
+ghost use Rattle.script_parse.specs.Tests.{IsPolynomial, factor_fits, given_name, has_width, is_known, is_no_value, is_no_variable, length_fits, low_degree, low_rank, module_fits, names_pass, number_fits, operand_places, operands_fit, places, rank_fits, same_rank};
 
 use crate::form::Head;
 use crate::name_table::NameTable;
 use crate::named::{length_named, rank_named};
-use crate::numbers::{is_within, number_within};
+use crate::numbers::{is_at_most, is_within, number_within};
 use crate::operands::{Binary, Operands};
 use crate::ring_words::OrderName;
 use crate::vectors::Shape;
@@ -130,7 +130,8 @@ fn operands_known(line: &[u8], vars: &Names, names: &NameTable, operands: Operan
         }
         Operands::Polynomial(_, value)
         | Operands::Eliminate(value, _)
-        | Operands::Syzygies(value) => is_known(vars, names, text(line, value)),
+        | Operands::Syzygies(value)
+        | Operands::Preimage(value) => is_known(vars, names, text(line, value)),
     }
 }
 
@@ -144,7 +145,8 @@ fn operands_free(line: &[u8], vars: &Names, operands: Operands) -> bool
         }
         Operands::Polynomial(_, value)
         | Operands::Eliminate(value, _)
-        | Operands::Syzygies(value) => place(vars, text(line, value)).is_none(),
+        | Operands::Syzygies(value)
+        | Operands::Preimage(value) => place(vars, text(line, value)).is_none(),
     }
 }
 
@@ -153,11 +155,12 @@ pub fn places_known(line: &[u8], vars: &Names, names: &NameTable, head: Head) ->
     ensures { result ≡ list_all (λ t. is_known vars.now names.now (text_of line.now t)) (places head) }
 {
     match head {
-        Head::Show | Head::Ideal(_) | Head::Module(_, _, _) => true,
+        Head::Show | Head::Ideal(_) | Head::Module(_, _, _) | Head::Express => true,
         Head::Let(_, operands) => operands_known(line, vars, names, operands),
         Head::Ask(_, value) => is_known(vars, names, text(line, value)),
         Head::Divide(_, value) => is_known(vars, names, text(line, value)),
         Head::Change(value, _) => is_known(vars, names, text(line, value)),
+        Head::Ext(value, _) => is_known(vars, names, text(line, value)),
         Head::Equal(left, right) => {
             is_known(vars, names, text(line, left)) && is_known(vars, names, text(line, right))
         }
@@ -169,11 +172,12 @@ pub fn places_free(line: &[u8], vars: &Names, head: Head) -> bool
     ensures { result ≡ list_all (λ t. is_no_variable vars.now (text_of line.now t)) (places head) }
 {
     match head {
-        Head::Show | Head::Ideal(_) | Head::Module(_, _, _) => true,
+        Head::Show | Head::Ideal(_) | Head::Module(_, _, _) | Head::Express => true,
         Head::Let(_, operands) => operands_free(line, vars, operands),
         Head::Ask(_, value) => place(vars, text(line, value)).is_none(),
         Head::Divide(_, value) => place(vars, text(line, value)).is_none(),
         Head::Change(value, _) => place(vars, text(line, value)).is_none(),
+        Head::Ext(value, _) => place(vars, text(line, value)).is_none(),
         Head::Equal(left, right) => {
             place(vars, text(line, left)).is_none() && place(vars, text(line, right)).is_none()
         }
@@ -192,13 +196,15 @@ pub fn given_free(line: &[u8], vars: &Names, head: Head) -> bool
         | Head::Ask(_, _)
         | Head::Divide(_, _)
         | Head::Equal(_, _)
-        | Head::Change(_, _) => true,
+        | Head::Change(_, _)
+        | Head::Express
+        | Head::Ext(_, _) => true,
     }
 }
 
-/// Whether the number of `eliminate`, or of an order `elim`, is from 1 to the number of variables.
-pub fn elimination_fits(line: &[u8], vars: &Names, head: Head) -> bool
-    ensures { result ≡ elimination_fits (length vars.now) line.now head }
+/// Whether the number of `eliminate`, or of an order `elim`, is from 1 to the number of variables, and that of `ext` at most that.
+pub fn number_fits(line: &[u8], vars: &Names, head: Head) -> bool
+    ensures { result ≡ number_fits (length vars.now) line.now head }
 {
     match head {
         Head::Let(_, Operands::Eliminate(_, count)) => is_within(
@@ -207,21 +213,28 @@ pub fn elimination_fits(line: &[u8], vars: &Names, head: Head) -> bool
             vars.as_slice().len(),
         ),
         Head::Change(_, OrderName::Elim(count)) => is_within(line, count, vars.as_slice().len()),
+        Head::Ext(_, count) => is_at_most(line, count, vars.as_slice().len()),
         _ => true,
     }
 }
 
-/// Whether the first operand of `product` has no rank above 1.
+/// Whether a value has no rank above 1, where it is there.
+fn is_low(line: &[u8], names: &NameTable, value: Token) -> bool
+    ensures { result ≡ low_rank (rank_named names.now (text_of line.now value)) }
+{
+    match rank_named(names, text(line, value)) {
+        Some(rank) => rank <= 1,
+        None => true,
+    }
+}
+
+/// Whether the first operand of `product`, or the value of `preimage`, has no rank above 1.
 pub fn factor_fits(line: &[u8], names: &NameTable, head: Head) -> bool
     ensures { result ≡ factor_fits names.now line.now head }
 {
     match head {
-        Head::Let(_, Operands::Two(Binary::Product, left, _)) => {
-            match rank_named(names, text(line, left)) {
-                Some(rank) => rank <= 1,
-                None => true,
-            }
-        }
+        Head::Let(_, Operands::Two(Binary::Product, left, _)) => is_low(line, names, left),
+        Head::Let(_, Operands::Preimage(value)) => is_low(line, names, value),
         _ => true,
     }
 }
@@ -249,15 +262,22 @@ fn list_fits(line: &[u8], names: &NameTable, value: Token) -> bool
     }
 }
 
-/// Whether the ranks and lengths of operands fit.
-fn operands_fit(line: &[u8], names: &NameTable, operands: Operands) -> bool
-    ensures { result ≡ operands_fit names.now line.now operands }
+/// Whether the ranks and lengths of operands fit, with so many polynomials in the variables.
+fn operands_fit(
+    line: &[u8],
+    vars: &Names,
+    names: &NameTable,
+    operands: Operands,
+    count: usize,
+) -> bool
+    ensures { result ≡ operands_fit (length vars.now) names.now line.now operands count }
 {
     match operands {
         Operands::Two(Binary::Product, _, _) => true,
         Operands::Two(_, left, right) => ranks_agree(line, names, left, right),
         Operands::Syzygies(value) => list_fits(line, names, value),
         Operands::Polynomial(_, _) | Operands::Eliminate(_, _) => true,
+        Operands::Preimage(_) => count == vars.as_slice().len(),
     }
 }
 
@@ -283,15 +303,16 @@ fn module_fits(line: &[u8], rank: Token, shape: Shape, count: usize) -> bool
 }
 
 /// Whether the ranks fit: those of two values, or the rank of a value or a module and how many entries the vectors have, which
-/// are as many as the polynomials; and whether an ideal or a module has few enough vectors.
-pub fn rank_fits(line: &[u8], names: &NameTable, head: Head, count: usize) -> bool
-    ensures { result ≡ rank_fits names.now line.now head count }
+/// are as many as the polynomials; whether an ideal or a module has few enough vectors; and whether there are as many images as
+/// variables, where images are wanted.
+pub fn rank_fits(line: &[u8], vars: &Names, names: &NameTable, head: Head, count: usize) -> bool
+    ensures { result ≡ rank_fits (length vars.now) names.now line.now head count }
 {
     match head {
-        Head::Show | Head::Ask(_, _) => true,
+        Head::Show | Head::Ask(_, _) | Head::Ext(_, _) => true,
         Head::Ideal(_) => count <= GENERATORS,
         Head::Module(_, rank, shape) => module_fits(line, rank, shape, count),
-        Head::Let(_, operands) => operands_fit(line, names, operands),
+        Head::Let(_, operands) => operands_fit(line, vars, names, operands, count),
         Head::Divide(_, value) => match rank_named(names, text(line, value)) {
             Some(rank) => rank == count as u64,
             None => true,
@@ -301,6 +322,7 @@ pub fn rank_fits(line: &[u8], names: &NameTable, head: Head, count: usize) -> bo
             Some(rank) => rank == 1,
             None => true,
         },
+        Head::Express => count > 0 && count - 1 == vars.as_slice().len(),
     }
 }
 

@@ -7,8 +7,9 @@ ghost use Rattle.poly_grammar.specs.Numerals.{text_of};
 ghost use Rattle.script_parse.specs.Forms.{IsRead, IsReadBehind};
 ghost use Rattle.script_parse.specs.declared.form.Division.{Division as DivisionValue};
 ghost use Rattle.script_parse.specs.declared.form.Question.{Question as QuestionValue};
-ghost use Rattle.script_parse.specs.Written.{change_word, division_word, equal_word, ideal_word, let_word, module_word, question_word, ring_word, show_word, word_text};
+ghost use Rattle.script_parse.specs.Written.{change_word, division_word, equal_word, express_word, ext_word, ideal_word, let_word, module_word, question_word, ring_word, show_word, word_text};
 
+use crate::expressions::expression;
 use crate::operands::{Operands, read_operation};
 use crate::polynomials::{entries, one_polynomial, polynomials};
 use crate::ring_words::{OrderName, RingForm, read_order, read_ring};
@@ -69,6 +70,10 @@ pub enum Head {
     Equal(Token, Token),
     /// `fglm`, by the name of its value and its order.
     Change(Token, OrderName),
+    /// `express`
+    Express,
+    /// `ext`, by the name of its value and its number.
+    Ext(Token, Token),
 }
 
 /// A line as it is written.
@@ -211,6 +216,32 @@ fn change_form(alloc: Global, line: &[u8], tokens: &[Token]) -> Result<Form, Rea
     Ok(Form::Line(Head::Change(value, order), Vec::new(alloc)))
 }
 
+/// What stands behind `express`.
+fn express_form(alloc: Global, line: &[u8], tokens: &[Token]) -> Result<Form, ReadStop>
+    ensures { IsReadBehind express_word line.now (map lexeme tokens.now) result }
+{
+    match expression(alloc, line, tokens) {
+        Ok(found) => Ok(Form::Line(Head::Express, found)),
+        Err(stop) => Err(stop),
+    }
+}
+
+/// What stands behind `ext`.
+fn ext_form(alloc: Global, tokens: &[Token]) -> Result<Form, ReadStop>
+    ensures { (line : List ℕ) → IsReadBehind ext_word line (map lexeme tokens.now) result }
+{
+    let Some((value, behind)) = name_first(tokens) else {
+        return Err(ReadStop::Syntax);
+    };
+    let Some((count, rest)) = number_first(behind) else {
+        return Err(ReadStop::Syntax);
+    };
+    if !rest.is_empty() {
+        return Err(ReadStop::Syntax);
+    }
+    Ok(Form::Line(Head::Ext(value, count), Vec::new(alloc)))
+}
+
 /// Which question a word asks.
 fn question_of(line: &[u8], token: Token) -> Option<Question>
     ensures found { IfSome result (λ question. (token.kind ≡ Name) × (text_of line.now token ≡ word_text (question_word question))) }
@@ -280,6 +311,12 @@ pub fn read_form(alloc: Global, line: &[u8], tokens: &[Token]) -> Result<Form, R
     }
     if is_word(line, *word, b"fglm") {
         return change_form(alloc, line, behind);
+    }
+    if is_word(line, *word, b"express") {
+        return express_form(alloc, line, behind);
+    }
+    if is_word(line, *word, b"ext") {
+        return ext_form(alloc, behind);
     }
     if let Some(question) = question_of(line, *word) {
         return ask_form(alloc, question, behind);

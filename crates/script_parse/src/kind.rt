@@ -17,20 +17,20 @@ pub enum Kind {
     Numeral,
     /// A line that needs a ring, and none is stated; or a ring of more than 15 variables, or with a variable twice, an
     /// `elim K` with K outside 1..n, a number of weights other than n, or a weight outside 1..255, in n variables; or
-    /// `eliminate B K`, or `fglm B elim K`, with K outside 1..n.
+    /// `eliminate B K`, or `fglm B elim K`, with K outside 1..n; or `ext A K` with K above n.
     Ring,
     /// The modulus of a ring is not in the table.
     Modulus,
     /// A name in a polynomial or in a value's place is neither a variable nor a value, or the name to be given is a
     /// variable.
     Name,
-    /// A name in a polynomial is a value, or a name in a value's place is a variable, or the first operand of `product` has a
-    /// rank above 1.
+    /// A name in a polynomial is a value, or a name in a value's place is a variable, or the first operand of `product` or the
+    /// value of `preimage` has a rank above 1.
     OfKind,
     /// An ideal or a module of more than 1,000 vectors; or a module's rank is outside 1..64; or the entries of a vector are not
     /// as many as the rank of the module, or of the value that divides it; or two ranks differ that `equal`, `sum`,
     /// `intersect` or `colon` want the same; or the stored list of what `syz` is asked of has a length outside 1..64; or the
-    /// value of `fglm` is no ideal.
+    /// value of `fglm` is no ideal; or the images of `preimage` or `express` are not as many as the ring's variables.
     Rank,
     /// The formal degree, by the ring's weights, of a polynomial or of a part of it is above 1,000.
     Degree,

@@ -4,6 +4,7 @@
 #![tactic(auto)]
 
 mod checks;
+mod expressions;
 mod form;
 mod kind;
 mod line_laws;

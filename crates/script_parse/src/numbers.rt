@@ -1,6 +1,6 @@
 //! The numbers that tokens say.
 
-ghost use Rattle.std.specs.Prelude.{◌≡◌, IfSome};
+ghost use Rattle.std.specs.Prelude.{◌^◌, ◌≡◌, ◌≤◌, MatchOption, nat_le};
 ghost use Rattle.poly_grammar.specs.Numerals.{value_of};
 ghost use Rattle.script_parse.specs.Refusals.{IsOutside};
 ghost use Rattle.script_parse.specs.Tests.{IsGood, within};
@@ -32,9 +32,19 @@ pub fn is_within(line: &[u8], token: Token, last: usize) -> bool
     }
 }
 
-/// The number that a token says, where it fits.
+/// Whether the number that a token says is at most the last one.
+pub fn is_at_most(line: &[u8], token: Token, last: usize) -> bool
+    ensures { result ≡ nat_le (value_of line.now token) last }
+{
+    match number(text(line, token)) {
+        Some(value) => value <= last as u128,
+        None => false,
+    }
+}
+
+/// The number that a token says; none where it is 2^32 or more.
 pub fn small_number(line: &[u8], token: Token) -> Option<u32>
-    ensures { IfSome result (λ k. k ≡ value_of line.now token) }
+    ensures { MatchOption result (2 ^ 32 ≤ value_of line.now token) (λ k. k ≡ value_of line.now token) }
 {
     let value = number(text(line, token))?;
     if value > u128::from(u32::MAX) {

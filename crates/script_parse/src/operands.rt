@@ -5,11 +5,11 @@ ghost use Rattle.script_tokens.specs.declared.token.TokenKind.TheVariants.{Name}
 ghost use Rattle.poly_grammar.specs.Lexemes.{lexeme};
 ghost use Rattle.poly_grammar.specs.Numerals.{text_of};
 ghost use Rattle.script_parse.specs.Forms.{AreOperandsRead, IsOperationRead};
-ghost use Rattle.script_parse.specs.Written.{elimination_word, operation_text, polynomial_word, syzygies_word, two_word};
+ghost use Rattle.script_parse.specs.Written.{elimination_word, operation_text, polynomial_word, preimage_word, syzygies_word, two_word};
 ghost use Rattle.script_parse.specs.declared.operands.Binary.{Binary as BinaryValue};
 ghost use Rattle.script_parse.specs.declared.operands.ByPolynomial.{ByPolynomial as ByPolynomialValue};
 
-use crate::polynomials::one_polynomial;
+use crate::polynomials::{one_polynomial, polynomials};
 use crate::words::{is_word, name_first, number_first};
 use poly_grammar::{ReadStop, Step};
 use script_tokens::Token;
@@ -37,7 +37,7 @@ pub enum ByPolynomial {
     Saturate,
 }
 
-/// An operation, by the names of its values and without its polynomial.
+/// An operation, by the names of its values and without its polynomials.
 #[derive(Clone, Copy)]
 pub enum Operands {
     /// Two values.
@@ -48,6 +48,8 @@ pub enum Operands {
     Eliminate(Token, Token),
     /// `syz`: a value.
     Syzygies(Token),
+    /// `preimage`: a value, and polynomials.
+    Preimage(Token),
 }
 
 /// What stands behind the word of an operation on two values.
@@ -122,6 +124,22 @@ fn syzygies_operands(
     Ok((Operands::Syzygies(value), Vec::new(alloc)))
 }
 
+/// What stands behind `preimage`.
+fn preimage_operands(
+    alloc: Global,
+    tokens: &[Token],
+) -> Result<(Operands, Vec<Vec<Step>>), ReadStop>
+    ensures { AreOperandsRead preimage_word (map lexeme tokens.now) result }
+{
+    let Some((value, behind)) = name_first(tokens) else {
+        return Err(ReadStop::Syntax);
+    };
+    match polynomials(alloc, behind) {
+        Ok(found) => Ok((Operands::Preimage(value), found)),
+        Err(stop) => Err(stop),
+    }
+}
+
 /// Which operation on two values a word is for.
 fn binary_of(line: &[u8], token: Token) -> Option<Binary>
     ensures found { IfSome result (λ word. (token.kind ≡ Name) × (text_of line.now token ≡ operation_text (two_word word))) }
@@ -154,7 +172,7 @@ fn by_polynomial_of(line: &[u8], token: Token) -> Option<ByPolynomial>
     }
 }
 
-/// The operation that the tokens are, all of them, and its polynomials, of which there is one at most.
+/// The operation that the tokens are, all of them, and its polynomials.
 pub fn read_operation(
     alloc: Global,
     line: &[u8],
@@ -176,6 +194,9 @@ pub fn read_operation(
     }
     if is_word(line, *word, b"syz") {
         return syzygies_operands(alloc, behind);
+    }
+    if is_word(line, *word, b"preimage") {
+        return preimage_operands(alloc, behind);
     }
     Err(ReadStop::Syntax)
 }

@@ -1,6 +1,6 @@
 //! Operations on values.
 
-use module_vectors::Vect;
+use module_vectors::{Vect, VectList};
 
 /// An operation on values, by their names. A polynomial is a vector of rank 1 in the order of the ring.
 #[derive(Drop)]
@@ -21,4 +21,6 @@ pub enum Operation {
     Eliminate(String, u32),
     /// The syzygies of a value's stored list.
     Syzygies(String),
+    /// The polynomials whose image is in an ideal, under the map that sends each variable, in order, to one of these.
+    Preimage(String, VectList),
 }

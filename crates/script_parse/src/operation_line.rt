@@ -19,6 +19,7 @@ use crate::numbers::small_number;
 use crate::operands::{Binary, ByPolynomial, Operands};
 use crate::operation::Operation;
 use crate::stated::Statement;
+use crate::values::list_value;
 use crate::words::name_of;
 use module_vectors::Ring;
 use poly_grammar::Step;
@@ -102,6 +103,25 @@ fn syzygies(alloc: Global, line: &[u8], value: Token) -> Result<Operation, Parse
     Ok(Operation::Syzygies(name))
 }
 
+/// The operation of `preimage`.
+fn preimage(
+    alloc: Global,
+    ring: &Ring,
+    line: &[u8],
+    value: Token,
+    polynomials: &[Vec<Step>],
+) -> Result<Operation, ParseStop>
+    requires ascii { IsAscii (text_of line.now value) }
+    requires workable { AllByRecursion (IsWorkable ring.now line.now) polynomials.now }
+    ensures { IsOperationStated ring.now line.now (shapes.Preimage value) polynomials.now result }
+{
+    let name = name_of(alloc, line, value)?;
+    match list_value(alloc, ring, line, polynomials) {
+        Ok(images) => Ok(Operation::Preimage(name, images)),
+        Err(_) => Err(ParseStop::Memory),
+    }
+}
+
 /// The operation that operands and polynomials are.
 fn operation_of(
     alloc: Global,
@@ -122,6 +142,7 @@ fn operation_of(
         }
         Operands::Eliminate(value, count) => elimination(alloc, line, value, count),
         Operands::Syzygies(value) => syzygies(alloc, line, value),
+        Operands::Preimage(value) => preimage(alloc, ring, line, value, polynomials),
     }
 }
 

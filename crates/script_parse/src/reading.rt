@@ -39,9 +39,11 @@ fn formed(alloc: Global, line: &[u8]) -> Result<Form, ParseStop>
 ///
 /// The lines are `ring NUM NAME {, NAME} order [top] [weights NUM {, NUM}]` with the orders `lex`, `grevlex` and
 /// `elim NUM`, `show POLY`, `ideal NAME = POLY {, POLY}`, `module NAME NUM = VEC {, VEC}`, `let NAME = operation`,
-/// `gens NAME`, `gb NAME`, `size NAME`, `hilb NAME`, `nf NAME VEC`, `member NAME VEC`, `lift NAME VEC`, `equal NAME NAME` and
+/// `gens NAME`, `gb NAME`, `size NAME`, `hilb NAME`, `res NAME`, `minres NAME`, `betti NAME`, `reg NAME`, `nf NAME VEC`,
+/// `member NAME VEC`, `lift NAME VEC`, `equal NAME NAME`, `fglm NAME order`, `ext NAME NUM`, `express POLY by POLY {, POLY}` and
 /// blank ones, where VEC is POLY or `[ POLY {, POLY} ]`. The operations are `sum NAME NAME`, `product NAME NAME`,
-/// `intersect NAME NAME`, `colon NAME NAME`, `quotient NAME POLY`, `saturate NAME POLY`, `eliminate NAME NUM` and `syz NAME`.
+/// `intersect NAME NAME`, `colon NAME NAME`, `quotient NAME POLY`, `saturate NAME POLY`, `eliminate NAME NUM`, `syz NAME` and
+/// `preimage NAME POLY {, POLY}`.
 /// A number stands for its residue, `-x^2` for minus the square, and each power with exponent 0 for 1. Entry i of a VEC is at
 /// position i, from 0. A ring has the weight 1 for each variable where its line states none.
 ///

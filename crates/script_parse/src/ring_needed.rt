@@ -1,6 +1,6 @@
 //! What a line that needs a ring states.
 
-ghost use Rattle.std.specs.Prelude.{◌≡◌, ◌<◌, IfSome, List, Vec as VecValue, length, true};
+ghost use Rattle.std.specs.Prelude.{◌≡◌, ◌<◌, List, MatchOption, Vec as VecValue, length, true};
 ghost use Rattle.std.specs.Global.{Global};
 ghost use Rattle.std.specs.List.{AllByRecursion};
 ghost use Rattle.std.specs.Option.{option_copied};
@@ -10,13 +10,13 @@ ghost use Rattle.poly_grammar.specs.declared.step.Step.{Step as StepValue};
 ghost use Rattle.module_vectors.specs.declared.ring.Ring.{Ring as RingValue};
 ghost use Rattle.script_parse.specs.Forms.{IsLineOf};
 ghost use Rattle.script_parse.specs.Statements.{order_stated};
-ghost use Rattle.script_parse.specs.Tests.{AnswersForm, HaveNumerals, IsPolynomial, IsStated, IsWorkable, head_names, known_names, module_fits, rank_fits, right_kinds};
+ghost use Rattle.script_parse.specs.Tests.{AnswersForm, HasGreatElim, HaveNumerals, IsPolynomial, IsStated, IsWorkable, head_names, known_names, module_fits, rank_fits, right_kinds};
 ghost use Rattle.script_parse.specs.Written.{Written};
 ghost use Rattle.script_parse.specs.declared.form.Head.TheVariants as heads;
 
 use crate::checks::{
-    degrees_fit, elimination_fits, factor_fits, given_free, places_free, places_known,
-    polynomials_free, polynomials_known, rank_fits,
+    degrees_fit, factor_fits, given_free, number_fits, places_free, places_known, polynomials_free,
+    polynomials_known, rank_fits,
 };
 use crate::form::{Division, Head, Question};
 use crate::kind::{Kind, ParseStop};
@@ -50,7 +50,7 @@ fn names_known(
         && polynomials_known(line, &ring.vars, names, polynomials)
 }
 
-/// Whether no name in a polynomial is a value, none in a value's place a variable, and a factor an ideal.
+/// Whether no name in a polynomial is a value, none in a value's place a variable, and a value that has to be an ideal is one.
 fn kinds_right(
     line: &[u8],
     ring: &Ring,
@@ -192,9 +192,9 @@ fn equal_statement(
     Ok(Statement::Equal(first, second))
 }
 
-/// The order that is stated, where its number fits.
+/// The order that is stated; none where its number is 2^32 or more.
 fn small_order(line: &[u8], order: OrderName) -> Option<Order>
-    ensures { IfSome result (λ made. made ≡ order_stated line.now order) }
+    ensures { MatchOption result (HasGreatElim line.now order) (λ made. made ≡ order_stated line.now order) }
 {
     match order {
         OrderName::Lex => Some(Order::Lex),
@@ -223,6 +223,46 @@ fn change_statement(
     }
 }
 
+/// The statement of `express`.
+fn express_statement(
+    alloc: Global,
+    ring: &Ring,
+    line: &[u8],
+    polynomials: &[Vec<Step>],
+) -> Result<Statement, ParseStop>
+    requires some { 0 < length polynomials.now }
+    requires workable { AllByRecursion (IsWorkable ring.now line.now) polynomials.now }
+    ensures { IsStated ring.now line.now heads.Express polynomials.now result }
+{
+    let Some((steps, others)) = polynomials.split_first() else {
+        unreachable!()
+    };
+    let Ok(image) = polynomial_value(alloc, ring, line, steps) else {
+        return Err(ParseStop::Memory);
+    };
+    match list_value(alloc, ring, line, others) {
+        Ok(images) => Ok(Statement::Express(image, images)),
+        Err(_) => Err(ParseStop::Memory),
+    }
+}
+
+/// The statement of `ext`. A number of 2^32 or more is one of variables whose names no memory holds.
+fn ext_statement(
+    alloc: Global,
+    line: &[u8],
+    value: Token,
+    count: Token,
+) -> Result<Statement, ParseStop>
+    requires { IsAscii (text_of line.now value) }
+    ensures { (ring : RingValue) (pieces : List (VecValue StepValue Global)) → IsStated ring line.now (heads.Ext value count) pieces result }
+{
+    let name = name_of(alloc, line, value)?;
+    match small_number(line, count) {
+        Some(k) => Ok(Statement::Ext(name, u64::from(k))),
+        None => Err(ParseStop::Memory),
+    }
+}
+
 /// The statement of a line that is refused for no kind.
 fn stated(
     alloc: Global,
@@ -235,7 +275,7 @@ fn stated(
     requires written { (w : Written) × IsLineOf head polynomials.now w }
     requires ascii { AllByRecursion (λ t. IsAscii (text_of line.now t)) (head_names head) }
     requires workable { AllByRecursion (IsWorkable ring.now line.now) polynomials.now }
-    requires ranks { rank_fits names.now line.now head (length polynomials.now) ≡ true }
+    requires ranks { rank_fits (length ring.now.vars) names.now line.now head (length polynomials.now) ≡ true }
     ensures { IsStated ring.now line.now head polynomials.now result }
 {
     match head {
@@ -253,11 +293,14 @@ fn stated(
         }
         Head::Equal(left, right) => equal_statement(alloc, line, left, right),
         Head::Change(value, order) => change_statement(alloc, line, value, order),
+        Head::Express => express_statement(alloc, ring, line, polynomials),
+        Head::Ext(value, count) => ext_statement(alloc, line, value, count),
     }
 }
 
-/// What a line states that needs a ring, by its head and its polynomials: else `Ring` where none is stated or `eliminate` or
-/// the order of `fglm` has a number outside 1..n, then `Name`, `OfKind`, `Rank` and `Degree`, the first that holds.
+/// What a line states that needs a ring, by its head and its polynomials: else `Ring` where none is stated, or `eliminate` or
+/// the order of `fglm` has a number outside 1..n, or `ext` one above n, then `Name`, `OfKind`, `Rank` and `Degree`, the first that
+/// holds.
 pub fn line_statement(
     alloc: Global,
     line: &[u8],
@@ -275,7 +318,7 @@ pub fn line_statement(
     let Some(ring) = ring else {
         return Err(ParseStop::Refused(Kind::Ring));
     };
-    if !elimination_fits(line, &ring.vars, head) {
+    if !number_fits(line, &ring.vars, head) {
         return Err(ParseStop::Refused(Kind::Ring));
     }
     if !names_known(line, ring, names, head, polynomials) {
@@ -284,7 +327,7 @@ pub fn line_statement(
     if !kinds_right(line, ring, names, head, polynomials) {
         return Err(ParseStop::Refused(Kind::OfKind));
     }
-    if !rank_fits(line, names, head, polynomials.len()) {
+    if !rank_fits(line, &ring.vars, names, head, polynomials.len()) {
         return Err(ParseStop::Refused(Kind::Rank));
     }
     if !degrees_fit(alloc, line, ring, polynomials)? {

@@ -45,4 +45,9 @@ pub enum Statement {
     Equal(String, String),
     /// The reduced basis of a value in this order is to be printed.
     Change(String, Order),
+    /// A polynomial with this image is to be printed, or that there is none, under the map that sends each variable, in order, to
+    /// one of the list. All are vectors of rank 1.
+    Express(Vect, VectList),
+    /// A presentation of an Ext module of a value is to be printed, by its number, which is at most that of the variables.
+    Ext(String, u64),
 }

@@ -13,6 +13,11 @@ mod Stopping
 mod Reported
 mod KeptValues
 mod OneForm
+mod RingNames
+mod OneBasis
+mod OneExpression
+mod OneExt
+mod Extended
 mod OneAnswer
 mod OneWork
 mod OneText

@@ -8,10 +8,10 @@ use Rattle.module_vectors.specs.declared.ring.Ring.{Ring}
 use Rattle.script_parse.specs.declared.operation.Operation.{Operation}
 use Rattle.script_parse.specs.declared.operation.Operation.TheVariants as operations
 use Rattle.session_lang.proofs.OneAnswer.{one_value}
-use Rattle.session_lang.specs.Fitting.{AreGiven, IsWithPolynomial, IsWorkable}
+use Rattle.session_lang.specs.Fitting.{AreGiven, AreImages, IsWithPolynomial, IsWorkable}
 use Rattle.session_values.specs.Kept.{IsListOver, IsPolynomialOver, IsSound, IsValueRank}
 use Rattle.session_values.specs.Names.{State}
-use Rattle.session_values.specs.Operations.{IsResult, Work, WorksOn, colon, eliminate, intersect, multiply, quotient, result_rank, saturate, sum, syzygies}
+use Rattle.session_values.specs.Operations.{IsResult, Work, WorksOn, colon, eliminate, intersect, multiply, preimage, quotient, result_rank, saturate, sum, syzygies}
 use Rattle.session_values.specs.Tasks.{IsOperand, IsReady}
 
 abbrev Lists : Type 0
@@ -123,4 +123,17 @@ module _ (before : State) (over : Ring) where
       let x = one_value before (string_bytes a) h.0 over h.1 g.value h.2 g.has in (
         (g.value, g.has, ap₂ (λ r l. syzygies r l) g.rank_is g.list_is),
         ((g.vectors, g.ranked), subst (λ l. IsValueRank (length l)) (ap (λ v. v.list) x ∙ sym g.list_is) h.3),
+      )
+
+  pub preimage_does :
+      (a : String Global) (m : ℕ) (list images : Lists) → IsWorkable before (operations.Preimage a images) → IsOf a m list
+      → Does (operations.Preimage a images) (preimage images list)
+  preimage_does a m list images h g =
+      let x = one_value before (string_bytes a) h.0 over h.1 g.value h.2 g.has in
+      let le = subst (λ r. r ≤ 1) (ap (λ v. v.rank) x ∙ sym g.rank_is) h.3 in
+      let ge = g.ranked.0 in
+      let one : m ≡ 1 = omega (arith, le, ge) in
+      let these = subst (λ r. AreImages r images) (same_Some _ _ (sym h.2.stated ∙ g.has.stated)) h.4 in (
+        (g.value, g.has, ap (preimage images) g.list_is),
+        ((these.0, these.1, subst (λ r. IsListOver over r list) one g.vectors), (omega arith, omega arith)),
       )

@@ -8,7 +8,7 @@ use Rattle.session_lang.specs.Lines.{AnswersAsked}
 use Rattle.session_values.specs.Names.{HasValue, State, Value}
 use Rattle.session_values.specs.Texts.{listing, sizes}
 
-some_same : {X : Type 0} {x y : X} → Some x ≡ Some y → x ≡ y
+pub some_same : {X : Type 0} {x y : X} → Some x ≡ Some y → x ≡ y
 some_same e = cc
 
 -- a name has one value, over one ring

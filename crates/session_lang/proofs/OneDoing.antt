@@ -13,6 +13,8 @@ use Rattle.script_parse.specs.Statements.{IsSameOperation, IsSameStatement}
 use Rattle.script_parse.specs.declared.operation.Operation.{Operation}
 use Rattle.script_parse.specs.declared.stated.Statement.{Statement}
 use Rattle.script_parse.specs.declared.stated.Statement.TheVariants as statements
+use Rattle.session_lang.proofs.OneExpression.{expresses_once}
+use Rattle.session_lang.proofs.OneExt.{ext_once}
 use Rattle.session_lang.proofs.OneAnswer.{answers_once, decides_once, one_ring, one_value}
 use Rattle.session_lang.proofs.OneReordering.{reorders_once}
 use Rattle.session_lang.proofs.OneMinimal.{betti_once, minimal_once, regularity_once, tells_once}
@@ -20,8 +22,9 @@ use Rattle.session_lang.proofs.OneResolution.{resolves_once}
 use Rattle.session_lang.proofs.OneText.{counts_once, lifts_once}
 use Rattle.session_lang.proofs.OneWork.{gives_once}
 use Rattle.session_values.specs.Answers.{Asked, Decides, IsOneModule, basis, member, normal_form, sizes_of_basis}
-use Rattle.session_lang.specs.Lines.{AnswersAsked, Does, OperationGives}
+use Rattle.session_lang.specs.Lines.{AnswersAsked, Does, OperationGives, Tells}
 use Rattle.session_lang.specs.Minimising.{IsBettiText, IsMinimalText, IsRegularityText}
+use Rattle.session_values.specs.Extending.{IsExtText}
 use Rattle.session_values.specs.Names.{HasValue, State, Value, after_giving, after_run}
 use Rattle.session_values.specs.Texts.{listing}
 
@@ -152,6 +155,14 @@ module _ (before : State) where
     reorders_once before (string_bytes m) (string_bytes n) o q' x y e.0 e.1 a.1 b.1,
   )
   does_once (statements.Change m o) _ p q x y e a b = absurd e
+  does_once (statements.Express f v) (statements.Express g w) p q x y e a b = (a.0 ∙ sym b.0, expresses_once before f g v w x y e.0 e.1 a.1 b.1)
+  does_once (statements.Express f v) _ p q x y e a b = absurd e
+  does_once (statements.Ext m j) (statements.Ext n k) p q x y e a b = (
+    a.0 ∙ kept_once (string_bytes m) (string_bytes n) e.0 ∙ sym b.0,
+    tells_once (λ r v t. IsExtText r v j t) (λ r v s t. ext_once r v j s t) before (string_bytes m) (string_bytes n) x y e.0 a.1
+        (subst (λ i. Tells before (string_bytes n) (λ r v t. IsExtText r v i t) y) (sym e.1) b.1),
+  )
+  does_once (statements.Ext m j) _ p q x y e a b = absurd e
   does_once (statements.Gens m) (statements.Gens n) p q x y e a b =
       (a.0 ∙ sym b.0, listed_once (string_bytes m) (string_bytes n) a.1.0 b.1.0 a.1.1 b.1.1 x y e a.1.2 b.1.2 a.1.3 b.1.3)
   does_once (statements.Gens m) _ p q x y e a b = absurd e

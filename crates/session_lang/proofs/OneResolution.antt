@@ -4,6 +4,7 @@ use Rattle.std.specs.declared.cmp.Ordering.{Ordering}
 use Rattle.std.specs.Prelude.{codes}
 use Rattle.formal_sums.proofs.OfRank.{IsOfRank_of}
 use Rattle.formal_sums.specs.FormalSums.{HasRank, IsOfRank, Key as FormalKey}
+use Rattle.bases.specs.Settings.{Setting}
 use Rattle.module_vectors.proofs.NormalVectors.{one_terms}
 use Rattle.module_vectors.specs.Rings.{ring_comparison, setting, variables}
 use Rattle.module_vectors.specs.Vectors.{AreVectorsOver, sums_of}
@@ -12,6 +13,7 @@ use Rattle.module_vectors.specs.declared.ring.Ring.{Ring}
 use Rattle.operation_laws.proofs.Linear.{Each_at}
 use Rattle.resolution_laws.proofs.OneResolution.{canonical_unique}
 use Rattle.resolution_laws.specs.Resolutions.{IsCanonical}
+use Rattle.groebner_iface.specs.Runs.{IsReducedBasisOf}
 use Rattle.schreyer_resolution.specs.Inducing.{Columns, maps_of, over, tower_comparison}
 use Rattle.schreyer_resolution.specs.Resolved.{AreVectorsThrough}
 use Rattle.script_parse.proofs.Working.{lawful}
@@ -57,22 +59,30 @@ maps_once ring below other (F ∷ maps) (H ∷ others) g h e =
     tail : {X : Type 0} {x y : X} {xs ys : List X} → x ∷ xs ≡ y ∷ ys → xs ≡ ys
     tail e = cc
 
+-- a reduced basis has one canonical resolution
+pub resolved_once :
+    (ring : Ring) (rank : ℕ) (list basis other : List (List (Key × ℕ))) (maps others : Columns) → IsReducedBasisOf ring rank list basis
+    → IsReducedBasisOf ring rank list other
+    → IsCanonical (setting ring (variables ring) (ring_comparison ring (variables ring)) rank) (sums_of (variables ring) basis) (maps_of (variables ring) maps)
+    → IsCanonical (setting ring (variables ring) (ring_comparison ring (variables ring)) rank) (sums_of (variables ring) other) (maps_of (variables ring) others)
+    → AreVectorsThrough ring [] maps → AreVectorsThrough ring [] others → maps ≡ others
+resolved_once ring rank list basis other maps others reduced reduced' canonical canonical' vectors vectors' =
+    maps_once ring [] [] maps others vectors vectors'
+    (canonical_unique S (lawful ring rank) (sums_of (variables ring) basis) ranks (maps_of (variables ring) maps) (maps_of (variables ring) others) canonical
+    (subst (λ B. IsCanonical S (sums_of (variables ring) B) (maps_of (variables ring) others)) (one_reduced ring rank list other basis reduced' reduced) canonical'))
+  where
+    S : Setting (variables ring)
+    S = setting ring (variables ring) (ring_comparison ring (variables ring)) rank
+
+    ranks : (i : ℕ) → i < length (sums_of (variables ring) basis) → IsOfRank ring.modulus.value rank (get_or (sums_of (variables ring) basis) i [])
+    ranks i lt =
+        IsOfRank_of ring.modulus.value rank (get_or (sums_of (variables ring) basis) i [])
+        (Each_at (HasRank rank) [] (sums_of (variables ring) basis) (ranks_of_positions (variables ring) rank basis reduced.positions) i lt)
+
 module _ (ring : Ring) (value : Value) (x y : List ℕ) (g : IsResolutionText ring value x) (h : IsResolutionText ring value y) where
-  bases_same : g.basis ≡ h.basis
-  bases_same = one_reduced ring value.rank value.list g.basis h.basis g.reduced h.reduced
-
-  ranks : (i : ℕ) → i < length (sums_of (variables ring) g.basis) → IsOfRank ring.modulus.value value.rank (get_or (sums_of (variables ring) g.basis) i [])
-  ranks i lt =
-      IsOfRank_of ring.modulus.value value.rank (get_or (sums_of (variables ring) g.basis) i [])
-      (Each_at (HasRank value.rank) [] (sums_of (variables ring) g.basis) (ranks_of_positions (variables ring) value.rank g.basis (g.reduced).positions) i lt)
-
   maps_same : g.maps ≡ h.maps
   maps_same =
-      maps_once ring [] [] g.maps h.maps g.vectors h.vectors
-      (canonical_unique (setting ring (variables ring) (ring_comparison ring (variables ring)) value.rank) (lawful ring value.rank)
-      (sums_of (variables ring) g.basis) ranks (maps_of (variables ring) g.maps) (maps_of (variables ring) h.maps) g.canonical
-      (subst (λ B. IsCanonical (setting ring (variables ring) (ring_comparison ring (variables ring)) value.rank) (sums_of (variables ring) B)
-      (maps_of (variables ring) h.maps)) (sym bases_same) h.canonical))
+      resolved_once ring value.rank value.list g.basis h.basis g.maps h.maps g.reduced h.reduced g.canonical h.canonical g.vectors h.vectors
 
   text_once : x ≡ y
   text_once =

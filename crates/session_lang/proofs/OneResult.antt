@@ -50,6 +50,8 @@ module _ (before : State) where
   done_not_refused (statements.Member y z) (statements.Hilbert n) p x kind e d r = absurd e
   done_not_refused (statements.Lift y z) (statements.Hilbert n) p x kind e d r = absurd e
   done_not_refused (statements.Equal y z) (statements.Hilbert n) p x kind e d r = absurd e
+  done_not_refused (statements.Express y z) (statements.Hilbert n) p x kind e d r = absurd e
+  done_not_refused (statements.Ext y z) (statements.Hilbert n) p x kind e d r = absurd e
   done_not_refused (statements.Change y z) (statements.Hilbert n) p x kind e d r = absurd e
   done_not_refused (statements.Resolution y) (statements.Hilbert n) p x kind e d r = absurd e
   done_not_refused (statements.Change m q) (statements.Change n o) p x kind e d r =
@@ -67,6 +69,8 @@ module _ (before : State) where
   done_not_refused (statements.Member y z) (statements.Change n o) p x kind e d r = absurd e
   done_not_refused (statements.Lift y z) (statements.Change n o) p x kind e d r = absurd e
   done_not_refused (statements.Equal y z) (statements.Change n o) p x kind e d r = absurd e
+  done_not_refused (statements.Express y z) (statements.Change n o) p x kind e d r = absurd e
+  done_not_refused (statements.Ext y z) (statements.Change n o) p x kind e d r = absurd e
   done_not_refused (statements.Hilbert y) (statements.Change n o) p x kind e d r = absurd e
   done_not_refused (statements.Resolution y) (statements.Change n o) p x kind e d r = absurd e
   done_not_refused (statements.Minimal y) (statements.Hilbert n) p x kind e d r = absurd e
@@ -90,6 +94,8 @@ module _ (before : State) where
   done_not_refused (statements.Member y z) (statements.Minimal n) p x kind e d r = absurd e
   done_not_refused (statements.Lift y z) (statements.Minimal n) p x kind e d r = absurd e
   done_not_refused (statements.Equal y z) (statements.Minimal n) p x kind e d r = absurd e
+  done_not_refused (statements.Express y z) (statements.Minimal n) p x kind e d r = absurd e
+  done_not_refused (statements.Ext y z) (statements.Minimal n) p x kind e d r = absurd e
   done_not_refused (statements.Change y z) (statements.Minimal n) p x kind e d r = absurd e
   done_not_refused (statements.Resolution y) (statements.Minimal n) p x kind e d r = absurd e
   done_not_refused (statements.Hilbert y) (statements.Minimal n) p x kind e d r = absurd e
@@ -110,6 +116,8 @@ module _ (before : State) where
   done_not_refused (statements.Member y z) (statements.Betti n) p x kind e d r = absurd e
   done_not_refused (statements.Lift y z) (statements.Betti n) p x kind e d r = absurd e
   done_not_refused (statements.Equal y z) (statements.Betti n) p x kind e d r = absurd e
+  done_not_refused (statements.Express y z) (statements.Betti n) p x kind e d r = absurd e
+  done_not_refused (statements.Ext y z) (statements.Betti n) p x kind e d r = absurd e
   done_not_refused (statements.Change y z) (statements.Betti n) p x kind e d r = absurd e
   done_not_refused (statements.Resolution y) (statements.Betti n) p x kind e d r = absurd e
   done_not_refused (statements.Hilbert y) (statements.Betti n) p x kind e d r = absurd e
@@ -130,6 +138,8 @@ module _ (before : State) where
   done_not_refused (statements.Member y z) (statements.Regularity n) p x kind e d r = absurd e
   done_not_refused (statements.Lift y z) (statements.Regularity n) p x kind e d r = absurd e
   done_not_refused (statements.Equal y z) (statements.Regularity n) p x kind e d r = absurd e
+  done_not_refused (statements.Express y z) (statements.Regularity n) p x kind e d r = absurd e
+  done_not_refused (statements.Ext y z) (statements.Regularity n) p x kind e d r = absurd e
   done_not_refused (statements.Change y z) (statements.Regularity n) p x kind e d r = absurd e
   done_not_refused (statements.Resolution y) (statements.Regularity n) p x kind e d r = absurd e
   done_not_refused (statements.Hilbert y) (statements.Regularity n) p x kind e d r = absurd e
@@ -148,6 +158,8 @@ module _ (before : State) where
   done_not_refused s (statements.Member y z) p x kind e d r = absurd r
   done_not_refused s (statements.Lift y z) p x kind e d r = absurd r
   done_not_refused s (statements.Equal y z) p x kind e d r = absurd r
+  done_not_refused s (statements.Express y z) p x kind e d r = absurd r
+  done_not_refused s (statements.Ext y z) p x kind e d r = absurd r
   done_not_refused s (statements.Resolution y) p x kind e d r = absurd r
 
   -- a statement is refused for one kind
@@ -176,6 +188,8 @@ module _ (before : State) where
   stated_once (statements.Member y z) t j k e g h = absurd g
   stated_once (statements.Lift y z) t j k e g h = absurd g
   stated_once (statements.Equal y z) t j k e g h = absurd g
+  stated_once (statements.Express y z) t j k e g h = absurd g
+  stated_once (statements.Ext y z) t j k e g h = absurd g
   stated_once (statements.Resolution y) t j k e g h = absurd g
 
 -- a line that is done is not refused

@@ -3,6 +3,7 @@ use Rattle.std.proofs.Common.{List, ap, ap₂, refl, subst, subst₂, sym, ℕ, 
 use Rattle.std.specs.Prelude.{string_bytes}
 use Rattle.formal_sums.proofs.Combining.{IsMember_itself}
 use Rattle.formal_sums.specs.Combinations.{IsSameModule}
+use Rattle.formal_sums.specs.FormalSums.{FormalSum}
 use Rattle.bases.specs.Bases.{IsReducedBasis}
 use Rattle.reduced_bases.proofs.Comparing.{IsReducedBasis_same}
 use Rattle.module_vectors.specs.Rings.{ring_comparison, setting, variables}
@@ -13,18 +14,22 @@ use Rattle.script_parse.proofs.Working.{lawful}
 use Rattle.script_parse.specs.Statements.{IsSameOperation}
 use Rattle.script_parse.specs.declared.operation.Operation.{Operation}
 use Rattle.script_parse.specs.declared.operation.Operation.TheVariants as operations
+use Rattle.ideal_ops.specs.Answers.{IsBasisOfThose}
 use Rattle.session_lang.proofs.OneForm.{one_reduced}
 use Rattle.session_lang.proofs.OneAnswer.{one_ring, one_value}
 use Rattle.session_lang.specs.Lines.{OperationGives}
 use Rattle.session_values.specs.Names.{HasValue, State, Value}
-use Rattle.session_values.specs.Operations.{IsResult, Work, WorksOn, colon, eliminate, intersect, multiply, quotient, result_rank, saturate, sum, syzygies}
+use Rattle.session_values.specs.Operations.{IsInResult, IsResult, Work, WorksOn, colon, eliminate, intersect, multiply, preimage, quotient, result_rank, saturate, sum, syzygies}
 
 abbrev Lists : Type 0
 Lists = List (List (Key × ℕ))
 
--- the results have one module, and each is its own basis
-pub result_once : (ring : Ring) (work : Work) (A B : Lists) → IsResult ring work A → IsResult ring work B → A ≡ B
-result_once ring work A B a b = one_reduced ring (result_rank work) B A B (record { vectors = a.basis.vectors; positions = a.basis.positions; basis = moved }) b.basis
+-- bases of the same vectors have one module, and each is its own basis
+pub basis_once :
+    (ring : Ring) (rank : ℕ) (property : FormalSum (variables ring) → Type 0) (A B : Lists) → IsBasisOfThose ring rank property A
+    → IsBasisOfThose ring rank property B → A ≡ B
+basis_once ring rank property A B a b =
+    one_reduced ring rank B A B (record { vectors = a.basis.vectors; positions = a.basis.positions; basis = moved }) b.basis
   where
     same : IsSameModule ring.modulus.value (sums_of (variables ring) A) (sums_of (variables ring) B)
     same = record {
@@ -34,10 +39,14 @@ result_once ring work A B a b = one_reduced ring (result_rank work) B A B (recor
 
     moved :
         let n = variables ring in
-        IsReducedBasis (setting ring n (ring_comparison ring n) (result_rank work)) (sums_of n B) (sums_of n A)
+        IsReducedBasis (setting ring n (ring_comparison ring n) rank) (sums_of n B) (sums_of n A)
     moved =
-        IsReducedBasis_same (setting ring (variables ring) (ring_comparison ring (variables ring)) (result_rank work)) (lawful ring (result_rank work))
+        IsReducedBasis_same (setting ring (variables ring) (ring_comparison ring (variables ring)) rank) (lawful ring rank)
         (sums_of (variables ring) A) (sums_of (variables ring) B) (sums_of (variables ring) A) same a.basis.basis
+
+-- so an operation on lists has one result
+pub result_once : (ring : Ring) (work : Work) (A B : Lists) → IsResult ring work A → IsResult ring work B → A ≡ B
+result_once ring work A B a b = basis_once ring (result_rank work) (IsInResult ring work) A B a b
 
 module _ (before : State) where
   -- the work on two values, by their names
@@ -85,6 +94,9 @@ module _ (before : State) where
   works_once (operations.Syzygies a) (operations.Syzygies c) r s v w e g h =
       one_once (λ value x. syzygies value.rank value.list) (string_bytes a) (string_bytes c) (string_bytes c) (string_bytes c) r s v w e refl g h
   works_once (operations.Syzygies a) _ r s v w e g h = absurd e
+  works_once (operations.Preimage a f) (operations.Preimage c k) r s v w e g h =
+      one_once (λ value x. preimage x value.list) (string_bytes a) (string_bytes c) f k r s v w e.0 e.1 g h
+  works_once (operations.Preimage a f) _ r s v w e g h = absurd e
 
   -- an operation gives one list of one rank
   pub gives_once :

@@ -1,5 +1,5 @@
 -- Statements that were done, from what the calls for them say
-use Rattle.std.proofs.Common.{Err, List, Ok, Option, Result, Some, [], inr, refl, subst, subst₂, sym, ℕ, ◌++◌, ◌∙◌, ◌≡◌}
+use Rattle.std.proofs.Common.{Err, List, Ok, Option, Result, Some, [], inl, inr, refl, subst, subst₂, sym, ℕ, ◌++◌, ◌∙◌, ◌≡◌, ◌⊎◌}
 use Rattle.std.proofs.lemmas.List.{append-nil}
 use Rattle.std.proofs.lemmas.Option.{same_Some}
 use Rattle.std.proofs.lemmas.Result.{on_ok_weaker}
@@ -23,14 +23,17 @@ use Rattle.session_values.specs.Answers.{Asked, Decides, IsAnswer, IsOneModule, 
 use Rattle.session_lang.specs.Asking.{IsAskedOver}
 use Rattle.session_values.specs.Held.{Held}
 use Rattle.session_lang.specs.Fitting.{IsFit, IsGiven}
-use Rattle.session_lang.specs.Lines.{AnswersAsked, Does, IsLiftRun, IsRunForValue, IsRunForEither, Lifts, Needs, RefusesStated, States}
+use Rattle.session_lang.specs.Lines.{AnswersAsked, Does, Expresses, IsExpressingRun, IsLiftRun, IsRunForExt, IsRunForValue, IsRunForEither, Lifts, Needs, RefusesStated, States}
+use Rattle.session_lang.specs.Extensions.{IsRunToExtend}
+use Rattle.session_values.specs.Extending.{IsExtText}
 use Rattle.session_values.specs.Names.{HasValue, State, Value, after_run}
+use Rattle.session_values.specs.Resolving.{IsResolvingTrail}
 use Rattle.session_lang.specs.Parts.{IsRunToKeep}
 use Rattle.session_lang.specs.Performing.{Performed, Performs, asking}
 use Rattle.session_lang.specs.Reporting.{HasReport, IsReport, IsReportTrail, KeepsAs, RefusesReport, ReportsAs, reporting}
 use Rattle.session_lang.specs.declared.reports.Report.{Report}
 use Rattle.session_lang.specs.declared.reports.Report.TheVariants.{Betti, InOrder, Minimal, Numbers, Regularity, Resolution}
-use Rattle.session_lang.specs.Stops.{IsTrailFor, IsTrailOf, IsTrailOfLift, Meets, Steps}
+use Rattle.session_lang.specs.Stops.{IsTrailFor, IsTrailOf, IsTrailOfExpressing, IsTrailOfLift, Meets, Steps}
 use Rattle.session_lang.specs.declared.step.Step.{Step}
 use Rattle.session_lang.specs.declared.step.Step.TheVariants as steps
 
@@ -201,6 +204,50 @@ lifted_performed {before} {out} {out'} {old} {new} {kept} {kept'} called answer 
     unchanged : {U : Type 0} (r : Result U OpStop) → OnErr r (before ≡ before)
     unchanged (Ok u) = tt
     unchanged (Err e) = refl
+
+-- a polynomial by others
+pub expressed_performed :
+    {before : State} {out out' : List ℕ} {old new : ℕ} {kept kept' : Option StoppedRun} {U : Type 0} (called : Result U OpStop) (answer : Result Step OpStop)
+    (f : List (Key × ℕ)) (images : Terms)
+    → OnOk called (answer ≡ Ok steps.Done) → IfErr called (λ stop. answer ≡ Err stop)
+    → OnOk called ((text : List ℕ) × Expresses before f images text × (out' ≡ out ++ text)) → OnErr called (out' ≡ out)
+    → OnOk called ((new ≡ old) × (kept' ≡ kept))
+    → IfErr called (CallStops (IsExpressingRun before images) (IsTrailOfExpressing before f images) old new kept kept')
+    → Performed before (statements.Express f images) before out out' old new kept kept' answer
+expressed_performed {before} {out} {out'} {old} {new} {kept} {kept'} called answer f images ok err text unwritten engine stop =
+    was_called before (statements.Express f images) before out out' old new kept kept' called answer ok err
+    (on_ok_weaker called (λ t. (t.0, (refl, t.1), t.2)) text)
+    (as_it_was called) unwritten engine (λ ring rank list h. h) (λ t h. h) stop
+  where
+    as_it_was : {U : Type 0} (r : Result U OpStop) → OnErr r (before ≡ before)
+    as_it_was (Ok u) = tt
+    as_it_was (Err e) = refl
+
+-- the runs for an Ext module of a value, as those of a name that has it
+run_for_ext :
+    (before : State) (name : List ℕ) (over : Ring) (value : Value) (step : ℕ) → HasValue before name over value
+    → (ring : Ring) (rank : ℕ) (list : Terms) → IsRunToExtend over value step ring rank list → IsRunForExt before name step ring rank list
+run_for_ext before name over value step has ring rank list (inl h) = inl (run_for before name over value has ring rank list h)
+run_for_ext before name over value step has ring rank list (inr h) = inr (over, value, has, h)
+
+-- an Ext module of a value
+pub extended_performed :
+    {before after : State} {out out' : List ℕ} {old new : ℕ} {kept kept' : Option StoppedRun} {U : Type 0} (called : Result U OpStop) (answer : Result Step OpStop)
+    (name : String Global) (step : ℕ) (n : List ℕ) (over : Ring) (value : Value) → n ≡ string_bytes name → HasValue before n over value
+    → OnOk called (answer ≡ Ok steps.Done) → IfErr called (λ stop. answer ≡ Err stop)
+    → OnErr called (after ≡ before) → OnErr called (out' ≡ out) → OnOk called ((new ≡ old) × (kept' ≡ kept))
+    → OnOk called (after ≡ after_run n before)
+    → OnOk called ((text : List ℕ) × IsExtText over value step text × (out' ≡ out ++ text))
+    → IfErr called (CallStops (IsRunToExtend over value step) (IsResolvingTrail over value) old new kept kept')
+    → Performed before (statements.Ext name step) after out out' old new kept kept' answer
+extended_performed {before} {after} {out} {out'} {old} {new} {kept} {kept'} called answer name step n over value named has ok err same unwritten engine done text stop =
+    let has' = subst (λ m. HasValue before m over value) named has in
+    was_called before (statements.Ext name step) after out out' old new kept kept' called answer ok err
+    (on_ok_both called (λ d t. (t.0, (subst (λ m. after ≡ after_run m before) named d, (over, value, has', t.1)), t.2)) done text)
+    same unwritten engine
+    (run_for_ext before (string_bytes name) over value step has')
+    (λ t h. (over, value, has', h))
+    stop
 
 -- ---- reports
 module _ (before : State) (name : String Global) where

@@ -8,14 +8,14 @@ use Rattle.formal_sums.specs.FormalSums.{Each}
 use Rattle.poly_grammar.specs.Numerals.{text_of, value_of}
 use Rattle.poly_grammar.specs.Trees.{Poly}
 use Rattle.script_tokens.specs.declared.token.Token.{Token}
-use Rattle.module_vectors.specs.Rings.{ring_comparison}
+use Rattle.module_vectors.specs.Rings.{ring_comparison, variables}
 use Rattle.module_vectors.specs.Vectors.{AreVectorsOver, HasPositions, IsVectorOver}
 use Rattle.module_vectors.specs.declared.key.Key.{Key}
 use Rattle.module_vectors.specs.declared.ring.Ring.{Ring}
-use Rattle.script_parse.specs.Refusals.{HasOtherFactor, HasOtherKind, HasOtherOperands, HasOtherRank, HasUnknownName, HaveOtherRanks, RefusalHolds, IsNamed, IsOutside, Refuses, length_named, rank_named}
+use Rattle.script_parse.specs.Refusals.{HasHighRank, HasOtherFactor, HasOtherImages, HasOtherKind, HasOtherOperands, HasOtherRank, HasUnknownName, HaveOtherRanks, RefusalHolds, IsNamed, IsOutside, Refuses, length_named, rank_named}
 use Rattle.script_parse.specs.Statements.{ArePolynomialsOf, AreVectorsOf, IsOperationOf, Says, States}
 use Rattle.script_parse.specs.declared.ring_words.OrderName.{OrderName}
-use Rattle.script_parse.specs.Written.{IsLine, Written, WrittenOperation, ask_line, change_line, divide_line, elimination, equal_line, ideal_line, let_line, module_line, nothing, of_polynomial, of_two, ring_line, show_line, syzygies, value_places}
+use Rattle.script_parse.specs.Written.{IsLine, Written, WrittenOperation, ask_line, change_line, divide_line, elimination, equal_line, express_line, ext_line, ideal_line, let_line, module_line, nothing, of_polynomial, of_two, preimage, ring_line, show_line, syzygies, value_places}
 use Rattle.script_parse.specs.declared.form.Division.{Division}
 use Rattle.script_parse.specs.declared.form.Division.TheVariants as divisions
 use Rattle.script_parse.specs.declared.form.Question.{Question}
@@ -30,7 +30,7 @@ use Rattle.script_parse.specs.declared.operation.Operation.{Operation}
 use Rattle.script_parse.specs.declared.operation.Operation.TheVariants as operations
 use Rattle.script_parse.specs.declared.stated.Statement.{Statement}
 use Rattle.script_parse.specs.declared.stated.Statement.TheVariants as statements
-use Rattle.session_lang.specs.Fitting.{AreGiven, IsFit, IsGiven, IsIdealGiven, IsOfValue, IsOfValueRank, IsWithPolynomial, IsWorkable}
+use Rattle.session_lang.specs.Fitting.{AreGiven, AreImages, IsFit, IsGiven, IsIdealGiven, IsOfValue, IsOfValueRank, IsWithPolynomial, IsWorkable}
 use Rattle.session_values.specs.Kept.{IsValueRank}
 use Rattle.session_values.specs.Names.{AreInfosOf, HasValue, State, Value, value_named}
 
@@ -84,8 +84,12 @@ module _ (ring : Option Ring) (infos more : List NameInfo) (line : List ℕ) (sa
   unknown w (inl (t, stands, other, none)) = inl (t, stands, other, λ h. none (named_back (text_of line t) h))
   unknown w (inr h) = inr h
 
+  high_rank : (t : Token) → HasHighRank infos line t → HasHighRank more line t
+  high_rank t (rank, e, lt) = (rank, sym (same (text_of line t)) ∙ e, lt)
+
   other_factor : (w : Written) → HasOtherFactor infos line w → HasOtherFactor more line w
-  other_factor (let_line given (of_two binaries.Product left right)) (rank, e, lt) = (rank, sym (same (text_of line left)) ∙ e, lt)
+  other_factor (let_line given (of_two binaries.Product left right)) h = high_rank left h
+  other_factor (let_line given (preimage value images)) h = high_rank value h
   other_factor (let_line given (of_two binaries.Sum left right)) h = absurd h
   other_factor (let_line given (of_two binaries.Intersect left right)) h = absurd h
   other_factor (let_line given (of_two binaries.Colon left right)) h = absurd h
@@ -101,6 +105,8 @@ module _ (ring : Option Ring) (infos more : List NameInfo) (line : List ℕ) (sa
   other_factor (divide_line d t ps) h = absurd h
   other_factor (equal_line s t) h = absurd h
   other_factor (change_line t o) h = absurd h
+  other_factor (express_line p ps) h = absurd h
+  other_factor (ext_line t k) h = absurd h
 
   other_kind : (w : Written) → HasOtherKind ring infos line w → HasOtherKind ring more line w
   other_kind w (inl (t, stands, h)) = inl (t, stands, named (text_of line t) h)
@@ -110,7 +116,7 @@ module _ (ring : Option Ring) (infos more : List NameInfo) (line : List ℕ) (sa
   other_ranks : (s t : Token) → HaveOtherRanks infos line s t → HaveOtherRanks more line s t
   other_ranks s t (q, r, e, f, ne) = (q, r, sym (same (text_of line s)) ∙ e, sym (same (text_of line t)) ∙ f, ne)
 
-  other_operands : (w : WrittenOperation) → HasOtherOperands infos line w → HasOtherOperands more line w
+  other_operands : (w : WrittenOperation) → HasOtherOperands ring infos line w → HasOtherOperands ring more line w
   other_operands (of_two binaries.Sum s t) h = other_ranks s t h
   other_operands (of_two binaries.Intersect s t) h = other_ranks s t h
   other_operands (of_two binaries.Colon s t) h = other_ranks s t h
@@ -118,8 +124,9 @@ module _ (ring : Option Ring) (infos more : List NameInfo) (line : List ℕ) (sa
   other_operands (of_polynomial word t p) h = absurd h
   other_operands (elimination t count) h = absurd h
   other_operands (syzygies t) (n, e, out) = (n, sym (as_long (text_of line t)) ∙ e, out)
+  other_operands (preimage t ps) h = h
 
-  other_rank : (w : Written) → HasOtherRank infos line w → HasOtherRank more line w
+  other_rank : (w : Written) → HasOtherRank ring infos line w → HasOtherRank ring more line w
   other_rank (divide_line d t ps) (r, e, ne) = (r, sym (same (text_of line t)) ∙ e, ne)
   other_rank (equal_line s t) h = other_ranks s t h
   other_rank (change_line t o) (r, e, ne) = (r, sym (same (text_of line t)) ∙ e, ne)
@@ -130,6 +137,8 @@ module _ (ring : Option Ring) (infos more : List NameInfo) (line : List ℕ) (sa
   other_rank (ring_line words) h = h
   other_rank (show_line p) h = h
   other_rank (ask_line q t) h = h
+  other_rank (express_line p ps) h = h
+  other_rank (ext_line t k) h = h
 
   pub holds_alike : (kind : Kind) → RefusalHolds ring infos line kind → RefusalHolds ring more line kind
   holds_alike kinds.Syntax h = h
@@ -206,6 +215,21 @@ not_other m n k = go (eqb_tells m n)
     go (inl h) = h.1
     go (inr h) = absurd (k h.1)
 
+-- as many polynomials as there are variables are the images of these
+images_fit :
+    (ring : Ring) (line : List ℕ) (ps : List Poly) (vs : List (List (Key × ℕ))) → ArePolynomialsOf ring line ps vs → (HasOtherImages (Some ring) ps → ⊥)
+    → AreImages ring vs
+images_fit ring line ps vs h as_many = (
+  polynomials_fit ring line ps vs h,
+  sym (as_long ps vs h) ∙ not_other (length ps) (variables ring) as_many,
+)
+  where
+    as_long : (ps : List Poly) (vs : List (List (Key × ℕ))) → ArePolynomialsOf ring line ps vs → length ps ≡ length vs
+    as_long [] [] h = refl
+    as_long [] (v ∷ vs) h = absurd h
+    as_long (p ∷ ps) [] h = absurd h
+    as_long (p ∷ ps) (v ∷ vs) h = ap suc (as_long ps vs h.1)
+
 value_of_rank : (o : Option Value) (r : ℕ) → rank_of o ≡ Some r → (v : Value) × (o ≡ Some v) × (v.rank ≡ r)
 value_of_rank None r e = absurd cc
 value_of_rank (Some v) r e = (v, refl, inner e)
@@ -264,6 +288,15 @@ module _ (values : List Value) (infos : List NameInfo) (line : List ℕ) (told :
       let x = given r (change_line t o) t name is free (0, omega arith, refl) e in
       (r, x.0, x.1, not_other x.0.rank 1 (λ ne. free kinds.Rank (change_line t o, is, (x.0.rank, x.2, ne))))
 
+  -- the value with the name that a step is stated for
+  ext_of :
+      (ring : Option Ring) (t k : Token) (name : List ℕ) → IsLine line (ext_line t k)
+      → ((kind : Kind) → RefusalHolds ring infos line kind → ⊥) → name ≡ text_of line t → IsGiven (record { ring = ring; values = values }) name
+  ext_of None t k name is free e = absurd (free kinds.Ring (ext_line t k, is, inl refl))
+  ext_of (Some r) t k name is free e =
+      let x = given r (ext_line t k) t name is free (0, omega arith, refl) e in
+      (r, x.0, x.1)
+
   -- the value with a name that a vector is divided by
   divided_by :
       (r : Ring) (d : Division) (t : Token) (ps : List Poly) (name : List ℕ) (v : List (Key × ℕ)) → IsLine line (divide_line d t ps)
@@ -308,7 +341,7 @@ module _ (values : List Value) (infos : List NameInfo) (line : List ℕ) (told :
   of_one_rank :
       (r : Ring) (word : Binary) (g s t : Token) (a b : List ℕ) → IsLine line (let_line g (of_two word s t))
       → ((kind : Kind) → RefusalHolds (Some r) infos line kind → ⊥)
-      → (HaveOtherRanks infos line s t → HasOtherOperands infos line (of_two word s t)) → a ≡ text_of line s → b ≡ text_of line t
+      → (HaveOtherRanks infos line s t → HasOtherOperands (Some r) infos line (of_two word s t)) → a ≡ text_of line s → b ≡ text_of line t
       → AreGiven (record { ring = Some r; values = values }) a b (λ m n. m ≡ n)
   of_one_rank r word g s t a b is free holds e f =
       two_given r (let_line g (of_two word s t)) s t a b (λ m n. m ≡ n) is free (0, omega arith, refl) (1, omega arith, refl) e f
@@ -361,6 +394,12 @@ module _ (values : List Value) (infos : List NameInfo) (line : List ℕ) (told :
         within (length x.0.list) (λ out. free kinds.Rank (let_line g (syzygies t), is, (length x.0.list, long, out))),
       )
   workable r g (syzygies t) _ is free h = absurd h
+  workable r g (preimage t ps) (operations.Preimage a images) is free h =
+      let w = let_line g (preimage t ps) in
+      let x = given r w t (string_bytes a) is free (0, omega arith, refl) h.0 in
+      let ideal = at_most_one x.0.rank (λ lt. free kinds.OfKind (w, is, inr (inr (x.0.rank, x.2, lt)))) in
+      (r, x.0, x.1, ideal, images_fit r line ps images h.1 (λ other. free kinds.Rank (w, is, other)))
+  workable r g (preimage t ps) _ is free h = absurd h
 
   fit :
       (ring : Option Ring) (w : Written) (s : Statement) → IsLine line w → ((kind : Kind) → RefusalHolds ring infos line kind → ⊥)
@@ -416,6 +455,12 @@ module _ (values : List Value) (infos : List NameInfo) (line : List ℕ) (told :
   fit None (divide_line d t ps) s is free h = absurd h
   fit ring (change_line t o) (statements.Change name order) is free h = ideal_of ring t o (string_bytes name) is free h.0
   fit ring (change_line t o) _ is free h = absurd h
+  fit (Some r) (express_line p ps) (statements.Express f images) is free h =
+      (r, refl, (h.0.0, h.0.1), images_fit r line ps images h.1 (λ other. free kinds.Rank (express_line p ps, is, other)))
+  fit (Some r) (express_line p ps) _ is free h = absurd h
+  fit None (express_line p ps) s is free h = absurd h
+  fit ring (ext_line t k) (statements.Ext name step) is free h = ext_of ring t k (string_bytes name) is free h.0
+  fit ring (ext_line t k) _ is free h = absurd h
   fit ring (equal_line s t) (statements.Equal a b) is free h = compared ring s t (string_bytes a) (string_bytes b) is free h.0 h.1
   fit ring (equal_line s t) _ is free h = absurd h
 

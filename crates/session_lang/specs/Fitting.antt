@@ -1,7 +1,7 @@
 -- Which statements are fit to be done: their names are those of values, and their vectors and lists are over the ring
 use Rattle.std.specs.Prelude.{List, Some, length, string_bytes, ℕ, ◌≡◌, ◌≤◌}
 use Rattle.formal_sums.specs.FormalSums.{Each}
-use Rattle.module_vectors.specs.Rings.{ring_comparison}
+use Rattle.module_vectors.specs.Rings.{ring_comparison, variables}
 use Rattle.module_vectors.specs.Vectors.{AreVectorsOver, HasPositions, IsVectorOver}
 use Rattle.module_vectors.specs.declared.key.Key.{Key}
 use Rattle.module_vectors.specs.declared.ring.Ring.{Ring}
@@ -9,7 +9,7 @@ use Rattle.script_parse.specs.declared.operation.Operation.{Operation}
 use Rattle.script_parse.specs.declared.operation.Operation.TheVariants as operations
 use Rattle.script_parse.specs.declared.stated.Statement.{Statement}
 use Rattle.script_parse.specs.declared.stated.Statement.TheVariants as statements
-use Rattle.session_values.specs.Kept.{IsValueRank}
+use Rattle.session_values.specs.Kept.{IsListOver, IsPolynomialOver, IsValueRank}
 use Rattle.session_values.specs.Names.{HasValue, State, Value}
 
 -- a value has this name
@@ -39,6 +39,10 @@ abbrev pub IsWithPolynomial : State → List ℕ → List (Key × ℕ) → Type 
 IsWithPolynomial before name f =
     (ring : Ring) × (value : Value) × HasValue before name ring value × IsVectorOver ring (ring_comparison ring) f × HasPositions 1 f
 
+-- the list has a polynomial over the ring for each of its variables
+abbrev pub AreImages : Ring → List (List (Key × ℕ)) → Type 0
+AreImages ring images = IsListOver ring 1 images × (length images ≡ variables ring)
+
 -- the operation's names are those of values that it can work on
 abbrev pub IsWorkable : State → Operation → Type 0
 IsWorkable before (operations.Sum a b) = AreGiven before (string_bytes a) (string_bytes b) (λ r s. r ≡ s)
@@ -50,6 +54,8 @@ IsWorkable before (operations.Saturate a f) = IsWithPolynomial before (string_by
 IsWorkable before (operations.Eliminate a k) = IsGiven before (string_bytes a)
 IsWorkable before (operations.Syzygies a) =
     (ring : Ring) × (value : Value) × HasValue before (string_bytes a) ring value × IsValueRank (length value.list)
+IsWorkable before (operations.Preimage a images) =
+    (ring : Ring) × (value : Value) × HasValue before (string_bytes a) ring value × (value.rank ≤ 1) × AreImages ring images
 
 -- what a statement that is read from a line says is fit to be done
 abbrev pub IsFit : State → Statement → Type 0
@@ -74,3 +80,5 @@ IsFit before (statements.Betti name) = IsGiven before (string_bytes name)
 IsFit before (statements.Regularity name) = IsGiven before (string_bytes name)
 IsFit before (statements.Change name order) = IsIdealGiven before (string_bytes name)
 IsFit before (statements.Equal first second) = AreGiven before (string_bytes first) (string_bytes second) (λ r s. r ≡ s)
+IsFit before (statements.Express f images) = (ring : Ring) × (before.ring ≡ Some ring) × IsPolynomialOver ring f × AreImages ring images
+IsFit before (statements.Ext name step) = IsGiven before (string_bytes name)

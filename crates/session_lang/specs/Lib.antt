@@ -1,5 +1,6 @@
 -- what public clauses cite
 pub mod Lifting
+pub mod Expressing
 pub mod Reordering
 pub mod Minimising
 pub mod Lines
@@ -9,5 +10,6 @@ pub mod Fitting
 pub mod Reporting
 pub mod Cancelling
 pub mod Asking
+pub mod Extensions
 pub mod Parts
 pub mod Performing

@@ -12,8 +12,11 @@ use Rattle.script_parse.specs.declared.operation.Operation.{Operation}
 use Rattle.script_parse.specs.declared.stated.Statement.{Statement}
 use Rattle.script_parse.specs.declared.stated.Statement.TheVariants as statements
 use Rattle.syzygy_engine.specs.Marking.{IsMarkedRun}
+use Rattle.ring_maps.specs.Graphs.{IsGraphRun}
 use Rattle.session_values.specs.Answers.{Asked, Decides, IsAnswer, IsOneModule, basis, member, normal_form, sizes_of_basis}
+use Rattle.session_lang.specs.Expressing.{IsExpressionText}
 use Rattle.session_lang.specs.Lifting.{IsLiftText}
+use Rattle.session_values.specs.Extending.{IsExtText, IsExtendingRun}
 use Rattle.session_values.specs.Names.{AreInfosOf, HasValue, State, Value, after_giving, after_run}
 use Rattle.session_values.specs.Numbers.{IsNumbersText, RefusesNumbers}
 use Rattle.session_lang.specs.Reordering.{IsReorderedText, RefusesReordering}
@@ -78,6 +81,10 @@ Resolves before name text = (ring : Ring) × (value : Value) × HasValue before 
 abbrev pub Tells : State → List ℕ → (Ring → Value → List ℕ → Type 0) → List ℕ → Type 0
 Tells before name Is text = (ring : Ring) × (value : Value) × HasValue before name ring value × Is ring value text
 
+-- the text has the polynomial with this image, or no where there is none, over the ring that is stated
+abbrev pub Expresses : State → List (Key × ℕ) → List (List (Key × ℕ)) → List ℕ → Type 0
+Expresses before f images text = (ring : Ring) × (before.ring ≡ Some ring) × IsExpressionText ring images f text
+
 -- From a state, the statement leads to this state and has this text: a blank line changes nothing, a ring is stated anew
 -- and takes all names away, a polynomial is printed, an ideal, a module or the result of an operation gets a name, the others
 -- print what they ask for. A line that needs the reduced basis of a value leaves it kept; a result is its own, and kept.
@@ -108,6 +115,9 @@ Does before (statements.Minimal name) after text = (after ≡ after_run (string_
 Does before (statements.Betti name) after text = (after ≡ after_run (string_bytes name) before) × Tells before (string_bytes name) IsBettiText text
 Does before (statements.Regularity name) after text = (after ≡ after_run (string_bytes name) before) × Tells before (string_bytes name) IsRegularityText text
 Does before (statements.Change name order) after text = (after ≡ after_run (string_bytes name) before) × Reorders before (string_bytes name) order text
+Does before (statements.Express f images) after text = (after ≡ before) × Expresses before f images text
+Does before (statements.Ext name step) after text =
+    (after ≡ after_run (string_bytes name) before) × Tells before (string_bytes name) (λ ring value. IsExtText ring value step) text
 Does before (statements.Equal first second) after text =
     (after ≡ after_run (string_bytes second) (after_run (string_bytes first) before))
     × ((ring : Ring) × (left : Value) × (right : Value) × HasValue before (string_bytes first) ring left × HasValue before (string_bytes second) ring right
@@ -134,6 +144,16 @@ abbrev pub IsLiftRun : State → List ℕ → Ring → ℕ → List (List (Key �
 IsLiftRun before name ring rank list =
     (over : Ring) × (value : Value) × HasValue before name over value × IsMarkedRun over value.rank value.list ring rank list
 
+-- the run for a polynomial by others, over the ring that is stated
+abbrev pub IsExpressingRun : State → List (List (Key × ℕ)) → Ring → ℕ → List (List (Key × ℕ)) → Type 0
+IsExpressingRun before images ring rank list = (over : Ring) × (before.ring ≡ Some over) × IsGraphRun over images [] ring rank list
+
+-- the runs for an Ext module of the value with this name: the one for its reduced basis, and those behind its resolution
+abbrev pub IsRunForExt : State → List ℕ → (step : ℕ) → Ring → ℕ → List (List (Key × ℕ)) → Type 0
+IsRunForExt before name step ring rank list =
+    IsRunForValue before name ring rank list
+    ⊎ ((over : Ring) × (value : Value) × HasValue before name over value × IsExtendingRun over value step ring rank list)
+
 -- the runs that a statement needs
 abbrev pub Needs : State → Statement → Ring → ℕ → List (List (Key × ℕ)) → Type 0
 Needs before (statements.Gb name) ring rank list = IsRunForValue before (string_bytes name) ring rank list
@@ -148,6 +168,8 @@ Needs before (statements.Regularity name) ring rank list = IsRunForValue before 
 Needs before (statements.Change name order) ring rank list = IsRunForValue before (string_bytes name) ring rank list
 Needs before (statements.Let name operation) ring rank list = IsRunOfWork before operation ring rank list
 Needs before (statements.Lift name v) ring rank list = IsLiftRun before (string_bytes name) ring rank list
+Needs before (statements.Express f images) ring rank list = IsExpressingRun before images ring rank list
+Needs before (statements.Ext name step) ring rank list = IsRunForExt before (string_bytes name) step ring rank list
 Needs before (statements.Equal first second) ring rank list = IsRunForEither before (string_bytes first) (string_bytes second) ring rank list
 Needs before _ ring rank list = ⊥
 

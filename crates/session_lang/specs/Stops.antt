@@ -1,10 +1,11 @@
 -- What each answer to a line says
-use Rattle.std.specs.Prelude.{List, string_bytes, ℕ, ◌++◌, ◌≡◌}
+use Rattle.std.specs.Prelude.{List, Some, string_bytes, ℕ, ◌++◌, ◌≡◌}
 use Rattle.module_vectors.specs.declared.key.Key.{Key}
 use Rattle.module_vectors.specs.declared.ring.Ring.{Ring}
 use Rattle.module_vectors.specs.declared.trail.KeptTrail.{KeptTrail}
 use Rattle.vector_division.specs.Divisions.{IsDivisionTrail}
 use Rattle.groebner_iface.specs.Runs.{IsReducedBasisOf}
+use Rattle.ring_maps.specs.Graphs.{IsExpressionTrail}
 use Rattle.script_parse.specs.declared.operation.Operation.{Operation}
 use Rattle.script_parse.specs.declared.stated.Statement.{Statement}
 use Rattle.script_parse.specs.declared.stated.Statement.TheVariants as statements
@@ -57,6 +58,10 @@ IsTrailOfMinimal before name t =
     (ring : Ring) × (value : Value) × HasValue before name ring value
     × ((G : List (List (Key × ℕ))) × IsReducedBasisOf ring value.rank value.list G × IsMinimalTrail ring value.rank G t)
 
+-- a trail of the division for a polynomial by others, over the ring that is stated
+abbrev pub IsTrailOfExpressing : State → List (Key × ℕ) → List (List (Key × ℕ)) → KeptTrail → Type 0
+IsTrailOfExpressing before f images t = (ring : Ring) × (before.ring ≡ Some ring) × IsExpressionTrail ring images f t
+
 -- the trails that a statement can meet outside of its runs
 abbrev pub Meets : State → Statement → KeptTrail → Type 0
 Meets before (statements.NormalForm name v) t = IsTrailFor before (string_bytes name) (normal_form v) t
@@ -67,6 +72,8 @@ Meets before (statements.Resolution name) t = IsTrailOfResolving before (string_
 Meets before (statements.Minimal name) t = IsTrailOfMinimal before (string_bytes name) t
 Meets before (statements.Betti name) t = IsTrailOfMinimal before (string_bytes name) t
 Meets before (statements.Regularity name) t = IsTrailOfMinimal before (string_bytes name) t
+Meets before (statements.Express f images) t = IsTrailOfExpressing before f images t
+Meets before (statements.Ext name step) t = IsTrailOfResolving before (string_bytes name) t
 Meets before _ t = ⊥
 
 -- a trail of a line that is not refused as it is read, met outside of its runs

@@ -9,6 +9,8 @@
 
 mod answers;
 mod counting;
+mod expressing;
+mod extending;
 mod lifts;
 mod line_laws;
 mod minimising;
@@ -18,6 +20,6 @@ mod resolving;
 mod session;
 mod step;
 
-pub use line_laws::{no_run_of_refused, one_result, one_statement};
+pub use line_laws::{no_run_of_refused, one_result, one_statement, same_members};
 pub use session::Session;
 pub use step::Step;

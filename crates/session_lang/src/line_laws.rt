@@ -1,13 +1,20 @@
 //! Laws of lines. Each function's contract is proved here.
 
-ghost use Rattle.std.specs.Prelude.{◌≡◌, ℕ, List};
+ghost use Rattle.std.specs.Prelude.{◌≡◌, ◌↔◌, ◌++◌, ℕ, List, codes};
+ghost use Rattle.formal_sums.specs.FormalSums.{Each};
+ghost use Rattle.module_vectors.specs.Vectors.{HasPositions};
 ghost use Rattle.module_vectors.specs.declared.key.Key.{Key as KeyValue};
 ghost use Rattle.module_vectors.specs.declared.ring.Ring.{Ring as RingValue};
+ghost use Rattle.poly_text.specs.Names.{AreDistinctNames};
+ghost use Rattle.poly_text.specs.Texts.{names_of};
 ghost use Rattle.script_parse.specs.Statements.{IsSameStatement};
 ghost use Rattle.script_parse.specs.declared.kind.Kind.{Kind as KindValue};
 ghost use Rattle.script_parse.specs.declared.stated.Statement.{Statement as StatementValue};
+ghost use Rattle.script_parse.specs.declared.stated.Statement.TheVariants as statements;
 ghost use Rattle.session_lang.specs.Lines.{Line, Refuses, RefusesReading, RunOf, States};
-ghost use Rattle.session_values.specs.Names.{State};
+ghost use Rattle.session_values.specs.Answers.{AreMembersOf, IsAnswer, IsOneModule, basis};
+ghost use Rattle.session_values.specs.Names.{State, Value};
+ghost use Rattle.session_values.specs.Texts.{heading};
 
 /// A line that is done has one state behind it and one text, a refused one has one kind, and no line is both: so what a
 /// script prints is its own, whatever engine found the bases.
@@ -15,6 +22,18 @@ pub fn one_result()
     ensures done { (before : State) (line : List ℕ) (p q : State) (x y : List ℕ) → Line before line p x → Line before line q y → (p ≡ q) × (x ≡ y) }
     ensures kind { (before : State) (line : List ℕ) (j k : KindValue) → Refuses before line j → Refuses before line k → j ≡ k }
     ensures apart { (before : State) (line : List ℕ) (p : State) (x : List ℕ) (kind : KindValue) → Line before line p x → Refuses before line kind → ⊥ }
+{}
+
+/// Of two values of one rank `gb` prints the same members exactly where they generate one module (IVA chapter 2, section 7):
+/// what it prints behind its heading is the module's own, by whatever list the value was given. The variables of the ring have
+/// names of their own, as those of every ring that a line states.
+pub fn same_members()
+    ensures names { (before : State) (line : List ℕ) (ring : RingValue) → States before line (statements.Ring ring) → AreDistinctNames (names_of ring) }
+    ensures printed { (ring : RingValue) (value : Value) (members : List ℕ) → AreMembersOf ring value members
+        → (count : ℕ) × IsAnswer ring value basis (heading (codes "gb") value.name count ++ members) }
+    ensures same { (ring : RingValue) (left right : Value) (x y : List ℕ) → AreDistinctNames (names_of ring) → left.rank ≡ right.rank
+        → Each (HasPositions left.rank) left.list → Each (HasPositions right.rank) right.list
+        → AreMembersOf ring left x → AreMembersOf ring right y → (x ≡ y) ↔ IsOneModule ring left.list right.list }
 {}
 
 /// A line states one thing at most, and one that is refused as it is read states nothing: so the statement of which a stop

@@ -6,6 +6,8 @@ ghost use Rattle.session_lang.specs.Stops.{Steps, TrailOf};
 ghost use Rattle.session_lang.specs.declared.step.Step.TheVariants as steps;
 
 use crate::answers::{Question, answer_value, compare_values};
+use crate::expressing::push_expression;
+use crate::extending::extend_value;
 use crate::lifts::push_lift;
 use crate::reports::{Report, report_value};
 use crate::step::Step;
@@ -306,6 +308,10 @@ impl Session {
                 let value = self.operand(a);
                 Task::Syzygies(value.rank, value.list)
             }
+            Operation::Preimage(a, images) => {
+                let value = self.operand(a);
+                Task::Preimage(images, value.list)
+            }
         }
     }
 
@@ -364,6 +370,62 @@ impl Session {
             value.info,
             value.stored,
             v,
+            out,
+        ))
+    }
+
+    // Prints a polynomial by others.
+    fn express<R: Threads + Wait + Sync, B: Groebner>(
+        &self,
+        rt: &R,
+        alloc: Global,
+        engine: &mut B,
+        f: &Vect,
+        images: &VectList,
+        out: &mut Vec<u8>,
+    ) -> Result<Step, OpStop>
+        requires { IsFit self.now (statements.Express f.now images.now) }
+        ensures performed { Performed self.now (statements.Express f.now images.now) self.now out.old.items out.new.items
+            (B.stops engine.old) (B.stops engine.new) (B.stopped engine.old) (B.stopped engine.new) result }
+        ensures later { B.stops engine.old ≤ B.stops engine.new }
+        ensures settings { B.settings engine.new ≡ B.settings engine.old }
+    {
+        let Some(ring) = &self.ring else {
+            unreachable!()
+        };
+        done(push_expression(rt, alloc, engine, ring, images, f, out))
+    }
+
+    // Prints an Ext module of a value.
+    fn extend<R: Threads + Wait + Sync, B: Groebner>(
+        &mut self,
+        rt: &R,
+        alloc: Global,
+        engine: &mut B,
+        name: &String,
+        step: u64,
+        out: &mut Vec<u8>,
+    ) -> Result<Step, OpStop>
+        requires { IsFit self.old (statements.Ext name.now step) }
+        ensures performed { Performed self.old (statements.Ext name.now step) self.new out.old.items out.new.items
+            (B.stops engine.old) (B.stops engine.new) (B.stopped engine.old) (B.stopped engine.new) result }
+        ensures later { B.stops engine.old ≤ B.stops engine.new }
+        ensures settings { B.settings engine.new ≡ B.settings engine.old }
+    {
+        let Some(ring) = &self.ring else {
+            unreachable!()
+        };
+        let Some(i) = self.names.place_of(name.as_bytes()) else {
+            unreachable!()
+        };
+        done(extend_value(
+            rt,
+            alloc,
+            engine,
+            ring,
+            self.names.info_at(i),
+            &mut self.stored[i],
+            step,
             out,
         ))
     }
@@ -453,6 +515,8 @@ impl Session {
             Statement::Change(name, order) => {
                 self.report(rt, alloc, engine, &name, Report::InOrder(order), out)
             }
+            Statement::Express(f, images) => self.express(rt, alloc, engine, &f, &images, out),
+            Statement::Ext(name, step) => self.extend(rt, alloc, engine, &name, step, out),
             Statement::Equal(first, second) => {
                 self.compare(rt, alloc, engine, &first, &second, out)
             }

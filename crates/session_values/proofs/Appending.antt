@@ -54,6 +54,15 @@ module _ {T E : Type 0} where
       third ∙ ap (λ t. t ++ text) (second ∙ ap₂ (λ t w. t ++ (w ++ x ∷ [])) first bl) ∙ simp append_assoc
   text_behind out one two new a b l text x (Err e) bl first second third = tt
 
+  -- a text behind a part and two words, each with the byte that ends it
+  pub named_behind :
+      (out one two three new a b c l text : List ℕ) (x y : ℕ) (r : Result T E) → c ≡ l
+      → one ≡ out ++ a → two ≡ one ++ (b ++ x ∷ []) → three ≡ two ++ (c ++ y ∷ []) → OnOk r (new ≡ three ++ text)
+      → OnOk r (new ≡ out ++ (a ++ (b ++ x ∷ (l ++ y ∷ text))))
+  named_behind out one two three new a b c l text x y (Ok t) cl first second third fourth =
+      fourth ∙ ap (λ t. t ++ text) (third ∙ ap₂ (λ t w. t ++ (w ++ y ∷ [])) (second ∙ ap (λ t. t ++ (b ++ x ∷ [])) first) cl) ∙ simp append_assoc
+  named_behind out one two three new a b c l text x y (Err e) cl first second third fourth = tt
+
 -- ---- lines of a list, one behind another
 pub lines_step :
     {X : Type 0} (f : X → List ℕ) (xs : List X) (i : ℕ) (x : X) (out old new : List ℕ) → i < length xs → x ≡ get_or xs i x

@@ -3,14 +3,14 @@ use Rattle.std.proofs.Common.{List, arith, length, subst₂, sym, ℕ, ◌<◌, 
 use Rattle.std.specs.Prelude.{ℤ}
 use Rattle.hilbert_laws.specs.Numerators.{IsNumerator, leads_at, module_count}
 use Rattle.hilbert_series.specs.Large.{DimensionStops}
-use Rattle.hilbert_series.specs.Leads.{AreLeads, EndsInNonzero, NumeratorStops, keys_of}
+use Rattle.hilbert_series.specs.Leads.{AreLeads, EndsInNonzero, IsFirstOver, NumeratorStops, keys_of}
 use Rattle.hilbert_series.specs.declared.stop.HilbertStop.{HilbertStop}
 use Rattle.hilbert_series.specs.declared.stop.HilbertStop.TheVariants as stops
 use Rattle.module_vectors.specs.Rings.{ring_comparison, variables}
 use Rattle.module_vectors.specs.Vectors.{AreVectorsOver}
 use Rattle.module_vectors.specs.declared.key.Key.{Key}
 use Rattle.module_vectors.specs.declared.ring.Ring.{Ring}
-use Rattle.session_values.specs.Counting.{NumbersStop}
+use Rattle.session_values.specs.Counting.{CountsFirst, NumbersStop}
 use Rattle.session_values.specs.Numbers.{HasManyLeads, IsNumeratorFor, leads_of}
 
 abbrev Lists : Type 0
@@ -48,6 +48,17 @@ module _ (ring : Ring) (rank m : ℕ) (basis : Lists) (keys : List Key) (e : m �
       let over = h.over in
       (h.position, h.below, omega (arith, le, over))
   numerator_stop stops.Large h = absurd h
+
+  -- the number of leads is that of the first position with too many
+  pub first_over : (stop : HilbertStop) → NumeratorStops rank (keys_of m keys) stop → CountsFirst ring rank basis stop
+  first_over stops.Memory h = tt
+  first_over (stops.Leads k) h = subst₂ (λ n ks. IsFirstOver 120 rank (keys_of n ks) k) e f h
+  first_over stops.Large h = tt
+
+pub none_counted : (ring : Ring) (rank : ℕ) (basis : Lists) (K : List ℤ) (stop : HilbertStop) → DimensionStops K stop → CountsFirst ring rank basis stop
+none_counted ring rank basis K stops.Memory h = tt
+none_counted ring rank basis K (stops.Leads k) h = absurd h
+none_counted ring rank basis K stops.Large h = tt
 
 pub dimension_stop :
     (ring : Ring) (rank : ℕ) (basis : Lists) (K : List ℤ) → (HasManyLeads ring rank basis → ⊥) → IsNumeratorFor ring rank basis K

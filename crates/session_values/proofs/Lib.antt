@@ -3,4 +3,4 @@ pub mod Appending
 mod DegreeLines
 mod Dividing
 mod Leading
-mod OneModule
+pub mod OneModule

@@ -1,15 +1,15 @@
 -- What is asked of values, and when a text is the answer (IVA chapter 2, sections 6 and 7)
-use Rattle.std.specs.Prelude.{List, codes, ℕ, ◌++◌, ◌-◌, ◌∷◌, ◌≡◌, ◌⊎◌, true, false, []}
+use Rattle.std.specs.Prelude.{List, codes, ℕ, ◌++◌, ◌-◌, ◌<◌, ◌^◌, ◌∷◌, ◌≡◌, ◌⊎◌, true, false, []}
 use Rattle.monomials.specs.Exponents.{unit}
 use Rattle.formal_sums.specs.Combinations.{IsMember, IsSameModule}
-use Rattle.formal_sums.specs.FormalSums.{scale}
+use Rattle.formal_sums.specs.FormalSums.{Each, scale}
 use Rattle.bases.specs.Bases.{HasFreeTerms}
 use Rattle.module_vectors.specs.Rings.{ring_comparison, setting, variables}
 use Rattle.module_vectors.specs.Vectors.{IsVectorOver, sum_of, sums_of}
 use Rattle.module_vectors.specs.declared.key.Key.{Key}
 use Rattle.module_vectors.specs.declared.ring.Ring.{Ring}
 use Rattle.groebner_iface.specs.Runs.{IsReducedBasisOf}
-use Rattle.poly_text.specs.Texts.{names_of, vector_text}
+use Rattle.poly_text.specs.Texts.{list_text, names_of, vector_text}
 use Rattle.session_values.specs.Names.{Value}
 use Rattle.session_values.specs.Texts.{listing, sizes, verdict}
 
@@ -37,6 +37,17 @@ pub record IsNormalForm (ring : Ring) (rank : ℕ) (list : List (List (Key × �
   pub free :
       let n = variables ring in
       HasFreeTerms (setting ring n (ring_comparison ring n) rank) (sums_of n basis) (sum_of n w)
+
+-- the exponents of a vector are below 2^64
+abbrev pub HasSmallExponents : List (Key × ℕ) → Type 0
+HasSmallExponents v = Each (λ t. Each (λ e. e < 2 ^ 64) t.0.monomial.exponents) v
+
+-- the text is the members of the value's reduced basis, a line each: what `gb` prints behind its heading
+pub record AreMembersOf (ring : Ring) (value : Value) (text : List ℕ) : Type 0 where
+  pub basis : List (List (Key × ℕ))
+  pub reduced : IsReducedBasisOf ring value.rank value.list basis
+  pub small : Each HasSmallExponents basis
+  pub text_is : text ≡ list_text (names_of ring) value.rank basis
 
 -- what is asked of a value that its reduced basis answers
 pub data Asked : Type 0 where

@@ -9,4 +9,5 @@ pub mod Kept
 pub mod Numbers
 pub mod Counting
 pub mod Resolving
+pub mod Extending
 pub mod Writing

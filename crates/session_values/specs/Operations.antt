@@ -1,4 +1,4 @@
--- The operations that give a value its list (IVA chapter 3, section 1 and chapter 4, sections 3 and 4; UAG chapter 5, section 3)
+-- The operations that give a value its list (IVA chapter 3, sections 1 and 3 and chapter 4, sections 3 and 4; UAG chapter 5, section 3)
 use Rattle.std.specs.Prelude.{List, length, string_bytes, ℕ, ◌++◌, ◌≡◌}
 use Rattle.formal_sums.specs.Combinations.{IsMember, IsSyzygy}
 use Rattle.formal_sums.specs.FormalSums.{Each, FormalSum, IsOfRank, product}
@@ -15,6 +15,8 @@ use Rattle.ideal_ops.specs.Components.{AreColonRuns, AreQuotientRuns}
 use Rattle.ideal_ops.specs.FrontVariable.{AreIntersectionRuns, AreSaturationRuns, IsTrailOfIntersection, IsTrailOfSaturation}
 use Rattle.ideal_ops.specs.Products.{IsProductRun, IsTrailOfProducts}
 use Rattle.ideal_ops.specs.Runs.{AreEliminationRuns, IsRunOn}
+use Rattle.ring_maps.specs.Graphs.{ArePreimageRuns}
+use Rattle.ring_maps.specs.Maps.{IsInPreimage}
 use Rattle.script_parse.specs.declared.operation.Operation.{Operation}
 use Rattle.script_parse.specs.declared.operation.Operation.TheVariants as operations
 use Rattle.session_values.specs.Names.{HasValue, State, Value}
@@ -22,7 +24,8 @@ use Rattle.session_values.specs.Names.{HasValue, State, Value}
 abbrev pub Terms : Type 0
 Terms = List (Key × ℕ)
 
--- an operation with the rank of its vectors and the lists that it works on; in a product the rank is that of the second list
+-- an operation with the rank of its vectors and the lists that it works on; in a product the rank is that of the second list, in a
+-- preimage all are polynomials
 pub data Work : Type 0 where
   sum : (rank : ℕ) (left right : List Terms) → Work
   multiply : (rank : ℕ) (left right : List Terms) → Work
@@ -32,6 +35,7 @@ pub data Work : Type 0 where
   saturate : (rank : ℕ) (list : List Terms) (f : Terms) → Work
   eliminate : (rank : ℕ) (list : List Terms) (k : ℕ) → Work
   syzygies : (rank : ℕ) (list : List Terms) → Work
+  preimage : (images list : List Terms) → Work
 
 -- the operation works on the stored lists of the values with its names
 abbrev pub WorksOn : State → Operation → Ring → Work → Type 0
@@ -51,6 +55,7 @@ WorksOn before (operations.Quotient a f) ring work = (value : Value) × HasValue
 WorksOn before (operations.Saturate a f) ring work = (value : Value) × HasValue before (string_bytes a) ring value × (work ≡ saturate value.rank value.list f)
 WorksOn before (operations.Eliminate a k) ring work = (value : Value) × HasValue before (string_bytes a) ring value × (work ≡ eliminate value.rank value.list k)
 WorksOn before (operations.Syzygies a) ring work = (value : Value) × HasValue before (string_bytes a) ring value × (work ≡ syzygies value.rank value.list)
+WorksOn before (operations.Preimage a images) ring work = (value : Value) × HasValue before (string_bytes a) ring value × (work ≡ preimage images value.list)
 
 -- the rank of the result
 abbrev pub result_rank : Work → ℕ
@@ -62,6 +67,7 @@ result_rank (quotient rank list f) = rank
 result_rank (saturate rank list f) = rank
 result_rank (eliminate rank list k) = rank
 result_rank (syzygies rank list) = length list
+result_rank (preimage images list) = 1
 
 -- which vectors are in the result
 abbrev pub IsInResult : (ring : Ring) → Work → FormalSum (variables ring) → Type 0
@@ -78,6 +84,7 @@ IsInResult ring (saturate rank list f) v =
     IsOfRank ring.modulus.value rank v × IsInSaturation ring.modulus.value (sum_of (variables ring) f) (sums_of (variables ring) list) v
 IsInResult ring (eliminate rank list k) v = IsCombinationOfKept ring.modulus.value (has_none_of_first k) (sums_of (variables ring) list) v
 IsInResult ring (syzygies rank list) v = IsSyzygy ring.modulus.value (sums_of (variables ring) list) v
+IsInResult ring (preimage images list) v = IsInPreimage ring images list v
 
 -- the list is the result: the reduced basis of the module of these vectors
 abbrev pub IsResult : Ring → Work → List Terms → Type 0
@@ -93,6 +100,7 @@ AreRunsOf ring (quotient rank list f) r m l = AreQuotientRuns ring rank list f r
 AreRunsOf ring (saturate rank list f) r m l = AreSaturationRuns ring rank list f r m l
 AreRunsOf ring (eliminate rank list k) r m l = AreEliminationRuns k ring rank list r m l
 AreRunsOf ring (syzygies rank list) r m l = IsSyzygyRun ring rank list r m l
+AreRunsOf ring (preimage images list) r m l = ArePreimageRuns ring images list r m l
 
 -- the trails that it can meet outside of its runs
 abbrev pub AreTrailsOf : Ring → Work → KeptTrail → Type 0

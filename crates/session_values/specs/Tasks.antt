@@ -1,11 +1,12 @@
 -- Operations in the code
-use Rattle.std.specs.Prelude.{List, String, string_bytes, ℕ, ◌≡◌}
+use Rattle.std.specs.Prelude.{List, String, length, string_bytes, ℕ, ◌≡◌}
 use Rattle.std.specs.Global.{Global}
+use Rattle.module_vectors.specs.Rings.{variables}
 use Rattle.module_vectors.specs.declared.key.Key.{Key}
 use Rattle.module_vectors.specs.declared.ring.Ring.{Ring}
 use Rattle.session_values.specs.Kept.{IsListOver, IsPolynomialOver, IsValueRank}
 use Rattle.session_values.specs.Names.{HasValue, State, Value}
-use Rattle.session_values.specs.Operations.{Work, colon, eliminate, intersect, multiply, quotient, result_rank, saturate, sum, syzygies}
+use Rattle.session_values.specs.Operations.{Work, colon, eliminate, intersect, multiply, preimage, quotient, result_rank, saturate, sum, syzygies}
 use Rattle.session_values.specs.declared.operations.Task.{Task}
 use Rattle.session_values.specs.declared.operations.Task.TheVariants as tasks
 
@@ -19,8 +20,9 @@ work_of (tasks.Quotient rank list f) = quotient rank list.now f.now
 work_of (tasks.Saturate rank list f) = saturate rank list.now f.now
 work_of (tasks.Eliminate rank list k) = eliminate rank list.now k
 work_of (tasks.Syzygies rank list) = syzygies rank list.now
+work_of (tasks.Preimage images list) = preimage images.now list.now
 
--- its lists are of vectors over the ring, of its rank, and its polynomial is one over the ring
+-- its lists are of vectors over the ring, of its rank, its polynomial is one over the ring, and there is an image for each variable
 abbrev pub HasParts : Ring → Work → Type 0
 HasParts ring (sum rank left right) = IsListOver ring rank left × IsListOver ring rank right
 HasParts ring (multiply rank left right) = IsListOver ring 1 left × IsListOver ring rank right
@@ -30,6 +32,7 @@ HasParts ring (quotient rank list f) = IsListOver ring rank list × IsPolynomial
 HasParts ring (saturate rank list f) = IsListOver ring rank list × IsPolynomialOver ring f × IsValueRank rank
 HasParts ring (eliminate rank list k) = IsListOver ring rank list
 HasParts ring (syzygies rank list) = IsListOver ring rank list × IsValueRank rank
+HasParts ring (preimage images list) = IsListOver ring 1 images × (length images ≡ variables ring) × IsListOver ring 1 list
 
 -- it can be done, and its result is a value
 abbrev pub IsReady : Ring → Work → Type 0

@@ -13,8 +13,8 @@ use module_vectors::{NoMemory, Ring, VectList};
 use schreyer_resolution::{Map, Resolution};
 use std::alloc::Global;
 
-// Appends the columns of a map with so many rows. After an error what was written so far stands there.
-fn append_columns(
+/// Appends the columns of a map with so many rows. After an error what was written so far stands there.
+pub fn append_columns(
     alloc: Global,
     out: &mut Vec<u8>,
     ring: &Ring,
@@ -34,8 +34,8 @@ fn append_columns(
     Ok(())
 }
 
-// Appends how many rows and columns there are, on a line. After an error what was written so far stands there.
-fn append_counts(out: &mut Vec<u8>, rows: u64, columns: usize) -> Result<(), NoMemory>
+/// Appends how many rows and columns there are, on a line. After an error what was written so far stands there.
+pub fn append_counts(out: &mut Vec<u8>, rows: u64, columns: usize) -> Result<(), NoMemory>
     ensures ok { OnOk result (out.new.items ≡ out.old.items ++ counts_text rows columns) }
     ensures err { OnErr result (IsFront out.old.items out.new.items) }
 {

@@ -6,7 +6,7 @@ ghost use Rattle.hilbert_series.specs.Large.{IsLarge};
 ghost use Rattle.module_vectors.specs.Rings.{variables};
 ghost use Rattle.poly_text.specs.Writing.{IsFront};
 ghost use Rattle.std.specs.Fmt.{signed_decimal};
-ghost use Rattle.session_values.specs.Counting.{NumbersStop};
+ghost use Rattle.session_values.specs.Counting.{CountsFirst, NumbersStop};
 ghost use Rattle.session_values.specs.Numbers.{HasManyLeads, IsNumeratorFor, coefficients_text, leads_of, measures_text, numbers_text};
 
 use crate::texts::append_number;
@@ -50,7 +50,8 @@ fn leads_of(alloc: Global, list: &VectList) -> Result<Vec<Key>, NoMemory>
 }
 
 /// The numbers of a reduced basis of a value of this rank, at most 64. `Leads` comes where a position has more than 120 leads,
-/// `Large` where none has and the series of the numerator are too large, `Memory` where a growth was refused.
+/// with the number of leads of the first such position, `Large` where none has and the series of the numerator are too large,
+/// `Memory` where a growth was refused.
 pub fn numbers_of(
     alloc: Global,
     ring: &Ring,
@@ -64,6 +65,7 @@ pub fn numbers_of(
     ensures narrow { IfOk result (λ numbers. IsLarge numbers.series.coefficients.items → ⊥) }
     ensures measured { IfOk result (λ numbers. HasDimension (variables ring.now) numbers.series.coefficients.items numbers.dimension numbers.degree) }
     ensures stop { IfErr result (NumbersStop ring.now rank basis.now) }
+    ensures first { IfErr result (CountsFirst ring.now rank basis.now) }
 {
     let Ok(leads) = leads_of(alloc, basis) else {
         return Err(HilbertStop::Memory);

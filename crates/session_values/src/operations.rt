@@ -7,6 +7,7 @@ ghost use Rattle.session_values.specs.Tasks.{HasParts, work_of};
 use groebner_iface::{Groebner, OpStop};
 use ideal_ops::{colon, eliminate, intersect, product, quotient, saturate, sum};
 use module_vectors::{Ring, Vect, VectList};
+use ring_maps::preimage;
 use std::alloc::Global;
 use std::sync::Wait;
 use std::thread::Threads;
@@ -34,6 +35,8 @@ pub enum Task<'a> {
     Eliminate(u64, &'a VectList, u32),
     /// The syzygies of a list.
     Syzygies(u64, &'a VectList),
+    /// The polynomials with an image in an ideal: the images of the variables, and the list of the ideal.
+    Preimage(&'a VectList, &'a VectList),
 }
 
 /// The rank of the result.
@@ -49,6 +52,7 @@ pub fn rank_of_result(task: Task<'_>) -> u64
         Task::Saturate(rank, _, _) => rank,
         Task::Eliminate(rank, _, _) => rank,
         Task::Syzygies(_, list) => list.len() as u64,
+        Task::Preimage(_, _) => 1,
     }
 }
 
@@ -95,5 +99,6 @@ pub fn operate<R: Threads + Wait + Sync, B: Groebner>(
             eliminate(rt, alloc, engine, ring, u128::from(rank), list, k)
         }
         Task::Syzygies(rank, list) => syzygies(rt, alloc, engine, ring, u128::from(rank), list),
+        Task::Preimage(images, list) => preimage(rt, alloc, engine, ring, images, list),
     }
 }

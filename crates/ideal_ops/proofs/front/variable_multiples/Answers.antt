@@ -2,12 +2,13 @@ use Rattle.std.proofs.Common.{[], ap, get_or, length, map, subst, subst₂, sym,
 use Rattle.std.proofs.lemmas.List.{get_or_default, map-append}
 use Rattle.operation_laws.specs.Operations.{times_first, with_first}
 use Rattle.module_vectors.specs.FrontVariables.{front_ring}
-use Rattle.module_vectors.specs.Rings.{variables}
-use Rattle.module_vectors.proofs.Scaling.{Each_at}
-use Rattle.module_vectors.specs.Vectors.{AreTermsOver, sum_of, sums_of}
-use Rattle.ideal_ops.specs.FrontVariable.{IsFrontTrail, IsFrontTrailOf, front_polynomial}
+use Rattle.module_vectors.specs.Rings.{ring_comparison, variables}
+use Rattle.module_vectors.specs.Stops.{ScaledStops}
+use Rattle.module_vectors.specs.Vectors.{AreVectorsOver, IsVectorOver, sum_of, sums_of}
+use Rattle.ideal_ops.specs.FrontVariable.{IsFrontTrail, IsFrontTrailOf, IsFrontVector, front_polynomial}
 use Rattle.ideal_ops.specs.Runs.{AreVectorsFor}
 use Rattle.ideal_ops.proofs.Multiplied.{more_trails}
+use Rattle.ideal_ops.proofs.OneMoreVariable.{front_at, moved_at, moved_count}
 use Rattle.ideal_ops.proofs.Shared.{take_next, vectors_next, vectors_none}
 use Rattle.std.proofs.lemmas.List.{take_all}
 use Rattle.ideal_ops.proofs.front.variable_multiples.Goals as goal
@@ -18,38 +19,68 @@ returns-in-Err-clause-stop c =
     let n = variables ring in
     let b = front_polynomial n in
     let list = c.args.list.now in
+    let G = map with_first (sums_of n list) in
     let i = c.loop-i.i in
-    let x = c.index-as_slice-i.result in
-    let lt : i < length list = subst (λ z. i < z) c.len-i-end.ensures c.loop-i-test.true in
-    let is = c.index-as_slice-i.is ∙ ap (λ z. get_or z i x) c.as_slice.ensures ∙ get_or_default list i x [] lt in
-    more_trails (IsFrontTrail ring b (with_first (sum_of n x))) (IsFrontTrailOf ring b list)
-    (λ t h. (i, lt, subst (λ y. IsFrontTrail ring b (with_first (sum_of n y)) t) is h)) c.in-Err.stop c.in-Err.ensures.stop
+    let count = c.len-i-end.ensures ∙ moved_count ring list c.in_ok-moved.moved c.in_ok-moved.ensures in
+    let lt : i < length list = subst (λ z. i < z) count c.loop-i-test.true in
+    more_trails (IsFrontTrail ring b G i) (IsFrontTrailOf ring b list) (λ t h. (i, lt, h)) c.variable_stop.result (c.variable_stop.ensures G c.in_ok-moved.ensures)
 
 pub loop-i-preserved : goal.loop-i-preserved
 loop-i-preserved c =
     let ring = c.args.ring.now in
     let n = variables ring in
     let list = c.args.list.now in
+    let moved = c.in_ok-moved.moved in
+    let G = map with_first (sums_of n list) in
     let i = c.loop-i.i in
-    let x = c.index-as_slice-i.result in
+    let x = get_or list i [] in
+    let u = c.index-as_slice-i.result in
     let by = times_first {n = n} in
-    let lt : i < length list = subst (λ z. i < z) c.len-i-end.ensures c.loop-i-test.true in
+    let less : i < length moved = subst (λ z. i < z) c.len-i-end.ensures c.loop-i-test.true in
+    let lt : i < length list = subst (λ z. i < z) (moved_count ring list moved c.in_ok-moved.ensures) less in
+    let is = c.index-as_slice-i.is ∙ ap (λ z. get_or z i u) c.as_slice.ensures ∙ get_or_default moved i u [] less in
+    let front : IsFrontVector ring (with_first (sum_of n x)) u = subst₂ (IsFrontVector ring) (moved_at n list i) (sym is) (front_at ring G moved i c.in_ok-moved.ensures less) in
+    let w = c.in-Ok.ensures.vector (with_first (sum_of n x)) front in
     subst₂ (AreVectorsFor (front_ring ring))
-    (sym (ap (map by) (take_next n list i x lt (c.index-as_slice-i.is ∙ ap (λ z. get_or z i x) c.as_slice.ensures)) ∙ map-append by (sums_of n (take i list)) (sum_of n x ∷ [])))
+    (sym (ap (map by) (take_next n list i x lt (sym (get_or_default list i x [] lt))) ∙ map-append by (sums_of n (take i list)) (sum_of n x ∷ [])))
     (sym c.in_ok-push.ensures.items)
-    (vectors_next (front_ring ring) c.loop-i.multiples.items (map by (sums_of n (take i list))) c.in-Ok.w (by (sum_of n x)) c.loop-i.invariant c.in-Ok.ensures.vector.vector c.in-Ok.ensures.vector.stand)
+    (vectors_next (front_ring ring) c.loop-i.multiples.items (map by (sums_of n (take i list))) c.in-Ok.w (by (sum_of n x)) c.loop-i.invariant w.vector w.stand)
 
 pub variable_multiple-requires-clause-vector : goal.variable_multiple-requires-clause-vector
 variable_multiple-requires-clause-vector c =
-    let list = c.args.list.now in
+    let ring = c.args.ring.now in
+    let moved = c.in_ok-moved.moved in
     let i = c.loop-i.i in
-    let x = c.index-as_slice-i.result in
-    let lt : i < length list = subst (λ z. i < z) c.len-i-end.ensures c.loop-i-test.true in
-    Each_at (AreTermsOver c.args.ring.now) list i x c.requires.vectors lt (c.index-as_slice-i.is ∙ ap (λ z. get_or z i x) c.as_slice.ensures)
+    let u = c.index-as_slice-i.result in
+    let less : i < length moved = subst (λ z. i < z) c.len-i-end.ensures c.loop-i-test.true in
+    let is = c.index-as_slice-i.is ∙ ap (λ z. get_or z i u) c.as_slice.ensures ∙ get_or_default moved i u [] less in
+    let front = front_at ring (map with_first (sums_of (variables ring) c.args.list.now)) moved i c.in_ok-moved.ensures less in
+    subst₂ (λ r v. IsVectorOver r (ring_comparison r) v) (sym c.requires.front) (sym is) front.vector
+
+pub variable_stop-requires-clause-members : goal.variable_stop-requires-clause-members
+variable_stop-requires-clause-members c = subst (λ r. AreVectorsOver r (ring_comparison r) c.in_ok-moved.moved) (sym c.requires.front) c.in_ok-moved.ensures.vectors
+
+pub variable_stop-requires-clause-index : goal.variable_stop-requires-clause-index
+variable_stop-requires-clause-index c = subst (λ z. c.loop-i.i < z) c.len-i-end.ensures c.loop-i-test.true
+
+pub variable_stop-requires-clause-stop : goal.variable_stop-requires-clause-stop
+variable_stop-requires-clause-stop c =
+    let moved = c.in_ok-moved.moved in
+    let i = c.loop-i.i in
+    let u = c.index-as_slice-i.result in
+    let less : i < length moved = subst (λ z. i < z) c.len-i-end.ensures c.loop-i-test.true in
+    let is = c.index-as_slice-i.is ∙ ap (λ z. get_or z i u) c.as_slice.ensures ∙ get_or_default moved i u [] less in
+    subst (λ v. ScaledStops 1 c.args.t.now v c.in-Err.stop) is c.in-Err.ensures.stop
 
 pub loop-i-init : goal.loop-i-init
 loop-i-init c =
     subst (AreVectorsFor (front_ring c.args.ring.now) []) (sym c.in_ok-multiples.ensures.items) (vectors_none (front_ring c.args.ring.now))
+
+pub all_in_front-requires-clause-front : goal.all_in_front-requires-clause-front
+all_in_front-requires-clause-front c = c.requires.front
+
+pub all_in_front-requires-clause-vectors : goal.all_in_front-requires-clause-vectors
+all_in_front-requires-clause-vectors c = c.requires.vectors
 
 pub variable_multiple-requires-clause-front : goal.variable_multiple-requires-clause-front
 variable_multiple-requires-clause-front c = c.requires.front
@@ -57,11 +88,19 @@ variable_multiple-requires-clause-front c = c.requires.front
 pub variable_multiple-requires-clause-variable : goal.variable_multiple-requires-clause-variable
 variable_multiple-requires-clause-variable c = c.requires.variable
 
+pub variable_stop-requires-clause-front : goal.variable_stop-requires-clause-front
+variable_stop-requires-clause-front c = c.requires.front
+
+pub variable_stop-requires-clause-variable : goal.variable_stop-requires-clause-variable
+variable_stop-requires-clause-variable c = c.requires.variable
+
 pub returns-clause-list : goal.returns-clause-list
 returns-clause-list c =
     let ring = c.args.ring.now in
     let n = variables ring in
-    let all = take_all c.loop-i.i c.args.list.now (subst (λ z. z ≤ c.loop-i.i) c.len-i-end.ensures c.loop-i-test.false) in
+    let list = c.args.list.now in
+    let count = c.len-i-end.ensures ∙ moved_count ring list c.in_ok-moved.moved c.in_ok-moved.ensures in
+    let all = take_all c.loop-i.i list (subst (λ z. z ≤ c.loop-i.i) count c.loop-i-test.false) in
     subst₂ (λ xs l. AreVectorsFor (front_ring ring) (map (times_first {n = n}) (sums_of n xs)) l) all (sym c.from_vec.ensures) c.loop-i.invariant
 
 pub bounds-as_slice-i : goal.bounds-as_slice-i

@@ -1,4 +1,4 @@
-use Rattle.std.proofs.Common.{[], subst, sym, ◌∷◌}
+use Rattle.std.proofs.Common.{[], get_or, subst, sym, ◌∷◌}
 use Rattle.module_vectors.specs.Rings.{variables}
 use Rattle.module_vectors.specs.Stops.{CombinationStops}
 use Rattle.module_vectors.specs.Vectors.{IsMonomialOver}
@@ -11,22 +11,28 @@ use Rattle.ideal_ops.proofs.front.variable_stop.Goals as goal
 pub variable_vector-requires : goal.variable_vector-requires
 variable_vector-requires c = subst (λ r. IsMonomialOver r c.args.t.now) (sym c.requires.front) c.requires.variable.weighed
 
-pub product_stop-requires-clause-b_positions : goal.product_stop-requires-clause-b_positions
-product_stop-requires-clause-b_positions c = one_low c.args.t.now c.in-Ok.b c.in-Ok.ensures.terms
+pub stop_of-requires-clause-b_positions : goal.stop_of-requires-clause-b_positions
+stop_of-requires-clause-b_positions c = one_low c.args.t.now c.in-Ok.b c.in-Ok.ensures.terms
 
-pub product_stop-requires-clause-stop : goal.product_stop-requires-clause-stop
-product_stop-requires-clause-stop c =
-    subst (λ v. CombinationStops v (c.args.u ∷ []) c.args.stop) (sym c.in-Ok.ensures.terms) (variable_stops c.args.t.now c.args.u c.args.stop c.requires.stop)
+pub stop_of-requires-clause-stop : goal.stop_of-requires-clause-stop
+stop_of-requires-clause-stop c =
+    let u = get_or c.args.members c.args.index [] in
+    subst (λ v. CombinationStops v (u ∷ []) c.args.stop) (sym c.in-Ok.ensures.terms) (variable_stops c.args.t.now u c.args.stop c.requires.stop)
 
 pub returns-in-Ok : goal.returns-in-Ok
-returns-in-Ok c = λ g h.
+returns-in-Ok c = λ G h.
     let ring = c.args._ring.now in
     let b = c.in-Ok.b in
+    let members = c.args.members in
+    let k = c.args.index in
     let p = front_polynomial (variables ring) in
-    more_trails (IsProductTrail c.args.front.now b c.args.u) (IsFrontTrail ring p g)
-    (front_trail ring c.args.front.now p g b c.args.u c.requires.front
+    more_trails (IsProductTrail c.args.front.now b members k) (IsFrontTrail ring p G k)
+    (front_trail ring c.args.front.now p G b members k c.requires.front
     (variable_front ring c.args.front.now c.args.t.now b c.requires.front c.requires.variable c.in-Ok.ensures.vector c.in-Ok.ensures.terms) h)
-    c.product_stop.result c.product_stop.ensures
+    c.stop_of.result c.stop_of.ensures
 
-pub product_stop-requires-clause-u : goal.product_stop-requires-clause-u
-product_stop-requires-clause-u c = c.requires.u
+pub stop_of-requires-clause-members : goal.stop_of-requires-clause-members
+stop_of-requires-clause-members c = c.requires.members
+
+pub stop_of-requires-clause-index : goal.stop_of-requires-clause-index
+stop_of-requires-clause-index c = c.requires.index

@@ -1,11 +1,11 @@
-use Rattle.std.proofs.Common.{subst, sym, ◌-◌}
+use Rattle.std.proofs.Common.{[], subst, sym, ◌-◌, ◌∷◌}
 use Rattle.module_vectors.specs.Rings.{variables}
 use Rattle.module_vectors.specs.Stops.{ScaledStops}
 use Rattle.module_vectors.specs.Vectors.{IsMonomialOver}
 use Rattle.ideal_ops.specs.FrontVariable.{IsFrontTrail, front_polynomial}
 use Rattle.ideal_ops.specs.Products.{IsProductTrail}
 use Rattle.ideal_ops.proofs.Multiplied.{more_trails}
-use Rattle.ideal_ops.proofs.OneMoreVariable.{front_trail, turned_stops, variable_front}
+use Rattle.ideal_ops.proofs.OneMoreVariable.{front_alone, front_trail, turned_stops, variable_front}
 use Rattle.ideal_ops.proofs.saturating.turned_stop.Goals as goal
 
 pub variable_vector-requires : goal.variable_vector-requires
@@ -23,9 +23,9 @@ returns-in-Ok c = λ g h.
     let u = c.args.u.now in
     let one = c.in-Ok.one in
     let p = front_polynomial (variables ring) in
-    more_trails (IsProductTrail c.args.front.now u one) (IsFrontTrail ring g p)
-    (front_trail ring c.args.front.now g p u one c.requires.front h
-    (variable_front ring c.args.front.now c.args.t.now one c.requires.front c.requires.variable c.in-Ok.ensures.vector c.in-Ok.ensures.terms))
+    more_trails (IsProductTrail c.args.front.now u (one ∷ []) 0) (IsFrontTrail ring g (p ∷ []) 0)
+    (front_trail ring c.args.front.now g (p ∷ []) u (one ∷ []) 0 c.requires.front h
+    (front_alone ring p one (variable_front ring c.args.front.now c.args.t.now one c.requires.front c.requires.variable c.in-Ok.ensures.vector c.in-Ok.ensures.terms)))
     c.product_stop.result c.product_stop.ensures
 
 pub product_stop-requires-clause-b : goal.product_stop-requires-clause-b

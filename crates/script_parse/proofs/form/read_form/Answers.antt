@@ -1,6 +1,6 @@
 use Rattle.std.proofs.Common.{ap, map}
 use Rattle.poly_grammar.specs.Lexemes.{lexeme}
-use Rattle.script_parse.specs.Written.{change_word, division_word, equal_word, ideal_word, let_word, module_word, nothing, question_word, ring_word, show_word}
+use Rattle.script_parse.specs.Written.{change_word, division_word, equal_word, express_word, ext_word, ideal_word, let_word, module_word, nothing, question_word, ring_word, show_word}
 use Rattle.script_parse.proofs.Lines.{word_read}
 use Rattle.script_parse.proofs.Pieces.{nil_of}
 use Rattle.script_parse.proofs.form.read_form.Goals as goal
@@ -52,3 +52,13 @@ pub returns-then-is_word-7 : goal.returns-then-is_word-7
 returns-then-is_word-7 c =
     let says = c.is_word-7.ensures.name.0 c.if-is_word-7.true in
     word_read c.args.line.now change_word c.args.tokens.now c.in-Some.behind.now c.in-Some.word.now c.change_form.result says.0 says.1 c.in-Some.ensures.cases.0 c.change_form.ensures
+
+pub returns-then-is_word-8 : goal.returns-then-is_word-8
+returns-then-is_word-8 c =
+    let says = c.is_word-8.ensures.name.0 c.if-is_word-8.true in
+    word_read c.args.line.now express_word c.args.tokens.now c.in-Some.behind.now c.in-Some.word.now c.express_form.result says.0 says.1 c.in-Some.ensures.cases.0 c.express_form.ensures
+
+pub returns-then-is_word-9 : goal.returns-then-is_word-9
+returns-then-is_word-9 c =
+    let says = c.is_word-9.ensures.name.0 c.if-is_word-9.true in
+    word_read c.args.line.now ext_word c.args.tokens.now c.in-Some.behind.now c.in-Some.word.now c.ext_form.result says.0 says.1 c.in-Some.ensures.cases.0 (c.ext_form.ensures c.args.line.now)

@@ -1,5 +1,5 @@
 use Rattle.std.proofs.Common.{subst, sym}
-use Rattle.script_parse.proofs.Stating.{is_shown}
+use Rattle.script_parse.proofs.Stating.{is_expressed, is_shown}
 use Rattle.script_parse.specs.Forms.{IsLineOf}
 use Rattle.script_parse.specs.Tests.{IsStated}
 use Rattle.script_parse.proofs.ring_needed.stated.Goals as goal
@@ -32,3 +32,14 @@ let_statement-requires-clause-workable c = c.requires.workable
 
 pub divide_statement-requires-clause-workable : goal.divide_statement-requires-clause-workable
 divide_statement-requires-clause-workable c = c.requires.workable
+
+pub express_statement-requires-clause-some : goal.express_statement-requires-clause-some
+express_statement-requires-clause-some c =
+    let is = subst (λ h. IsLineOf h c.args.polynomials.now c.requires.written.0) c.in-Express.is c.requires.written.1 in
+    is_expressed c.args.polynomials.now c.requires.written.0 is
+
+pub express_statement-requires-clause-workable : goal.express_statement-requires-clause-workable
+express_statement-requires-clause-workable c = c.requires.workable
+
+pub returns-in-Ext : goal.returns-in-Ext
+returns-in-Ext c = subst (λ h. IsStated c.args.ring.now c.args.line.now h c.args.polynomials.now c.ext_statement.result) (sym c.in-Ext.is) (c.ext_statement.ensures c.args.ring.now c.args.polynomials.now)

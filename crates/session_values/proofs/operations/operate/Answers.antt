@@ -131,3 +131,15 @@ returns-in-Eliminate-clause-result g c =
     subst (λ x. IfOk c.eliminate.result (IsResult c.args.ring.now (work_of x))) (sym c.in-Eliminate.is)
     (subst (λ k. IfOk c.eliminate.result (IsResult c.args.ring.now (eliminate k c.in-Eliminate.list.now c.in-Eliminate.k))) c.from-in-Eliminate.ensures
     c.eliminate.ensures.basis)
+
+pub returns-in-Preimage-clause-stop : goal.returns-in-Preimage-clause-stop
+returns-in-Preimage-clause-stop g c =
+    IfErr-weaker c.preimage.result _ _
+    (more_stops _ _ _ _ _ _ _ _
+    (λ r m l h. subst (λ x. AreRunsOf c.args.ring.now (work_of x) r m l) (sym c.in-Preimage.is) h)
+    (λ t h. absurd h))
+    c.preimage.ensures.stop
+
+pub returns-in-Preimage-clause-result : goal.returns-in-Preimage-clause-result
+returns-in-Preimage-clause-result g c =
+    subst (λ x. IfOk c.preimage.result (IsResult c.args.ring.now (work_of x))) (sym c.in-Preimage.is) c.preimage.ensures.basis

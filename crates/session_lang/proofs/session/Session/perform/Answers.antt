@@ -197,3 +197,27 @@ returns-in-Equal-clause-later g c = c.compare.ensures.later
 
 pub returns-in-Equal-clause-settings : goal.returns-in-Equal-clause-settings
 returns-in-Equal-clause-settings g c = c.compare.ensures.settings
+
+pub express-requires-after_bounds : goal.express-requires-after_bounds
+express-requires-after_bounds g c κs within = subst (IsFit c.args.self.now) c.in-Express.is c.requires.fit
+
+pub returns-in-Express-clause-performed : goal.returns-in-Express-clause-performed
+returns-in-Express-clause-performed g c = performed_as c.in-Express.is c.express.ensures.performed
+
+pub returns-in-Express-clause-later : goal.returns-in-Express-clause-later
+returns-in-Express-clause-later g c = c.express.ensures.later
+
+pub returns-in-Express-clause-settings : goal.returns-in-Express-clause-settings
+returns-in-Express-clause-settings g c = c.express.ensures.settings
+
+pub extend-requires-after_bounds : goal.extend-requires-after_bounds
+extend-requires-after_bounds g c κs within = subst (IsFit c.args.self.now) c.in-Ext.is c.requires.fit
+
+pub returns-in-Ext-clause-performed : goal.returns-in-Ext-clause-performed
+returns-in-Ext-clause-performed g c = performed_as c.in-Ext.is c.extend.ensures.performed
+
+pub returns-in-Ext-clause-later : goal.returns-in-Ext-clause-later
+returns-in-Ext-clause-later g c = c.extend.ensures.later
+
+pub returns-in-Ext-clause-settings : goal.returns-in-Ext-clause-settings
+returns-in-Ext-clause-settings g c = c.extend.ensures.settings

@@ -1,8 +1,8 @@
 use Rattle.std.proofs.Common.{subst, sym}
 use Rattle.session_lang.specs.Fitting.{IsWorkable}
-use Rattle.session_values.specs.Operations.{WorksOn, colon, eliminate, intersect, multiply, quotient, saturate, sum, syzygies}
+use Rattle.session_values.specs.Operations.{WorksOn, colon, eliminate, intersect, multiply, preimage, quotient, saturate, sum, syzygies}
 use Rattle.session_values.specs.Tasks.{IsReady}
-use Rattle.session_lang.proofs.Making.{colon_does, eliminate_does, intersect_does, product_does, quotient_does, saturate_does, sum_does, syzygies_does}
+use Rattle.session_lang.proofs.Making.{colon_does, eliminate_does, intersect_does, preimage_does, product_does, quotient_does, saturate_does, sum_does, syzygies_does}
 use Rattle.session_lang.proofs.session.Session.task.Goals as goal
 
 pub operand-left-requires : goal.operand-left-requires
@@ -127,3 +127,16 @@ returns-in-Syzygies c = λ ring stated.
     subst (λ x. WorksOn c.args.self.now x ring work × IsReady ring work) (sym c.in-Syzygies.is)
     (syzygies_does c.args.self.now ring c.in-Syzygies.a value.rank value.list.now
     (subst (IsWorkable c.args.self.now) c.in-Syzygies.is c.requires) (c.operand-value-in-Syzygies.ensures ring stated))
+
+pub operand-value-requires-in-Preimage : goal.operand-value-requires-in-Preimage
+operand-value-requires-in-Preimage c =
+    let h = subst (IsWorkable c.args.self.now) c.in-Preimage.is c.requires in
+    (h.0, h.1, h.2)
+
+pub returns-in-Preimage : goal.returns-in-Preimage
+returns-in-Preimage c = λ ring stated.
+    let value = c.operand-value-in-Preimage.result in
+    let work = preimage c.in-Preimage.images value.list.now in
+    subst (λ x. WorksOn c.args.self.now x ring work × IsReady ring work) (sym c.in-Preimage.is)
+    (preimage_does c.args.self.now ring c.in-Preimage.a value.rank value.list.now c.in-Preimage.images
+    (subst (IsWorkable c.args.self.now) c.in-Preimage.is c.requires) (c.operand-value-in-Preimage.ensures ring stated))

@@ -1,0 +1,6 @@
+mod Putting
+mod RowVectors
+mod UnitLists
+mod Steps
+mod Presenting
+mod Resolved

@@ -1,0 +1,31 @@
+//! Ext and canonical resolutions. Each function's contract is a law, proved here.
+
+ghost use Rattle.std.specs.Prelude.{◌≡◌, ℕ, List, [], length, replicate};
+ghost use Rattle.formal_sums.specs.FormalSums.{FormalSum};
+ghost use Rattle.formal_sums.specs.Combinations.{IsMember};
+ghost use Rattle.resolution_laws.specs.Resolutions.{IsCanonical};
+ghost use Rattle.ext_laws.specs.Transposes.{IsInTransposedKernel, rank_at};
+ghost use Rattle.module_vectors.specs.Rings.{ring_comparison, setting, variables};
+ghost use Rattle.schreyer_resolution.specs.Inducing.{Columns, maps_of};
+ghost use Rattle.schreyer_resolution.specs.Resolved.{AreJoined, AreVectorsThrough, columns_of};
+ghost use Rattle.schreyer_resolution.specs.declared.maps.Resolution.{Resolution as ResolutionValue};
+ghost use Rattle.ext_modules.specs.Ext.{AreLinked, columns_at, image_of};
+
+use module_vectors::{Ring, lawful_setting};
+
+/// The maps of a resolution, as `resolve` answers it, are linked as `ext` wants them.
+pub fn resolutions_linked(_ring: &Ring)
+    ensures { (rank : ℕ) (r : ResolutionValue)
+        → r.positions.items ≡ replicate rank 0 → AreVectorsThrough _ring.now [] (columns_of r) → AreJoined _ring.now r.positions.items r.maps.items
+        → AreLinked _ring.now rank (columns_of r) }
+{}
+
+/// Along a canonical resolution the image at each step is in the kernel there: Ext is the kernel modulo the image.
+pub fn images_inside(ring: &Ring)
+    ensures { let n = variables ring.now in let p = ring.now.modulus.value in
+        (rank k : ℕ) (A : List (FormalSum (variables ring.now))) (maps : Columns) (v : FormalSum (variables ring.now))
+        → AreLinked ring.now rank maps → IsCanonical (setting ring.now n (ring_comparison ring.now n) rank) A (maps_of n maps)
+        → IsMember p (image_of ring.now rank maps k) v → IsInTransposedKernel p (rank_at rank maps k) (columns_at ring.now maps k) v }
+{
+    lawful_setting(ring);
+}

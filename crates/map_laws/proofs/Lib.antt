@@ -1,0 +1,9 @@
+pub mod Places
+pub mod Substituting
+pub mod Modulo
+pub mod Evaluating
+pub mod GraphMembers
+pub mod SecondVariables
+pub mod Images
+pub mod SecondOrder
+pub mod KernelBasis

@@ -1,0 +1,5 @@
+mod Doubled
+mod FirstTerms
+mod Listing
+mod SecondTerms
+mod GraphBases

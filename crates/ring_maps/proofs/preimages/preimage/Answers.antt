@@ -1,0 +1,55 @@
+use Rattle.std.proofs.Common.{inl, inr, refl}
+use Rattle.groebner_iface.specs.Calls.{NoTrail}
+use Rattle.groebner_iface.proofs.CallingRuns.{more_stops, run_stops}
+use Rattle.ring_maps.specs.Graphs.{ArePreimageRuns, IsGraphRun}
+use Rattle.ring_maps.proofs.GraphBases.{basis_of_preimage, member_positions}
+use Rattle.ring_maps.proofs.Listing.{later_stops, loose_list}
+use Rattle.ring_maps.proofs.preimages.preimage.Goals as goal
+
+pub returns-in-Err-clause-stop : goal.returns-in-Err-clause-stop
+returns-in-Err-clause-stop g c =
+    let ring = c.args.ring.now in
+    let images = c.args.images.now in
+    let list = c.args.list.now in
+    more_stops _ _ _ _ (IsGraphRun ring images list) (ArePreimageRuns ring images list) NoTrail NoTrail (λ r m l h. inl h) (λ t h. h) c.in-Err.stop c.in-Err.ensures.stop
+
+pub second_members-requires-clause-graph : goal.second_members-requires-clause-graph
+second_members-requires-clause-graph g c = c.in-Ok.ensures.basis.run.doubled
+
+pub second_members-requires-clause-basis : goal.second_members-requires-clause-basis
+second_members-requires-clause-basis g c = loose_list c.in-Ok.found.0 c.in-Ok.found.1 c.in-Ok.ensures.basis.reduced.vectors
+
+pub reduced-requires-clause-vectors : goal.reduced-requires-clause-vectors
+reduced-requires-clause-vectors g c = c.in_ok-members.ensures.vectors
+
+pub reduced-requires-clause-positions : goal.reduced-requires-clause-positions
+reduced-requires-clause-positions g c =
+    member_positions c.args.ring.now c.in-Ok.found.0 c.args.images.now c.args.list.now c.in-Ok.found.1 c.in-Ok.ensures.basis c.lawful_setting.ensures c.requires.images_polynomials c.requires.polynomials
+    c.in_ok-members.members c.in_ok-members.ensures
+
+pub returns-in-Ok-reduced-clause-basis : goal.returns-in-Ok-reduced-clause-basis
+returns-in-Ok-reduced-clause-basis g c =
+    basis_of_preimage c.args.ring.now c.in-Ok.found.0 c.args.images.now c.args.list.now c.in-Ok.found.1 c.in-Ok.ensures.basis c.lawful_setting.ensures c.requires.images_polynomials c.requires.polynomials
+    c.in_ok-members.members c.in-Ok-reduced.answer c.in_ok-members.ensures c.in-Ok-reduced.ensures.basis
+
+pub returns-clause-stop : goal.returns-clause-stop
+returns-clause-stop g c =
+    let ring = c.args.ring.now in
+    let images = c.args.images.now in
+    let list = c.args.list.now in
+    let found = c.in-Ok.ensures.basis in
+    rw c.from.ensures
+    (later_stops _ _ _ _ _ _ (ArePreimageRuns ring images list) NoTrail _ c.in-Ok.ensures.same
+    (run_stops _ _ _ _ (ArePreimageRuns ring images list) NoTrail ring 1 c.in_ok-members.members c.in-Err-reduced.stop
+    (inr (record {
+      first_ring = c.in-Ok.found.0;
+      first_rank = 1;
+      first_list = found.listed;
+      before = found.run;
+      basis = c.in-Ok.found.1;
+      reduced = found.reduced;
+      kept = c.in_ok-members.ensures;
+      own_ring = refl;
+      own_rank = refl;
+    }))
+    c.in-Err-reduced.ensures.stop))

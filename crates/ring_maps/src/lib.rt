@@ -1,0 +1,13 @@
+//! Preimages of ideals under maps of a polynomial ring to itself, and polynomials as images, over any engine that computes
+//! reduced Gröbner bases (IVA chapter 3, section 3 and chapter 7, section 3).
+#![tactic(auto)]
+
+mod expressing;
+mod first_variables;
+mod graph;
+mod preimages;
+mod second_variables;
+
+pub use expressing::express;
+pub use groebner_iface::OpStop;
+pub use preimages::preimage;
