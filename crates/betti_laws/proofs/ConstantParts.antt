@@ -40,7 +40,7 @@ two_turned false false x = refl
 
 -- ---- vectors
 module _ {n : ℕ} where
-  coefficient_unit : (v : FormalSum n) (i : ℕ) → coefficient (constant_part v) (i, unit n) ≡ coefficient v (i, unit n)
+  pub coefficient_unit : (v : FormalSum n) (i : ℕ) → coefficient (constant_part v) (i, unit n) ≡ coefficient v (i, unit n)
   coefficient_unit v i = weighted_sum_part (indicator (i, unit n)) v ∙ weighted_sum_ext _ _ (λ k. two_tests (nat_eq i k.0) (same_exponents (unit n) k.1)) v
 
   coefficient_other :
@@ -115,13 +115,13 @@ module _ {n : ℕ} where
         at x k false e = nothing (nat_eq k.0 r) (weighted_sum (λ l. cond (same_exponents (unit n) (times k.1 l.1)) (indicator x (shift k.1 l)) 0) w) ((p - 1) * s) (outside x k e)
 
     -- ---- constants
-    constant_there : (v : FormalSum n) (r : ℕ) → IsConstantAt p v r → IsConstantAt p (constant_part v) r
+    pub constant_there : (v : FormalSum n) (r : ℕ) → IsConstantAt p v r → IsConstantAt p (constant_part v) r
     constant_there v r h = record {
       nonzero = λ z. h.nonzero (IsCongruent_trans (IsCongruent_of p _ _ (sym (coefficient_unit v r))) z);
       alone = λ m ne. IsCongruent_of p _ 0 (coefficient_other v r m ne);
     }
 
-    constant_back :
+    pub constant_back :
         (ws rows : List ℕ) (d : ℕ) (v : FormalSum n) → IsHomogeneous ws p rows d v → (r : ℕ) → IsConstantAt p (constant_part v) r
         → IsConstantAt p v r
     constant_back ws rows d v h r c = record {
@@ -202,7 +202,7 @@ module _ {n : ℕ} where
     part_through r s w v = IsSame_sym (IsSame_trans (part_without_row r (cleared p r s w v)) (linear_same pos (linear_without_row r) (part_cleared r s w v)))
 
     -- ---- the split
-    columns_split :
+    pub columns_split :
         (r c s : ℕ) (F : List (FormalSum n))
         → AreSameColumns p (map (λ v. without_row r (cleared p r s (get_or (map constant_part F) c []) v)) (remove_at c (map constant_part F))) (map constant_part (map (λ v. without_row r (cleared p r s (get_or F c []) v)) (remove_at c F)))
     columns_split r c s F =

@@ -127,7 +127,7 @@ module _ (ring : Ring) where
   abbrev P : ℕ
   P = ring.modulus.value
 
-  linear_applied : (s : Pivot (variables ring)) → IsLinear (applied ring s)
+  pub linear_applied : (s : Pivot (variables ring)) → IsLinear (applied ring s)
   linear_applied s = linear_after (linear_without_row s.row) (linear_cleared ring.modulus.value s.row s.inverse s.column)
 
   pub applied_same : 0 < ring.modulus.value → (s : Pivot (variables ring)) (v w : FormalSum (variables ring)) → IsSame ring.modulus.value v w

@@ -12,10 +12,10 @@ use Rattle.formal_sums.specs.FormalSums.{Each, FormalSum, IsOfRank, IsSame, coef
 use Rattle.bases.specs.Settings.{IsLawful}
 use Rattle.minimal_laws.proofs.CanonicalPresenting.{combination_units, get_or-units, length-units, unit_homogeneous, units_from}
 use Rattle.minimal_laws.proofs.Cancelling.{cancelled}
-use Rattle.minimal_laws.proofs.OneCancellation.{one_cancellation}
+use Rattle.minimal_laws.proofs.OneCancellation.{one_cancellation, same_maps_sym, same_maps_trans}
 use Rattle.minimal_laws.proofs.Presenting.{presents_same}
 use Rattle.minimal_laws.proofs.SameMaps.{same_exact, same_first, same_graded, same_member, turned}
-use Rattle.minimal_laws.proofs.Searching.{cancellation_exists}
+use Rattle.minimal_laws.proofs.Searching.{cancellation_exists, same_maps_itself}
 use Rattle.minimal_laws.specs.Cancellation.{AreSameMaps, IsCancelled, done, keep, trimmed}
 use Rattle.minimal_laws.specs.Gradings.{AreExact, AreGraded, AreHomogeneous, GradedMap, GradedMaps, IsHomogeneous, first_columns, graded_by_leads}
 use Rattle.minimal_laws.specs.Minimal.{HasConstant, IsMinimal, Presents, difference}
@@ -28,12 +28,14 @@ use Rattle.schreyer_resolution.specs.Resolved.{AreJoined, columns_of, degrees_of
 use Rattle.schreyer_resolution.specs.declared.maps.Map.{Map}
 use Rattle.schreyer_resolution.specs.declared.maps.Resolution.{Resolution}
 use Rattle.minimal_betti.specs.Carried.{AreCarried, AreCarriedBy, AreOrdered, HasNone, LeadsTo, graded_map, graded_maps}
+use Rattle.minimal_betti.specs.Complementing.{ComesTo}
 use Rattle.minimal_betti.specs.Graded.{AreMapsOver, IsGradedResolution, graded_of}
 use Rattle.minimal_betti.specs.Minimising.{IsCancellationOf}
 use Rattle.minimal_betti.specs.Splitting.{IsUnderway}
 use Rattle.minimal_betti.specs.declared.carried.Carried.{Carried}
 use Rattle.minimal_betti.proofs.Columns.{map_same}
 use Rattle.minimal_betti.proofs.NoZeroColumns.{leads_are}
+use Rattle.minimal_betti.proofs.Reaching.{has_there}
 
 pub each_unmapped : {X Y : Type 0} (P : Y → Type 0) (f : X → Y) (xs : List X) → Each P (map f xs) → Each (λ x. P (f x)) xs
 each_unmapped P f [] h = tt
@@ -203,11 +205,22 @@ module _ (ring : Ring) where
   none_at_all (m ∷ ms) none zero c r h = none.0 c r h.1
   none_at_all (m ∷ ms) none (suc k) c r h = none_at_all ms none.1 k c r h
 
+-- maps without constants come to themselves
+pub comes_itself :
+    (ring : Ring) (C : GradedMaps (variables ring)) (rows : List ℕ) (left : List Carried) → LeadsTo ring.modulus.value C (graded_maps ring rows left)
+    → IsUnderway ring rows left left → ComesTo ring C rows left
+comes_itself ring C rows left leads under = record {
+  maps = map (graded_map (variables ring)) left;
+  leads = leads;
+  same = same_maps_itself ring.modulus.value (map (graded_map (variables ring)) left);
+  underway = under;
+}
+
 -- ---- the whole
 module _ (ring : Ring) (lawful : IsLawful (setting ring (variables ring) (ring_comparison ring (variables ring)) 0)) (r : Resolution)
     (given : IsGradedResolution ring r)
     (start : List Carried) (carried : AreCarried ring r.maps.items start) (rows : List ℕ) (left kept : List Carried)
-    (leads : LeadsTo ring.modulus.value (graded_maps ring r.positions.items start) (graded_maps ring rows left)) (under : IsUnderway ring rows left left)
+    (comes : ComesTo ring (graded_maps ring r.positions.items start) rows left)
     (trims : (n : ℕ) → trimmed (map (graded_map n) left) ≡ map (graded_map n) kept) (ordered : AreOrdered ring kept)
     (s : Resolution) (places_are : s.positions.items ≡ rows) (columns_are : columns_of s ≡ map (λ (m : Carried). m.columns) kept) where
   abbrev N : ℕ
@@ -238,14 +251,36 @@ module _ (ring : Ring) (lawful : IsLawful (setting ring (variables ring) (ring_c
   start_exact : AreExact ring.modulus.value (map (graded_map (variables ring)) start)
   start_exact = same_exact ring.modulus.value pos (graded_of ring r).maps (map (graded_map (variables ring)) start) same given.exact
 
-  all : IsCancelled ring.modulus.value (graded_maps ring r.positions.items start) (record { positions = rows; maps = map (graded_map (variables ring)) kept })
-  all = leads.cancelled D
-      (subst (λ ms. IsCancelled ring.modulus.value (graded_maps ring rows left) (record { positions = rows; maps = ms })) (trims (variables ring))
-      (done rows (map (graded_map (variables ring)) left) (none_at_all ring left under.none)))
+  none_left : (k c q : ℕ) → HasConstant ring.modulus.value comes.maps k c q → ⊥
+  none_left k c q h = none_at_all ring left comes.underway.none k c q
+      (has_there ring.modulus.value comes.maps (map (graded_map (variables ring)) left) k c q comes.same h)
+
+  -- the cancellation itself, and that it is these maps
+  abbrev E : GradedMaps (variables ring)
+  E = record { positions = rows; maps = trimmed comes.maps }
+
+  all : IsCancelled ring.modulus.value (graded_maps ring r.positions.items start) (record { positions = rows; maps = trimmed comes.maps })
+  all = comes.leads.cancelled E (done rows comes.maps none_left)
+
+  kept_same : AreSameMaps ring.modulus.value (trimmed comes.maps) (map (graded_map (variables ring)) kept)
+  kept_same =
+      let maps = map (graded_map (variables ring)) left in
+      subst (AreSameMaps ring.modulus.value (trimmed comes.maps)) (trims (variables ring))
+      (one_cancellation ring.modulus.value pos (record { positions = rows; maps = comes.maps }) (record { positions = rows; maps = maps }) E
+      (record { positions = rows; maps = trimmed maps }) (done rows comes.maps none_left) (refl, comes.same)
+      (done rows maps (none_at_all ring left comes.underway.none))).1
+
+  minimal_all : IsMinimal ring.weights ring.modulus.value (record { positions = rows; maps = trimmed comes.maps })
+  minimal_all = (cancelled ring.modulus.value pos r.positions.items (first_columns Start.maps) Start E all start_graded start_exact
+      (presents_itself pos ring.weights r.positions.items Start.maps start_graded)).0
 
   minimal_kept : IsMinimal ring.weights ring.modulus.value (record { positions = rows; maps = map (graded_map (variables ring)) kept })
-  minimal_kept = (cancelled ring.modulus.value pos r.positions.items (first_columns Start.maps) Start D all start_graded start_exact
-      (presents_itself pos ring.weights r.positions.items Start.maps start_graded)).0
+  minimal_kept = record {
+    graded = same_graded ring.modulus.value pos ring.weights rows E.maps D.maps kept_same minimal_all.graded;
+    exact = same_exact ring.modulus.value pos E.maps D.maps kept_same minimal_all.exact;
+    no_constant = λ k c q h. minimal_all.no_constant k c q
+        (has_there ring.modulus.value D.maps E.maps k c q (same_maps_sym ring.modulus.value E.maps D.maps kept_same) h);
+  }
 
   result_is : graded_of ring s ≡ record { positions = rows; maps = map (graded_map (variables ring)) kept }
   result_is =
@@ -267,18 +302,23 @@ module _ (ring : Ring) (lawful : IsLawful (setting ring (variables ring) (ring_c
       (same_member ring.modulus.value pos (first_columns Start.maps) (first_columns C.maps)
       (turned ring.modulus.value (first_columns C.maps) (first_columns Start.maps) first)) h
       in
-      subst (λ E. Presents ring.weights ring.modulus.value E places A) (sym result_is)
-      (cancelled ring.modulus.value pos places A Start D all start_graded start_exact there).1
+      let kept_first = same_first ring.modulus.value E.maps D.maps kept_same in
+      subst (λ z. Presents ring.weights ring.modulus.value z places A) (sym result_is)
+      (presents_same pos places A E D refl (same_member ring.modulus.value pos (first_columns E.maps) (first_columns D.maps) kept_first)
+      (same_member ring.modulus.value pos (first_columns D.maps) (first_columns E.maps)
+      (turned ring.modulus.value (first_columns E.maps) (first_columns D.maps) kept_first))
+      (cancelled ring.modulus.value pos places A Start E all start_graded start_exact there).1)
 
   pub cancellation_result : IsCancellationOf ring r s
   cancellation_result =
       let e = cancellation_exists ring.modulus.value lawful.domain C in
-      let o = one_cancellation ring.modulus.value pos C Start e.0 D e.1 (refl, same) all in
+      let o = one_cancellation ring.modulus.value pos C Start e.0 E e.1 (refl, same) all in
       record {
         maps = e.0;
         cancelled = e.1;
         positions = o.0 ∙ sym places_are;
-        same = subst (AreSameMaps ring.modulus.value e.0.maps) (sym (ap (λ (E : GradedMaps (variables ring)). E.maps) result_is)) o.1;
+        same = subst (AreSameMaps ring.modulus.value e.0.maps) (sym (ap (λ (z : GradedMaps (variables ring)). z.maps) result_is))
+            (same_maps_trans ring.modulus.value e.0.maps E.maps D.maps o.1 kept_same);
       }
 
   pub vectors_result : AreMapsOver ring s

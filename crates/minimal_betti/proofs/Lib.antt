@@ -1,4 +1,8 @@
 pub mod Apart
+pub mod ChosenSteps
+pub mod Complements
+pub mod Gone
+pub mod Pending
 pub mod Applying
 pub mod ByDegree
 pub mod Canonical

@@ -40,7 +40,7 @@ module _ {n : ℕ} (p : ℕ) where
     alone = λ m ne. IsCongruent_trans (IsCongruent_sym (e.by_key (r, m))) (h.alone m ne);
   }
 
-  has_there : (maps others : List (GradedMap n)) (k c r : ℕ) → AreSameMaps p maps others → HasConstant p maps k c r → HasConstant p others k c r
+  pub has_there : (maps others : List (GradedMap n)) (k c r : ℕ) → AreSameMaps p maps others → HasConstant p maps k c r → HasConstant p others k c r
   has_there [] others k c r e h = elim h [ ]
   has_there (M ∷ maps) [] k c r e h = elim e [ ]
   has_there (M ∷ maps) (N ∷ others) zero c r e h = (subst (λ m. c < m) e.1.count h.0, constant_there _ _ r (e.1.each c) h.1)

@@ -29,7 +29,7 @@ use Rattle.minimal_betti.proofs.Applying.{split_columns_same}
 use Rattle.minimal_betti.proofs.Columns.{map_same}
 use Rattle.minimal_betti.proofs.Ending.{each_unmapped}
 use Rattle.minimal_betti.proofs.Growing.{all_append}
-use Rattle.minimal_betti.proofs.Reaching.{constant_there, leads_on}
+use Rattle.minimal_betti.proofs.Reaching.{constant_there, leads_itself, leads_on}
 
 -- ---- lists
 pub map_map : {X Y Z : Type 0} (g : Y → Z) (f : X → Y) (xs : List X) → map g (map f xs) ≡ map (λ x. g (f x)) xs
@@ -41,7 +41,7 @@ map-remove_at f c [] = refl
 map-remove_at f zero (x ∷ xs) = refl
 map-remove_at f (suc c) (x ∷ xs) = ap (λ r. f x ∷ r) (map-remove_at f c xs)
 
-map-all_removed : {X Y : Type 0} (f : X → Y) (places : List ℕ) (xs : List X) → map f (all_removed places xs) ≡ all_removed places (map f xs)
+pub map-all_removed : {X Y : Type 0} (f : X → Y) (places : List ℕ) (xs : List X) → map f (all_removed places xs) ≡ all_removed places (map f xs)
 map-all_removed f [] xs = refl
 map-all_removed f (c ∷ places) xs = map-all_removed f places (remove_at c xs) ∙ ap (all_removed places) (map-remove_at f c xs)
 
@@ -50,7 +50,7 @@ each_removed P c [] h = tt
 each_removed P zero (x ∷ xs) h = h.1
 each_removed P (suc c) (x ∷ xs) h = (h.0, each_removed P c xs h.1)
 
-each_all_removed : {X : Type 0} (P : X → Type 0) (places : List ℕ) (xs : List X) → Each P xs → Each P (all_removed places xs)
+pub each_all_removed : {X : Type 0} (P : X → Type 0) (places : List ℕ) (xs : List X) → Each P xs → Each P (all_removed places xs)
 each_all_removed P [] xs h = h
 each_all_removed P (c ∷ places) xs h = each_all_removed P places (remove_at c xs) (each_removed P c xs h)
 
@@ -69,23 +69,23 @@ each_mapped P f (x ∷ xs) h = (h.0, each_mapped P f xs h.1)
 -- ---- graded maps
 module _ {n : ℕ} (p : ℕ) where
   -- the last map without its column r, or the positions without theirs
-  abbrev fewer : ℕ → GradedMap n → GradedMap n
+  abbrev pub fewer : ℕ → GradedMap n → GradedMap n
   fewer r M = record { columns = remove_at r M.columns; degrees = remove_at r M.degrees }
 
-  abbrev lose_last : ℕ → GradedMap n → List (GradedMap n) → List (GradedMap n)
+  abbrev pub lose_last : ℕ → GradedMap n → List (GradedMap n) → List (GradedMap n)
   lose_last r M [] = fewer r M ∷ []
   lose_last r M (L ∷ done) = M ∷ lose_last r L done
 
-  abbrev lose : ℕ → List ℕ → List (GradedMap n) → List ℕ × List (GradedMap n)
+  abbrev pub lose : ℕ → List ℕ → List (GradedMap n) → List ℕ × List (GradedMap n)
   lose r rows [] = (remove_at r rows, [])
   lose r rows (M ∷ done) = (rows, lose_last r M done)
 
-  abbrev lose_all : List ℕ → List ℕ → List (GradedMap n) → List ℕ × List (GradedMap n)
+  abbrev pub lose_all : List ℕ → List ℕ → List (GradedMap n) → List ℕ × List (GradedMap n)
   lose_all [] rows done = (rows, done)
   lose_all (r ∷ rs) rows done = lose_all rs (lose r rows done).0 (lose r rows done).1
 
   -- the next map without rows in turn
-  abbrev lower_all : List ℕ → List (GradedMap n) → List (GradedMap n)
+  abbrev pub lower_all : List ℕ → List (GradedMap n) → List (GradedMap n)
   lower_all [] tail = tail
   lower_all (c ∷ cs) tail = lower_all cs (without_rows c tail)
 
@@ -143,7 +143,7 @@ module _ {n : ℕ} (p : ℕ) where
   columns_in [] M tail = refl
   columns_in (D ∷ done) M tail = columns_in done M tail
 
-  none_fewer : (r : ℕ) (M : GradedMap n) → HasNone p M.columns → HasNone p (remove_at r M.columns)
+  pub none_fewer : (r : ℕ) (M : GradedMap n) → HasNone p M.columns → HasNone p (remove_at r M.columns)
   none_fewer r M h c q k = h (skip r c) q (subst (λ v. IsConstantAt p v q) (get_or-remove_at r M.columns c []) k)
 
   none_last : (r : ℕ) (M : GradedMap n) (done : List (GradedMap n)) → HasNone p M.columns → Each (λ D. HasNone p D.columns) done
@@ -155,7 +155,7 @@ module _ {n : ℕ} (p : ℕ) where
   none_lost r rows [] none = tt
   none_lost r rows (M ∷ done) none = none_last r M done none.0 none.1
 
-  none_all_lost : (rs rows : List ℕ) (done : List (GradedMap n)) → Each (λ D. HasNone p D.columns) done
+  pub none_all_lost : (rs rows : List ℕ) (done : List (GradedMap n)) → Each (λ D. HasNone p D.columns) done
       → Each (λ D. HasNone p D.columns) (lose_all rs rows done).1
   none_all_lost [] rows done none = none
   none_all_lost (r ∷ rs) rows done none = none_all_lost rs (lose r rows done).0 (lose r rows done).1 (none_lost r rows done none)
@@ -169,21 +169,21 @@ module _ {n : ℕ} (p : ℕ) where
   lose_end r rows [] M = refl
   lose_end r rows (x ∷ xs) M = ap (λ z. (rows, z)) (lose_last_end r x xs M)
 
-  lose_all_end :
+  pub lose_all_end :
       (rs rows : List ℕ) (xs : List (GradedMap n)) (M : GradedMap n)
       → lose_all rs rows (xs ++ M ∷ []) ≡ (rows, xs ++ record { columns = all_removed rs M.columns; degrees = all_removed rs M.degrees } ∷ [])
   lose_all_end [] rows xs M = refl
   lose_all_end (r ∷ rs) rows xs M = ap (λ (z : List ℕ × List (GradedMap n)). lose_all rs z.0 z.1) (lose_end r rows xs M) ∙ lose_all_end rs rows xs (fewer r M)
 
-  lose_all_none : (rs rows : List ℕ) → lose_all rs rows [] ≡ (all_removed rs rows, [])
+  pub lose_all_none : (rs rows : List ℕ) → lose_all rs rows [] ≡ (all_removed rs rows, [])
   lose_all_none [] rows = refl
   lose_all_none (r ∷ rs) rows = lose_all_none rs (remove_at r rows)
 
-  lower_all_none : (cs : List ℕ) → lower_all cs [] ≡ []
+  pub lower_all_none : (cs : List ℕ) → lower_all cs [] ≡ []
   lower_all_none [] = refl
   lower_all_none (c ∷ cs) = lower_all_none cs
 
-  lower_all_next :
+  pub lower_all_next :
       (cs : List ℕ) (M : GradedMap n) (tail : List (GradedMap n))
       → lower_all cs (M ∷ tail) ≡ record { columns = map (λ v. without_all cs v) M.columns; degrees = M.degrees } ∷ tail
   lower_all_next [] M tail = ap (λ F. record { columns = F; degrees = M.degrees } ∷ tail) (sym (map_same M.columns))
@@ -194,7 +194,7 @@ module _ {n : ℕ} (p : ℕ) where
 -- ---- the maps after steps
 module _ (ring : Ring) where
   -- what one list of maps leads to, graded as it is
-  abbrev Becomes : GradedMaps (variables ring) → GradedMaps (variables ring) → Type 0
+  abbrev pub Becomes : GradedMaps (variables ring) → GradedMaps (variables ring) → Type 0
   Becomes C E = LeadsTo ring.modulus.value C E
       × (AreGraded ring.weights ring.modulus.value C.positions C.maps → AreGraded ring.weights ring.modulus.value E.positions E.maps)
 
@@ -263,6 +263,26 @@ module _ (ring : Ring) where
       let a = one_step pos rows done M tail (lost.1 ++ M' ∷ tail') s none f.0 (same_maps_itself p (lost.1 ++ M' ∷ tail')) in
       let b = all_steps pos t steps lost.0 lost.1 M' tail' others (none_lost p s.row rows done none) f.1 same in
       (leads_on p _ _ _ a.0 b.0, λ g. b.1 (a.1 g))
+
+  -- the same, of no step too
+  pub any_steps :
+      0 < ring.modulus.value
+      → (steps : List (Pivot (variables ring))) (rows : List ℕ) (done : List (GradedMap (variables ring))) (M : GradedMap (variables ring))
+      (tail : List (GradedMap (variables ring)))
+      → Each (λ D. HasNone ring.modulus.value D.columns) done → AreFirstSteps ring M.columns steps
+      → Becomes (record { positions = rows; maps = done ++ M ∷ tail })
+      (record {
+        positions = (lose_all ring.modulus.value (map (λ (t : Pivot (variables ring)). t.row) steps) rows done).0;
+        maps =
+            (lose_all ring.modulus.value (map (λ (t : Pivot (variables ring)). t.row) steps) rows done).1
+            ++ record {
+              columns = left_by_all ring steps M.columns;
+              degrees = all_removed (map (λ (t : Pivot (variables ring)). t.index) steps) M.degrees;
+            }
+            ∷ lower_all ring.modulus.value (map (λ (t : Pivot (variables ring)). t.index) steps) tail;
+      })
+  any_steps pos [] rows done M tail none f = (leads_itself ring.modulus.value (record { positions = rows; maps = done ++ M ∷ tail }), λ g. g)
+  any_steps pos (s ∷ steps) rows done M tail none f = all_steps pos s steps rows done M tail _ none f (same_maps_itself ring.modulus.value _)
 
   -- ---- the maps in the code
   abbrev G : Carried → GradedMap (variables ring)

@@ -4,6 +4,7 @@ pub mod Minimising
 pub mod Tables
 -- what holds while constants leave, and invariants of loops
 pub mod Carried
+pub mod Complementing
 pub mod Clearing
 pub mod Constants
 pub mod Growing

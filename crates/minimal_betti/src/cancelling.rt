@@ -17,6 +17,7 @@ ghost use Rattle.minimal_betti.specs.declared.carried.Carried.{Carried as Carrie
 use crate::by_steps::cancelled_by_steps;
 use crate::carried::Carried;
 use crate::clearing::in_own_order;
+use crate::complementing::complemented_maps;
 use crate::leaving::{leave_former, leave_next};
 use crate::one_pass::{Passed, pass};
 use crate::placing::kept_items;
@@ -224,6 +225,31 @@ fn resolution_of(
     Ok(Resolution { positions, maps })
 }
 
+// The minimal resolution, by the steps on whole columns.
+fn minimal_by_passes(
+    alloc: Global,
+    ring: &Ring,
+    resolution: &Resolution,
+) -> Result<Resolution, WorkStop>
+    requires { IsGradedResolution ring.now resolution.now }
+    ensures cancelled { IfOk result (IsCancellationOf ring.now resolution.now) }
+    ensures minimal { IfOk result (λ s. IsMinimal ring.now.weights ring.now.modulus.value (graded_of ring.now s)) }
+    ensures presents { (places : List ℕ) (A : List (FormalSum (variables ring.now)))
+        → Presents ring.now.weights ring.now.modulus.value (graded_of ring.now resolution.now) places A
+        → IfOk result (λ s. Presents ring.now.weights ring.now.modulus.value (graded_of ring.now s) places A) }
+    ensures joined { IfOk result (λ s. AreJoined ring.now s.positions.items s.maps.items) }
+    ensures vectors { IfOk result (AreMapsOver ring.now) }
+    ensures stop { IfErr result (CancellationStops ring.now (graded_of ring.now resolution.now)) }
+{
+    lawful_setting(ring);
+    let mut positions = Vec::from_slice(alloc, &resolution.positions)?;
+    let maps = carried_maps(alloc, ring, &resolution.maps)?;
+    match cancelled_maps(alloc, ring, &mut positions, maps) {
+        Ok(left) => Ok(resolution_of(alloc, ring, positions, left)?),
+        Err(stop) => Err(stop),
+    }
+}
+
 /// The minimal resolution that a graded one becomes when its constants leave, each time the first one: in the least map, in
 /// it in the least column, in it in the least row (Eisenbud, section 20.1). It presents what the given one presents. Its columns
 /// are vectors in the ring's own order.
@@ -245,8 +271,8 @@ pub fn minimal(alloc: Global, ring: &Ring, resolution: &Resolution) -> Result<Re
     lawful_setting(ring);
     let mut positions = Vec::from_slice(alloc, &resolution.positions)?;
     let maps = carried_maps(alloc, ring, &resolution.maps)?;
-    match cancelled_maps(alloc, ring, &mut positions, maps) {
-        Ok(left) => Ok(resolution_of(alloc, ring, positions, left)?),
-        Err(stop) => Err(stop),
+    match complemented_maps(alloc, ring, &mut positions, maps)? {
+        Some(left) => Ok(resolution_of(alloc, ring, positions, left)?),
+        None => minimal_by_passes(alloc, ring, resolution),
     }
 }

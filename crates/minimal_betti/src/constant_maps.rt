@@ -48,8 +48,12 @@ fn constant_vector(alloc: Global, ring: &Ring, v: &Vect) -> Result<Vect, NoMemor
     Vect::from_terms(alloc, ring, kept)
 }
 
-// The constants of the columns.
-fn constant_columns(alloc: Global, ring: &Ring, columns: &VectList) -> Result<VectList, NoMemory>
+/// The constants of the columns.
+pub(crate) fn constant_columns(
+    alloc: Global,
+    ring: &Ring,
+    columns: &VectList,
+) -> Result<VectList, NoMemory>
     requires { Each (AreTermsOver ring.now) columns.now }
     ensures { IfOk result (AreConstants ring.now columns.now) }
 {

@@ -23,8 +23,8 @@ pub(crate) fn drop_degree(degrees: &mut Vec<u32>, at: u64)
     }
 }
 
-// The columns without the rows that leave.
-fn columns_without(
+/// The columns without the rows that leave.
+pub(crate) fn columns_without(
     alloc: Global,
     ring: &Ring,
     leaving: &Leaving,

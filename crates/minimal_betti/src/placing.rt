@@ -1,5 +1,5 @@
 // Rows move up when others leave.
-ghost use Rattle.std.specs.Prelude.{◌≡◌, ◌++◌, ◌∷◌, ◌-◌, ◌≤◌, [], List, ℕ, IfOk, OnOk, cond, length, nat_lt};
+ghost use Rattle.std.specs.Prelude.{◌≡◌, ◌++◌, ◌∷◌, ◌-◌, ◌≤◌, [], List, ℕ, IfOk, OnOk, cond, false, length, nat_lt, true};
 ghost use Rattle.module_vectors.specs.Rings.{ring_comparison};
 ghost use Rattle.module_vectors.specs.Vectors.{IsVectorOver, sum_of};
 ghost use Rattle.minimal_betti.specs.Placing.{ArePlacesAfter, IsPlacePut, keep_at, place_told, placed};
@@ -67,7 +67,17 @@ pub(crate) fn one_leaving(alloc: Global, row: u64) -> Result<Leaving, NoMemory>
     Ok(leaving)
 }
 
-/// The place that is left to the row, or none where it leaves.
+/// None leaves.
+pub(crate) fn none_leaving(alloc: Global) -> Leaving
+    ensures { ArePlacesAfter [] result }
+{
+    Leaving {
+        places: Vec::new(alloc),
+        count: 0,
+    }
+}
+
+// The place that is left to the row, or none where it leaves.
 fn place_of(leaving: &Leaving, row: u64) -> Option<u64>
     ensures { result ≡ place_told leaving.now row }
 {
@@ -75,6 +85,17 @@ fn place_of(leaving: &Leaving, row: u64) -> Option<u64>
         return leaving.places[row as usize];
     }
     Some(row.saturating_sub(leaving.count))
+}
+
+/// Does the row leave?
+pub(crate) fn leaves(leaving: &Leaving, row: u64) -> bool
+    ensures yes { result ≡ true → place_told leaving.now row ≡ None }
+    ensures no { result ≡ false → place_told leaving.now row ≡ None → ⊥ }
+{
+    match place_of(leaving, row) {
+        None => true,
+        Some(_) => false,
+    }
 }
 
 // Puts the item behind the others, where it has a place.
