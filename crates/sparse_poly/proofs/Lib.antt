@@ -1,8 +1,15 @@
 pub mod Bounding
+pub mod Choosing
+pub mod DigitPowers
+pub mod Expanding
+pub mod Forms
+pub mod Frobenius
+pub mod MixedTerms
 pub mod Multiplying
 pub mod PowerSteps
 pub mod Powering
 pub mod Products
 pub mod Results
+pub mod TermPowers
 pub mod Terms
 pub mod TopDegrees

@@ -1,5 +1,5 @@
 -- Facts of results, joined
-use Rattle.std.proofs.Common.{Err, IfErr, IfOk, OnErr, Ok, Result, ap, ◌≡◌}
+use Rattle.std.proofs.Common.{Err, IfErr, IfOk, OnErr, Ok, Result, ap, subst, sym, ◌≡◌}
 
 pub both_ok :
     {A E : Type 0} (P Q R : A → Type 0) (r : Result A E) → ((v : A) → P v → Q v → R v) → IfOk r P → IfOk r Q
@@ -22,3 +22,10 @@ one_err P (Ok v) s f p = tt
 one_err {A} {E} P (Err e) s f p =
     let wrap : E → Result A E = λ x. Err x in
     ap wrap (f e p)
+
+pub only_err :
+    {A E : Type 0} (P : E → Type 0) (r : Result A E) (s : E) → P s → OnErr r (r ≡ Err s) → IfErr r P
+only_err P (Ok v) s p h = tt
+only_err {A} {E} P (Err e) s p h =
+    let same : e ≡ s = cc in
+    subst P (sym same) p

@@ -7,14 +7,15 @@ ghost use Rattle.sparse_poly.specs.PowerParts.{IsPowerOver, PowerStopsOver};
 ghost use Rattle.sparse_poly.specs.Powers.{power};
 ghost use Rattle.sparse_poly.specs.Stops.{PowersFit, PowerStops};
 
+use crate::digits::{by_digits, top_degree};
 use crate::formal_constant;
 use crate::multiply::mul_in;
 use module_vectors::{Frame, Room, Vect, VectStop};
 use std::alloc::Global;
 use std::mem::replace;
 
-/// The power of a polynomial, from that of half the exponent; with n = 0 the constant 1. `Degree` exactly where monomials of
-/// two powers of `p`, with exponents that sum to at most n, have degrees that sum to more than 65,535; it carries two such.
+/// The power of a polynomial, by the digits of the exponent to the base of the modulus; with n = 0 the constant 1. `Degree` exactly
+/// where monomials of two powers of `p`, with exponents that sum to at most n, have degrees that sum to more than 65,535; it carries two such.
 pub fn pow<F: Frame>(alloc: Global, frame: &F, p: &Vect, n: u128) -> Result<Vect, VectStop>
     requires vector { IsVectorOver (F.over frame.now) (F.compare frame.now) p.now }
     requires polynomial { HasPositions 1 p.now }
@@ -28,11 +29,16 @@ pub fn pow<F: Frame>(alloc: Global, frame: &F, p: &Vect, n: u128) -> Result<Vect
     ensures memory { (d : ℕ) → IsWithinDegree d p.now → n * d ≤ 65535 → OnErr result (result ≡ Err VectStop.Memory) }
 {
     let mut room = Room::new(alloc);
-    raised(alloc, frame, &mut room, p, n)
+    let d = top_degree(p.terms());
+    if n.saturating_mul(d) <= 65535 {
+        by_digits(alloc, frame, &mut room, p, d, n)
+    } else {
+        raised(alloc, frame, &mut room, p, n)
+    }
 }
 
-/// The same in the room that is there.
-fn raised<F: Frame>(
+/// The same in the room that is there, from the power of half the exponent.
+pub(crate) fn raised<F: Frame>(
     alloc: Global,
     frame: &F,
     room: &mut Room,

@@ -1,13 +1,15 @@
 //! Powers of polynomials, and the degrees of products and powers.
 
-ghost use Rattle.std.specs.Prelude.{ℕ, List, ◌≡◌, ◌+◌, ◌*◌, ◌<◌, ◌≤◌};
+ghost use Rattle.std.specs.Prelude.{ℕ, List, ◌≡◌, ◌+◌, ◌*◌, ◌<◌, ◌≤◌, ◌++◌};
 ghost use Rattle.residues.specs.Residues.{IsDomain};
 ghost use Rattle.monomials.specs.Exponents.{Exponents, times};
 ghost use Rattle.monomials.specs.Weights.{weighted_degree};
 ghost use Rattle.formal_sums.specs.FormalSums.{FormalSum, IsPolynomial, IsSame, product};
 ghost use Rattle.sparse_poly.specs.Degrees.{HasDegreeWithin};
+ghost use Rattle.sparse_poly.specs.Binomials.{binary_form, choose};
 ghost use Rattle.sparse_poly.specs.Powers.{power};
 ghost use Rattle.sparse_poly.specs.Stops.{Occurs, PowersFit};
+ghost use Rattle.sparse_poly.specs.TermPowers.{raised_monomials};
 ghost use Rattle.bases.specs.Leads.{IsLead};
 ghost use Rattle.bases.specs.Settings.{Setting, IsLawful};
 
@@ -43,4 +45,13 @@ pub fn top_degrees()
         → IsDomain p → IsPolynomial v
         → ((a b : Exponents n) → Occurs p (power v i) a → Occurs p (power v j) b → weighted_degree ws a + weighted_degree ws b ≤ 65535)
         → PowersFit ws p v (i + j) }
+{}
+
+/// The binomial theorem; and modulo a prime p the power p of a polynomial is the sum of its terms with their monomials to the
+/// power p, whose coefficients stay (the Frobenius map; Fermat).
+pub fn prime_powers()
+    ensures binomial { (n p k : ℕ) (u v : FormalSum n)
+        → 0 < p → IsPolynomial u → IsPolynomial v → IsSame p (power (u ++ v) k) (binary_form (choose k) u v (k + 1)) }
+    ensures frobenius { (n p : ℕ) (v : FormalSum n)
+        → IsDomain p → IsPolynomial v → IsSame p (power v p) (raised_monomials p v) }
 {}
