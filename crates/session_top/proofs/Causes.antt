@@ -1,10 +1,12 @@
 -- Why a line stopped a script, from what the engine keeps of the run that stopped.
-use Rattle.std.proofs.Common.{◌≡◌, ℕ, List, [], ◌∷◌, inl, inr, IfSome, sym, ap, subst}
+use Rattle.std.proofs.Common.{◌≡◌, ℕ, List, [], ◌∷◌, inl, inr, IfSome, sym, ap, subst, refl, arith}
 use Rattle.std.specs.declared.option.Option.{Option}
 use Rattle.std.specs.declared.option.Option.TheVariants.{None, Some}
 use Rattle.module_vectors.specs.declared.trail.KeptTrail.{KeptTrail}
 use Rattle.basis_steps.specs.Steps.{Replays}
 use Rattle.budget_stops.proofs.Moments.{budget_moment}
+use Rattle.queue_updates.specs.declared.Update.{Update}
+use Rattle.queue_updates.specs.declared.Update.TheVariants.{Gebauer, Plain}
 use Rattle.basis_core.specs.Members.{Shared}
 use Rattle.basis_core.specs.Shown.{Shown}
 use Rattle.basis_core.specs.Stops.{stop_of}
@@ -13,7 +15,7 @@ use Rattle.groebner_iface.specs.Calls.{CallStops, StopsAtRun}
 use Rattle.groebner_iface.specs.Runs.{StoppedRun}
 use Rattle.groebner_iface.specs.declared.stop.Stop.{Stop}
 use Rattle.groebner_iface.specs.declared.stop.OpStop.TheVariants as causes
-use Rattle.run_endings.specs.Stops.{IsRunBy, IsStop, stopped_on, stopped_run}
+use Rattle.run_endings.specs.Stops.{IsRunBy, IsStop, number_of_update, stopped_on, stopped_run}
 use Rattle.session_lang.specs.Lines.{RunOf}
 use Rattle.session_values.specs.Names.{State}
 use Rattle.session_lang.specs.Stops.{TrailOf}
@@ -38,12 +40,12 @@ run_here before line shared answer run same here =
     subst (λ r. RunOf before line r.ring r.rank r.list) (sym is) here
 
 run_state : (limits : Limits) (before : State) (line : List ℕ) (s : Shown) → RunOf before line s.shared.ring s.shared.rank s.shared.generators
-    → HasReplay s → IsRunBy limits.0 limits.1 s → IsRunState limits before line s
-run_state limits before line s here replays one = record { run = here; replays = replays; budget = one.budget; workers = one.workers_are }
+    → HasReplay s → IsRunBy limits.pairs limits.workers limits.update s → IsRunState limits before line s
+run_state limits before line s here replays one = record { run = here; replays = replays; budget = one.budget; workers = one.workers_are; update = one.update_is }
 
 -- what is kept of a run of the line that stopped
 pub run_cause : (limits : Limits) (before : State) (line : List ℕ) (state : Option Shown) (trail : Option KeptTrail) (run : StoppedRun)
-    → stopped_run state trail ≡ Some run → RunOf before line run.ring run.rank run.list → IsStop limits.0 limits.1 state trail → IfSome state HasReplay
+    → stopped_run state trail ≡ Some run → RunOf before line run.ring run.rank run.list → IsStop limits.pairs limits.workers limits.update state trail → IfSome state HasReplay
     → StopsScript limits before line state trail
 run_cause limits before line None None run same here stop replays = no_run run same
 run_cause limits before line (Some s) None run same here (one, stop) replays = record {
@@ -55,20 +57,34 @@ run_cause limits before line None (Some t) run same here stop replays = inr (run
 run_cause limits before line (Some s) (Some t) run same here (one, stop) replays =
     (run_state limits before line s (run_here before line s.shared _ run same here) replays one, stop)
 
-same_numbers : (p q r p' q' r' : ℕ) → p ∷ q ∷ r ∷ [] ≡ p' ∷ q' ∷ r' ∷ [] → (p ≡ p') × (q ≡ q') × (r ≡ r')
-same_numbers p q r p' q' r' same = (cc, cc, cc)
+-- the settings of an engine with these limits
+abbrev settings_of : Limits → List ℕ
+settings_of p = p.pairs ∷ p.workers ∷ p.helpers ∷ number_of_update p.update ∷ []
 
-same_limits : (p q : Limits) → p.0 ∷ p.1 ∷ p.2 ∷ [] ≡ q.0 ∷ q.1 ∷ q.2 ∷ [] → p ≡ q
-same_limits p q same = let all = same_numbers p.0 p.1 p.2 q.0 q.1 q.2 same in λ i. (all.0 i, all.1 i, all.2 i)
+same_numbers : (p q r u p' q' r' u' : ℕ) → p ∷ q ∷ r ∷ u ∷ [] ≡ p' ∷ q' ∷ r' ∷ u' ∷ [] → (p ≡ p') × (q ≡ q') × (r ≡ r') × (u ≡ u')
+same_numbers p q r u p' q' r' u' same = (cc, cc, cc, cc)
+
+same_update : (u v : Update) → number_of_update u ≡ number_of_update v → u ≡ v
+same_update Plain Plain e = refl
+same_update Plain Gebauer e = absurd (let f : ◌≡◌ {A = ℕ} 0 1 = e in omega (arith, f))
+same_update Gebauer Plain e = absurd (let f : ◌≡◌ {A = ℕ} 1 0 = e in omega (arith, f))
+same_update Gebauer Gebauer e = refl
+
+-- limits are known by the settings of their engine
+pub same_limits : (p q : Limits) → settings_of p ≡ settings_of q → p ≡ q
+same_limits p q same =
+    let all = same_numbers p.pairs p.workers p.helpers (number_of_update p.update) q.pairs q.workers q.helpers (number_of_update q.update) same in
+    let update = same_update p.update q.update all.3 in
+    λ i. record { pairs = all.0 i; workers = all.1 i; helpers = all.2 i; update = update i }
 
 -- a run of the line stopped, and its stop line or a front of it was written
 pub run_stopped : (a b : Option (List ℕ)) (limits kept_limits : Limits) (before : State) (line : List ℕ) (number : ℕ) (old new : ℕ) (answer : Stop)
-    (state : Option Shown) (trail : Option KeptTrail) (stop : Early) → kept_limits.0 ∷ kept_limits.1 ∷ kept_limits.2 ∷ [] ≡ limits.0 ∷ limits.1 ∷ limits.2 ∷ []
+    (state : Option Shown) (trail : Option KeptTrail) (stop : Early) → settings_of kept_limits ≡ settings_of limits
     → StopsAtRun (RunOf before line) old new (stopped_run state trail) answer
-    → IsStop kept_limits.0 kept_limits.1 state trail → IfSome state HasReplay
+    → IsStop kept_limits.pairs kept_limits.workers kept_limits.update state trail → IfSome state HasReplay
     → StopEnds a b number state trail stop → LineStops a b limits before line number stop
 run_stopped a b limits kept_limits before line number old new answer state trail stop settings (rose, (ring, rank, list, here, same)) kept replays says =
-    let is_stop = subst (λ (p : Limits). IsStop p.0 p.1 state trail) (same_limits kept_limits limits settings) kept in
+    let is_stop = subst (λ (p : Limits). IsStop p.pairs p.workers p.update state trail) (same_limits kept_limits limits settings) kept in
     stopped_stops a b limits before line number state trail stop
     (run_cause limits before line state trail (record { ring = ring; rank = rank; list = list; answer = answer }) same here is_stop replays) says
 

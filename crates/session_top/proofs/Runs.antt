@@ -258,3 +258,18 @@ no_fault_of_result u v limits s line n (Err e) stops same = no_fault_of_line u v
 
 pub no_fault_of_refusal : (u v : Option (List ℕ)) (n : ℕ) (stop : Early) → ErrorEnds u v n Length stop → ended stop ≡ ended early.ReadFault → ⊥
 no_fault_of_refusal u v n stop says same = subst (ErrorEnds u v n Length) (same_error stop early.ReadFault same) says
+
+-- a line that has begun is told by its number, which is not 0
+no_zero_of_line : (u v : Option (List ℕ)) (limits : Limits) (s : State) (line : List ℕ) (n : ℕ) (stop : Early) → LineStops u v limits s line (n + 1) stop
+    → stop ≡ early.NoMemory 0 → ⊥
+no_zero_of_line u v limits s line n stop stops same =
+    let number : 0 ≡ n + 1 = (subst (LineStops u v limits s line (n + 1)) same stops).0 in
+    omega (arith, number)
+
+pub no_zero_of_result : (u v : Option (List ℕ)) (limits : Limits) (s : State) (line : List ℕ) (n : ℕ) (result : Result Unit Early)
+    → IfErr result (LineStops u v limits s line (n + 1)) → result ≡ Err (early.NoMemory 0) → ⊥
+no_zero_of_result u v limits s line n (Ok x) stops same = cc
+no_zero_of_result u v limits s line n (Err e) stops same = no_zero_of_line u v limits s line n e stops (same_error e (early.NoMemory 0) same)
+
+pub no_zero_of_refusal : (u v : Option (List ℕ)) (n : ℕ) (stop : Early) → ErrorEnds u v n Length stop → ended stop ≡ ended (early.NoMemory 0) → ⊥
+no_zero_of_refusal u v n stop says same = subst (ErrorEnds u v n Length) (same_error stop (early.NoMemory 0) same) says

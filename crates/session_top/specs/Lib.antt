@@ -5,6 +5,6 @@ pub mod Meaning
 pub mod Run
 pub mod Scripts
 pub mod Stops
+pub mod Told
 -- what private clauses cite
 pub mod Parts
-pub mod Told

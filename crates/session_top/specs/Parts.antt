@@ -1,5 +1,6 @@
 -- What the parts of a run say.
 use Rattle.std.specs.Prelude.{◌≡◌, ℕ, ◌⊎◌, List}
+use Rattle.std.specs.Prelude.{Err, Ok, Result}
 use Rattle.std.specs.declared.option.Option.{Option}
 use Rattle.std.specs.Io.KnownBytes.{Appends, Keeps}
 use Rattle.module_vectors.specs.declared.trail.KeptTrail.{KeptTrail}
@@ -13,8 +14,10 @@ use Rattle.session_top.specs.declared.early.Early.TheVariants as early
 use Rattle.session_top.specs.declared.early.Refusal.{Refusal}
 use Rattle.session_top.specs.declared.early.Refusal.TheVariants.{OfLine}
 use Rattle.session_top.specs.Meaning.{Refused, closing}
-use Rattle.session_top.specs.Stops.{StopsScript, stop_line}
+use Rattle.session_top.specs.declared.top.Ended.{Ended}
+use Rattle.session_top.specs.Stops.{StopsScript, stop_line, stop_status}
 use Rattle.session_top.specs.Limits.{Limits}
+use Rattle.session_top.specs.Told.{plain}
 
 -- the error line of this refusal was written, or a front of it
 abbrev pub ErrorEnds : Option (List ℕ) → Option (List ℕ) → ℕ → Refusal → Early → Type 0
@@ -49,3 +52,12 @@ LineStops taken taken' limits before line number (early.NoMemory n) = (n ≡ num
 LineStops taken taken' limits before line number early.ReadFault = ⊥
 LineStops taken taken' limits before line number (early.Stopped n kept) =
     (n ≡ number) × StopsScript limits before line kept.state kept.trail × Appends taken taken' (stop_line kept.state kept.trail)
+
+-- the ending of a run of lines that came to its end, or did not
+abbrev pub ended_as : Result Unit Early → Ended
+ended_as (Ok done) = plain 0 0
+ended_as (Err (early.Refused line)) = plain 1 line
+ended_as (Err early.ReadFault) = plain 3 0
+ended_as (Err early.WriteFault) = plain 4 0
+ended_as (Err (early.NoMemory line)) = plain 5 line
+ended_as (Err (early.Stopped line kept)) = record { status = stop_status kept.trail; line = line; kept = kept.state; trail = kept.trail }

@@ -1,7 +1,7 @@
 -- What each answer of a run says.
-use Rattle.std.specs.Prelude.{◌≡◌, ℕ, ◌+◌, ◌<◌, ◌≤◌, ◌⊎◌, List, [], ◌∷◌, ◌++◌, length, take, codes, None, Some}
+use Rattle.std.specs.Prelude.{◌≡◌, ℕ, ◌+◌, ◌<◌, ◌≤◌, ◌⊎◌, List, [], ◌∷◌, ◌++◌, length, take, None, Some}
 use Rattle.std.specs.declared.option.Option.{Option}
-use Rattle.std.specs.Io.KnownBytes.{Appends, Keeps, Consumes, IsAtEnd}
+use Rattle.std.specs.Io.KnownBytes.{Appends, Consumes, IsAtEnd}
 use Rattle.byte_ports.specs.Causes.{AppendsFront}
 use Rattle.module_vectors.specs.declared.trail.KeptTrail.{KeptTrail}
 use Rattle.basis_core.specs.Shown.{Shown}
@@ -47,7 +47,7 @@ pub record ReadCut (left left' taken taken' : Option (List ℕ)) : Type 0 where
 abbrev pub AreReady : List ℕ → Option (List ℕ) → List (List ℕ) → Type 0
 AreReady script left lines = (lines ≡ whole_lines (take SCRIPT_LIMIT script)) ⊎ (IsAtEnd left × (lines ≡ script_lines script))
 
--- the line that was being done comes after these and is the first of the rest, or it is 0 and none was begun
+-- the line that was being done comes after these and is the first of the rest; or it is 0, and none was done
 abbrev pub IsBeingDone : ℕ → List (List ℕ) → List (List ℕ) → Type 0
 IsBeingDone line lines rest = ((line ≡ length lines + 1) × (0 < length rest)) ⊎ ((line ≡ 0) × (lines ≡ []))
 
@@ -132,12 +132,6 @@ ScriptStops left left' taken taken' limits early.ReadFault = ReadCut left left' 
 ScriptStops left left' taken taken' limits early.WriteFault = WriteCut left left' taken taken' limits
 ScriptStops left left' taken taken' limits (early.NoMemory n) = MemoryCut left left' taken taken' n
 ScriptStops left left' taken taken' limits (early.Stopped n kept) = Stopped left left' taken taken' limits n kept.state kept.trail
-
--- The error line for words was written, or a front of it, or memory ran out before.
-abbrev pub WordsEnd : Option (List ℕ) → Option (List ℕ) → ℕ → Type 0
-WordsEnd taken taken' status = ((status ≡ 2) × Appends taken taken' (codes "error words\n"))
-    ⊎ ((status ≡ 4) × AppendsFront taken taken' (codes "error words\n"))
-    ⊎ ((status ≡ 5) × Keeps taken taken')
 
 -- the status and the line are those of this ending
 abbrev pub IsToldAs : ℕ → ℕ → Ending → Type 0

@@ -46,14 +46,15 @@ stop_line None None = []
 stop_line (Some s) None = pairs_line s
 stop_line s (Some t) = degree_line t
 
--- the state is of a run that this line needs, by so many workers with this budget of pairs
+-- the state is of a run that this line needs, by so many workers with this budget of pairs, where this is queued as members come
 pub record IsRunState (limits : Limits) (before : State) (line : List ℕ) (s : Shown) : Type 0 where
   pub run : RunOf before line s.shared.ring s.shared.rank s.shared.generators
   pub replays : let n = variables_of s in Replays (run_of n s) (state_of n s)
-  pub budget : s.budget ≡ limits.0
-  pub workers : s.workers ≡ limits.1
+  pub budget : s.budget ≡ limits.pairs
+  pub workers : s.workers ≡ limits.workers
+  pub update : s.update ≡ limits.update
 
--- a run of the line met its budget: so many pairs are taken, and a Take found one more to which no criterion applies
+-- a run of the line met its budget: so many pairs are taken, and a Take found one more, to which no criterion applies where new members drop none
 pub record StopsByPairs (limits : Limits) (before : State) (line : List ℕ) (s : Shown) : Type 0 where
   pub run : IsRunState limits before line s
   pub taken : s.taken ≡ s.budget

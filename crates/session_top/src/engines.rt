@@ -34,6 +34,7 @@ impl Attempts<F4Engine> for Engines {
             self.request.pairs,
             self.request.workers,
             self.request.helpers,
+            self.request.update,
             self.thread,
             self.gate.shared(),
         )
@@ -54,6 +55,7 @@ pub(crate) fn engine_of(
         request.pairs,
         request.workers,
         request.helpers,
+        request.update,
         thread,
         gate.shared(),
     );

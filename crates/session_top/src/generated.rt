@@ -33,6 +33,7 @@ pub fn do_generated<R: Threads + Wait + Sync, K: Sink>(
     ensures stops { IfErr result (ScriptStops (Some (script_of seed)) (Some []) (K.taken sink.old) (K.taken sink.new) (limits_of request)) }
     ensures read { result ≡ Err Early.ReadFault → ⊥ }
     ensures write { result ≡ Err Early.WriteFault → Rose (K.faults sink.old) (K.faults sink.new) }
+    ensures begun { result ≡ Err (Early.NoMemory 0) → sink.new ≡ sink.old }
     ensures later { K.faults sink.old ≤ K.faults sink.new }
 {
     let script = match large_script(alloc, seed) {

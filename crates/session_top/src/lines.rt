@@ -88,18 +88,19 @@ fn replays(state: &Option<BasisState>)
     }
 }
 
-/// Takes out what an engine keeps of the last run that stopped. A new engine with the same budget, workers, helpers, worth of
-/// a thread and gate stands in its place.
+/// Takes out what an engine keeps of the last run that stopped. A new engine with the same budget, workers, helpers, update,
+/// worth of a thread and gate stands in its place.
 fn take_stop(engine: &mut F4Engine) -> Kept
     ensures state { result.state ≡ engine.old.state }
     ensures trail { result.trail ≡ engine.old.trail }
-    ensures kept { IsStop engine.old.pairs engine.old.workers engine.old.state engine.old.trail }
+    ensures kept { IsStop engine.old.pairs engine.old.workers engine.old.update engine.old.state engine.old.trail }
     ensures replays { IfSome engine.old.state (λ s. let n = variables_of s in Replays (run_of n s) (state_of n s)) }
 {
     let fresh = F4Engine::new(
         engine.pairs(),
         engine.workers(),
         engine.helpers(),
+        engine.update(),
         engine.thread(),
         engine.gate().shared(),
     );
@@ -123,7 +124,7 @@ fn stop<K: Sink>(sink: &mut K, number: u32, kept: Kept) -> Early
 /// The end of a run of lines at a basis run that stopped, of which the engine keeps what it can tell.
 fn stop_at_run<K: Sink>(sink: &mut K, number: u32, engine: &mut F4Engine) -> Early
     ensures says { StopEnds (K.taken sink.old) (K.taken sink.new) number engine.old.state engine.old.trail result }
-    ensures kept { IsStop engine.old.pairs engine.old.workers engine.old.state engine.old.trail }
+    ensures kept { IsStop engine.old.pairs engine.old.workers engine.old.update engine.old.state engine.old.trail }
     ensures replays { IfSome engine.old.state (λ s. let n = variables_of s in Replays (run_of n s) (state_of n s)) }
     ensures write { result ≡ Early.WriteFault → Rose (K.faults sink.old) (K.faults sink.new) }
     ensures later { K.faults sink.old ≤ K.faults sink.new }
@@ -227,6 +228,7 @@ fn do_all<R: Threads + Wait + Sync, S: Source, K: Sink>(
     ensures stops { IfErr result (ScriptStops (S.left source.old) (S.left source.new) (K.taken sink.old) (K.taken sink.new) (limits_in desk.old.engine.direct)) }
     ensures read { result ≡ Err Early.ReadFault → Rose (S.faults source.old) (S.faults source.new) }
     ensures write { result ≡ Err Early.WriteFault → Rose (K.faults sink.old) (K.faults sink.new) }
+    ensures begun { result ≡ Err (Early.NoMemory 0) → ⊥ }
     ensures read_later { S.faults source.old ≤ S.faults source.new }
     ensures write_later { K.faults sink.old ≤ K.faults sink.new }
 {
@@ -268,6 +270,7 @@ pub fn do_lines<R: Threads + Wait + Sync, S: Source, K: Sink>(
     ensures stops { IfErr result (ScriptStops (S.left source.old) (S.left source.new) (K.taken sink.old) (K.taken sink.new) (limits_of request)) }
     ensures read { result ≡ Err Early.ReadFault → Rose (S.faults source.old) (S.faults source.new) }
     ensures write { result ≡ Err Early.WriteFault → Rose (K.faults sink.old) (K.faults sink.new) }
+    ensures begun { result ≡ Err (Early.NoMemory 0) → (source.new ≡ source.old) × (sink.new ≡ sink.old) }
     ensures read_later { S.faults source.old ≤ S.faults source.new }
     ensures write_later { K.faults sink.old ≤ K.faults sink.new }
 {

@@ -1,14 +1,13 @@
 // The run of a script: from the bytes of a source to the bytes of a sink.
-ghost use Rattle.std.specs.Prelude.{◌≡◌, ◌≢◌, ◌<◌, ◌≤◌, map, codes, string_bytes, Err, IfErr, None, OnOk};
-ghost use Rattle.std.specs.Io.KnownBytes.{Appends};
+ghost use Rattle.std.specs.Prelude.{◌≡◌, ◌<◌, ◌≤◌, map, string_bytes, Err, IfErr, OnOk};
 ghost use Rattle.risen_counts.specs.Counts.{Rose};
-ghost use Rattle.command_words.specs.Command.{IsForm, request_of};
 ghost use Rattle.command_words.specs.declared.words.Command.TheVariants.{Run};
 ghost use Rattle.session_top.specs.Limits.{limits_of};
 ghost use Rattle.session_top.specs.Meaning.{Done};
-ghost use Rattle.session_top.specs.Scripts.{script_before, script_behind, script_left, script_to_come};
-ghost use Rattle.session_top.specs.Told.{RunTold, ended_as, plain};
-ghost use Rattle.session_top.specs.Run.{Meant, MeantRefused, ReadCut, WriteCut, MemoryCut, ScriptStops, StoppedByDegree, StoppedByPairs, WordsEnd, IsComplete};
+ghost use Rattle.session_top.specs.Parts.{ended_as};
+ghost use Rattle.session_top.specs.Run.{Meant, ScriptStops};
+ghost use Rattle.session_top.specs.Scripts.{script_before, script_behind};
+ghost use Rattle.session_top.specs.Told.{RunTold, ScriptTold, plain};
 
 use crate::early::Early;
 use crate::generated::do_generated;
@@ -35,7 +34,7 @@ pub struct Ended {
     pub status: u8,
 
     /// The line that was refused (0 for the length of the script) or that stopped, or under status 5
-    /// the line that was being done (0 where none was); else 0.
+    /// the line that was being done (0 where none had begun); else 0.
     pub line: u32,
 
     /// Under status 6 the state of the run that met its budget; under 7 that of the run in which the
@@ -111,6 +110,7 @@ fn run_script<R: Threads + Wait + Sync, S: Source, K: Sink>(
     ensures read { result ≡ Err Early.ReadFault → Rose (S.faults source.old) (S.faults source.new) }
     ensures write { result ≡ Err Early.WriteFault → Rose (K.faults sink.old) (K.faults sink.new) }
     ensures unread { (request.command ≡ Run → ⊥) → source.new ≡ source.old }
+    ensures begun { result ≡ Err (Early.NoMemory 0) → (source.new ≡ source.old) × (sink.new ≡ sink.old) }
     ensures read_later { S.faults source.old ≤ S.faults source.new }
     ensures write_later { K.faults sink.old ≤ K.faults sink.new }
 {
@@ -133,11 +133,12 @@ pub fn run_request<R: Threads + Wait + Sync, S: Source, K: Sink>(
 ) -> Ended
     requires workers { 0 < request.workers }
     requires helpers { 0 < request.helpers }
-    ensures told { RunTold (script_before request.command (S.left source.old)) (script_behind request.command (S.left source.new))
+    ensures told { ScriptTold (script_before request.command (S.left source.old)) (script_behind request.command (S.left source.new))
         (K.taken sink.old) (K.taken sink.new) (limits_of request) result }
     ensures read { result.status ≡ 3 → Rose (S.faults source.old) (S.faults source.new) }
     ensures write { result.status ≡ 4 → Rose (K.faults sink.old) (K.faults sink.new) }
     ensures unread { (request.command ≡ Run → ⊥) → source.new ≡ source.old }
+    ensures begun { result.status ≡ 5 → result.line ≡ 0 → (source.new ≡ source.old) × (sink.new ≡ sink.old) }
 {
     // A script has one meaning, because each line has one result.
     one_result();
@@ -160,58 +161,22 @@ pub fn run<R: Threads + Wait + Sync, S: Source, K: Sink, G: Gate + Sync>(
     sink: &mut K,
     gate: &G,
 ) -> Ended
-    ensures range { result.status ≤ 7 }
-    ensures line { result.status ≢ 1 → result.status ≢ 5 → result.status ≢ 6 → result.status ≢ 7 → result.line ≡ 0 }
-    ensures kept { result.status ≢ 6 → result.status ≢ 7 → result.kept ≡ None }
-    ensures trail { result.status ≢ 7 → result.trail ≡ None }
-
-    // Statuses 0 and 1: what was read has this meaning, and its text is what was written.
-    ensures done { result.status ≡ 0 → Meant (script_to_come (map string_bytes words.now) (S.left source.old))
-        (script_left (map string_bytes words.now) (S.left source.new))
-        (K.taken sink.old) (K.taken sink.new) Done }
-    ensures refused { result.status ≡ 1
-        → MeantRefused (script_to_come (map string_bytes words.now) (S.left source.old)) (script_left (map string_bytes words.now) (S.left source.new))
-        (K.taken sink.old) (K.taken sink.new) result.line }
-
-    // Status 2 comes exactly where the words are not of the form, but for a failed write and want of memory.
-    ensures words { result.status ≡ 2 → (IsForm (map string_bytes words.now) → ⊥)
-        × Appends (K.taken sink.old) (K.taken sink.new) (codes "error words\n") }
-    ensures wrong { (IsForm (map string_bytes words.now) → ⊥)
-        → (source.new ≡ source.old) × WordsEnd (K.taken sink.old) (K.taken sink.new) result.status }
-
-    // With `large` the source is as it was.
-    ensures unread { ((request_of (map string_bytes words.now)).command ≡ Run → ⊥) → source.new ≡ source.old }
-
-    // Statuses 3 and 4 have their cause in the ports. After 3 the text of all lines that were whole was written.
-    ensures read_fault { result.status ≡ 3 → Rose (S.faults source.old) (S.faults source.new) }
-    ensures read_cut { result.status ≡ 3
-        → ReadCut (script_to_come (map string_bytes words.now) (S.left source.old)) (script_left (map string_bytes words.now) (S.left source.new))
-        (K.taken sink.old) (K.taken sink.new) }
-    ensures write_fault { result.status ≡ 4 → Rose (K.faults sink.old) (K.faults sink.new) }
-    ensures write_cut { result.status ≡ 4 → IsForm (map string_bytes words.now)
-        → WriteCut (script_to_come (map string_bytes words.now) (S.left source.old)) (script_left (map string_bytes words.now) (S.left source.new))
-        (K.taken sink.old) (K.taken sink.new) (limits_of (request_of (map string_bytes words.now))) }
-
-    // Want of memory is the one free answer.
-    ensures memory { result.status ≡ 5
-        → MemoryCut (script_to_come (map string_bytes words.now) (S.left source.old)) (script_left (map string_bytes words.now) (S.left source.new))
-        (K.taken sink.old) (K.taken sink.new) result.line }
-
-    // Status 6: a run of this line took as many pairs as the words allow, and one more was to be looked at.
-    ensures pairs { result.status ≡ 6
-        → StoppedByPairs (script_to_come (map string_bytes words.now) (S.left source.old)) (script_left (map string_bytes words.now) (S.left source.new))
-        (K.taken sink.old) (K.taken sink.new) (limits_of (request_of (map string_bytes words.now))) result.line result.kept result.trail }
-
-    // Status 7: this line led to a product of too great a degree.
-    ensures degree { result.status ≡ 7
-        → StoppedByDegree (script_to_come (map string_bytes words.now) (S.left source.old)) (script_left (map string_bytes words.now) (S.left source.new))
-        (K.taken sink.old) (K.taken sink.new) (limits_of (request_of (map string_bytes words.now))) result.line result.kept result.trail }
-
-    // Where no count rose, a script that has a meaning ends as it means, or memory ran out, or a line stopped.
-    ensures complete { IsForm (map string_bytes words.now)
-        → (Rose (S.faults source.old) (S.faults source.new) → ⊥) → (Rose (K.faults sink.old) (K.faults sink.new) → ⊥)
-        → IsComplete (script_to_come (map string_bytes words.now) (S.left source.old)) (script_left (map string_bytes words.now) (S.left source.new))
-        (K.taken sink.old) (K.taken sink.new) result.status result.line }
+    ensures { RunTold (map string_bytes words.now)
+        (record {
+          source = source.old;
+          left = S.left source.old;
+          taken = K.taken sink.old;
+          read_faults = S.faults source.old;
+          write_faults = K.faults sink.old;
+        })
+        (record {
+          source = source.new;
+          left = S.left source.new;
+          taken = K.taken sink.new;
+          read_faults = S.faults source.new;
+          write_faults = K.faults sink.new;
+        })
+        result }
 {
     match read_words(alloc, words) {
         Ok(request) => run_request(rt, alloc, request, THREAD, gate.shared(), source, sink),

@@ -1,4 +1,4 @@
-use Rattle.std.proofs.Common.{◌≡◌, ◌<◌, ◌≤◌, ◌+◌, ℕ, Fits, List, Result, Ok, Err, ap, ◌∙◌, refl, arith, w32}
+use Rattle.std.proofs.Common.{◌≡◌, ◌<◌, ◌≤◌, ◌+◌, ℕ, Fits, List, Result, Ok, Err, ap, ◌∙◌, refl, sym, arith, w32}
 use Rattle.std.specs.declared.option.Option.{Option}
 use Rattle.byte_ports.specs.Lines.{IsNextLine, Reading}
 use Rattle.session_values.specs.Names.{State}
@@ -7,7 +7,7 @@ use Rattle.session_top.specs.declared.early.Early.{Early}
 use Rattle.session_top.proofs.Going.{Going}
 use Rattle.session_top.proofs.Goings.{going_starts, going_more, going_cut}
 use Rattle.session_top.proofs.Risings.{le_self, le_then, no_read_of_memory, no_write_of_memory, rose_later, same_error}
-use Rattle.session_top.proofs.Runs.{end_done, last_result_done, last_result_stops, line_stops, long_stops, no_fault_of_refusal, no_fault_of_result}
+use Rattle.session_top.proofs.Runs.{end_done, last_result_done, last_result_stops, line_stops, long_stops, no_fault_of_refusal, no_fault_of_result, no_zero_of_refusal, no_zero_of_result}
 use Rattle.session_top.proofs.lines.do_all.Goals as goal
 
 -- a line of all room fits
@@ -165,3 +165,23 @@ returns-in-Long-clause-read_later g c = le_then _ _ _ c.loop-next.invariant.read
 
 pub returns-in-Long-clause-write_later : goal.returns-in-Long-clause-write_later
 returns-in-Long-clause-write_later g c = le_then _ _ _ c.loop-next.invariant.write_later c.refuse.ensures.later
+
+pub returns-in-Err-Fault-clause-begun : goal.returns-in-Err-Fault-clause-begun
+returns-in-Err-Fault-clause-begun g c zero = no_read_of_memory _ (sym zero)
+
+pub returns-in-Err-Memory-clause-begun : goal.returns-in-Err-Memory-clause-begun
+returns-in-Err-Memory-clause-begun g c zero =
+    let full = (rw c.in-Err-Memory.field-0-is at c.in-Err-Memory.ensures.memory) refl in
+    never_full _ _ _ _ _ _ _ _ c.loop-next.invariant.going c.loop-next.invariant.capacity full
+
+pub returns-in-Err-clause-begun : goal.returns-in-Err-clause-begun
+returns-in-Err-clause-begun g c zero = no_zero_of_result _ _ _ _ _ _ (Err c.in-Err.early) c.in-Err.ensures.stops zero
+
+pub returns-in-Last-clause-begun : goal.returns-in-Last-clause-begun
+returns-in-Last-clause-begun g c zero = no_zero_of_result _ _ _ _ _ _ c.do_line-in-Last.result c.do_line-in-Last.ensures.stops zero
+
+pub returns-in-End-clause-begun : goal.returns-in-End-clause-begun
+returns-in-End-clause-begun g c zero = no_fault_of_end _ zero
+
+pub returns-in-Long-clause-begun : goal.returns-in-Long-clause-begun
+returns-in-Long-clause-begun g c zero = no_zero_of_refusal _ _ _ c.refuse.result c.refuse.ensures.says zero

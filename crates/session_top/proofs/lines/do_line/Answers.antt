@@ -2,6 +2,7 @@ use Rattle.std.proofs.Common.{refl, rules}
 use Rattle.std.proofs.KnownBytes.{Keeps-refl}
 use Rattle.groebner_iface.specs.declared.stop.Stop.TheVariants.{Degree, Pairs}
 use Rattle.session_lang.specs.Lines.{Refuses}
+use Rattle.session_top.specs.Limits.{limits_in}
 use Rattle.session_top.proofs.Causes.{division_stopped, run_stopped}
 use Rattle.session_top.proofs.Risings.{le_self, no_write_of_memory, same_error}
 use Rattle.session_top.proofs.Shown.{refused_stops}
@@ -14,12 +15,12 @@ returns-in-Ok-Refused-clause-stops g c =
 
 pub returns-in-Err-Pairs-clause-stops : goal.returns-in-Err-Pairs-clause-stops
 returns-in-Err-Pairs-clause-stops g c =
-    run_stopped _ _ _ _ _ _ _ _ _ Pairs c.step.new.engine.direct.state c.step.new.engine.direct.trail _ c.step.ensures.settings (rw c.in-Err-Pairs.field-0-is at c.in-Err-Pairs.ensures.stop)
+    run_stopped _ _ (limits_in c.args.desk.now.engine.direct) (limits_in c.step.new.engine.direct) _ _ _ _ _ Pairs c.step.new.engine.direct.state c.step.new.engine.direct.trail _ c.step.ensures.settings (rw c.in-Err-Pairs.field-0-is at c.in-Err-Pairs.ensures.stop)
     c.stop_at_run.ensures.kept c.stop_at_run.ensures.replays c.stop_at_run.ensures.says
 
 pub returns-in-Err-Degree-clause-stops : goal.returns-in-Err-Degree-clause-stops
 returns-in-Err-Degree-clause-stops g c =
-    run_stopped _ _ _ _ _ _ _ _ _ Degree c.step.new.engine.direct.state c.step.new.engine.direct.trail _ c.step.ensures.settings (rw c.in-Err-Degree.field-0-is at c.in-Err-Degree.ensures.stop)
+    run_stopped _ _ (limits_in c.args.desk.now.engine.direct) (limits_in c.step.new.engine.direct) _ _ _ _ _ Degree c.step.new.engine.direct.state c.step.new.engine.direct.trail _ c.step.ensures.settings (rw c.in-Err-Degree.field-0-is at c.in-Err-Degree.ensures.stop)
     c.stop_at_run-in-Err-Degree.ensures.kept c.stop_at_run-in-Err-Degree.ensures.replays c.stop_at_run-in-Err-Degree.ensures.says
 
 pub returns-in-Err-Trail-clause-stops : goal.returns-in-Err-Trail-clause-stops

@@ -1,4 +1,4 @@
-use Rattle.std.proofs.Common.{IfErr, [], subst}
+use Rattle.std.proofs.Common.{IfErr, [], refl, subst}
 use Rattle.std.proofs.KnownBytes.{Consumes-nil, Keeps-refl}
 use Rattle.session_top.specs.Run.{ScriptStops}
 use Rattle.session_top.proofs.Whole.{nothing_done}
@@ -62,3 +62,12 @@ returns-clause-read_later g c = c.do_all-result.ensures.read_later
 
 pub returns-clause-write_later : goal.returns-clause-write_later
 returns-clause-write_later g c = c.do_all-result.ensures.write_later
+
+pub returns-in-Err-clause-begun : goal.returns-in-Err-clause-begun
+returns-in-Err-clause-begun g c zero = (refl, refl)
+
+pub returns-in-Err-with_capacity-clause-begun : goal.returns-in-Err-with_capacity-clause-begun
+returns-in-Err-with_capacity-clause-begun g c zero = (refl, refl)
+
+pub returns-clause-begun : goal.returns-clause-begun
+returns-clause-begun g c zero = absurd (c.do_all-result.ensures.begun zero)

@@ -1,3 +1,4 @@
+use Rattle.std.proofs.Common.{refl}
 use Rattle.session_top.proofs.top.run_script.Goals as goal
 
 pub returns-in-Run-clause-done : goal.returns-in-Run-clause-done
@@ -17,3 +18,9 @@ returns-in-Large-clause-stops g c = rw c.in-Large.is c.do_generated.ensures.stop
 
 pub returns-in-Large-clause-read : goal.returns-in-Large-clause-read
 returns-in-Large-clause-read g c fault = absurd (c.do_generated.ensures.read fault)
+
+pub returns-in-Run-clause-begun : goal.returns-in-Run-clause-begun
+returns-in-Run-clause-begun g c = c.do_lines.ensures.begun
+
+pub returns-in-Large-clause-begun : goal.returns-in-Large-clause-begun
+returns-in-Large-clause-begun g c zero = (refl, c.do_generated.ensures.begun zero)
