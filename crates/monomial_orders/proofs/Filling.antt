@@ -1,8 +1,9 @@
 -- Behind the last variable the places are 0: so what holds place by place holds of the exponents
-use Rattle.std.proofs.Common.{List, [], ap, ap₂, arith, get_or, inl, inr, length, max, min, refl, subst, subst₂, suc, sym, take, zero, ℕ, ◌<◌, ◌∙◌, ◌∷◌, ◌≡◌, ◌≤◌, ◌⊎◌}
+use Rattle.std.proofs.Common.{List, [], ap, ap₂, arith, get_or, inl, inr, length, max, min, refl, subst, subst₂, suc, sym, take, zero, ℕ, ◌-◌, ◌<◌, ◌∙◌, ◌∷◌, ◌≡◌, ◌≤◌, ◌⊎◌}
 use Rattle.std.proofs.lemmas.Bool.{cases_eq, cases_lt}
 use Rattle.std.proofs.lemmas.List.{get_or-take, get_or_past, length-take, length-take-le}
 use Rattle.monomials.specs.Exponents.{cons, exponents_of, unit}
+use Rattle.monomial_orders.specs.Differences.{EndsDifferences}
 use Rattle.monomial_orders.specs.Kept.{Monomial}
 use Rattle.monomial_orders.specs.Monomials.{IsMonomial, IsPlaceByPlace, variable}
 use Rattle.monomial_orders.specs.Storage.{IsFilled, IsKept, IsStored, degree_kept, monomial_of, places_of, variables_of}
@@ -281,4 +282,16 @@ pub one_shown :
 one_shown n i s lt long one others = record {
   variables = length-take-le n (places_of s) (omega arith);
   exponents = variable_of n i (places_of s) (omega arith) lt one others;
+}
+
+-- the places of the first variables differ where the exponents do
+pub differing_shown :
+    (a b : Monomial) (s t : Stored) (m n : ℕ) → length a.exponents ≡ length b.exponents → m ≤ length a.exponents
+    → IsStored a s → IsStored b t → EndsDifferences m (places_of s) (places_of t) n → EndsDifferences m a.exponents b.exponents n
+differing_shown a b s t m n e le h g d = record {
+  inside = d.inside;
+  same = λ k i lt. shown_place a s k h (omega arith) ∙ d.same k i lt ∙ sym (shown_place b t k g (omega arith));
+  differ = λ pos q.
+      d.differ pos
+      (sym (shown_place a s (n - 1) h (omega (arith, d.inside))) ∙ q ∙ shown_place b t (n - 1) g (omega (arith, d.inside)));
 }

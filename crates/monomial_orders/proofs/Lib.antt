@@ -3,3 +3,4 @@ pub mod PlaceByPlace
 pub mod Totals
 pub mod Over
 pub mod Filling
+pub mod Masks

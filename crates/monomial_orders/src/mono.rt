@@ -3,14 +3,15 @@ ghost use Rattle.std.specs.Prelude.{ℕ, List, ◌≡◌, ◌≢◌, ◌<◌, �
 ghost use Rattle.std.specs.Prelude.{IsTrue, IsOk, Err, IfOk, IfErr, IfSome, OnOk};
 ghost use Rattle.monomials.specs.Exponents.{Divides, IsWithin, exponents_of, lcm, times, unit};
 ghost use Rattle.monomials.specs.Weights.{weighted_degree};
+ghost use Rattle.monomial_orders.specs.Differences.{EndsDifferences};
 ghost use Rattle.monomial_orders.specs.Kept.{HaveCommonWeights, IsWeighed};
 ghost use Rattle.monomial_orders.specs.Storage.{IsFilled, IsKept, IsStored, monomial_of, places_of, variables_of};
 ghost use Rattle.monomial_orders.specs.Monomials.{IsMonomial, IsPlaceByPlace, IsQuotient, StopsAbove, variable};
 
 use crate::places::total;
 use crate::storage::{
-    Stored, apart, differences, divides, equal, maxima, one_at, store, store_behind_zero, sums,
-    zeros,
+    Stored, apart, differences, differing, divides, equal, maxima, one_at, store,
+    store_behind_zero, sums, zeros,
 };
 use crate::{MonoStop, NoMemory, Weights};
 use std::alloc::Global;
@@ -164,6 +165,13 @@ impl Mono {
         let _ = self.kept();
     }
 
+    /// The degree has 32 bits. It does nothing: its contract is the law.
+    pub(crate) fn narrow(&self)
+        ensures { self.now.degree < 4294967296 }
+    {
+        let _ = self.kept();
+    }
+
     /// The same monomial again.
     pub fn try_copy(&self, alloc: Global) -> Result<Mono, NoMemory>
         ensures ok { IfOk result (λ m. m ≡ self.now) }
@@ -274,6 +282,15 @@ impl Mono {
             ↔ ((k : ℕ) → k < length self.now.exponents → min (slice_index self.now.exponents k) (slice_index b.now.exponents k) ≡ 0) }
     {
         apart(self.variables(), self.kept(), b.kept())
+    }
+
+    /// Of the first m exponents, how many there are up to and with the last that differs: 0 where none does.
+    pub(crate) fn differing(&self, b: &Mono, m: usize) -> usize
+        requires variables { length self.now.exponents ≡ length b.now.exponents }
+        requires inside { m ≤ length self.now.exponents }
+        ensures { EndsDifferences m self.now.exponents b.now.exponents result }
+    {
+        differing(self.variables(), self.kept(), b.kept(), m)
     }
 
     /// Are the two one monomial?

@@ -5,7 +5,7 @@ ghost use Rattle.monomials.specs.Exponents.{Exponents, exponents_of};
 ghost use Rattle.orders.specs.MonomialOrders.{IsMonomialOrder};
 ghost use Rattle.monomial_orders.specs.Kept.{IsWeighed};
 
-use crate::compare::{compare_eliminating, compare_last};
+use crate::compare::{compare_first, compare_graded};
 use crate::{Mono, Weights};
 use std::cmp::Ordering;
 
@@ -56,18 +56,12 @@ impl MonomialOrder for Order {
     fn cmp(&self, weights: &Weights, a: &Mono, b: &Mono) -> Ordering {
         match self {
             Order::Lex => a.exponents().cmp(b.exponents()),
-            Order::Grevlex => match a.degree().cmp(&b.degree()) {
-                Ordering::Equal => compare_last(a.exponents(), b.exponents()),
+            Order::Grevlex => compare_graded(a, b),
+            // Once the first variables are the same, all compare as the others do.
+            Order::Elim(k) => match compare_first(weights.as_slice(), *k as usize, a, b) {
+                Ordering::Equal => compare_graded(a, b),
                 other => other,
             },
-            Order::Elim(k) => {
-                compare_eliminating(
-                    weights.as_slice(),
-                    *k as usize,
-                    a.exponents(),
-                    b.exponents(),
-                )
-            }
         }
     }
 

@@ -2,6 +2,7 @@
 ghost use Rattle.std.specs.Prelude.{ℕ, ◌≡◌, ◌<◌, ◌≤◌, ◌↔◌, ◌+◌, ◌-◌, ◌*◌, ◌∷◌, IfOk, IsTrue, length, max, min, slice_index};
 ghost use Rattle.monomials.specs.Exponents.{exponents_of};
 ghost use Rattle.monomials.specs.Weights.{weighted_degree};
+ghost use Rattle.monomial_orders.specs.Differences.{EndsDifferences};
 ghost use Rattle.monomial_orders.specs.Kept.{AreWeights};
 ghost use Rattle.monomial_orders.specs.Monomials.{IsPlaceByPlace};
 
@@ -151,4 +152,22 @@ pub(crate) fn are_apart(a: &[u16], b: &[u16]) -> bool
         }
     }
     true
+}
+
+/// Of the first m places, how many there are up to and with the last that differs: 0 where none does.
+#[cold]
+#[inline(never)]
+pub(crate) fn differing_places(a: &[u16], b: &[u16], m: usize) -> usize
+    requires variables { length a.now ≡ length b.now }
+    requires inside { m ≤ length a.now }
+    ensures { EndsDifferences m a.now b.now result }
+{
+    let mut n = m;
+    while n > 0 {
+        if a[n - 1] != b[n - 1] {
+            return n;
+        }
+        n -= 1;
+    }
+    0
 }

@@ -1,6 +1,10 @@
 // Loops over 16 places.
-ghost use Rattle.std.specs.Prelude.{ℕ, ◌≡◌, ◌<◌, ◌≤◌, ◌↔◌, ◌+◌, ◌-◌, ◌∷◌, IsTrue, length, max, min, slice_index};
+ghost use Rattle.std.specs.Prelude.{ℕ, nat_eq, not, ◌≡◌, ◌<◌, ◌≤◌, ◌↔◌, ◌+◌, ◌-◌, ◌∷◌, IsTrue, length, max, min, slice_index};
+ghost use Rattle.std.specs.Simd.Lanes.{mask_l, zip2};
+ghost use Rattle.monomial_orders.specs.Differences.{EndsDifferences};
 ghost use Rattle.monomial_orders.specs.Monomials.{IsPlaceByPlace};
+
+use std::simd::prelude::*;
 
 /// At most 16 exponents, with zeros behind them.
 pub(crate) fn first_sixteen(exponents: &[u16]) -> [u16; 16]
@@ -90,4 +94,23 @@ pub(crate) fn are_sixteen_apart(a: &[u16; 16], b: &[u16; 16]) -> bool
         }
     }
     apart
+}
+
+/// A bit for each place, the first place's lowest: is the place of the one not that of the other?
+#[inline(always)]
+fn different(a: &[u16; 16], b: &[u16; 16]) -> u64
+    ensures { result ≡ mask_l (zip2 (λ x y. not (nat_eq x y)) a.now b.now) }
+{
+    u16x16::from_array(*a)
+        .simd_ne(u16x16::from_array(*b))
+        .to_bitmask()
+}
+
+/// Of the first m places, how many there are up to and with the last that differs: 0 where none does.
+pub(crate) fn differing_sixteen(a: &[u16; 16], b: &[u16; 16], m: usize) -> usize
+    requires { m ≤ 16 }
+    ensures { EndsDifferences m a.now b.now result }
+{
+    let first = different(a, b) % (1 << m);
+    (64 - first.leading_zeros()) as usize
 }

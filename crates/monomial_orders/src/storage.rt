@@ -1,15 +1,16 @@
 // How a monomial stores its exponents.
 ghost use Rattle.std.specs.Prelude.{ℕ, ◌≡◌, ◌≢◌, ◌<◌, ◌≤◌, ◌↔◌, ◌+◌, ◌-◌, ◌∷◌, length, max, min, slice_index};
 ghost use Rattle.std.specs.Prelude.{IsTrue, IsOk, IfOk};
+ghost use Rattle.monomial_orders.specs.Differences.{EndsDifferences};
 ghost use Rattle.monomial_orders.specs.Monomials.{IsPlaceByPlace};
 ghost use Rattle.monomial_orders.specs.Storage.{IsFilled, degree_kept, places_of, variables_of};
 
 use crate::places::{
-    add_places, are_apart, copy_places, count, divides_places, max_places, narrow,
-    places_behind_zero, subtract_places,
+    add_places, are_apart, copy_places, count, differing_places, divides_places, max_places,
+    narrow, places_behind_zero, subtract_places,
 };
 use crate::sixteen::{
-    add_sixteen, are_sixteen_apart, divides_sixteen, first_sixteen, max_sixteen,
+    add_sixteen, are_sixteen_apart, differing_sixteen, divides_sixteen, first_sixteen, max_sixteen,
     sixteen_behind_zero, subtract_sixteen,
 };
 use smallvec::SmallVec;
@@ -281,6 +282,19 @@ pub(crate) fn apart(n: usize, a: &Stored, b: &Stored) -> bool
         return are_sixteen_apart(a.sixteen(), b.sixteen());
     }
     are_apart(a.as_slice(), b.as_slice())
+}
+
+/// Of the first m places, how many there are up to and with the last that differs: 0 where none does.
+pub(crate) fn differing(n: usize, a: &Stored, b: &Stored, m: usize) -> usize
+    requires left { IsFilled n a.now }
+    requires right { IsFilled n b.now }
+    requires inside { m ≤ n }
+    ensures { EndsDifferences m (places_of a.now) (places_of b.now) result }
+{
+    if n <= 16 {
+        return differing_sixteen(a.sixteen(), b.sixteen(), m);
+    }
+    differing_places(a.as_slice(), b.as_slice(), m)
 }
 
 /// Are the places one list?
