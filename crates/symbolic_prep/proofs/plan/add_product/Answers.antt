@@ -1,9 +1,9 @@
-use Rattle.std.proofs.Common.{List, ap, get_or, length, subst, sym, ℕ, ◌∙◌, ◌≡◌, []}
+use Rattle.std.proofs.Common.{List, get_or, length, subst, sym, ℕ, ◌∙◌, ◌≡◌, []}
 use Rattle.formal_sums.specs.FormalSums.{Each}
 use Rattle.monomial_orders.specs.Kept.{IsWeighed}
 use Rattle.module_vectors.specs.Rings.{variables}
 use Rattle.module_vectors.specs.Trails.{KeptProduct}
-use Rattle.symbolic_prep.proofs.Planning.{entries_some, has_variables, keys_product, lead_known, more_planned, named_product, terms_weighed}
+use Rattle.symbolic_prep.proofs.Planning.{entries_some, keys_product, lead_known, more_planned, named_product, terms_weighed}
 use Rattle.row_matrix.specs.Rows.{AreKeys}
 use Rattle.row_matrix.specs.Told.{AreHashesOf}
 use Rattle.symbolic_prep.specs.Plans.{IsMorePlanned}
