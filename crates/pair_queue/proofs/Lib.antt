@@ -22,6 +22,7 @@ pub mod Knowing
 pub mod SkippedPairs
 pub mod Handing
 pub mod Halving
+pub mod PairSorting
 pub mod Negating
 pub mod ProperDivisors
 pub mod NewFates

@@ -1,5 +1,6 @@
 -- Pairs of a queue that change places
-use Rattle.std.proofs.Common.{List, [], ap, arith, drop, get_or, length, refl, set, subst, suc, sym, take, zero, ℕ, ◌++◌, ◌+◌, ◌<◌, ◌∙◌, ◌∷◌, ◌≡◌, ◌≤◌}
+use Rattle.std.proofs.Common.{List, [], ap, arith, drop, get_or, inl, inr, length, refl, set, subst, suc, sym, take, zero, ℕ, ◌++◌, ◌+◌, ◌<◌, ◌∙◌, ◌∷◌, ◌≡◌, ◌≤◌, ◌⊎◌}
+use Rattle.std.proofs.lemmas.Bool.{cases_lt}
 use Rattle.std.specs.List.{swap}
 use Rattle.std.proofs.lemmas.List.{drop-drop, drop-set, drop-set-add, drop-set-lt, drop_more, get_or-drop, get_or-take, length-drop, length-take-le}
 use Rattle.std.proofs.lemmas.List.{take-set-le, take-take}
@@ -98,3 +99,50 @@ pub rest_one :
 rest_one old pairs n m y e rest =
     drop-set-lt m pairs n y (omega (arith, e))
     ∙ ap (λ k. drop k pairs) e ∙ sym (drop-drop 1 n pairs) ∙ ap (drop 1) rest ∙ drop-drop 1 n old ∙ ap (λ k. drop k old) (sym e)
+
+take_set_here : {X : Type 0} (xs : List X) (a : ℕ) (y : X) → a < length xs → take (suc a) (set xs a y) ≡ take a xs ++ (y ∷ [])
+take_set_here [] a y l = absurd (omega arith)
+take_set_here (x ∷ xs) zero y l = refl
+take_set_here (x ∷ xs) (suc a) y l = ap (λ z. x ∷ z) (take_set_here xs a y (omega (arith, l)))
+
+-- the item at the second place stands behind those before the first
+pub take_swapped :
+    {X : Type 0} (xs : List X) (a b : ℕ) (x : X)
+    → a ≤ b → b < length xs → x ≡ get_or xs b x → take (a + 1) (swap xs a b) ≡ take a xs ++ (x ∷ [])
+take_swapped {X} xs a b x le m is = go (cases_lt a b)
+  where
+    more : a + 1 ≡ suc a
+    more = omega arith
+
+    as_set : take (a + 1) (swap xs a b) ≡ take (suc a) (set (set xs a (get_or xs b x)) b (get_or xs a x))
+    as_set = (λ t. take (more t) (sym (swap_is xs a b x (omega (arith, le, m)) m) t))
+
+    item : take a xs ++ (get_or xs b x ∷ []) ≡ take a xs ++ (x ∷ [])
+    item = ap (λ z. take a xs ++ (z ∷ [])) (sym is)
+
+    go : (a < b) ⊎ (b ≤ a) → take (a + 1) (swap xs a b) ≡ take a xs ++ (x ∷ [])
+    go (inl l) =
+        as_set ∙ take-set-le (suc a) (set xs a (get_or xs b x)) b (get_or xs a x) (omega (arith, l))
+        ∙ take_set_here xs a (get_or xs b x) (omega (arith, l, m)) ∙ item
+    go (inr r) =
+        let e : b ≡ a = omega (arith, le, r) in
+        as_set
+        ∙ ap (λ k. take (suc a) (set (set xs a (get_or xs b x)) k (get_or xs a x))) e
+        ∙ take_set_here (set xs a (get_or xs b x)) a (get_or xs a x) (omega (arith, le, m, set_length xs a (get_or xs b x)))
+        ∙ ap (λ z. z ++ (get_or xs a x ∷ [])) (take-set-le a xs a (get_or xs b x) (omega arith))
+        ∙ ap (λ k. take a xs ++ (get_or xs k x ∷ [])) (sym e) ∙ item
+
+-- what stands behind both places stays
+pub drop_behind : {X : Type 0} (xs : List X) (a b : ℕ) → a ≤ b → drop (b + 1) (swap xs a b) ≡ drop (b + 1) xs
+drop_behind [] a b le = refl
+drop_behind (d ∷ ys) a b le =
+    drop-set-lt (b + 1) (set (d ∷ ys) a (get_or (d ∷ ys) b d)) b (get_or (d ∷ ys) a d) (omega arith)
+    ∙ drop-set-lt (b + 1) (d ∷ ys) a (get_or (d ∷ ys) b d) (omega (arith, le))
+
+pub none_taken : {X : Type 0} (xs : List X) → take 0 xs ≡ []
+none_taken [] = refl
+none_taken (x ∷ xs) = refl
+
+pub none_dropped : {X : Type 0} (xs : List X) → drop 0 xs ≡ xs
+none_dropped [] = refl
+none_dropped (x ∷ xs) = refl

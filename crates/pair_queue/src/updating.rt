@@ -1,6 +1,5 @@
 // What leaves the queue and what joins it as new members come (Gebauer and Möller 1988).
-ghost use Rattle.std.specs.Prelude.{ℕ, List, ◌≡◌, ◌<◌, ◌≤◌, ◌+◌, ◌++◌, ◌∷◌, [], length, IfOk, OnOk, OnErr};
-ghost use Rattle.std.specs.Vec.{vec_capacity, vec_len};
+ghost use Rattle.std.specs.Prelude.{ℕ, List, ◌≡◌, ◌<◌, ◌≤◌, ◌+◌, ◌++◌, ◌∷◌, [], drop, length, take, IfOk, OnOk, OnErr};
 ghost use Rattle.formal_sums.specs.FormalSums.{Each};
 ghost use Rattle.basis_steps.specs.Pairs.{Drop, Pair as PlainPair};
 ghost use Rattle.basis_steps.specs.Queues.{IsSorted};
@@ -25,7 +24,6 @@ use module_vectors::NoMemory;
 use pair_criteria::{Pair, pair_of};
 use std::alloc::Global;
 use std::collections::VecDeque;
-use std::mem::replace;
 
 // Copies of the pairs.
 fn copies(alloc: Global, pairs: &[Pair]) -> Result<Vec<Pair>, NoMemory>
@@ -56,40 +54,39 @@ fn pairs_with(alloc: Global, leads: &Leads, h: usize) -> Result<Vec<Option<Pair>
     Ok(pairs)
 }
 
-// The pair stays as member h comes, or it is dropped for h.
+// The pair at place `next` stays as member h comes, and moves to place `kept`, or it is dropped for h. Returns how many are kept.
 fn stay_or_drop(
     leads: &Leads,
     h: usize,
-    pair: Pair,
-    kept: &mut Vec<Pair>,
+    pairs: &mut Vec<Pair>,
+    kept: usize,
+    next: usize,
     dropped: &mut Vec<Dropped>,
-) -> Result<(), NoMemory>
+) -> Result<usize, NoMemory>
     requires within { h < length leads.now.keys }
-    requires real { IsRealPair leads.now pair }
-    requires later { pair.j < h }
-    requires room { vec_len kept.old < vec_capacity kept.old }
-    ensures staying { OnOk result ((whole : List PlainPair) (drops : List Drop) (rest : List CodePair)
-        → Staying leads.now h whole drops kept.old.items (pair ∷ rest) (drops_of dropped.old.items)
-        → Staying leads.now h whole drops kept.new.items rest (drops_of dropped.new.items)) }
-    ensures len { OnOk result (vec_len kept.new ≤ vec_len kept.old + 1) }
-    ensures capacity { vec_capacity kept.new ≡ vec_capacity kept.old }
+    requires kept { kept ≤ next }
+    requires next { next < length pairs.old.items }
+    requires real { Each (IsRealPair leads.now) (drop next pairs.old.items) }
+    requires earlier { Each (AreIndices h) (pairs_of (drop next pairs.old.items)) }
+    ensures staying { IfOk result (λ count. (whole : List PlainPair) (drops : List Drop)
+        → Staying leads.now h whole drops (take kept pairs.old.items) (drop next pairs.old.items) (drops_of dropped.old.items)
+        → Staying leads.now h whole drops (take count pairs.new.items) (drop (next + 1) pairs.new.items) (drops_of dropped.new.items)) }
+    ensures few { IfOk result (λ count. count ≤ kept + 1) }
+    ensures len { length pairs.new.items ≡ length pairs.old.items }
 {
-    if leaves_for(leads, h, pair.i as usize, pair.j as usize) {
-        dropped.push(Dropped {
-            i: pair.i,
-            j: pair.j,
-            k: h as u64,
-        })?;
-        drop(pair);
-        return Ok(());
+    let x = &pairs[next];
+    let i = x.i;
+    let j = x.j;
+    if leaves_for(leads, h, i as usize, j as usize) {
+        dropped.push(Dropped { i, j, k: h as u64 })?;
+        return Ok(kept);
     }
-    kept.push_reserved(pair);
-    Ok(())
+    pairs.swap(kept, next);
+    Ok(kept + 1)
 }
 
 // Those of the pairs that do not leave for member h stay, and the others are dropped for it.
 fn stay(
-    alloc: Global,
     leads: &Leads,
     h: usize,
     pairs: &mut Vec<Pair>,
@@ -100,11 +97,11 @@ fn stay(
     requires earlier { Each (AreIndices h) (pairs_of pairs.old.items) }
     ensures { OnOk result (Staying leads.now h (pairs_of pairs.old.items) (drops_of dropped.old.items) pairs.new.items [] (drops_of dropped.new.items)) }
 {
-    let room = Vec::with_capacity(alloc, pairs.len())?;
-    let mut rest = VecDeque::from_vec(replace(pairs, room));
-    while let Some(pair) = rest.pop_front() {
-        stay_or_drop(leads, h, pair, pairs, dropped)?;
+    let mut kept = 0;
+    for next in 0..pairs.len() {
+        kept = stay_or_drop(leads, h, pairs, kept, next, dropped)?;
     }
+    pairs.truncate(kept);
     Ok(())
 }
 
@@ -187,8 +184,8 @@ fn update_with(
         → Updating leads.now first h old drops kept.old.items queued.old.items (drops_of dropped.old.items)
         → Updating leads.now first (h + 1) old drops kept.new.items queued.new.items (drops_of dropped.new.items)) }
 {
-    stay(alloc, leads, h, kept, dropped)?;
-    stay(alloc, leads, h, queued, dropped)?;
+    stay(leads, h, kept, dropped)?;
+    stay(leads, h, queued, dropped)?;
     join(alloc, leads, h, queued, dropped)?;
     Ok(())
 }
