@@ -1,4 +1,5 @@
 pub mod Writing
+pub mod Runs
 pub mod Entries
 pub mod Splitting
 pub mod Decimals

@@ -1,7 +1,9 @@
 -- Texts as they are written, from left to right
-use Rattle.std.specs.Prelude.{Bool, List, [], codes, false, suc, true, zero, ⊤, ℕ, ◌≢◌, ◌≤◌, ◌++◌, ◌∷◌, ◌==◌, ◌≡◌, if◌then◌else◌}
+use Rattle.std.specs.Prelude.{Bool, List, [], codes, false, map, replicate, suc, true, zero, ⊤, ℕ, ◌≢◌, ◌≤◌, ◌+◌, ◌-◌, ◌++◌, ◌∷◌, ◌==◌, ◌≡◌, if◌then◌else◌}
+use Rattle.std.specs.List.{range_with_len}
 use Rattle.std.specs.Fmt.{decimal}
 use Rattle.module_vectors.specs.declared.key.Key.{Key}
+use Rattle.poly_text.specs.Texts.{poly_text, term_text, terms_at}
 
 -- new is old with more behind it
 abbrev pub IsFront : List ℕ → List ℕ → Type 0
@@ -46,3 +48,19 @@ abbrev pub IsStretch : ℕ → List (Key × ℕ) → ℕ → Type 0
 IsStretch p [] k = k ≡ 0
 IsStretch p (t ∷ ts) zero = t.0.position ≢ p
 IsStretch p (t ∷ ts) (suc k) = (t.0.position ≡ p) × IsStretch p ts k
+
+-- so many entries 0, each behind a comma
+abbrev pub zero_entries : ℕ → List ℕ
+zero_entries n = tails 44 (replicate n (codes "0"))
+
+-- what stands between two terms that follow one another: + in one entry, else a comma, behind the entries between theirs
+abbrev pub between : ℕ → ℕ → List ℕ
+between p q = if q == p then 43 ∷ [] else zero_entries (q - (p + 1)) ++ 44 ∷ []
+
+-- so many entries from a position on, each behind a comma
+abbrev pub later_entries : List (List ℕ) → ℕ → ℕ → List (Key × ℕ) → List ℕ
+later_entries names p n terms = tails 44 (map (λ i. poly_text names (terms_at i terms)) (range_with_len p n))
+
+-- what stands behind the terms of the entry at the position that are written: its further terms, and so many more entries
+abbrev pub entries_rest : List (List ℕ) → ℕ → ℕ → List (Key × ℕ) → List ℕ
+entries_rest names p more terms = tails 43 (map (term_text names) (terms_at p terms)) ++ later_entries names (p + 1) more terms

@@ -22,6 +22,7 @@ mod stop;
 mod text_laws;
 mod undo;
 mod vector;
+mod zeros;
 
 pub use stop::NoMemory;
 pub use text_laws::{lists, numbers, polynomials, vectors};

@@ -1,12 +1,13 @@
 // The text of a vector, written from left to right. After an error what was written so far stands there.
-ghost use Rattle.std.specs.Prelude.{◌≡◌, ◌++◌, ◌<◌, ◌≤◌, ◌==◌, [], ◌∷◌, IsTrue, OnOk, OnErr, drop, if◌then◌else◌, length, map, string_bytes, take, ℕ};
+ghost use Rattle.std.specs.Prelude.{◌≡◌, ◌≢◌, ◌++◌, ◌+◌, ◌-◌, ◌<◌, ◌≤◌, [], IsTrue, OnOk, OnErr, length, map, string_bytes, ℕ};
 ghost use Rattle.formal_sums.specs.FormalSums.{Each};
 ghost use Rattle.module_vectors.specs.Vectors.{HasVariables};
 ghost use Rattle.poly_text.specs.Texts.{terms_at, entries_text, entry_texts, joined, poly_text, term_text};
-ghost use Rattle.poly_text.specs.Writing.{IsFront, AscendsFrom, IsStretch, term_start};
+ghost use Rattle.poly_text.specs.Writing.{AscendsFrom, IsFront, IsStretch, entries_rest, later_entries, term_start};
 
 use crate::NoMemory;
 use crate::polynomial::{append_term, append_terms};
+use crate::zeros::{append_between, append_gap, append_zeros};
 use module_vectors::Key;
 
 /// Appends a term, behind a `+` where it is not the first.
@@ -54,15 +55,58 @@ fn append_entry(
     Ok(())
 }
 
-/// Appends the comma before an entry that is not the first.
-fn append_comma(out: &mut Vec<u8>, position: u128) -> Result<(), NoMemory>
-    ensures ok { OnOk result (out.new.items ≡ out.old.items ++ (if position == 0 then [] else 44 ∷ [])) }
-    ensures err { OnErr result (out.new.items ≡ out.old.items) }
+/// The least position from this one on, and before the bound, at which a term stands, or else the bound.
+fn next_position(terms: &[(Key, u32)], from: u128, bound: u128) -> u128
+    requires { from ≤ bound }
+    ensures within { (from ≤ result) × (result ≤ bound) }
+    ensures empty { (q : ℕ) → from ≤ q → q < result → terms_at q terms.now ≡ [] }
 {
-    if position == 0 {
-        return Ok(());
+    let mut least = bound;
+    for term in terms {
+        least = nearer(from, u128::from(term.0.position), least);
     }
-    out.push(b',')?;
+    least
+}
+
+/// The position where it is not before `from` and before the bound, else the bound.
+fn nearer(from: u128, position: u128, bound: u128) -> u128
+    requires { from ≤ bound }
+    ensures within { (from ≤ result) × (result ≤ bound) }
+    ensures apart { (q : ℕ) → from ≤ q → q < result → position ≢ q }
+{
+    if position < from || bound < position {
+        return bound;
+    }
+    position
+}
+
+/// Appends the entries from the second on, each behind a comma, of terms in any order of positions.
+fn append_later(
+    out: &mut Vec<u8>,
+    vars: &[String],
+    rank: u128,
+    terms: &[(Key, u32)],
+) -> Result<(), NoMemory>
+    requires { Each (HasVariables (length vars.now)) terms.now }
+    ensures ok { OnOk result (out.new.items ≡ out.old.items ++ later_entries (map string_bytes vars.now) 1 (rank - 1) terms.now) }
+    ensures err { OnErr result (IsFront out.old.items out.new.items) }
+{
+    let mut next = 1;
+    while next < rank {
+        let position = next_position(terms, next, rank);
+        if position == rank {
+            return append_zeros(out, rank - next);
+        }
+        match append_gap(out, position - next) {
+            Ok(()) => {}
+            Err(early) => return Err(early),
+        }
+        match append_entry(out, vars, position, terms) {
+            Ok(()) => {}
+            Err(early) => return Err(early),
+        }
+        next = position + 1;
+    }
     Ok(())
 }
 
@@ -77,17 +121,14 @@ fn append_scattered(
     ensures ok { OnOk result (out.new.items ≡ out.old.items ++ joined 44 (entry_texts (map string_bytes vars.now) rank terms.now)) }
     ensures err { OnErr result (IsFront out.old.items out.new.items) }
 {
-    for position in 0..rank {
-        match append_comma(out, position) {
-            Ok(()) => {}
-            Err(early) => return Err(early),
-        }
-        match append_entry(out, vars, position, terms) {
-            Ok(()) => {}
-            Err(early) => return Err(early),
-        }
+    if rank == 0 {
+        return Ok(());
     }
-    Ok(())
+    match append_entry(out, vars, 0, terms) {
+        Ok(()) => {}
+        Err(early) => return Err(early),
+    }
+    append_later(out, vars, rank, terms)
 }
 
 /// Whether the positions of the terms ascend, as they do in an order of position over term.
@@ -117,7 +158,40 @@ fn run_length(terms: &[(Key, u32)], position: u128) -> usize
     terms.len()
 }
 
-/// Appends the entries, of terms whose positions ascend: the terms of an entry stand together.
+/// Appends the rest of the entries where one has begun, of terms whose positions ascend from its own.
+fn append_rest(
+    out: &mut Vec<u8>,
+    vars: &[String],
+    rank: u128,
+    begun: u128,
+    terms: &[(Key, u32)],
+) -> Result<(), NoMemory>
+    requires variables { Each (HasVariables (length vars.now)) terms.now }
+    requires ascending { AscendsFrom begun terms.now }
+    requires within { begun < rank }
+    ensures ok { OnOk result (out.new.items ≡ out.old.items ++ entries_rest (map string_bytes vars.now) begun (rank - (begun + 1)) terms.now) }
+    ensures err { OnErr result (IsFront out.old.items out.new.items) }
+{
+    let mut last = begun;
+    for term in terms {
+        let position = u128::from(term.0.position);
+        if position >= rank {
+            return append_zeros(out, rank - last - 1);
+        }
+        match append_between(out, last, position) {
+            Ok(()) => {}
+            Err(early) => return Err(early),
+        }
+        match append_term(out, vars, term) {
+            Ok(()) => {}
+            Err(early) => return Err(early),
+        }
+        last = position;
+    }
+    append_zeros(out, rank - last - 1)
+}
+
+/// Appends the entries, of terms whose positions ascend: the terms of the first entry stand at the front.
 fn append_runs(
     out: &mut Vec<u8>,
     vars: &[String],
@@ -129,20 +203,12 @@ fn append_runs(
     ensures ok { OnOk result (out.new.items ≡ out.old.items ++ joined 44 (entry_texts (map string_bytes vars.now) rank terms.now)) }
     ensures err { OnErr result (IsFront out.old.items out.new.items) }
 {
-    let mut rest = terms;
-    for position in 0..rank {
-        match append_comma(out, position) {
-            Ok(()) => {}
-            Err(early) => return Err(early),
-        }
-        let (run, after) = rest.split_at(run_length(rest, position));
-        match append_terms(out, vars, run) {
-            Ok(()) => {}
-            Err(early) => return Err(early),
-        }
-        rest = after;
+    if rank == 0 {
+        return Ok(());
     }
-    Ok(())
+    let (first, others) = terms.split_at(run_length(terms, 0));
+    append_terms(out, vars, first)?;
+    append_rest(out, vars, rank, 0, others)
 }
 
 /// Appends the entries.

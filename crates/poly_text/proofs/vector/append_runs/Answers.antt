@@ -1,18 +1,20 @@
-use Rattle.std.proofs.Common.{◌∙◌, ap, sym, arith}
-use Rattle.poly_text.specs.Texts.{terms_at, poly_text}
-use Rattle.poly_text.proofs.Entries.{cuts, each_dropped, entries_step, run_within}
+use Rattle.std.proofs.Common.{arith}
+use Rattle.std.proofs.lemmas.Result.{on_ok_weaker}
+use Rattle.poly_text.proofs.Entries.{cuts, entries_whole, raised, run_within}
 use Rattle.poly_text.proofs.vector.append_runs.Goals as goal
 
 pub split_at-requires : goal.split_at-requires
 split_at-requires c = run_within _ _ _ c.run_length.ensures
 
-pub loop-position-preserved : goal.loop-position-preserved
-loop-position-preserved c =
-    let cut = cuts c.loop-position.position c.loop-position.position c.loop-position.rest.now c.run_length.result (omega arith) c.loop-position.invariant.2 c.run_length.ensures in (
-      entries_step _ c.args.terms.now c.loop-position.position c.args.out.now.items c.loop-position.out.items c.append_comma.new.out.items c.append_terms.new.out.items _
-          c.loop-position.invariant.0 c.in-Ok.ensures.ok c.in-Ok-append_terms.ensures.ok
-          (ap (poly_text _) (c.split_at.ensures.front ∙ sym cut.here ∙ sym (c.loop-position.invariant.3 c.loop-position.position (omega arith)))),
-      (rw c.split_at.ensures.back (each_dropped _ c.loop-position.rest.now c.run_length.result c.loop-position.invariant.1)),
-      (rw c.split_at.ensures.back cut.above),
-      (λ q later. c.loop-position.invariant.3 q (omega arith) ∙ cut.others q later ∙ ap (terms_at q) (sym c.split_at.ensures.back)),
-    )
+pub append_rest-requires-clause-ascending : goal.append_rest-requires-clause-ascending
+append_rest-requires-clause-ascending c =
+    let cut = cuts 0 0 c.args.terms.now c.run_length.result (omega arith) c.requires.ascending c.run_length.ensures in
+    rw c.split_at.ensures.back (raised 0 1 _ (omega arith) cut.above)
+
+pub returns-clause-ok : goal.returns-clause-ok
+returns-clause-ok c =
+    let cut = cuts 0 0 c.args.terms.now c.run_length.result (omega arith) c.requires.ascending c.run_length.ensures in
+    on_ok_weaker c.append_rest.result
+    (λ k. entries_whole _ c.args.rank c.run_length.result c.args.terms.now c.split_at.result.0.now c.split_at.result.1.now c.args.out.now.items c.append_terms.new.out.items
+    c.append_rest.new.out.items (omega arith) cut c.split_at.ensures.front c.split_at.ensures.back c.in_ok-append_terms.ensures.ok k)
+    c.append_rest.ensures.ok
