@@ -1,5 +1,5 @@
 // Products of two polynomials.
-ghost use Rattle.std.specs.Prelude.{◌≡◌, ◌+◌, ◌≤◌, ℕ, IfOk, IfErr, OnOk, OnErr, Err};
+ghost use Rattle.std.specs.Prelude.{◌≡◌, ◌+◌, ◌≤◌, ℕ, IfOk, IfErr, IfSome, OnOk, OnErr, OnSome, Err};
 ghost use Rattle.formal_sums.specs.FormalSums.{product};
 ghost use Rattle.module_vectors.specs.Rings.{variables};
 ghost use Rattle.module_vectors.specs.Vectors.{sum_of, IsVectorOver, StandsFor, HasPositions};
@@ -7,8 +7,10 @@ ghost use Rattle.sparse_poly.specs.Degrees.{IsWithinDegree};
 ghost use Rattle.sparse_poly.specs.Multiples.{AreMultiples, exchanged};
 ghost use Rattle.sparse_poly.specs.Stops.{ProductFits, PolynomialProductStops};
 
+use crate::digits::top_degree;
 use module_vectors::{Frame, Key, NoMemory, Product, Room, Vect, VectStop};
 use std::alloc::Global;
+use term_tables::multiply;
 
 /// The product of two polynomials. `Degree` exactly where a monomial of `a` and one of `b` have degrees that sum to
 /// more than 65,535; it carries two such.
@@ -61,7 +63,28 @@ pub(crate) fn mul_in<F: Frame>(
     }
 }
 
-/// The product of two polynomials, as the sum of the products of each term of `a` with `b`.
+/// The product of two polynomials by a table of coefficients; `None` where degrees may sum to more than 65,535, or a table does not
+/// serve.
+fn by_table<F: Frame>(
+    alloc: Global,
+    frame: &F,
+    a: &Vect,
+    b: &Vect,
+) -> Result<Option<Vect>, NoMemory>
+    requires left { IsVectorOver (F.over frame.now) (F.compare frame.now) a.now }
+    requires right { IsVectorOver (F.over frame.now) (F.compare frame.now) b.now }
+    ensures vector { IfOk result (λ o. IfSome o (λ v. IsVectorOver (F.over frame.now) (F.compare frame.now) v)) }
+    ensures product { let n = variables (F.over frame.now) in
+        IfOk result (λ o. IfSome o (λ v. StandsFor (F.over frame.now) v (product (sum_of n a.now) (sum_of n b.now)))) }
+    ensures fits { IfOk result (λ o. OnSome o (ProductFits a.now b.now)) }
+{
+    if top_degree(a.terms()).saturating_add(top_degree(b.terms())) > 65535 {
+        return Ok(None);
+    }
+    multiply(alloc, frame, a.terms(), b.terms())
+}
+
+/// The product of two polynomials, by a table where one serves, or else as the sum of the products of each term of `a` with `b`.
 fn mul_terms<F: Frame>(
     alloc: Global,
     frame: &F,
@@ -76,6 +99,11 @@ fn mul_terms<F: Frame>(
     ensures fits { OnOk result (ProductFits a.now b.now) }
     ensures stop { IfErr result (PolynomialProductStops a.now b.now) }
 {
+    match by_table(alloc, frame, a, b) {
+        Ok(Some(v)) => return Ok(v),
+        Ok(None) => {}
+        Err(_) => return Err(VectStop::Memory),
+    }
     match multiples(alloc, a.terms(), b) {
         Ok(products) => Vect::sum_of_products_in(alloc, frame, room, &products),
         Err(_) => Err(VectStop::Memory),
