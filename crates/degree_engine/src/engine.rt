@@ -24,10 +24,12 @@ const LONG: usize = 64;
 /// An engine over another. A long list of vectors of one term each is a basis as it stands. One that is not homogeneous is first run
 /// homogenised, and before that, where the order is not by degree, the basis of an ideal is taken from the one in the graded order
 /// if it has few standard monomials. Each attempt has an engine of its own. Where none has an answer, or the list goes directly,
-/// the engine `direct` runs the list itself. What stopped early is of that one alone.
+/// the engine `direct` runs the list itself. What stopped early is of that one alone. The runs that count are its own: the attempts
+/// for a list and the run of `direct` on it are parts of one.
 pub struct DegreeEngine<A, E> {
     pub attempts: A,
     pub direct: E,
+    runs: u64,
 }
 
 // By hand, so that each drop of one is a call.
@@ -36,7 +38,30 @@ impl<A: Drop, E: Drop> Drop for DegreeEngine<A, E> {
         let DegreeEngine {
             attempts: _,
             direct: _,
+            runs: _,
         } = self;
+    }
+}
+
+impl<A, E> DegreeEngine<A, E> {
+    /// An engine over this one, whose attempts have engines from these. It has not run.
+    pub fn new(attempts: A, direct: E) -> DegreeEngine<A, E>
+        ensures attempts { result.attempts ≡ attempts }
+        ensures direct { result.direct ≡ direct }
+        ensures runs { result.runs ≡ 0 }
+    {
+        DegreeEngine {
+            attempts,
+            direct,
+            runs: 0,
+        }
+    }
+
+    /// How often a basis was asked for, whatever the answer, up to 2^64 - 1.
+    pub fn runs(&self) -> u64
+        ensures { result ≡ self.now.runs }
+    {
+        self.runs
     }
 }
 
@@ -83,6 +108,8 @@ fn attempted<R: Threads + Wait + Sync, A: Attempts<E>, E: Groebner + Drop>(
 impl<A: Attempts<E>, E: Groebner + Drop> Groebner for DegreeEngine<A, E> {
     ghost stops = { λ e. E.stops e.direct };
 
+    ghost runs = { λ e. e.runs };
+
     ghost stopped = { λ e. E.stopped e.direct };
 
     ghost settings = { λ e. E.settings e.direct };
@@ -95,6 +122,7 @@ impl<A: Attempts<E>, E: Groebner + Drop> Groebner for DegreeEngine<A, E> {
         rank: u128,
         list: &VectList,
     ) -> Result<VectList, Stop> {
+        self.runs = self.runs.saturating_add(1);
         match attempted(rt, alloc, &self.attempts, ring, rank, list) {
             Ok(basis) => Ok(basis),
             Err(Unanswered::Memory) => Err(Stop::Memory),

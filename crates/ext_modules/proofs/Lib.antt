@@ -1,3 +1,4 @@
+mod Counted
 mod Putting
 mod RowVectors
 mod UnitLists

@@ -1,10 +1,12 @@
 // The homology of the transposed maps at one step of a resolution.
-ghost use Rattle.std.specs.Prelude.{◌≡◌, ◌≤◌, ◌<◌, [], get_or, IfOk, IfErr, OnOk, length, map};
+ghost use Rattle.std.specs.Prelude.{◌≡◌, ◌≤◌, ◌<◌, ◌*◌, [], get_or, IfOk, IfErr, OnOk, length, map};
 ghost use Rattle.formal_sums.specs.FormalSums.{Each};
 ghost use Rattle.ext_laws.specs.Transposes.{IsInTransposedKernel, rank_at};
 ghost use Rattle.module_vectors.specs.Rings.{variables};
 ghost use Rattle.module_vectors.specs.Vectors.{AreTermsOver, HasPositions, sums_of};
+ghost use Rattle.risen_counts.specs.Counts.{RoseAtMost};
 ghost use Rattle.groebner_iface.specs.Calls.{CallStops, NoTrail};
+ghost use Rattle.syzygy_engine.specs.Kernels.{runs_in_order};
 ghost use Rattle.syzygy_engine.specs.Marking.{position_ring};
 ghost use Rattle.ideal_ops.specs.Answers.{IsBasisOfThose};
 ghost use Rattle.ideal_ops.specs.Runs.{AreVectorsFor};
@@ -16,6 +18,7 @@ use crate::units::{are_units, unit_list};
 use groebner_iface::{Groebner, OpStop};
 use ideal_ops::kernel_modulo;
 use module_vectors::{NoMemory, Ring, VectList, lawful_setting};
+use risen_counts::counted_times;
 use schreyer_resolution::Map;
 use std::alloc::Global;
 use std::sync::Wait;
@@ -77,8 +80,10 @@ fn kernel_of_columns<R: Threads + Wait + Sync, B: Groebner>(
     ensures stop { IfErr result (CallStops (IsTransposedRun ring.now count columns.now) NoTrail
         (B.stops engine.old) (B.stops engine.new) (B.stopped engine.old) (B.stopped engine.new)) }
     ensures later { B.stops engine.old ≤ B.stops engine.new }
+    ensures runs { RoseAtMost (runs_in_order ring.now) (B.runs engine.old) (B.runs engine.new) }
     ensures settings { B.settings engine.new ≡ B.settings engine.old }
 {
+    counted_times();
     lawful_setting(ring);
     let width = width_of(columns)?;
     let rows = transposed(alloc, ring, count, columns)?;
@@ -105,8 +110,10 @@ fn kernel_at<R: Threads + Wait + Sync, B: Groebner>(
     ensures stop { IfErr result (CallStops (IsRowsRun ring.now rank (map (λ m. m.columns) maps.now) k) NoTrail
         (B.stops engine.old) (B.stops engine.new) (B.stopped engine.old) (B.stopped engine.new)) }
     ensures later { B.stops engine.old ≤ B.stops engine.new }
+    ensures runs { RoseAtMost (runs_in_order ring.now) (B.runs engine.old) (B.runs engine.new) }
     ensures settings { B.settings engine.new ≡ B.settings engine.old }
 {
+    counted_times();
     lawful_setting(ring);
     let count = rank_of(rank, maps, k)?;
     if k >= maps.len() as u64 {
@@ -165,8 +172,10 @@ fn relations_at<R: Threads + Wait + Sync, B: Groebner>(
     ensures stop { IfErr result (CallStops (IsRelationsRun ring.now rank (map (λ m. m.columns) maps.now) k) NoTrail
         (B.stops engine.old) (B.stops engine.new) (B.stopped engine.old) (B.stopped engine.new)) }
     ensures later { B.stops engine.old ≤ B.stops engine.new }
+    ensures runs { RoseAtMost (runs_in_order ring.now) (B.runs engine.old) (B.runs engine.new) }
     ensures settings { B.settings engine.new ≡ B.settings engine.old }
 {
+    counted_times();
     lawful_setting(ring);
     if kernel.len() == 0 {
         return Ok(VectList::new(alloc));
@@ -212,8 +221,10 @@ pub fn ext<R: Threads + Wait + Sync, B: Groebner>(
     ensures stop { IfErr result (CallStops (AreExtRuns ring.now rank (map (λ m. m.columns) maps.now) k) NoTrail
         (B.stops engine.old) (B.stops engine.new) (B.stopped engine.old) (B.stopped engine.new)) }
     ensures later { B.stops engine.old ≤ B.stops engine.new }
+    ensures runs { RoseAtMost (2 * runs_in_order ring.now) (B.runs engine.old) (B.runs engine.new) }
     ensures settings { B.settings engine.new ≡ B.settings engine.old }
 {
+    counted_times();
     lawful_setting(ring);
     let kernel = match kernel_at(rt, alloc, engine, ring, rank, maps, k) {
         Ok(kernel) => kernel,

@@ -4,18 +4,20 @@ use Rattle.module_vectors.specs.declared.trail.KeptTrail.{KeptTrail}
 use Rattle.queue_updates.specs.declared.Update.{Update}
 use Rattle.basis_core.specs.Members.{Shared}
 use Rattle.basis_core.specs.Shown.{Shown}
+use Rattle.risen_counts.specs.Counts.{next_count}
 use Rattle.groebner_iface.specs.declared.stop.Stop.{Stop}
 use Rattle.groebner_iface.specs.declared.stop.Stop.TheVariants.{Memory, Pairs, Degree}
 use Rattle.run_endings.specs.Stops.{IsKeptWhereCounted, IsStop, stopped_on, stopped_run}
 use Rattle.f4_engine.specs.Runs.{IsLastRun, IsWorkedByAll}
 
--- its budget of pairs, its number of workers, that of helpers for one job, and what its runs queue as members come; how many runs
--- stopped; the state and the trail that are kept of the last one of them; and the state of the last one that answered
+-- its budget of pairs, its number of workers, that of helpers for one job, and what its runs queue as members come; how often it ran,
+-- and how many runs stopped; the state and the trail that are kept of the last one of them; and the state of the last one that answered
 pub record EngineShown : Type 0 where
   pub pairs : ℕ
   pub workers : ℕ
   pub helpers : ℕ
   pub update : Update
+  pub runs : ℕ
   pub stops : ℕ
   pub state : Option Shown
   pub trail : Option KeptTrail
@@ -30,6 +32,10 @@ pub record IsKeptBy (e : EngineShown) : Type 0 where
   pub by_all : IfSome e.state IsWorkedByAll
   pub last : IsLastRun e.pairs e.workers e.update e.last
 
+-- the engine with one run more
+abbrev pub with_run : EngineShown → EngineShown
+with_run e = record e { runs = next_count e.runs }
+
 -- one more run that stopped is counted, up to 2 ^ 64 - 1; all else is the same
 pub record Counts (old new : EngineShown) : Type 0 where
   pub pairs : new.pairs ≡ old.pairs
@@ -37,6 +43,7 @@ pub record Counts (old new : EngineShown) : Type 0 where
   pub helpers : new.helpers ≡ old.helpers
   pub update : new.update ≡ old.update
   pub last : new.last ≡ old.last
+  pub runs : new.runs ≡ old.runs
   pub stops : new.stops ≡ min (old.stops + 1) (2 ^ 64 - 1)
   pub later : old.stops ≤ new.stops
 

@@ -5,8 +5,9 @@ ghost use Rattle.module_vectors.specs.Rings.{ring_comparison};
 ghost use Rattle.module_vectors.specs.Vectors.{AreVectorsOver, HasPositions};
 ghost use Rattle.basis_core.specs.Members.{Shared};
 ghost use Rattle.groebner_iface.specs.Runs.{IsReducedBasisOf, StoppedRun};
+ghost use Rattle.risen_counts.specs.Counts.{next_count};
 ghost use Rattle.run_endings.specs.Stops.{IsRunBy, IsStop, OfState, RunStops, shared_on, stopped_run};
-ghost use Rattle.f4_engine.specs.Engines.{Answers, Counts, EngineStops, IsKeptBy};
+ghost use Rattle.f4_engine.specs.Engines.{Answers, Counts, EngineStops, IsKeptBy, with_run};
 ghost use Rattle.f4_engine.specs.Runs.{IsFinished, IsWorkedByAll};
 
 use crate::runs::run;
@@ -32,6 +33,7 @@ pub struct F4Engine {
     update: Update,
     thread: usize,
     gate: SharedGate,
+    runs: u64,
     stops: u64,
     state: Option<BasisState>,
     trail: Option<KeptTrail>,
@@ -48,6 +50,7 @@ impl Drop for F4Engine {
             update: _,
             thread: _,
             gate: _,
+            runs: _,
             stops: _,
             state: _,
             trail: _,
@@ -66,6 +69,7 @@ impl Model for F4Engine {
       workers = e.workers;
       helpers = e.helpers;
       update = e.update;
+      runs = e.runs;
       stops = e.stops;
       state = e.state;
       trail = e.trail;
@@ -77,6 +81,7 @@ impl Model for F4Engine {
       workers = e.workers;
       helpers = e.helpers;
       update = e.update;
+      runs = e.runs;
       stops = e.stops;
       state = e.state;
       trail = e.trail;
@@ -102,6 +107,7 @@ impl F4Engine {
         ensures workers { result.workers ≡ workers }
         ensures helpers { result.helpers ≡ helpers }
         ensures update { result.update ≡ update }
+        ensures runs { result.runs ≡ 0 }
         ensures stops { result.stops ≡ 0 }
         ensures state { result.state ≡ None }
         ensures trail { result.trail ≡ None }
@@ -114,6 +120,7 @@ impl F4Engine {
             update,
             thread,
             gate,
+            runs: 0,
             stops: 0,
             state: None,
             trail: None,
@@ -161,6 +168,13 @@ impl F4Engine {
         &self.gate
     }
 
+    /// How often it ran, whatever the answer, up to 2^64 - 1.
+    pub fn runs(&self) -> u64
+        ensures { result ≡ self.now.runs }
+    {
+        self.runs
+    }
+
     /// How many runs stopped early, up to 2^64 - 1.
     pub fn stops(&self) -> u64
         ensures { result ≡ self.now.stops }
@@ -199,12 +213,20 @@ impl F4Engine {
             update: _,
             thread: _,
             gate: _,
+            runs: _,
             stops: _,
             state,
             trail,
             last: _,
         } = self;
         (state, trail)
+    }
+
+    // Counts a run.
+    fn count_run(&mut self)
+        ensures { self.new ≡ with_run self.old }
+    {
+        self.runs = self.runs.saturating_add(1);
     }
 
     // Counts a run that stopped, and keeps this of it.
@@ -225,7 +247,8 @@ impl F4Engine {
     fn keep_stop(&mut self, stop: RunStop) -> Stop
         requires stop { (shared : Shared) × RunStops self.old.pairs self.old.workers self.old.update shared stop }
         requires by_all { OfState IsWorkedByAll stop }
-        ensures { (shared : Shared) → RunStops self.old.pairs self.old.workers self.old.update shared stop → EngineStops self.old self.new shared result }
+        ensures stop { (shared : Shared) → RunStops self.old.pairs self.old.workers self.old.update shared stop → EngineStops self.old self.new shared result }
+        ensures runs { self.new.runs ≡ self.old.runs }
     {
         match stop {
             RunStop::Memory => Stop::Memory,
@@ -266,9 +289,11 @@ impl F4Engine {
         requires vectors { AreVectorsOver ring.now (ring_comparison ring.now) list.now }
         requires positions { Each (HasPositions rank) list.now }
         ensures basis { IfOk result (IsReducedBasisOf ring.now rank list.now) }
-        ensures answers { OnOk result (Answers self.old self.new (shared_on ring.now rank list.now)) }
-        ensures stop { IfErr result (EngineStops self.old self.new (shared_on ring.now rank list.now)) }
+        ensures answers { OnOk result (Answers (with_run self.old) self.new (shared_on ring.now rank list.now)) }
+        ensures stop { IfErr result (EngineStops (with_run self.old) self.new (shared_on ring.now rank list.now)) }
+        ensures run { self.new.runs ≡ next_count self.old.runs }
     {
+        self.count_run();
         match run(
             rt,
             alloc,
@@ -296,6 +321,8 @@ impl Groebner for F4Engine {
     ghost use Rattle.run_endings.specs.Stops.{number_of_update, stopped_run};
 
     ghost stops = { λ e. e.stops };
+
+    ghost runs = { λ e. e.runs };
 
     ghost stopped = { λ e. stopped_run e.state e.trail };
 

@@ -4,6 +4,7 @@ ghost use Rattle.std.specs.Thread.{IsSync};
 ghost use Rattle.formal_sums.specs.FormalSums.{Each};
 ghost use Rattle.module_vectors.specs.Rings.{ring_comparison};
 ghost use Rattle.module_vectors.specs.Vectors.{AreVectorsOver, HasPositions};
+ghost use Rattle.risen_counts.specs.Counts.{next_count};
 ghost use Rattle.groebner_iface.specs.Runs.{IsReducedBasisOf, StopsRun, StoppedRun};
 
 use crate::Stop;
@@ -18,6 +19,9 @@ pub trait Groebner {
     /// How many runs stopped early. It never falls, and may stand still at 2^64 - 1.
     ghost stops: { Self → ℕ };
 
+    /// How often a basis was asked for, whatever the answer. It never falls, and stands still at 2^64 - 1.
+    ghost runs: { Self → ℕ };
+
     /// The last run that stopped early.
     ghost stopped: { Self → Option StoppedRun };
 
@@ -27,7 +31,8 @@ pub trait Groebner {
     /// The reduced Gröbner basis of the list in a free module of this rank, by descending leads in the ring's own order.
     ///
     /// `Pairs` and `Degree` say that the run stopped early: each is counted, and the run is kept with its answer.
-    /// `Memory` where there is none. The list that is answered and `Memory` leave the count and the kept run as they were.
+    /// `Memory` where there is none. The list that is answered and `Memory` leave the count of stops and the kept run as they were.
+    /// Each call counts as one run.
     /// The handle may be shared between threads: an engine's method knows its bound `Sync` by `sync`, and each caller by
     /// that bound.
     fn reduced<R: Threads + Wait + Sync>(
@@ -45,5 +50,6 @@ pub trait Groebner {
         ensures same { OnOk result ((stops self.new ≡ stops self.old) × (stopped self.new ≡ stopped self.old)) }
         ensures stop { IfErr result (λ stop. StopsRun (stops self.old) (stops self.new) (stopped self.old) (stopped self.new) ring.now rank list.now stop) }
         ensures later { stops self.old ≤ stops self.new }
+        ensures run { runs self.new ≡ next_count (runs self.old) }
         ensures settings { settings self.new ≡ settings self.old };
 }

@@ -1,5 +1,5 @@
-mod Shared
-mod Free
+pub mod Shared
+pub mod Free
 mod Witness
 mod Dividing
 mod ModuloRuns

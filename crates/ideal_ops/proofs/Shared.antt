@@ -1,6 +1,6 @@
 -- What the operations share: lists that stand for formal sums, and bases of the vectors with a property
 use Rattle.std.proofs.Common.{List, Option, [], ap, arith, get_or, length, refl, subst, suc, sym, take}
-use Rattle.std.proofs.Common.{zero, ℕ, ◌++◌, ◌+◌, ◌<◌, ◌∙◌, ◌∷◌, ◌≡◌, ap₂, append_assoc}
+use Rattle.std.proofs.Common.{zero, ℕ, ◌++◌, ◌+◌, ◌<◌, ◌∙◌, ◌∷◌, ◌≡◌, ◌≤◌, ap₂, append_assoc}
 use Rattle.std.proofs.lemmas.List.{take_more}
 use Rattle.std.specs.Prelude.{◌↔◌}
 use Rattle.formal_sums.proofs.Combining.{Each_map, IsMember_itself}
@@ -24,6 +24,7 @@ use Rattle.module_vectors.specs.Rings.{ring_comparison, setting, variables}
 use Rattle.module_vectors.specs.Vectors.{AreTermsOver, AreVectorsOver, HasPositions, HasVariables, IsVectorOver, StandsFor, sum_of, sums_of}
 use Rattle.module_vectors.specs.declared.ring.Ring.{Ring}
 use Rattle.module_vectors.specs.declared.trail.KeptTrail.{KeptTrail}
+use Rattle.risen_counts.specs.Counts.{RoseAtMost, next_count}
 use Rattle.groebner_iface.specs.Calls.{CallStops}
 use Rattle.groebner_iface.specs.Runs.{IsReducedBasisOf, StoppedRun}
 use Rattle.groebner_iface.specs.declared.stop.OpStop.{OpStop}
@@ -39,6 +40,18 @@ pub later_stops :
     → (mid ≡ old) × (half ≡ kept) → CallStops Runs Trails mid new half kept' stop → CallStops Runs Trails old new kept kept' stop
 later_stops old mid new kept half kept' Runs Trails stop same h =
     subst (λ a. CallStops Runs Trails a new kept kept' stop) same.0 (subst (λ k. CallStops Runs Trails mid new k kept' stop) same.1 h)
+
+-- ---- runs
+-- one run and one more
+pub run_more : (before between now : ℕ) → RoseAtMost 1 before between → now ≡ next_count between → RoseAtMost 2 before now
+run_more before between now a next = record {
+  times = suc a.times;
+  within = let few : a.times ≤ 1 = a.within in omega (arith, few);
+  counted = next ∙ ap next_count a.counted;
+}
+
+pub two_runs : (before between now : ℕ) → between ≡ next_count before → now ≡ next_count between → RoseAtMost 2 before now
+two_runs before between now first next = record { times = 2; within = omega arith; counted = next ∙ ap next_count first }
 
 -- ---- lists
 pub of_terms : (ring : Ring) (v : Terms) → AreTermsOver ring v → Each (HasVariables (variables ring)) v

@@ -5,6 +5,7 @@ ghost use Rattle.operation_laws.specs.Operations.{back};
 ghost use Rattle.module_vectors.specs.FrontVariables.{front_ring};
 ghost use Rattle.module_vectors.specs.Rings.{ring_comparison, variables};
 ghost use Rattle.module_vectors.specs.Vectors.{AreTermsOver, AreVectorsOver, HasPositions, sum_of, sums_of};
+ghost use Rattle.risen_counts.specs.Counts.{RoseAtMost};
 ghost use Rattle.groebner_iface.specs.Calls.{CallStops, NoTrail};
 ghost use Rattle.ideal_ops.specs.FrontSteps.{AreRunsOnFront, IsBackBasis};
 ghost use Rattle.ideal_ops.specs.Runs.{AreVectorsFor};
@@ -12,6 +13,7 @@ ghost use Rattle.ideal_ops.specs.Runs.{AreVectorsFor};
 use crate::eliminating::is_free;
 use groebner_iface::{Groebner, OpStop};
 use module_vectors::{NoMemory, Ring, Vect, VectList, lawful_setting};
+use risen_counts::counted_times;
 use std::alloc::Global;
 use std::sync::Wait;
 use std::thread::Threads;
@@ -63,8 +65,10 @@ pub(crate) fn basis_back<R: Threads + Wait + Sync, B: Groebner>(
     ensures stop { IfErr result (CallStops (AreRunsOnFront ring.now rank list.now) NoTrail
         (B.stops engine.old) (B.stops engine.new) (B.stopped engine.old) (B.stopped engine.new)) }
     ensures later { B.stops engine.old ≤ B.stops engine.new }
+    ensures runs { RoseAtMost 2 (B.runs engine.old) (B.runs engine.new) }
     ensures settings { B.settings engine.new ≡ B.settings engine.old }
 {
+    counted_times();
     lawful_setting(ring);
     let basis = match engine.reduced(rt, alloc, front, rank, list) {
         Ok(basis) => basis,

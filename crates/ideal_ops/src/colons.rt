@@ -5,7 +5,9 @@ ghost use Rattle.formal_sums.specs.Combinations.{IsMember};
 ghost use Rattle.operation_laws.specs.Operations.{basis_vector};
 ghost use Rattle.module_vectors.specs.Rings.{ring_comparison, variables};
 ghost use Rattle.module_vectors.specs.Vectors.{AreVectorsOver, HasPositions, IsVectorOver, StandsFor, sums_of};
+ghost use Rattle.risen_counts.specs.Counts.{RoseAtMost};
 ghost use Rattle.groebner_iface.specs.Calls.{CallStops, NoTrail};
+ghost use Rattle.syzygy_engine.specs.Kernels.{runs_in_order};
 ghost use Rattle.ideal_ops.specs.Answers.{IsBasisOfThose};
 ghost use Rattle.ideal_ops.specs.Components.{AreColonRuns};
 ghost use Rattle.ideal_ops.specs.Runs.{AreVectorsFor, IsRunFor};
@@ -15,6 +17,7 @@ use crate::stacking::{block_list, stacked_list};
 use groebner_iface::{Groebner, OpStop};
 use module_vectors::{Key, NoMemory, Ring, Vect, VectList, lawful_setting};
 use monomial_orders::Mono;
+use risen_counts::counted_times;
 use std::alloc::Global;
 use std::sync::Wait;
 use std::thread::Threads;
@@ -62,8 +65,10 @@ fn all_polynomials<R: Threads + Wait + Sync, B: Groebner>(
     ensures stop { IfErr result (CallStops (IsRunFor ring.now 1 (basis_vector 0 ∷ [])) NoTrail
         (B.stops engine.old) (B.stops engine.new) (B.stopped engine.old) (B.stopped engine.new)) }
     ensures later { B.stops engine.old ≤ B.stops engine.new }
+    ensures runs { RoseAtMost 1 (B.runs engine.old) (B.runs engine.new) }
     ensures settings { B.settings engine.new ≡ B.settings engine.old }
 {
+    counted_times();
     lawful_setting(ring);
     let list = list_of_one(alloc, ring)?;
     match engine.reduced(rt, alloc, ring, 1, &list) {
@@ -107,8 +112,10 @@ pub fn colon<R: Threads + Wait + Sync, B: Groebner>(
     ensures stop { IfErr result (CallStops (AreColonRuns ring.now rank list.now by.now) NoTrail
         (B.stops engine.old) (B.stops engine.new) (B.stopped engine.old) (B.stopped engine.new)) }
     ensures later { B.stops engine.old ≤ B.stops engine.new }
+    ensures runs { RoseAtMost (runs_in_order ring.now) (B.runs engine.old) (B.runs engine.new) }
     ensures settings { B.settings engine.new ≡ B.settings engine.old }
 {
+    counted_times();
     if by.len() == 0 {
         return all_polynomials(rt, alloc, engine, ring);
     }

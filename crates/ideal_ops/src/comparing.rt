@@ -3,12 +3,14 @@ ghost use Rattle.std.specs.Prelude.{◌≡◌, ◌≤◌, ◌↔◌, ◌⊎◌, 
 ghost use Rattle.formal_sums.specs.FormalSums.{Each};
 ghost use Rattle.module_vectors.specs.Rings.{ring_comparison, variables};
 ghost use Rattle.module_vectors.specs.Vectors.{AreVectorsOver, HasPositions, sums_of};
+ghost use Rattle.risen_counts.specs.Counts.{RoseAtMost};
 ghost use Rattle.groebner_iface.specs.Calls.{CallStops, NoTrail};
 ghost use Rattle.ideal_ops.specs.Answers.{HaveSameMembers, IsInFirstAlone};
 ghost use Rattle.ideal_ops.specs.Runs.{IsRunOnEither};
 
 use groebner_iface::{Groebner, OpStop, one_basis};
 use module_vectors::{Ring, Vect, VectList, lawful_setting};
+use risen_counts::counted_times;
 use std::alloc::Global;
 use std::sync::Wait;
 use std::thread::Threads;
@@ -55,8 +57,10 @@ pub fn equal<R: Threads + Wait + Sync, B: Groebner>(
     ensures stop { IfErr result (CallStops (IsRunOnEither ring.now rank left.now right.now) NoTrail
         (B.stops engine.old) (B.stops engine.new) (B.stopped engine.old) (B.stopped engine.new)) }
     ensures later { B.stops engine.old ≤ B.stops engine.new }
+    ensures runs { RoseAtMost 2 (B.runs engine.old) (B.runs engine.new) }
     ensures settings { B.settings engine.new ≡ B.settings engine.old }
 {
+    counted_times();
     lawful_setting(ring);
     one_basis(ring);
     let first = match engine.reduced(rt, alloc, ring, rank, left) {

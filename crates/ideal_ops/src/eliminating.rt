@@ -8,6 +8,7 @@ ghost use Rattle.syzygy_laws.specs.Kernels.{all_kept};
 ghost use Rattle.operation_laws.specs.Operations.{IsCombinationOfKept, eliminated};
 ghost use Rattle.module_vectors.specs.Rings.{ring_comparison, variables};
 ghost use Rattle.module_vectors.specs.Vectors.{AreTermsOver, AreVectorsOver, HasPositions, HasVariables, sum_of, sums_of};
+ghost use Rattle.risen_counts.specs.Counts.{RoseAtMost};
 ghost use Rattle.groebner_iface.specs.Calls.{CallStops, NoTrail};
 ghost use Rattle.ideal_ops.specs.Answers.{IsBasisOfThose};
 ghost use Rattle.ideal_ops.specs.Runs.{AreEliminationRuns, AreVectorsFor, elimination_ring};
@@ -16,6 +17,7 @@ use crate::sorting::{sorted_list, sorted_vector};
 use groebner_iface::{Groebner, OpStop};
 use module_vectors::{NoMemory, Ring, Vect, VectList, lawful_setting};
 use monomial_orders::{ModOrder, Order};
+use risen_counts::counted_times;
 use std::alloc::Global;
 use std::sync::Wait;
 use std::thread::Threads;
@@ -47,11 +49,11 @@ fn has_none(exponents: &[u16], k: usize) -> bool
 }
 
 /// Has the vector, in n variables, none of the first k?
-pub(crate) fn is_free(v: &Vect, k: u32) -> bool
+pub fn is_free(v: &Vect, k: usize) -> bool
     ensures { (n : ℕ) → Each (HasVariables n) v.now → result ≡ all_kept (has_none_of_first k) (sum_of n v.now) }
 {
     for term in v.terms() {
-        if !has_none(term.0.monomial.exponents(), k as usize) {
+        if !has_none(term.0.monomial.exponents(), k) {
             return false;
         }
     }
@@ -70,7 +72,7 @@ fn take_free(
     ensures { (G : List (FormalSum (variables ring.now))) → AreVectorsFor ring.now (eliminated k G) free.old.items
         → OnOk result (AreVectorsFor ring.now (eliminated k (G ++ sum_of (variables ring.now) v.now ∷ [])) free.new.items) }
 {
-    if !is_free(v, k) {
+    if !is_free(v, k as usize) {
         return Ok(());
     }
     free.push(sorted_vector(alloc, ring, v)?)?;
@@ -117,8 +119,10 @@ pub fn eliminate<R: Threads + Wait + Sync, B: Groebner>(
     ensures stop { IfErr result (CallStops (AreEliminationRuns k ring.now rank list.now) NoTrail
         (B.stops engine.old) (B.stops engine.new) (B.stopped engine.old) (B.stopped engine.new)) }
     ensures later { B.stops engine.old ≤ B.stops engine.new }
+    ensures runs { RoseAtMost 2 (B.runs engine.old) (B.runs engine.new) }
     ensures settings { B.settings engine.new ≡ B.settings engine.old }
 {
+    counted_times();
     lawful_setting(ring);
     let eliminating = by_elimination(alloc, ring, k)?;
     let sorted = sorted_list(alloc, &eliminating, list)?;

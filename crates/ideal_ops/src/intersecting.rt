@@ -6,6 +6,7 @@ ghost use Rattle.operation_laws.specs.Operations.{intersection_list};
 ghost use Rattle.module_vectors.specs.FrontVariables.{front_ring};
 ghost use Rattle.module_vectors.specs.Rings.{ring_comparison, variables};
 ghost use Rattle.module_vectors.specs.Vectors.{AreTermsOver, AreVectorsOver, HasPositions, sums_of};
+ghost use Rattle.risen_counts.specs.Counts.{RoseAtMost};
 ghost use Rattle.groebner_iface.specs.Calls.{CallStops};
 ghost use Rattle.ideal_ops.specs.Answers.{IsBasisOfThose};
 ghost use Rattle.ideal_ops.specs.FrontVariable.{AreIntersectionRuns, IsTrailOfIntersection};
@@ -17,6 +18,7 @@ use crate::front::{rest_multiples, variable, variable_multiples};
 use crate::multiplying::followed;
 use groebner_iface::{Groebner, OpStop};
 use module_vectors::{Ring, VectList, WorkStop, lawful_setting};
+use risen_counts::counted_times;
 use std::alloc::Global;
 use std::sync::Wait;
 use std::thread::Threads;
@@ -73,8 +75,10 @@ pub fn intersect<R: Threads + Wait + Sync, B: Groebner>(
     ensures stop { IfErr result (CallStops (AreIntersectionRuns ring.now rank left.now right.now) (IsTrailOfIntersection ring.now left.now right.now)
         (B.stops engine.old) (B.stops engine.new) (B.stopped engine.old) (B.stopped engine.new)) }
     ensures later { B.stops engine.old ≤ B.stops engine.new }
+    ensures runs { RoseAtMost 2 (B.runs engine.old) (B.runs engine.new) }
     ensures settings { B.settings engine.new ≡ B.settings engine.old }
 {
+    counted_times();
     lawful_setting(ring);
     let front = ring.with_front_variable(alloc)?;
     let list = match listed(alloc, ring, &front, left, right) {

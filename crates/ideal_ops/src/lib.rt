@@ -24,7 +24,7 @@ mod stacking;
 pub use adding::sum;
 pub use colons::colon;
 pub use comparing::equal;
-pub use eliminating::eliminate;
+pub use eliminating::{eliminate, is_free};
 pub use groebner_iface::OpStop;
 pub use intersecting::intersect;
 pub use modulo::kernel_modulo;

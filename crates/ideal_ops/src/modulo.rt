@@ -5,8 +5,10 @@ ghost use Rattle.syzygy_laws.specs.Syzygies.{marked};
 ghost use Rattle.operation_laws.specs.Operations.{IsSyzygyModulo};
 ghost use Rattle.module_vectors.specs.Rings.{ring_comparison, variables};
 ghost use Rattle.module_vectors.specs.Vectors.{AreVectorsOver, HasPositions, sums_of};
+ghost use Rattle.risen_counts.specs.Counts.{RoseAtMost};
 ghost use Rattle.groebner_iface.specs.Calls.{CallStops, NoTrail};
 ghost use Rattle.groebner_iface.specs.Runs.{IsReducedBasisOf};
+ghost use Rattle.syzygy_engine.specs.Kernels.{runs_in_order};
 ghost use Rattle.syzygy_engine.specs.Marking.{position_ring};
 ghost use Rattle.ideal_ops.specs.Answers.{IsBasisOfThose};
 ghost use Rattle.ideal_ops.specs.Modulo.{AreModuloRuns};
@@ -16,6 +18,7 @@ use crate::multiplying::followed;
 use groebner_iface::{Groebner, OpStop};
 use module_vectors::{NoMemory, Ring, VectList, lawful_setting};
 use monomial_orders::ModOrder;
+use risen_counts::counted_times;
 use std::alloc::Global;
 use std::sync::Wait;
 use std::thread::Threads;
@@ -67,8 +70,10 @@ fn modulo_basis<R: Threads + Wait + Sync, B: Groebner>(
         (IsRunFor (position_ring ring.now) (rank + length heads.now) (marked rank 0 (sums_of n heads.now) ++ sums_of n members)) NoTrail
         (B.stops engine.old) (B.stops engine.new) (B.stopped engine.old) (B.stopped engine.new)) }
     ensures later { B.stops engine.old ≤ B.stops engine.new }
+    ensures runs { RoseAtMost 1 (B.runs engine.old) (B.runs engine.new) }
     ensures settings { B.settings engine.new ≡ B.settings engine.old }
 {
+    counted_times();
     lawful_setting(ring);
     let list = heads_marked(alloc, ring, by_position, first_mark(rank), heads, members)?;
     match engine.reduced(rt, alloc, by_position, rank + heads.len() as u128, &list) {
@@ -107,8 +112,10 @@ pub fn kernel_modulo<R: Threads + Wait + Sync, B: Groebner>(
         (AreModuloRuns ring.now rank (sums_of n heads.now) (sums_of n members)) NoTrail
         (B.stops engine.old) (B.stops engine.new) (B.stopped engine.old) (B.stopped engine.new)) }
     ensures later { B.stops engine.old ≤ B.stops engine.new }
+    ensures runs { RoseAtMost (runs_in_order ring.now) (B.runs engine.old) (B.runs engine.new) }
     ensures settings { B.settings engine.new ≡ B.settings engine.old }
 {
+    counted_times();
     lawful_setting(ring);
     let basis = match modulo_basis(rt, alloc, engine, ring, by_position, rank, heads, members) {
         Ok(basis) => basis,

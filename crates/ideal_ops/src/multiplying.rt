@@ -7,6 +7,7 @@ ghost use Rattle.module_vectors.specs.Rings.{ring_comparison, variables};
 ghost use Rattle.module_vectors.specs.Stops.{CombinationStops};
 ghost use Rattle.module_vectors.specs.Vectors.{AreVectorsOver, HasPositions, IsVectorOver, StandsFor, sum_of, sums_of};
 ghost use Rattle.module_vectors.specs.declared.trail.TrailStart.TheVariants.{Product};
+ghost use Rattle.risen_counts.specs.Counts.{RoseAtMost};
 ghost use Rattle.groebner_iface.specs.Calls.{CallStops};
 ghost use Rattle.ideal_ops.specs.Answers.{IsBasisOfThose};
 ghost use Rattle.ideal_ops.specs.Products.{IsProductRun, IsProductTrail, IsTrailOfProducts, IsTrailOfRow, WorkStops};
@@ -17,6 +18,7 @@ use module_vectors::{
     KeptTrail, NoMemory, Ring, TrailStart, Vect, VectList, VectStop, WorkStop, lawful_setting,
 };
 use monomial_orders::Mono;
+use risen_counts::counted_times;
 use std::alloc::Global;
 use std::sync::Wait;
 use std::thread::Threads;
@@ -229,8 +231,10 @@ pub fn product<R: Threads + Wait + Sync, B: Groebner>(
     ensures stop { IfErr result (CallStops (IsProductRun ring.now rank left.now right.now) (IsTrailOfProducts ring.now left.now right.now)
         (B.stops engine.old) (B.stops engine.new) (B.stopped engine.old) (B.stopped engine.new)) }
     ensures later { B.stops engine.old ≤ B.stops engine.new }
+    ensures runs { RoseAtMost 1 (B.runs engine.old) (B.runs engine.new) }
     ensures settings { B.settings engine.new ≡ B.settings engine.old }
 {
+    counted_times();
     lawful_setting(ring);
     let list = match products(alloc, ring, left, right) {
         Ok(list) => list,

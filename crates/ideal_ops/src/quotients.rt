@@ -5,7 +5,9 @@ ghost use Rattle.formal_sums.specs.Combinations.{IsMember};
 ghost use Rattle.operation_laws.specs.Operations.{basis_vector, multiples_of};
 ghost use Rattle.module_vectors.specs.Rings.{ring_comparison, variables};
 ghost use Rattle.module_vectors.specs.Vectors.{AreTermsOver, AreVectorsOver, HasPositions, IsVectorOver, StandsFor, sum_of, sums_of};
+ghost use Rattle.risen_counts.specs.Counts.{RoseAtMost};
 ghost use Rattle.groebner_iface.specs.Calls.{CallStops, NoTrail};
+ghost use Rattle.syzygy_engine.specs.Kernels.{runs_in_order};
 ghost use Rattle.ideal_ops.specs.Answers.{IsBasisOfThose};
 ghost use Rattle.ideal_ops.specs.Components.{AreQuotientRuns, placed};
 ghost use Rattle.ideal_ops.specs.Runs.{AreVectorsFor};
@@ -14,6 +16,7 @@ use crate::modulo::kernel_modulo;
 use crate::sorting::sorted_list;
 use groebner_iface::{Groebner, OpStop};
 use module_vectors::{Key, NoMemory, Ring, Vect, VectList, lawful_setting};
+use risen_counts::counted_times;
 use std::alloc::Global;
 use std::sync::Wait;
 use std::thread::Threads;
@@ -95,8 +98,10 @@ pub fn quotient<R: Threads + Wait + Sync, B: Groebner>(
     ensures stop { IfErr result (CallStops (AreQuotientRuns ring.now rank list.now f.now) NoTrail
         (B.stops engine.old) (B.stops engine.new) (B.stopped engine.old) (B.stopped engine.new)) }
     ensures later { B.stops engine.old ≤ B.stops engine.new }
+    ensures runs { RoseAtMost (runs_in_order ring.now) (B.runs engine.old) (B.runs engine.new) }
     ensures settings { B.settings engine.new ≡ B.settings engine.old }
 {
+    counted_times();
     lawful_setting(ring);
     let over = by_position(alloc, ring)?;
     let heads = multiples(alloc, ring, first_mark(rank), f)?;

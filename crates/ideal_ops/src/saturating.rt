@@ -6,6 +6,7 @@ ghost use Rattle.module_vectors.specs.FrontVariables.{front_ring};
 ghost use Rattle.module_vectors.specs.Stops.{ScaledStops};
 ghost use Rattle.module_vectors.specs.Rings.{ring_comparison, variables};
 ghost use Rattle.module_vectors.specs.Vectors.{AreTermsOver, AreVectorsOver, HasPositions, IsVectorOver, StandsFor, sum_of, sums_of};
+ghost use Rattle.risen_counts.specs.Counts.{RoseAtMost};
 ghost use Rattle.groebner_iface.specs.Calls.{CallStops};
 ghost use Rattle.ideal_ops.specs.Answers.{IsBasisOfThose};
 ghost use Rattle.ideal_ops.specs.Components.{placed};
@@ -21,6 +22,7 @@ use crate::quotients::placed_terms;
 use groebner_iface::{Groebner, OpStop};
 use module_vectors::{Key, NoMemory, Ring, Vect, VectList, VectStop, WorkStop, lawful_setting};
 use monomial_orders::Mono;
+use risen_counts::counted_times;
 use std::alloc::Global;
 use std::sync::Wait;
 use std::thread::Threads;
@@ -212,8 +214,10 @@ pub fn saturate<R: Threads + Wait + Sync, B: Groebner>(
     ensures stop { IfErr result (CallStops (AreSaturationRuns ring.now rank list.now f.now) (IsTrailOfSaturation ring.now list.now f.now)
         (B.stops engine.old) (B.stops engine.new) (B.stopped engine.old) (B.stopped engine.new)) }
     ensures later { B.stops engine.old ≤ B.stops engine.new }
+    ensures runs { RoseAtMost 2 (B.runs engine.old) (B.runs engine.new) }
     ensures settings { B.settings engine.new ≡ B.settings engine.old }
 {
+    counted_times();
     lawful_setting(ring);
     let front = ring.with_front_variable(alloc)?;
     let end = first_mark(rank);

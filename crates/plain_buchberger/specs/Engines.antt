@@ -4,16 +4,18 @@ use Rattle.module_vectors.specs.declared.trail.KeptTrail.{KeptTrail}
 use Rattle.queue_updates.specs.declared.Update.{Update}
 use Rattle.basis_core.specs.Members.{Shared}
 use Rattle.basis_core.specs.Shown.{Shown}
+use Rattle.risen_counts.specs.Counts.{next_count}
 use Rattle.groebner_iface.specs.declared.stop.Stop.{Stop}
 use Rattle.groebner_iface.specs.declared.stop.Stop.TheVariants.{Memory, Pairs, Degree}
 use Rattle.run_endings.specs.Stops.{IsKeptWhereCounted, IsStop, stopped_on, stopped_run}
 use Rattle.plain_buchberger.specs.Runs.{KeptLeaves}
 
--- its budget of pairs, and what its runs queue as members come; how many runs stopped; the state and the trail that are kept of the
--- last one of them
+-- its budget of pairs, and what its runs queue as members come; how often it ran, and how many runs stopped; the state and the trail
+-- that are kept of the last one of them
 pub record EngineShown : Type 0 where
   pub pairs : ℕ
   pub update : Update
+  pub runs : ℕ
   pub stops : ℕ
   pub state : Option Shown
   pub trail : Option KeptTrail
@@ -24,10 +26,15 @@ pub record IsKeptBy (e : EngineShown) : Type 0 where
   pub counted : IsKeptWhereCounted e.stops (stopped_run e.state e.trail)
   pub left : KeptLeaves e.state e.trail
 
--- one more run that stopped is counted, up to 2 ^ 64 - 1; budget and update are the same
+-- the engine with one run more
+abbrev pub with_run : EngineShown → EngineShown
+with_run e = record e { runs = next_count e.runs }
+
+-- one more run that stopped is counted, up to 2 ^ 64 - 1; budget, update and the count of runs are the same
 pub record Counts (old new : EngineShown) : Type 0 where
   pub pairs : new.pairs ≡ old.pairs
   pub update : new.update ≡ old.update
+  pub runs : new.runs ≡ old.runs
   pub stops : new.stops ≡ min (old.stops + 1) (2 ^ 64 - 1)
   pub later : old.stops ≤ new.stops
 

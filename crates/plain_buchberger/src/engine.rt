@@ -5,7 +5,8 @@ ghost use Rattle.module_vectors.specs.Rings.{ring_comparison};
 ghost use Rattle.module_vectors.specs.Vectors.{AreVectorsOver, HasPositions};
 ghost use Rattle.basis_core.specs.Members.{Shared};
 ghost use Rattle.groebner_iface.specs.Runs.{IsReducedBasisOf, StoppedRun};
-ghost use Rattle.plain_buchberger.specs.Engines.{Counts, EngineStops, IsKeptBy};
+ghost use Rattle.risen_counts.specs.Counts.{next_count};
+ghost use Rattle.plain_buchberger.specs.Engines.{Counts, EngineStops, IsKeptBy, with_run};
 ghost use Rattle.plain_buchberger.specs.Runs.{KeptLeaves, StopLeaves};
 ghost use Rattle.run_endings.specs.Stops.{IsStop, RunStops, shared_on, stopped_run};
 
@@ -26,6 +27,7 @@ use std::thread::Threads;
 pub struct PlainEngine {
     pairs: u64,
     update: Update,
+    runs: u64,
     stops: u64,
     state: Option<BasisState>,
     trail: Option<KeptTrail>,
@@ -37,6 +39,7 @@ impl Drop for PlainEngine {
         let PlainEngine {
             pairs: _,
             update: _,
+            runs: _,
             stops: _,
             state: _,
             trail: _,
@@ -49,9 +52,9 @@ impl Model for PlainEngine {
 
     ghost Value = { EngineShown };
 
-    ghost view = { λ e. record { pairs = e.pairs; update = e.update; stops = e.stops; state = e.state; trail = e.trail } };
+    ghost view = { λ e. record { pairs = e.pairs; update = e.update; runs = e.runs; stops = e.stops; state = e.state; trail = e.trail } };
 
-    ghost invariant = { λ e. IsKeptBy (record { pairs = e.pairs; update = e.update; stops = e.stops; state = e.state; trail = e.trail }) };
+    ghost invariant = { λ e. IsKeptBy (record { pairs = e.pairs; update = e.update; runs = e.runs; stops = e.stops; state = e.state; trail = e.trail }) };
 }
 
 impl PlainEngine {
@@ -59,6 +62,7 @@ impl PlainEngine {
     pub fn new(pairs: u64, update: Update) -> PlainEngine
         ensures pairs { result.pairs ≡ pairs }
         ensures update { result.update ≡ update }
+        ensures runs { result.runs ≡ 0 }
         ensures stops { result.stops ≡ 0 }
         ensures state { result.state ≡ None }
         ensures trail { result.trail ≡ None }
@@ -66,6 +70,7 @@ impl PlainEngine {
         PlainEngine {
             pairs,
             update,
+            runs: 0,
             stops: 0,
             state: None,
             trail: None,
@@ -84,6 +89,13 @@ impl PlainEngine {
         ensures { result ≡ self.now.update }
     {
         self.update
+    }
+
+    /// How often it ran, whatever the answer, up to 2^64 - 1.
+    pub fn runs(&self) -> u64
+        ensures { result ≡ self.now.runs }
+    {
+        self.runs
     }
 
     /// How many runs stopped early, up to 2^64 - 1.
@@ -112,6 +124,7 @@ impl PlainEngine {
         let PlainEngine {
             pairs: _,
             update: _,
+            runs: _,
             stops: _,
             state,
             trail,
@@ -120,7 +133,8 @@ impl PlainEngine {
     }
 
     /// The reduced Gröbner basis of the list in a free module of this rank, by descending leads in the ring's own order. It
-    /// does what the trait's `reduced` does, and more is said of it: the basis and `Memory` leave the engine as it was.
+    /// does what the trait's `reduced` does, and more is said of it: the basis and `Memory` leave the engine as it was, but for
+    /// the count of its runs.
     pub fn run<R: Threads + Sync>(
         &mut self,
         rt: &R,
@@ -132,13 +146,22 @@ impl PlainEngine {
         requires vectors { AreVectorsOver ring.now (ring_comparison ring.now) list.now }
         requires positions { Each (HasPositions rank) list.now }
         ensures basis { IfOk result (IsReducedBasisOf ring.now rank list.now) }
-        ensures same { OnOk result (self.new ≡ self.old) }
-        ensures stop { IfErr result (EngineStops self.old self.new (shared_on ring.now rank list.now)) }
+        ensures same { OnOk result (self.new ≡ with_run self.old) }
+        ensures stop { IfErr result (EngineStops (with_run self.old) self.new (shared_on ring.now rank list.now)) }
+        ensures run { self.new.runs ≡ next_count self.old.runs }
     {
+        self.count_run();
         match run(rt, alloc, self.pairs, self.update, ring, rank, list) {
             Ok(basis) => Ok(basis),
             Err(stop) => Err(self.keep_stop(stop)),
         }
+    }
+
+    // Counts a run.
+    fn count_run(&mut self)
+        ensures { self.new ≡ with_run self.old }
+    {
+        self.runs = self.runs.saturating_add(1);
     }
 
     // Counts a run that stopped, and keeps this of it.
@@ -159,7 +182,8 @@ impl PlainEngine {
     fn keep_stop(&mut self, stop: RunStop) -> Stop
         requires stop { (shared : Shared) × RunStops self.old.pairs 1 self.old.update shared stop }
         requires left { StopLeaves stop }
-        ensures { (shared : Shared) → RunStops self.old.pairs 1 self.old.update shared stop → EngineStops self.old self.new shared result }
+        ensures stop { (shared : Shared) → RunStops self.old.pairs 1 self.old.update shared stop → EngineStops self.old self.new shared result }
+        ensures runs { self.new.runs ≡ self.old.runs }
     {
         match stop {
             RunStop::Memory => Stop::Memory,
@@ -184,6 +208,8 @@ impl Groebner for PlainEngine {
     ghost use Rattle.run_endings.specs.Stops.{number_of_update, stopped_run};
 
     ghost stops = { λ e. e.stops };
+
+    ghost runs = { λ e. e.runs };
 
     ghost stopped = { λ e. stopped_run e.state e.trail };
 

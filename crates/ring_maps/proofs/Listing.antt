@@ -2,10 +2,7 @@
 use Rattle.std.proofs.Common.{List, Option, [], ap, arith, get_or, length, map, refl, subst, suc, sym, take, zero, ℕ, ◌++◌, ◌+◌, ◌-◌, ◌<◌, ◌∙◌, ◌∷◌, ◌≡◌}
 use Rattle.std.proofs.lemmas.List.{map-append}
 use Rattle.monomials.specs.Exponents.{unit}
-use Rattle.formal_sums.proofs.Combining.{Each_map}
 use Rattle.formal_sums.proofs.OfRank.{IsOfRank_of}
-use Rattle.formal_sums.proofs.Sameness.{IsSame_of}
-use Rattle.formal_sums.proofs.WeightedSums.{Each_append}
 use Rattle.formal_sums.specs.FormalSums.{Each, FormalSum, HasRank, scale}
 use Rattle.bases.specs.Settings.{IsLawful}
 use Rattle.operation_laws.proofs.Linear.{Each_at}
@@ -14,7 +11,7 @@ use Rattle.map_laws.proofs.Evaluating.{graph_list_rank}
 use Rattle.map_laws.specs.Graphs.{behind, graph_list, graph_member, in_first, variable}
 use Rattle.module_vectors.proofs.Scaling.{take_item}
 use Rattle.module_vectors.specs.Rings.{ring_comparison, setting, variables}
-use Rattle.module_vectors.specs.Vectors.{AreTermsOver, AreVectorsOver, HasPositions, HasVariables, IsVectorOver, StandsFor, sum_of, sums_of}
+use Rattle.module_vectors.specs.Vectors.{HasPositions, IsVectorOver, StandsFor, sum_of, sums_of}
 use Rattle.module_vectors.specs.declared.ring.Ring.{Ring}
 use Rattle.module_vectors.specs.declared.trail.KeptTrail.{KeptTrail}
 use Rattle.module_vectors.specs.declared.trail.WorkStop.{WorkStop}
@@ -22,25 +19,13 @@ use Rattle.module_vectors.specs.declared.trail.WorkStop.TheVariants as works
 use Rattle.groebner_iface.specs.Calls.{CallStops}
 use Rattle.groebner_iface.specs.Runs.{StoppedRun}
 use Rattle.groebner_iface.specs.Stops.{op_stop_of_work}
-use Rattle.groebner_iface.specs.declared.stop.OpStop.{OpStop}
 use Rattle.vector_division.proofs.Members.{sums_at}
-use Rattle.syzygy_engine.proofs.Marks.{loose}
-use Rattle.syzygy_engine.proofs.Standing.{Terms, ranks_of_positions, stand_next, stand_positions}
+use Rattle.syzygy_engine.proofs.Standing.{Terms, ranks_of_positions, stand_positions}
 use Rattle.ideal_ops.specs.Products.{WorkStops}
 use Rattle.ideal_ops.specs.Runs.{AreVectorsFor, OfRuns}
+use Rattle.ideal_ops.proofs.Shared.{vectors_next}
 
--- ---- lists of vectors that stand for formal sums
-pub vectors_none : (ring : Ring) → AreVectorsFor ring [] []
-vectors_none ring = record { vectors = tt; stand = record { count = refl; each = λ i. IsSame_of ring.modulus.value _ _ refl } }
-
-pub vectors_next :
-    (ring : Ring) (list : List Terms) (G : List (FormalSum (variables ring))) (v : Terms) (g : FormalSum (variables ring))
-    → AreVectorsFor ring G list → IsVectorOver ring (ring_comparison ring) v → StandsFor ring v g → AreVectorsFor ring (G ++ g ∷ []) (list ++ v ∷ [])
-vectors_next ring list G v g h hv s = record {
-  vectors = Each_append _ list (v ∷ []) h.vectors (hv, tt);
-  stand = stand_next ring list G v g h.stand s;
-}
-
+-- ---- positions
 -- their positions are below the rank of the formal sums
 pub positions_for :
     (ring : Ring) (rank : ℕ) (list : List Terms) (G : List (FormalSum (variables ring)))
@@ -48,12 +33,6 @@ pub positions_for :
 positions_for ring rank list G lawful h ranks =
     stand_positions ring (ring_comparison ring) rank list G lawful h.vectors h.stand.each
     (λ i lt. IsOfRank_of ring.modulus.value rank (get_or G i []) (Each_at (HasRank rank) [] G ranks i (let c = h.stand.count in omega (arith, lt, c))))
-
-pub loose_list : (ring : Ring) (list : List Terms) → AreVectorsOver ring (ring_comparison ring) list → Each (AreTermsOver ring) list
-loose_list ring list h = Each_map (λ v. IsVectorOver ring (ring_comparison ring) v) (AreTermsOver ring) list (λ v k. loose ring v k.each) h
-
-pub of_terms : (ring : Ring) (v : Terms) → AreTermsOver ring v → Each (HasVariables (variables ring)) v
-of_terms ring v h = Each_map _ (HasVariables (variables ring)) v (λ t k. k.0.variables) h
 
 -- ---- the members of a graph
 pub listed_next : {X : Type 0} (m : ℕ) (g : ℕ → X) → listed 0 (m + 1) g ≡ listed 0 m g ++ g m ∷ []
@@ -116,14 +95,7 @@ graph_positions ring graph images list listed lawful f l h =
     (graph_list_rank ring.modulus.value (variables graph) (sums_of n images) (sums_of n list) (ranks_of_positions n 1 images f) (ranks_of_positions n 1 list l))
 
 -- ---- stops
--- a stop after a run that left the count and the kept run as they were
-pub later_stops :
-    (old mid new : ℕ) (kept half kept' : Option StoppedRun) (Runs : OfRuns) (Trails : KeptTrail → Type 0) (stop : OpStop)
-    → (mid ≡ old) × (half ≡ kept) → CallStops Runs Trails mid new half kept' stop → CallStops Runs Trails old new kept kept' stop
-later_stops old mid new kept half kept' Runs Trails stop same h =
-    subst (λ a. CallStops Runs Trails a new kept kept' stop) same.0 (subst (λ k. CallStops Runs Trails mid new k kept' stop) same.1 h)
-
--- the stop of work after such a run
+-- the stop of work after a run that left the count and the kept run as they were
 pub later_work :
     (old new : ℕ) (kept kept' : Option StoppedRun) (Runs : OfRuns) (Trails : KeptTrail → Type 0) (stop : WorkStop) → (new ≡ old) × (kept' ≡ kept)
     → WorkStops Trails stop → CallStops Runs Trails old new kept kept' (op_stop_of_work stop)

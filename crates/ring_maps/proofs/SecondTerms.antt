@@ -1,62 +1,16 @@
 -- Vectors that have the second variables of a graph alone
-use Rattle.std.proofs.Common.{Bool, List, [], ap, append_assoc, ap₂, arith, cond, false, get_or, length, map, refl, subst, suc, sym, true, zero, ℕ, ◌++◌, ◌<◌, ◌∙◌, ◌∷◌, ◌≡◌}
-use Rattle.std.proofs.lemmas.Bool.Decides.{nat_tests}
+use Rattle.std.proofs.Common.{List, [], ap, append_assoc, false, map, sym, true, ℕ, ◌++◌, ◌∙◌, ◌∷◌, ◌≡◌}
 use Rattle.std.proofs.lemmas.List.{map-append}
-use Rattle.std.proofs.lemmas.List.Elements.{filter-append}
-use Rattle.std.specs.Prelude.{nat_eq, ◌&&◌}
-use Rattle.monomials.specs.Exponents.{exponents_of, same_exponents, unit}
-use Rattle.orders.specs.MonomialOrders.{first_variables}
-use Rattle.formal_sums.specs.FormalSums.{Each, FormalSum}
+use Rattle.formal_sums.specs.FormalSums.{FormalSum}
 use Rattle.division_laws.specs.Elimination.{has_none_of_first}
 use Rattle.syzygy_laws.specs.Kernels.{all_kept}
 use Rattle.operation_laws.specs.Operations.{eliminated}
 use Rattle.map_laws.specs.Graphs.{from_second, of_second}
 use Rattle.module_vectors.proofs.Merges.{sum_of-append}
-use Rattle.module_vectors.specs.Vectors.{HasVariables, sum_of}
+use Rattle.module_vectors.specs.Vectors.{sum_of}
 use Rattle.module_vectors.specs.declared.key.Key.{Key as CodeKey}
 use Rattle.syzygy_engine.proofs.Standing.{Terms}
-
--- ---- exponents
-eq_zero : (a : ℕ) → a ≡ 0 → nat_eq a 0 ≡ true
-eq_zero a e = grind (arith, nat_tests)
-
-not_zero : (a : ℕ) → (a ≡ 0 → ⊥) → nat_eq a 0 ≡ false
-not_zero a h = grind (arith, nat_tests)
-
-and_false : (b : Bool) → (b && false) ≡ false
-and_false false = refl
-and_false true = refl
-
-abbrev pub none_of : ℕ → List ℕ → Bool
-none_of k xs = same_exponents (first_variables k (exponents_of (length xs) xs)) (unit (length xs))
-
-pub none_true : (k : ℕ) (xs : List ℕ) → ((j : ℕ) → j < length xs → j < k → get_or xs j 0 ≡ 0) → true ≡ none_of k xs
-none_true k [] h = refl
-none_true zero (x ∷ xs) h = none_true zero xs (λ j lt l. absurd (omega (arith, l)))
-none_true (suc k) (x ∷ xs) h = ap₂ ◌&&◌ (sym (eq_zero x (h 0 (omega arith) (omega arith)))) (none_true k xs (λ j lt l. h (suc j) (omega (arith, lt)) (omega (arith, l))))
-
-pub none_false : (k : ℕ) (xs : List ℕ) (j : ℕ) → j < length xs → j < k → (get_or xs j 0 ≡ 0 → ⊥) → false ≡ none_of k xs
-none_false k [] j lt l h = absurd (omega (arith, lt))
-none_false zero (x ∷ xs) j lt l h = absurd (omega (arith, l))
-none_false (suc k) (x ∷ xs) zero lt l h = sym (ap (λ b. b && none_of k xs) (not_zero x h))
-none_false (suc k) (x ∷ xs) (suc j) lt l h = sym (ap (λ b. nat_eq x 0 && b) (sym (none_false k xs j (omega (arith, lt)) (omega (arith, l)) h)) ∙ and_false (nat_eq x 0))
-
--- ---- vectors
-pub free_true :
-    (n k : ℕ) (v : Terms) → Each (HasVariables n) v → Each (λ t. none_of k t.0.monomial.exponents ≡ true) v → true ≡ all_kept (has_none_of_first k) (sum_of n v)
-free_true n k [] h f = refl
-free_true n k (t ∷ v) h f =
-    ap₂ ◌&&◌ (sym (subst (λ m. same_exponents (first_variables k (exponents_of m t.0.monomial.exponents)) (unit m) ≡ true) h.0 f.0)) (free_true n k v h.1 f.1)
-
-pub free_false :
-    (n k : ℕ) (v : Terms) (i : ℕ) (t : CodeKey × ℕ) → Each (HasVariables n) v → i < length v → t ≡ get_or v i t → none_of k t.0.monomial.exponents ≡ false
-    → false ≡ all_kept (has_none_of_first k) (sum_of n v)
-free_false n k [] i t h lt e f = absurd (omega (arith, lt))
-free_false n k (u ∷ v) zero t h lt e f =
-    let g : none_of k u.0.monomial.exponents ≡ false = subst (λ (x : CodeKey × ℕ). none_of k x.0.monomial.exponents ≡ false) e f in
-    sym (ap (λ b. b && all_kept (has_none_of_first k) (sum_of n v)) (subst (λ m. same_exponents (first_variables k (exponents_of m u.0.monomial.exponents)) (unit m) ≡ false) h.0 g))
-free_false n k (u ∷ v) (suc i) t h lt e f =
-    sym (ap (λ b. same_exponents (first_variables k (exponents_of n u.0.monomial.exponents)) (unit n) && b) (sym (free_false n k v i t h.1 (omega (arith, lt)) e f)) ∙ and_false (same_exponents (first_variables k (exponents_of n u.0.monomial.exponents)) (unit n)))
+use Rattle.ideal_ops.proofs.Free.{free_kept, free_left}
 
 -- ---- terms, taken out of the front
 pub second_step :
@@ -69,17 +23,10 @@ second_step n m done rest rest' x y all e s h =
     ∙ ap (λ z. sum_of n done ++ from_second n (sum_of m z)) (sym e) ∙ h
 
 -- ---- the members of a basis, one after another
-append-none : {X : Type 0} (xs : List X) → xs ++ [] ≡ xs
-append-none [] = refl
-append-none (x ∷ xs) = ap (λ z. x ∷ z) (append-none xs)
-
 pub second_kept :
     {m : ℕ} (n : ℕ) (G : List (FormalSum m)) (g : FormalSum m) → all_kept (has_none_of_first n) g ≡ true → of_second n (G ++ g ∷ []) ≡ of_second n G ++ from_second n g ∷ []
-second_kept n G g e =
-    ap (map (from_second n)) (filter-append (all_kept (has_none_of_first n)) G (g ∷ []) ∙ ap (λ b. eliminated n G ++ cond b (g ∷ []) []) e)
-    ∙ map-append (from_second n) (eliminated n G) (g ∷ [])
+second_kept n G g e = ap (map (from_second n)) (free_kept n G g e) ∙ map-append (from_second n) (eliminated n G) (g ∷ [])
 
 pub second_left :
     {m : ℕ} (n : ℕ) (G : List (FormalSum m)) (g : FormalSum m) → all_kept (has_none_of_first n) g ≡ false → of_second n (G ++ g ∷ []) ≡ of_second n G
-second_left n G g e =
-    ap (map (from_second n)) (filter-append (all_kept (has_none_of_first n)) G (g ∷ []) ∙ ap (λ b. eliminated n G ++ cond b (g ∷ []) []) e ∙ append-none (eliminated n G))
+second_left n G g e = ap (map (from_second n)) (free_left n G g e)

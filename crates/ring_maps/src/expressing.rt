@@ -4,6 +4,7 @@ ghost use Rattle.formal_sums.specs.FormalSums.{Each};
 ghost use Rattle.module_vectors.specs.Rings.{ring_comparison, variables};
 ghost use Rattle.module_vectors.specs.Vectors.{AreVectorsOver, HasPositions, IsVectorOver};
 ghost use Rattle.vector_division.specs.Divisions.{DivisionStops};
+ghost use Rattle.risen_counts.specs.Counts.{RoseAtMost};
 ghost use Rattle.groebner_iface.specs.Calls.{CallStops};
 ghost use Rattle.ideal_ops.specs.Products.{WorkStops};
 ghost use Rattle.ring_maps.specs.Maps.{IsExpressionAnswer};
@@ -12,9 +13,11 @@ ghost use Rattle.ring_maps.specs.GraphSteps.{IsDivided, IsGraphBasis};
 
 use crate::first_variables::first_vector;
 use crate::graph::graph_basis;
-use crate::second_variables::{is_free, second_vector};
+use crate::second_variables::second_vector;
 use groebner_iface::{Groebner, OpStop};
+use ideal_ops::is_free;
 use module_vectors::{Ring, Vect, VectList, WorkStop, lawful_setting};
+use risen_counts::counted_times;
 use std::alloc::Global;
 use std::sync::Wait;
 use std::thread::Threads;
@@ -94,8 +97,10 @@ pub fn express<R: Threads + Wait + Sync, B: Groebner>(
     ensures stop { IfErr result (CallStops (IsGraphRun ring.now images.now []) (IsExpressionTrail ring.now images.now g.now)
         (B.stops engine.old) (B.stops engine.new) (B.stopped engine.old) (B.stopped engine.new)) }
     ensures later { B.stops engine.old ≤ B.stops engine.new }
+    ensures runs { RoseAtMost 1 (B.runs engine.old) (B.runs engine.new) }
     ensures settings { B.settings engine.new ≡ B.settings engine.old }
 {
+    counted_times();
     let none = VectList::new(alloc);
     let (graph, basis) = match graph_basis(rt, alloc, engine, ring, images, &none) {
         Ok(found) => found,

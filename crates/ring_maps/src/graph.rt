@@ -7,6 +7,7 @@ ghost use Rattle.map_laws.specs.Graphs.{behind, graph_list, graph_member, in_fir
 ghost use Rattle.module_vectors.specs.Doubling.{IsDoubled};
 ghost use Rattle.module_vectors.specs.Rings.{ring_comparison, variables};
 ghost use Rattle.module_vectors.specs.Vectors.{AreTermsOver, AreVectorsOver, HasPositions, IsMonomialOver, IsVectorOver, StandsFor, sum_of, sums_of};
+ghost use Rattle.risen_counts.specs.Counts.{RoseAtMost};
 ghost use Rattle.groebner_iface.specs.Calls.{CallStops, NoTrail};
 ghost use Rattle.ideal_ops.specs.Runs.{AreVectorsFor};
 ghost use Rattle.ring_maps.specs.Graphs.{IsGraphRun};
@@ -16,6 +17,7 @@ use crate::first_variables::{first_vector, push_first};
 use groebner_iface::{Groebner, OpStop};
 use module_vectors::{Key, NoMemory, Ring, Vect, VectList, lawful_setting};
 use monomial_orders::Mono;
+use risen_counts::counted_times;
 use std::alloc::Global;
 use std::sync::Wait;
 use std::thread::Threads;
@@ -181,8 +183,10 @@ pub(crate) fn graph_basis<R: Threads + Wait + Sync, B: Groebner>(
     ensures stop { IfErr result (CallStops (IsGraphRun ring.now images.now list.now) NoTrail
         (B.stops engine.old) (B.stops engine.new) (B.stopped engine.old) (B.stopped engine.new)) }
     ensures later { B.stops engine.old ≤ B.stops engine.new }
+    ensures runs { RoseAtMost 1 (B.runs engine.old) (B.runs engine.new) }
     ensures settings { B.settings engine.new ≡ B.settings engine.old }
 {
+    counted_times();
     let graph = ring.doubled(alloc)?;
     lawful_setting(&graph);
     let listed = graph_list(alloc, ring, &graph, images, list)?;

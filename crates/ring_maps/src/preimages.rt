@@ -3,6 +3,7 @@ ghost use Rattle.std.specs.Prelude.{◌≡◌, ◌≤◌, IfOk, IfErr, OnOk, len
 ghost use Rattle.formal_sums.specs.FormalSums.{Each};
 ghost use Rattle.module_vectors.specs.Rings.{ring_comparison, variables};
 ghost use Rattle.module_vectors.specs.Vectors.{AreVectorsOver, HasPositions};
+ghost use Rattle.risen_counts.specs.Counts.{RoseAtMost};
 ghost use Rattle.groebner_iface.specs.Calls.{CallStops, NoTrail};
 ghost use Rattle.ideal_ops.specs.Answers.{IsBasisOfThose};
 ghost use Rattle.ring_maps.specs.Graphs.{ArePreimageRuns};
@@ -12,6 +13,7 @@ use crate::graph::graph_basis;
 use crate::second_variables::second_members;
 use groebner_iface::{Groebner, OpStop};
 use module_vectors::{Ring, VectList, lawful_setting};
+use risen_counts::counted_times;
 use std::alloc::Global;
 use std::sync::Wait;
 use std::thread::Threads;
@@ -41,8 +43,10 @@ pub fn preimage<R: Threads + Wait + Sync, B: Groebner>(
     ensures stop { IfErr result (CallStops (ArePreimageRuns ring.now images.now list.now) NoTrail
         (B.stops engine.old) (B.stops engine.new) (B.stopped engine.old) (B.stopped engine.new)) }
     ensures later { B.stops engine.old ≤ B.stops engine.new }
+    ensures runs { RoseAtMost 2 (B.runs engine.old) (B.runs engine.new) }
     ensures settings { B.settings engine.new ≡ B.settings engine.old }
 {
+    counted_times();
     lawful_setting(ring);
     let (graph, basis) = match graph_basis(rt, alloc, engine, ring, images, list) {
         Ok(found) => found,

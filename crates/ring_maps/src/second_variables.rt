@@ -1,45 +1,18 @@
 // Vectors over the ring of a graph that have the second variables alone, as vectors of the ring.
-ghost use Rattle.std.specs.Prelude.{◌≡◌, ◌++◌, ◌∷◌, [], IfOk, List, OnOk, length, ℕ};
-ghost use Rattle.monomials.specs.Exponents.{exponents_of, same_exponents, unit};
-ghost use Rattle.orders.specs.MonomialOrders.{first_variables};
+ghost use Rattle.std.specs.Prelude.{◌≡◌, ◌++◌, ◌∷◌, [], IfOk, List, OnOk};
+ghost use Rattle.monomials.specs.Exponents.{exponents_of};
 ghost use Rattle.formal_sums.specs.FormalSums.{Each, FormalSum};
-ghost use Rattle.division_laws.specs.Elimination.{has_none_of_first};
-ghost use Rattle.syzygy_laws.specs.Kernels.{all_kept};
 ghost use Rattle.map_laws.specs.Graphs.{after, from_second, of_second};
 ghost use Rattle.module_vectors.specs.Doubling.{IsDoubled};
 ghost use Rattle.module_vectors.specs.Rings.{ring_comparison, variables};
-ghost use Rattle.module_vectors.specs.Vectors.{AreTermsOver, HasVariables, IsMonomialOver, IsVectorOver, StandsFor, sum_of, sums_of};
+ghost use Rattle.module_vectors.specs.Vectors.{AreTermsOver, IsMonomialOver, IsVectorOver, StandsFor, sum_of, sums_of};
 ghost use Rattle.ideal_ops.specs.Runs.{AreVectorsFor};
 
 use crate::first_variables::monomial_of;
+use ideal_ops::is_free;
 use module_vectors::{Key, NoMemory, Ring, Vect, VectList};
 use monomial_orders::Mono;
 use std::alloc::Global;
-
-// Are the first k exponents 0?
-fn has_none(exponents: &[u16], k: usize) -> bool
-    ensures { let n = length exponents.now in
-        result ≡ same_exponents (first_variables k (exponents_of n exponents.now)) (unit n) }
-{
-    for i in 0..exponents.len() {
-        if i < k && exponents[i] != 0 {
-            return false;
-        }
-    }
-    true
-}
-
-/// Has the vector, in m variables, none of the first k?
-pub(crate) fn is_free(v: &Vect, k: usize) -> bool
-    ensures { (m : ℕ) → Each (HasVariables m) v.now → result ≡ all_kept (has_none_of_first k) (sum_of m v.now) }
-{
-    for term in v.terms() {
-        if !has_none(term.0.monomial.exponents(), k) {
-            return false;
-        }
-    }
-    true
-}
 
 // The monomial with the exponents of the second variables.
 fn second_monomial(alloc: Global, ring: &Ring, _graph: &Ring, m: &Mono) -> Result<Mono, NoMemory>

@@ -12,6 +12,8 @@ mod Performing
 mod Stopping
 mod Reported
 mod KeptValues
+mod Counted
+mod FewRuns
 mod OneForm
 mod RingNames
 mod OneBasis

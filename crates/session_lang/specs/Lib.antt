@@ -5,6 +5,7 @@ pub mod Reordering
 pub mod Minimising
 pub mod Lines
 pub mod Stops
+pub mod Runs
 -- what private clauses cite
 pub mod Fitting
 pub mod Reporting

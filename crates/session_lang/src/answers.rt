@@ -1,7 +1,8 @@
 // The answers that the reduced bases of values give.
-ghost use Rattle.std.specs.Prelude.{◌≡◌, ◌<◌, ◌≤◌, ◌++◌, Bool, Err, IfErr, IsSome, List, Ok, OnErr, OnOk, get_or, length, ℕ, string_bytes};
+ghost use Rattle.std.specs.Prelude.{◌≡◌, ◌<◌, ◌≤◌, ◌+◌, ◌++◌, Bool, Err, IfErr, IsSome, List, Ok, OnErr, OnOk, get_or, length, ℕ, string_bytes};
 ghost use Rattle.groebner_iface.specs.Calls.{CallStops, NoTrail};
 ghost use Rattle.groebner_iface.specs.Runs.{IsReducedBasisOf};
+ghost use Rattle.risen_counts.specs.Counts.{RoseAtMost, count_after};
 ghost use Rattle.script_parse.specs.declared.named.NameInfo.{NameInfo as NameValue};
 ghost use Rattle.module_vectors.specs.Rings.{ring_comparison};
 ghost use Rattle.module_vectors.specs.Vectors.{IsVectorOver};
@@ -11,6 +12,7 @@ ghost use Rattle.session_values.specs.Answers.{Decides, IsAnswer, IsOneModule};
 ghost use Rattle.session_lang.specs.Asking.{AnswerStops, IsAskedOver, asked_of};
 ghost use Rattle.session_values.specs.Held.{Held};
 ghost use Rattle.session_values.specs.Kept.{AreSound, IsSound, value_of};
+ghost use Rattle.session_values.specs.Runs.{fresh_runs};
 ghost use Rattle.session_lang.specs.Parts.{IsRunAt, IsRunAtEither, IsRunToKeep, Keeps};
 ghost use Rattle.session_lang.specs.Stops.{IsTrailOf};
 
@@ -152,6 +154,7 @@ pub fn answer_value<R: Threads + Wait + Sync, B: Groebner>(
         (IsTrailOf ring.now (value_of info.now stored.old) (asked_of question.entry))
         (B.stops engine.old) (B.stops engine.new) (B.stopped engine.old) (B.stopped engine.new)) }
     ensures later { B.stops engine.old ≤ B.stops engine.new }
+    ensures runs { B.runs engine.new ≡ count_after (fresh_runs stored.old) (B.runs engine.old) }
     ensures settings { B.settings engine.new ≡ B.settings engine.old }
 {
     let fresh = stored.lacks_basis();
@@ -196,6 +199,7 @@ fn compare_with<R: Threads + Wait + Sync, B: Groebner>(
         → CallStops (IsRunAt ring.now names.now stored.old.items places.1 d e) NoTrail
         (B.stops engine.old) (B.stops engine.new) (B.stopped engine.old) (B.stopped engine.new) stop) }
     ensures later { B.stops engine.old ≤ B.stops engine.new }
+    ensures runs { (e : Held) → B.runs engine.new ≡ count_after (fresh_runs (get_or stored.old.items places.1 e)) (B.runs engine.old) }
     ensures settings { B.settings engine.new ≡ B.settings engine.old }
 {
     let (i, j) = places;
@@ -248,6 +252,8 @@ pub fn compare_values<R: Threads + Wait + Sync, B: Groebner>(
         → CallStops (IsRunAtEither ring.now names.now stored.old.items places d e) NoTrail
         (B.stops engine.old) (B.stops engine.new) (B.stopped engine.old) (B.stopped engine.new) stop) }
     ensures later { B.stops engine.old ≤ B.stops engine.new }
+    ensures runs { (e : Held) → (middle : List Held) × Keeps stored.old.items places.0 middle
+        × RoseAtMost (fresh_runs (get_or stored.old.items places.0 e) + fresh_runs (get_or middle places.1 e)) (B.runs engine.old) (B.runs engine.new) }
     ensures settings { B.settings engine.new ≡ B.settings engine.old }
 {
     let i = places.0;

@@ -3,6 +3,7 @@ ghost use Rattle.std.specs.Prelude.{◌≡◌, ◌≤◌, ◌++◌, [], IfErr, I
 ghost use Rattle.formal_sums.specs.FormalSums.{Each};
 ghost use Rattle.module_vectors.specs.Rings.{variables};
 ghost use Rattle.module_vectors.specs.Vectors.{HasVariables};
+ghost use Rattle.risen_counts.specs.Counts.{RoseAtMost};
 ghost use Rattle.groebner_iface.specs.Calls.{CallStops};
 ghost use Rattle.ring_maps.specs.Graphs.{IsExpressionTrail, IsGraphRun};
 ghost use Rattle.session_values.specs.Kept.{IsListOver, IsPolynomialOver};
@@ -53,6 +54,7 @@ pub fn push_expression<R: Threads + Wait + Sync, B: Groebner>(
     ensures stop { IfErr result (CallStops (IsGraphRun ring.now images.now []) (IsExpressionTrail ring.now images.now f.now)
         (B.stops engine.old) (B.stops engine.new) (B.stopped engine.old) (B.stopped engine.new)) }
     ensures later { B.stops engine.old ≤ B.stops engine.new }
+    ensures runs { RoseAtMost 1 (B.runs engine.old) (B.runs engine.new) }
     ensures settings { B.settings engine.new ≡ B.settings engine.old }
 {
     let expressed = match express(rt, alloc, engine, ring, images, f) {

@@ -1,13 +1,16 @@
 // Ext modules of a value.
-ghost use Rattle.std.specs.Prelude.{◌≡◌, ◌≤◌, ◌++◌, Bool, IfErr, IfOk, IsSome, List, OnErr, OnOk, map, string_bytes, ℕ};
+ghost use Rattle.std.specs.Prelude.{◌≡◌, ◌≤◌, ◌*◌, ◌+◌, ◌++◌, Bool, IfErr, IfOk, IsSome, List, OnErr, OnOk, map, string_bytes, ℕ};
 ghost use Rattle.formal_sums.specs.FormalSums.{Each};
 ghost use Rattle.module_vectors.specs.Vectors.{HasPositions};
+ghost use Rattle.risen_counts.specs.Counts.{RoseAtMost};
 ghost use Rattle.groebner_iface.specs.Calls.{CallStops};
 ghost use Rattle.groebner_iface.specs.Runs.{IsReducedBasisOf};
 ghost use Rattle.ext_laws.specs.Transposes.{rank_at};
 ghost use Rattle.schreyer_resolution.specs.Resolved.{IsResolutionTrail};
 ghost use Rattle.session_values.specs.Extending.{IsExtRun, IsExtText};
 ghost use Rattle.session_values.specs.Kept.{IsSound, value_of};
+ghost use Rattle.session_values.specs.Runs.{fresh_runs};
+ghost use Rattle.syzygy_engine.specs.Kernels.{runs_in_order};
 ghost use Rattle.session_values.specs.Resolving.{IsResolvingTrail};
 ghost use Rattle.session_lang.specs.Extensions.{IsExtAnswer, IsRunToExtend};
 
@@ -59,6 +62,7 @@ fn ext_at<R: Threads + Wait + Sync, B: Groebner>(
     ensures stop { IfErr result (CallStops (IsExtRun ring.now rank basis.now step) (IsResolutionTrail ring.now rank basis.now)
         (B.stops engine.old) (B.stops engine.new) (B.stopped engine.old) (B.stopped engine.new)) }
     ensures later { B.stops engine.old ≤ B.stops engine.new }
+    ensures runs { RoseAtMost (2 * runs_in_order ring.now) (B.runs engine.old) (B.runs engine.new) }
     ensures settings { B.settings engine.new ≡ B.settings engine.old }
 {
     lawful_setting(ring);
@@ -104,6 +108,7 @@ fn push_ext_at<R: Threads + Wait + Sync, B: Groebner>(
     ensures stop { IfErr result (CallStops (IsExtRun ring.now info.now.rank basis.now step) (IsResolutionTrail ring.now info.now.rank basis.now)
         (B.stops engine.old) (B.stops engine.new) (B.stopped engine.old) (B.stopped engine.new)) }
     ensures later { B.stops engine.old ≤ B.stops engine.new }
+    ensures runs { RoseAtMost (2 * runs_in_order ring.now) (B.runs engine.old) (B.runs engine.new) }
     ensures settings { B.settings engine.new ≡ B.settings engine.old }
 {
     let found = match ext_at(rt, alloc, engine, ring, info.rank, basis, step) {
@@ -141,6 +146,7 @@ pub fn extend_value<R: Threads + Wait + Sync, B: Groebner>(
         (IsResolvingTrail ring.now (value_of info.now stored.old))
         (B.stops engine.old) (B.stops engine.new) (B.stopped engine.old) (B.stopped engine.new)) }
     ensures later { B.stops engine.old ≤ B.stops engine.new }
+    ensures runs { RoseAtMost (fresh_runs stored.old + 2 * runs_in_order ring.now) (B.runs engine.old) (B.runs engine.new) }
     ensures settings { B.settings engine.new ≡ B.settings engine.old }
 {
     let fresh = stored.lacks_basis();

@@ -20,6 +20,6 @@ mod resolving;
 mod session;
 mod step;
 
-pub use line_laws::{no_run_of_refused, one_result, one_statement, same_members};
+pub use line_laws::{few_runs, no_run_of_refused, one_result, one_statement, same_members};
 pub use session::Session;
 pub use step::Step;

@@ -5,6 +5,7 @@ ghost use Rattle.module_vectors.specs.Rings.{ring_comparison, variables};
 ghost use Rattle.module_vectors.specs.Vectors.{HasPositions, HasVariables, IsVectorOver};
 ghost use Rattle.poly_text.specs.Texts.{entries_text, names_of};
 ghost use Rattle.session_values.specs.Texts.{verdict};
+ghost use Rattle.risen_counts.specs.Counts.{RoseAtMost};
 ghost use Rattle.groebner_iface.specs.Calls.{CallStops};
 ghost use Rattle.session_values.specs.Kept.{IsSound, value_of};
 ghost use Rattle.session_lang.specs.Lifting.{IsLiftText};
@@ -59,6 +60,7 @@ pub fn push_lift<R: Threads + Wait + Sync, B: Groebner>(
     ensures stop { IfErr result (CallStops (IsMarkedRun ring.now info.now.rank stored.now.list) (IsLiftTrail ring.now info.now.rank stored.now.list v.now)
         (B.stops engine.old) (B.stops engine.new) (B.stopped engine.old) (B.stopped engine.new)) }
     ensures later { B.stops engine.old ≤ B.stops engine.new }
+    ensures runs { RoseAtMost 1 (B.runs engine.old) (B.runs engine.new) }
     ensures settings { B.settings engine.new ≡ B.settings engine.old }
 {
     let list = stored.list();

@@ -1,6 +1,6 @@
 //! Laws of lines. Each function's contract is proved here.
 
-ghost use Rattle.std.specs.Prelude.{◌≡◌, ◌↔◌, ◌++◌, ℕ, List, codes};
+ghost use Rattle.std.specs.Prelude.{◌≡◌, ◌≤◌, ◌↔◌, ◌++◌, ℕ, List, codes};
 ghost use Rattle.formal_sums.specs.FormalSums.{Each};
 ghost use Rattle.module_vectors.specs.Vectors.{HasPositions};
 ghost use Rattle.module_vectors.specs.declared.key.Key.{Key as KeyValue};
@@ -12,8 +12,9 @@ ghost use Rattle.script_parse.specs.declared.kind.Kind.{Kind as KindValue};
 ghost use Rattle.script_parse.specs.declared.stated.Statement.{Statement as StatementValue};
 ghost use Rattle.script_parse.specs.declared.stated.Statement.TheVariants as statements;
 ghost use Rattle.session_lang.specs.Lines.{Line, Refuses, RefusesReading, RunOf, States};
+ghost use Rattle.session_lang.specs.Runs.{MayRun, runs_for, runs_for_both};
 ghost use Rattle.session_values.specs.Answers.{AreMembersOf, IsAnswer, IsOneModule, basis};
-ghost use Rattle.session_values.specs.Names.{State, Value};
+ghost use Rattle.session_values.specs.Names.{State, Value, after_run};
 ghost use Rattle.session_values.specs.Texts.{heading};
 
 /// A line that is done has one state behind it and one text, a refused one has one kind, and no line is both: so what a
@@ -48,4 +49,13 @@ pub fn one_statement()
 pub fn no_run_of_refused()
     ensures { (before : State) (line : List ℕ) (kind : KindValue) (ring : RingValue) (rank : ℕ) (list : List (List (KeyValue × ℕ)))
         → RefusesReading before line kind → RunOf before line ring rank list → ⊥ }
+{}
+
+/// A line runs the engine for one value once at most, by whatever names it asks for it; and once the value's reduced basis is kept no
+/// line runs it again, until the name is given anew or a ring is stated. All that a line needs takes five runs at most.
+pub fn few_runs()
+    ensures value { (before : State) (name : List ℕ) → runs_for before name ≤ 1 }
+    ensures kept { (before : State) (name : List ℕ) → runs_for (after_run name before) name ≡ 0 }
+    ensures both { (before : State) (name : List ℕ) → runs_for_both before name name ≤ 1 }
+    ensures line { (before : State) (statement : StatementValue) (most : ℕ) → MayRun before statement most → most ≤ 5 }
 {}

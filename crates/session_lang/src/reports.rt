@@ -2,9 +2,11 @@
 ghost use Rattle.std.specs.Prelude.{◌≡◌, ◌≤◌, IfErr, IfOk, List, OnErr, OnOk};
 ghost use Rattle.formal_sums.specs.FormalSums.{Each};
 ghost use Rattle.module_vectors.specs.Vectors.{HasPositions};
+ghost use Rattle.risen_counts.specs.Counts.{count_after};
 ghost use Rattle.groebner_iface.specs.Calls.{CallStops};
 ghost use Rattle.groebner_iface.specs.Runs.{IsReducedBasisOf};
 ghost use Rattle.session_values.specs.Kept.{IsSound, value_of};
+ghost use Rattle.session_values.specs.Runs.{fresh_runs};
 ghost use Rattle.session_lang.specs.Parts.{IsRunToKeep};
 ghost use Rattle.session_lang.specs.Reporting.{HasReport, IsReportTrail, KeepsAs, ReportStops, Reports, ReportsAs};
 
@@ -90,6 +92,7 @@ pub fn report_value<R: Threads + Wait + Sync, B: Groebner>(
     ensures stop { IfErr result (CallStops (IsRunToKeep ring.now (value_of info.now stored.old)) (IsReportTrail ring.now (value_of info.now stored.old) report)
         (B.stops engine.old) (B.stops engine.new) (B.stopped engine.old) (B.stopped engine.new)) }
     ensures later { B.stops engine.old ≤ B.stops engine.new }
+    ensures runs { B.runs engine.new ≡ count_after (fresh_runs stored.old) (B.runs engine.old) }
     ensures settings { B.settings engine.new ≡ B.settings engine.old }
 {
     let fresh = stored.lacks_basis();

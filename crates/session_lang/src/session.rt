@@ -2,6 +2,7 @@
 ghost use Rattle.std.specs.Prelude.{◌≡◌, ◌≤◌, Err, IfErr, IfOk, Ok, OnErr, OnOk};
 ghost use Rattle.groebner_iface.specs.Calls.{CallStops};
 ghost use Rattle.session_lang.specs.Lines.{RunOf};
+ghost use Rattle.session_lang.specs.Runs.{RunsLine, RunsStated};
 ghost use Rattle.session_lang.specs.Stops.{Steps, TrailOf};
 ghost use Rattle.session_lang.specs.declared.step.Step.TheVariants as steps;
 
@@ -148,6 +149,7 @@ impl Session {
         ensures performed { Performed self.old (asking name.now (asked_of question.entry)) self.new out.old.items out.new.items
             (B.stops engine.old) (B.stops engine.new) (B.stopped engine.old) (B.stopped engine.new) result }
         ensures later { B.stops engine.old ≤ B.stops engine.new }
+        ensures runs { RunsStated self.old (asking name.now (asked_of question.entry)) (B.runs engine.old) (B.runs engine.new) }
         ensures settings { B.settings engine.new ≡ B.settings engine.old }
     {
         let Some(ring) = &self.ring else {
@@ -182,6 +184,7 @@ impl Session {
         ensures performed { Performed self.old (statements.Equal first.now second.now) self.new out.old.items out.new.items
             (B.stops engine.old) (B.stops engine.new) (B.stopped engine.old) (B.stopped engine.new) result }
         ensures later { B.stops engine.old ≤ B.stops engine.new }
+        ensures runs { RunsStated self.old (statements.Equal first.now second.now) (B.runs engine.old) (B.runs engine.new) }
         ensures settings { B.settings engine.new ≡ B.settings engine.old }
     {
         let Some(ring) = &self.ring else {
@@ -328,6 +331,7 @@ impl Session {
         ensures performed { (text : List ℕ) → Performed self.old (statements.Let name operation.now) self.new text text
             (B.stops engine.old) (B.stops engine.new) (B.stopped engine.old) (B.stopped engine.new) result }
         ensures later { B.stops engine.old ≤ B.stops engine.new }
+        ensures runs { RunsStated self.old (statements.Let name operation.now) (B.runs engine.old) (B.runs engine.new) }
         ensures settings { B.settings engine.new ≡ B.settings engine.old }
     {
         let Some(ring) = &self.ring else {
@@ -359,6 +363,7 @@ impl Session {
         ensures performed { Performed self.now (statements.Lift name.now v.now) self.now out.old.items out.new.items
             (B.stops engine.old) (B.stops engine.new) (B.stopped engine.old) (B.stopped engine.new) result }
         ensures later { B.stops engine.old ≤ B.stops engine.new }
+        ensures runs { RunsStated self.now (statements.Lift name.now v.now) (B.runs engine.old) (B.runs engine.new) }
         ensures settings { B.settings engine.new ≡ B.settings engine.old }
     {
         let value = self.found(name.as_bytes());
@@ -388,6 +393,7 @@ impl Session {
         ensures performed { Performed self.now (statements.Express f.now images.now) self.now out.old.items out.new.items
             (B.stops engine.old) (B.stops engine.new) (B.stopped engine.old) (B.stopped engine.new) result }
         ensures later { B.stops engine.old ≤ B.stops engine.new }
+        ensures runs { RunsStated self.now (statements.Express f.now images.now) (B.runs engine.old) (B.runs engine.new) }
         ensures settings { B.settings engine.new ≡ B.settings engine.old }
     {
         let Some(ring) = &self.ring else {
@@ -410,6 +416,7 @@ impl Session {
         ensures performed { Performed self.old (statements.Ext name.now step) self.new out.old.items out.new.items
             (B.stops engine.old) (B.stops engine.new) (B.stopped engine.old) (B.stopped engine.new) result }
         ensures later { B.stops engine.old ≤ B.stops engine.new }
+        ensures runs { RunsStated self.old (statements.Ext name.now step) (B.runs engine.old) (B.runs engine.new) }
         ensures settings { B.settings engine.new ≡ B.settings engine.old }
     {
         let Some(ring) = &self.ring else {
@@ -444,6 +451,7 @@ impl Session {
         ensures performed { Performed self.old (reporting name.now report) self.new out.old.items out.new.items
             (B.stops engine.old) (B.stops engine.new) (B.stopped engine.old) (B.stopped engine.new) result }
         ensures later { B.stops engine.old ≤ B.stops engine.new }
+        ensures runs { RunsStated self.old (reporting name.now report) (B.runs engine.old) (B.runs engine.new) }
         ensures settings { B.settings engine.new ≡ B.settings engine.old }
     {
         let Some(ring) = &self.ring else {
@@ -477,6 +485,7 @@ impl Session {
         ensures performed { Performed self.old stated self.new out.old.items out.new.items
             (B.stops engine.old) (B.stops engine.new) (B.stopped engine.old) (B.stopped engine.new) result }
         ensures later { B.stops engine.old ≤ B.stops engine.new }
+        ensures runs { RunsStated self.old stated (B.runs engine.old) (B.runs engine.new) }
         ensures settings { B.settings engine.new ≡ B.settings engine.old }
     {
         match stated {
@@ -529,7 +538,8 @@ impl Session {
     /// the line needs met its budget or needed a product of degree above 65,535; `Trail`, with the chain of products
     /// to it, where a division by a reduced basis, a list that the line makes, a resolution or its cancellation needed one. After a refusal and after each error session and text are as
     /// before, so no basis is kept that was not. The engine counts and keeps a run that stopped; else its count and the
-    /// run that it keeps are as before, and its settings always are.
+    /// run that it keeps are as before, and its settings always are. It is run once at most for the basis of a value, and for a
+    /// line that is refused as it is read not at all.
     pub fn step<R: Threads + Wait + Sync, B: Groebner>(
         &mut self,
         rt: &R,
@@ -545,6 +555,7 @@ impl Session {
         ensures stop { IfErr result (CallStops (RunOf self.old line.now) (TrailOf self.old line.now)
             (B.stops engine.old) (B.stops engine.new) (B.stopped engine.old) (B.stopped engine.new)) }
         ensures later { B.stops engine.old ≤ B.stops engine.new }
+        ensures runs { RunsLine self.old line.now (B.runs engine.old) (B.runs engine.new) }
         ensures settings { B.settings engine.new ≡ B.settings engine.old }
     {
         match statement(alloc, line, self.ring.as_ref(), &self.names) {

@@ -5,10 +5,11 @@ ghost use Rattle.session_top.specs.Limits.{limits_in, limits_of};
 use command_words::Request;
 use degree_engine::{Attempts, DegreeEngine};
 use f4_engine::F4Engine;
+use queue_updates::Update;
 use worker_gate::{Gate, SharedGate};
 
-/// Makes engines whose runs are as the request says, by workers and helpers that pass this gate: a helper more for each `thread`
-/// additions that a pass over rows makes.
+/// Makes engines whose runs take as many pairs as the request says, by as many workers and helpers, which pass this gate: a helper
+/// more for each `thread` additions that a pass over rows makes.
 pub(crate) struct Engines {
     request: Request,
     thread: usize,
@@ -29,12 +30,13 @@ impl Drop for Engines {
 }
 
 impl Attempts<F4Engine> for Engines {
+    // An attempt is told of by its basis alone, so it may queue as few pairs as there need be, whatever the request says.
     fn engine(&self) -> F4Engine {
         F4Engine::new(
             self.request.pairs,
             self.request.workers,
             self.request.helpers,
-            self.request.update,
+            Update::Gebauer,
             self.thread,
             self.gate.shared(),
         )
@@ -59,12 +61,10 @@ pub(crate) fn engine_of(
         thread,
         gate.shared(),
     );
-    DegreeEngine {
-        attempts: Engines {
-            request,
-            thread,
-            gate,
-        },
-        direct,
-    }
+    let attempts = Engines {
+        request,
+        thread,
+        gate,
+    };
+    DegreeEngine::new(attempts, direct)
 }

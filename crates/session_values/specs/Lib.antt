@@ -3,6 +3,7 @@ pub mod Names
 pub mod Texts
 pub mod Answers
 pub mod Operations
+pub mod Runs
 pub mod Tasks
 pub mod Held
 pub mod Kept

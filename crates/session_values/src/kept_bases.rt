@@ -4,9 +4,11 @@ ghost use Rattle.formal_sums.specs.FormalSums.{Each};
 ghost use Rattle.module_vectors.specs.Rings.{ring_comparison};
 ghost use Rattle.module_vectors.specs.Vectors.{HasPositions, IsVectorOver};
 ghost use Rattle.module_vectors.specs.declared.key.Key.{Key};
+ghost use Rattle.risen_counts.specs.Counts.{count_after};
 ghost use Rattle.groebner_iface.specs.Runs.{IsReducedBasisOf, StopsRun};
 ghost use Rattle.session_values.specs.Answers.{IsInModule, IsNormalForm, IsOneModule};
 ghost use Rattle.session_values.specs.Kept.{IsSound};
+ghost use Rattle.session_values.specs.Runs.{fresh_runs};
 ghost use Rattle.vector_division.specs.Divisions.{DivisionStops};
 
 use crate::stored::Stored;
@@ -17,7 +19,7 @@ use std::sync::Wait;
 use std::thread::Threads;
 use vector_division::{Reduction, divisors_from_last, reduce_by};
 
-/// Keeps the reduced basis of a value, by a run if there is none yet. An error is the run's, and then nothing is kept.
+/// Keeps the reduced basis of a value, by one run if there is none yet and else by none. An error is the run's, and then nothing is kept.
 pub fn keep_basis<R: Threads + Wait + Sync, B: Groebner>(
     rt: &R,
     alloc: Global,
@@ -36,6 +38,7 @@ pub fn keep_basis<R: Threads + Wait + Sync, B: Groebner>(
     ensures stop { IfErr result (λ stop. StopsRun (B.stops engine.old) (B.stops engine.new) (B.stopped engine.old) (B.stopped engine.new)
         ring.now rank stored.old.list stop) }
     ensures later { B.stops engine.old ≤ B.stops engine.new }
+    ensures runs { B.runs engine.new ≡ count_after (fresh_runs stored.old) (B.runs engine.old) }
     ensures settings { B.settings engine.new ≡ B.settings engine.old }
 {
     if stored.has_basis() {

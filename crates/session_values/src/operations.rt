@@ -1,7 +1,9 @@
 // The operations that give a value its list, on the stored lists of other values.
 ghost use Rattle.std.specs.Prelude.{◌≡◌, ◌≤◌, IfErr, IfOk, OnOk};
 ghost use Rattle.groebner_iface.specs.Calls.{CallStops};
+ghost use Rattle.risen_counts.specs.Counts.{RoseAtMost};
 ghost use Rattle.session_values.specs.Operations.{AreRunsOf, AreTrailsOf, IsResult, result_rank};
+ghost use Rattle.session_values.specs.Runs.{most_runs};
 ghost use Rattle.session_values.specs.Tasks.{HasParts, work_of};
 
 use groebner_iface::{Groebner, OpStop};
@@ -71,6 +73,7 @@ pub fn operate<R: Threads + Wait + Sync, B: Groebner>(
     ensures stop { IfErr result (CallStops (AreRunsOf ring.now (work_of task.entry)) (AreTrailsOf ring.now (work_of task.entry))
         (B.stops engine.old) (B.stops engine.new) (B.stopped engine.old) (B.stopped engine.new)) }
     ensures later { B.stops engine.old ≤ B.stops engine.new }
+    ensures runs { RoseAtMost (most_runs ring.now (work_of task.entry)) (B.runs engine.old) (B.runs engine.new) }
     ensures settings { B.settings engine.new ≡ B.settings engine.old }
 {
     match task {

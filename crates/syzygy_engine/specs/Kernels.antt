@@ -5,6 +5,8 @@ use Rattle.formal_sums.specs.FormalSums.{FormalSum}
 use Rattle.bases.specs.Bases.{IsReducedBasis}
 use Rattle.syzygy_laws.specs.Kernels.{kernel_of}
 use Rattle.syzygy_laws.specs.Syzygies.{marked}
+use Rattle.monomial_orders.specs.declared.order.ModOrder.{ModOrder}
+use Rattle.monomial_orders.specs.declared.order.ModOrder.TheVariants.{Pot, Top}
 use Rattle.module_vectors.specs.Rings.{ring_comparison, variables}
 use Rattle.module_vectors.specs.Vectors.{AreVectorsOver, sums_of}
 use Rattle.module_vectors.specs.declared.key.Key.{Key as CodeKey}
@@ -29,3 +31,12 @@ IsKernelRun ring q list over rank kernel =
 -- the runs that the syzygies of a list of rank q need
 abbrev pub IsSyzygyRun : Ring → ℕ → List (List (CodeKey × ℕ)) → Ring → ℕ → List (List (CodeKey × ℕ)) → Type 0
 IsSyzygyRun ring q list over rank F = IsMarkedRun ring q list over rank F ⊎ IsKernelRun ring q list over rank F
+
+-- how many runs an answer in this order of modules takes: one position over term, and one more where the order is another
+abbrev pub runs_in_module_order : ModOrder → ℕ
+runs_in_module_order Pot = 1
+runs_in_module_order Top = 2
+
+-- how many one in the ring's own order takes
+abbrev pub runs_in_order : Ring → ℕ
+runs_in_order ring = runs_in_module_order ring.module_order

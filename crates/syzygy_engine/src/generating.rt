@@ -3,14 +3,16 @@ ghost use Rattle.std.specs.Prelude.{◌≡◌, ◌<◌, ◌≤◌, IfOk, IfErr, 
 ghost use Rattle.formal_sums.specs.FormalSums.{Each};
 ghost use Rattle.module_vectors.specs.Rings.{ring_comparison, variables};
 ghost use Rattle.module_vectors.specs.Vectors.{AreVectorsOver, HasPositions, sums_of};
+ghost use Rattle.risen_counts.specs.Counts.{RoseAtMost};
 ghost use Rattle.groebner_iface.specs.Calls.{CallStops, NoTrail};
 ghost use Rattle.groebner_iface.specs.Runs.{IsReducedBasisOf};
-ghost use Rattle.syzygy_engine.specs.Kernels.{GeneratesSyzygies, IsSyzygyRun};
+ghost use Rattle.syzygy_engine.specs.Kernels.{GeneratesSyzygies, IsSyzygyRun, runs_in_order};
 
 use crate::marked_runs::syzygy_run;
 use groebner_iface::{Groebner, OpStop};
 use module_vectors::{Ring, VectList, lawful_setting};
 use monomial_orders::ModOrder;
+use risen_counts::counted_times;
 use std::alloc::Global;
 use std::sync::Wait;
 use std::thread::Threads;
@@ -41,8 +43,10 @@ pub fn syzygies<R: Threads + Wait + Sync, B: Groebner>(
     ensures stop { IfErr result (CallStops (IsSyzygyRun ring.now rank list.now) NoTrail
         (B.stops engine.old) (B.stops engine.new) (B.stopped engine.old) (B.stopped engine.new)) }
     ensures later { B.stops engine.old ≤ B.stops engine.new }
+    ensures runs { RoseAtMost (runs_in_order ring.now) (B.runs engine.old) (B.runs engine.new) }
     ensures settings { B.settings engine.new ≡ B.settings engine.old }
 {
+    counted_times();
     lawful_setting(ring);
     let kernel = match syzygy_run(rt, alloc, engine, ring, rank, list) {
         Ok(kernel) => kernel,

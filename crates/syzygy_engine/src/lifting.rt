@@ -5,6 +5,7 @@ ghost use Rattle.formal_sums.specs.Combinations.{IsMember, combination};
 ghost use Rattle.module_vectors.specs.Rings.{ring_comparison, variables};
 ghost use Rattle.module_vectors.specs.Vectors.{AreVectorsOver, HasPositions, IsVectorOver, StandsFor, sum_of, sums_of};
 ghost use Rattle.vector_division.specs.Divisions.{DivisionStops, IsFreeOfLeads};
+ghost use Rattle.risen_counts.specs.Counts.{RoseAtMost};
 ghost use Rattle.groebner_iface.specs.Calls.{CallStops};
 ghost use Rattle.syzygy_engine.specs.Lifts.{IsLiftOf, IsLiftTrail, RestStops};
 ghost use Rattle.syzygy_engine.specs.Marking.{IsMarkedRun, position_ring};
@@ -15,6 +16,7 @@ use crate::marking::first_mark;
 use groebner_iface::{Groebner, OpStop};
 use module_vectors::{Ring, Vect, VectList, WorkStop, lawful_setting};
 use monomial_orders::ModOrder;
+use risen_counts::counted_times;
 use std::alloc::Global;
 use std::sync::Wait;
 use std::thread::Threads;
@@ -124,8 +126,10 @@ pub fn lift<R: Threads + Wait + Sync, B: Groebner>(
     ensures stop { IfErr result (CallStops (IsMarkedRun ring.now rank list.now) (IsLiftTrail ring.now rank list.now v.now)
         (B.stops engine.old) (B.stops engine.new) (B.stopped engine.old) (B.stopped engine.new)) }
     ensures later { B.stops engine.old ≤ B.stops engine.new }
+    ensures runs { RoseAtMost 1 (B.runs engine.old) (B.runs engine.new) }
     ensures settings { B.settings engine.new ≡ B.settings engine.old }
 {
+    counted_times();
     lawful_setting(ring);
     let (by_position, basis) = marked_basis(rt, alloc, engine, ring, rank, list)?;
     let rest = match rest_by_position(alloc, ring, &by_position, v, &basis) {

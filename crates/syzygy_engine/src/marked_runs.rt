@@ -3,6 +3,7 @@ ghost use Rattle.std.specs.Prelude.{◌≡◌, ◌<◌, ◌≤◌, ◌+◌, IfOk
 ghost use Rattle.formal_sums.specs.FormalSums.{Each};
 ghost use Rattle.module_vectors.specs.Rings.{ring_comparison};
 ghost use Rattle.module_vectors.specs.Vectors.{AreVectorsOver, HasPositions};
+ghost use Rattle.risen_counts.specs.Counts.{RoseAtMost};
 ghost use Rattle.groebner_iface.specs.Calls.{CallStops, NoTrail};
 ghost use Rattle.groebner_iface.specs.Runs.{IsReducedBasisOf};
 ghost use Rattle.syzygy_engine.specs.Kernels.{IsKernelOf};
@@ -12,6 +13,7 @@ use crate::lowering::kernel_part;
 use crate::marking::{by_position, first_mark, marked_list};
 use groebner_iface::{Groebner, OpStop};
 use module_vectors::{Ring, VectList, lawful_setting};
+use risen_counts::counted_times;
 use std::alloc::Global;
 use std::sync::Wait;
 use std::thread::Threads;
@@ -35,8 +37,10 @@ pub(crate) fn marked_basis<R: Threads + Wait + Sync, B: Groebner>(
     ensures stop { IfErr result (CallStops (IsMarkedRun ring.now rank list.now) NoTrail
         (B.stops engine.old) (B.stops engine.new) (B.stopped engine.old) (B.stopped engine.new)) }
     ensures later { B.stops engine.old ≤ B.stops engine.new }
+    ensures runs { RoseAtMost 1 (B.runs engine.old) (B.runs engine.new) }
     ensures settings { B.settings engine.new ≡ B.settings engine.old }
 {
+    counted_times();
     lawful_setting(ring);
     let by_position = by_position(alloc, ring)?;
     let marked = marked_list(alloc, ring, &by_position, first_mark(rank), list)?;
@@ -70,8 +74,10 @@ pub fn syzygy_run<R: Threads + Wait + Sync, B: Groebner>(
     ensures stop { IfErr result (CallStops (IsMarkedRun ring.now rank list.now) NoTrail
         (B.stops engine.old) (B.stops engine.new) (B.stopped engine.old) (B.stopped engine.new)) }
     ensures later { B.stops engine.old ≤ B.stops engine.new }
+    ensures runs { RoseAtMost 1 (B.runs engine.old) (B.runs engine.new) }
     ensures settings { B.settings engine.new ≡ B.settings engine.old }
 {
+    counted_times();
     lawful_setting(ring);
     let (_by_position, basis) = marked_basis(rt, alloc, engine, ring, rank, list)?;
     Ok(kernel_part(alloc, ring, basis, first_mark(rank))?)

@@ -8,6 +8,7 @@ use Rattle.groebner_iface.proofs.CallingRuns.{more_stops}
 use Rattle.schreyer_resolution.specs.Inducing.{Columns}
 use Rattle.schreyer_resolution.specs.declared.maps.Map.{Map}
 use Rattle.ext_modules.specs.Ext.{AreExtRuns, IsRelationsRun, IsRowsRun}
+use Rattle.ext_modules.proofs.Counted.{both_runs, first_runs}
 use Rattle.ext_modules.proofs.Presenting.{zero_is}
 use Rattle.ext_modules.proofs.homology.ext.Goals as goal
 
@@ -39,3 +40,12 @@ returns-clause-ext g c =
       relations = c.in-Ok-relations_at.ensures.relations;
       zero = zero_is ring (c.lawful_setting.ensures 0) c.args.rank M c.args.k kernel relations zero c.in-Ok-relations_at.ensures.relations test;
     }
+
+pub returns-in-Err-clause-runs : goal.returns-in-Err-clause-runs
+returns-in-Err-clause-runs g c = first_runs _ _ _ c.in-Err.ensures.runs
+
+pub returns-in-Err-relations_at-clause-runs : goal.returns-in-Err-relations_at-clause-runs
+returns-in-Err-relations_at-clause-runs g c = both_runs _ _ _ _ c.in-Ok.ensures.runs c.in-Err-relations_at.ensures.runs
+
+pub returns-clause-runs : goal.returns-clause-runs
+returns-clause-runs g c = both_runs _ _ _ _ c.in-Ok.ensures.runs c.in-Ok-relations_at.ensures.runs

@@ -7,7 +7,7 @@ use Rattle.groebner_iface.specs.Runs.{IsReducedBasisOf}
 use Rattle.groebner_iface.proofs.CallingRuns.{run_stops}
 use Rattle.ideal_ops.specs.FrontSteps.{AreRunsOnFront}
 use Rattle.ideal_ops.proofs.FrontBases.{back_positions}
-use Rattle.ideal_ops.proofs.Shared.{later_stops, loose_list}
+use Rattle.ideal_ops.proofs.Shared.{later_stops, loose_list, two_runs}
 use Rattle.ideal_ops.proofs.back.basis_back.Goals as goal
 
 pub reduced-requires-clause-vectors : goal.reduced-requires-clause-vectors
@@ -66,3 +66,9 @@ returns-in-Ok-reduced-clause-basis g c =
       members = c.in_ok-fewer.ensures;
       second = c.in-Ok-reduced.ensures.basis;
     }
+
+pub returns-in-Ok-reduced-clause-runs : goal.returns-in-Ok-reduced-clause-runs
+returns-in-Ok-reduced-clause-runs g c = two_runs _ _ _ c.in-Ok.ensures.run c.in-Ok-reduced.ensures.run
+
+pub returns-clause-runs : goal.returns-clause-runs
+returns-clause-runs g c = two_runs _ _ _ c.in-Ok.ensures.run c.in-Err-reduced.ensures.run

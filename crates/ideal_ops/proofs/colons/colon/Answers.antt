@@ -6,6 +6,7 @@ use Rattle.module_vectors.specs.Vectors.{AreTermsOver, HasPositions, sums_of}
 use Rattle.groebner_iface.specs.Calls.{NoTrail}
 use Rattle.groebner_iface.proofs.CallingRuns.{more_stops}
 use Rattle.syzygy_engine.specs.Marking.{position_ring}
+use Rattle.syzygy_engine.proofs.Counted.{one_run}
 use Rattle.ideal_ops.specs.Components.{AreColonRuns}
 use Rattle.ideal_ops.specs.Modulo.{AreModuloRuns}
 use Rattle.ideal_ops.specs.Runs.{AreVectorsFor}
@@ -140,3 +141,6 @@ returns-clause-stop g c =
     more_stops _ _ _ _ (AreModuloRuns ring q (sums_of (variables ring) heads) (sums_of (variables ring) members)) (AreColonRuns ring rank list by) NoTrail NoTrail
     (λ r m l h. runs_of_some ring rank list by some r m l (subst (λ k. AreModuloRuns ring k X Y r m l) q_is (runs_for ring q heads members X Y x y r m l h)))
     (λ t h. h) c.in-Err.stop c.in-Err.ensures.stop
+
+pub returns-then-len-eq0-clause-runs : goal.returns-then-len-eq0-clause-runs
+returns-then-len-eq0-clause-runs g c = one_run c.args.ring.now _ _ c.all_polynomials.ensures.runs

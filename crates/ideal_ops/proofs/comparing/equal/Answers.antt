@@ -3,7 +3,7 @@ use Rattle.groebner_iface.specs.Calls.{NoTrail}
 use Rattle.groebner_iface.specs.Runs.{IsReducedBasisOf}
 use Rattle.groebner_iface.proofs.CallingRuns.{run_stops}
 use Rattle.ideal_ops.specs.Runs.{IsRunOnEither}
-use Rattle.ideal_ops.proofs.Shared.{later_stops, members_of_one, one_of_members}
+use Rattle.ideal_ops.proofs.Shared.{later_stops, members_of_one, one_of_members, two_runs}
 use Rattle.ideal_ops.proofs.Witness.{same_or_apart, settle}
 use Rattle.ideal_ops.proofs.comparing.equal.Goals as goal
 
@@ -58,3 +58,9 @@ reduced-requires-2-clause-vectors g c = c.requires.right
 
 pub reduced-requires-2-clause-positions : goal.reduced-requires-2-clause-positions
 reduced-requires-2-clause-positions g c = c.requires.right_positions
+
+pub returns-in-Err-reduced-clause-runs : goal.returns-in-Err-reduced-clause-runs
+returns-in-Err-reduced-clause-runs g c = two_runs _ _ _ c.in-Ok.ensures.run c.in-Err-reduced.ensures.run
+
+pub returns-clause-runs : goal.returns-clause-runs
+returns-clause-runs g c = two_runs _ _ _ c.in-Ok.ensures.run c.in-Ok-reduced.ensures.run

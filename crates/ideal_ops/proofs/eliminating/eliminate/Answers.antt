@@ -7,7 +7,7 @@ use Rattle.groebner_iface.specs.Calls.{NoTrail}
 use Rattle.groebner_iface.specs.Runs.{IsReducedBasisOf}
 use Rattle.groebner_iface.proofs.CallingRuns.{run_stops}
 use Rattle.ideal_ops.specs.Runs.{AreEliminationRuns, AreVectorsFor, elimination_ring}
-use Rattle.ideal_ops.proofs.Shared.{basis_of_elimination, free_ranks, later_stops, loose_list, positions_for, sorted_positions}
+use Rattle.ideal_ops.proofs.Shared.{basis_of_elimination, free_ranks, later_stops, loose_list, positions_for, sorted_positions, two_runs}
 use Rattle.ideal_ops.proofs.eliminating.eliminate.Goals as goal
 
 pub sorted_list-requires : goal.sorted_list-requires
@@ -72,3 +72,9 @@ returns-in-Ok-reduced-clause-basis g c =
     let first = subst (λ r. IsReducedBasisOf r c.args.rank c.in_ok-sorted.sorted c.in-Ok.basis) c.in_ok-eliminating.ensures c.in-Ok.ensures.basis in
     basis_of_elimination ring c.args.rank (c.lawful_setting.ensures c.args.rank) c.args.k c.args.list.now c.in_ok-sorted.sorted c.in-Ok.basis c.in_ok-free.free c.in-Ok-reduced.answer
     c.requires.positions moved first c.in_ok-free.ensures c.in-Ok-reduced.ensures.basis
+
+pub returns-in-Ok-reduced-clause-runs : goal.returns-in-Ok-reduced-clause-runs
+returns-in-Ok-reduced-clause-runs g c = two_runs _ _ _ c.in-Ok.ensures.run c.in-Ok-reduced.ensures.run
+
+pub returns-clause-runs : goal.returns-clause-runs
+returns-clause-runs g c = two_runs _ _ _ c.in-Ok.ensures.run c.in-Err-reduced.ensures.run

@@ -9,6 +9,7 @@ use Rattle.groebner_iface.specs.Calls.{NoTrail}
 use Rattle.groebner_iface.specs.Runs.{IsReducedBasisOf}
 use Rattle.groebner_iface.proofs.CallingRuns.{more_stops, run_stops}
 use Rattle.syzygy_engine.specs.Marking.{position_ring}
+use Rattle.syzygy_engine.proofs.Counted.{one_run, one_run_more}
 use Rattle.ideal_ops.specs.Modulo.{AreModuloRuns}
 use Rattle.ideal_ops.specs.Runs.{AreVectorsFor, IsRunFor}
 use Rattle.ideal_ops.proofs.ModuloRuns.{kernel_again, kernel_at_one, kernel_by_position, kernel_low}
@@ -104,3 +105,18 @@ returns-clause-stop g c =
       own_rank = c.len-in-Top.ensures ∙ sym count;
     }))
     c.in-Err-reduced.ensures.stop))
+
+pub returns-in-Err-clause-runs : goal.returns-in-Err-clause-runs
+returns-in-Err-clause-runs g c = one_run c.args.ring.now _ _ c.in-Err.ensures.runs
+
+pub returns-then-len-eq1-clause-runs : goal.returns-then-len-eq1-clause-runs
+returns-then-len-eq1-clause-runs g c = one_run c.args.ring.now _ _ c.in-Ok.ensures.runs
+
+pub returns-in-Pot-clause-runs : goal.returns-in-Pot-clause-runs
+returns-in-Pot-clause-runs g c = one_run c.args.ring.now _ _ c.in-Ok.ensures.runs
+
+pub returns-in-Ok-reduced-clause-runs : goal.returns-in-Ok-reduced-clause-runs
+returns-in-Ok-reduced-clause-runs g c = one_run_more c.args.ring.now _ _ _ c.in-Top.is c.in-Ok.ensures.runs c.in-Ok-reduced.ensures.run
+
+pub returns-clause-runs : goal.returns-clause-runs
+returns-clause-runs g c = one_run_more c.args.ring.now _ _ _ c.in-Top.is c.in-Ok.ensures.runs c.in-Err-reduced.ensures.run

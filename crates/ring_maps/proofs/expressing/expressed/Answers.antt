@@ -4,8 +4,8 @@ use Rattle.syzygy_laws.specs.Kernels.{all_kept}
 use Rattle.module_vectors.specs.Rings.{variables}
 use Rattle.module_vectors.specs.Vectors.{sum_of}
 use Rattle.syzygy_engine.proofs.Marks.{loose}
+use Rattle.ideal_ops.proofs.Shared.{of_terms}
 use Rattle.ring_maps.proofs.GraphBases.{expression_stops, is_expression, no_expression}
-use Rattle.ring_maps.proofs.Listing.{of_terms}
 use Rattle.ring_maps.proofs.expressing.expressed.Goals as goal
 
 pub first_vector-requires-clause-graph : goal.first_vector-requires-clause-graph

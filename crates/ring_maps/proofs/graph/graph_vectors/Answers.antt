@@ -7,7 +7,8 @@ use Rattle.map_laws.specs.Graphs.{graph_member}
 use Rattle.module_vectors.specs.Rings.{variables}
 use Rattle.module_vectors.specs.Vectors.{AreTermsOver, sums_of}
 use Rattle.ideal_ops.specs.Runs.{AreVectorsFor}
-use Rattle.ring_maps.proofs.Listing.{member_next, vectors_none}
+use Rattle.ideal_ops.proofs.Shared.{vectors_none}
+use Rattle.ring_maps.proofs.Listing.{member_next}
 use Rattle.ring_maps.proofs.graph.graph_vectors.Goals as goal
 
 pub loop-i-init : goal.loop-i-init

@@ -1,9 +1,9 @@
 use Rattle.std.proofs.Common.{inl, inr, refl}
 use Rattle.groebner_iface.specs.Calls.{NoTrail}
 use Rattle.groebner_iface.proofs.CallingRuns.{more_stops, run_stops}
+use Rattle.ideal_ops.proofs.Shared.{later_stops, loose_list, run_more}
 use Rattle.ring_maps.specs.Graphs.{ArePreimageRuns, IsGraphRun}
 use Rattle.ring_maps.proofs.GraphBases.{basis_of_preimage, member_positions}
-use Rattle.ring_maps.proofs.Listing.{later_stops, loose_list}
 use Rattle.ring_maps.proofs.preimages.preimage.Goals as goal
 
 pub returns-in-Err-clause-stop : goal.returns-in-Err-clause-stop
@@ -53,3 +53,9 @@ returns-clause-stop g c =
       own_rank = refl;
     }))
     c.in-Err-reduced.ensures.stop))
+
+pub returns-in-Ok-reduced-clause-runs : goal.returns-in-Ok-reduced-clause-runs
+returns-in-Ok-reduced-clause-runs g c = run_more _ _ _ c.in-Ok.ensures.runs c.in-Ok-reduced.ensures.run
+
+pub returns-clause-runs : goal.returns-clause-runs
+returns-clause-runs g c = run_more _ _ _ c.in-Ok.ensures.runs c.in-Err-reduced.ensures.run

@@ -6,7 +6,7 @@ use Rattle.map_laws.specs.Graphs.{from_second, of_second}
 use Rattle.module_vectors.specs.Rings.{variables}
 use Rattle.module_vectors.specs.Vectors.{sum_of}
 use Rattle.ideal_ops.specs.Runs.{AreVectorsFor}
-use Rattle.ring_maps.proofs.Listing.{of_terms, vectors_next}
+use Rattle.ideal_ops.proofs.Shared.{of_terms, vectors_next}
 use Rattle.ring_maps.proofs.SecondTerms.{second_kept, second_left}
 use Rattle.ring_maps.proofs.second_variables.take_second.Goals as goal
 

@@ -9,6 +9,7 @@ use Rattle.groebner_iface.proofs.CallingRuns.{more_stops}
 use Rattle.session_lang.proofs.Stopping.{no_trail, placed_run, run_fails}
 use Rattle.session_values.proofs.Values.{as_many, kept_sound, sound_at}
 use Rattle.session_values.specs.Held.{Held}
+use Rattle.session_lang.proofs.Counted.{both_there, first_ran}
 use Rattle.session_lang.proofs.answers.compare_values.Goals as goal
 
 pub index-requires : goal.index-requires
@@ -126,3 +127,26 @@ returns-in-Ok-compare_with-clause-same g c =
     let first = c.in-Ok.ensures.same in
     let second = c.in-Ok-compare_with.ensures.same in
     (second.0 ∙ first.0, second.1 ∙ first.1)
+
+pub returns-in-Err-clause-runs : goal.returns-in-Err-clause-runs
+returns-in-Err-clause-runs g c = λ e.
+    let same = as_many c.args.ring.now c.args.names.now c.args.stored.now.items c.requires.sound in
+    let below : c.args.places.0 < length c.args.stored.now.items = omega (arith, c.requires.within.0, same) in
+    first_ran c.args.stored.now.items c.args.places.0 c.args.places.1 c.index_mut.result.now e (g.B.Groebner.runs c.args.engine.now)
+    (g.B.Groebner.runs c.keep_basis.new.engine) below c.index_mut.ensures.value c.in-Err.ensures.runs
+
+pub returns-in-Ok-compare_with-clause-runs : goal.returns-in-Ok-compare_with-clause-runs
+returns-in-Ok-compare_with-clause-runs g c = λ e.
+    let same = as_many c.args.ring.now c.args.names.now c.args.stored.now.items c.requires.sound in
+    let below : c.args.places.0 < length c.args.stored.now.items = omega (arith, c.requires.within.0, same) in
+    both_there c.args.stored.now.items c.args.places.0 c.args.places.1 c.index_mut.result.now e (g.B.Groebner.runs c.args.engine.now)
+    (g.B.Groebner.runs c.keep_basis.new.engine) below c.index_mut.ensures.value c.in-Ok.ensures.runs c.keep_basis.new.stored
+    (g.B.Groebner.runs c.compare_with.new.engine) c.in-Ok.ensures.list c.in-Ok.ensures.kept (c.in-Ok-compare_with.ensures.runs e)
+
+pub returns-in-Err-compare_with-clause-runs : goal.returns-in-Err-compare_with-clause-runs
+returns-in-Err-compare_with-clause-runs g c = λ e.
+    let same = as_many c.args.ring.now c.args.names.now c.args.stored.now.items c.requires.sound in
+    let below : c.args.places.0 < length c.args.stored.now.items = omega (arith, c.requires.within.0, same) in
+    both_there c.args.stored.now.items c.args.places.0 c.args.places.1 c.index_mut.result.now e (g.B.Groebner.runs c.args.engine.now)
+    (g.B.Groebner.runs c.keep_basis.new.engine) below c.index_mut.ensures.value c.in-Ok.ensures.runs c.keep_basis.new.stored
+    (g.B.Groebner.runs c.compare_with.new.engine) c.in-Ok.ensures.list c.in-Ok.ensures.kept (c.in-Err-compare_with.ensures.runs e)

@@ -8,6 +8,8 @@ use Rattle.session_lang.proofs.KeptValues.{at_place, at_written, compared, decid
 use Rattle.groebner_iface.proofs.CallingRuns.{more_stops}
 use Rattle.session_lang.proofs.Stopping.{no_trail, placed_run, run_fails}
 use Rattle.session_values.proofs.Values.{as_many, kept_sound, sound_at}
+use Rattle.risen_counts.specs.Counts.{count_after}
+use Rattle.session_values.specs.Runs.{fresh_runs}
 use Rattle.session_lang.proofs.answers.compare_with.Goals as goal
 
 pub index-requires : goal.index-requires
@@ -124,3 +126,24 @@ returns-in-Ok-push_verdict-clause-same g c = c.in-Ok.ensures.same
 
 pub returns-in-Err-push_verdict-clause-stop : goal.returns-in-Err-push_verdict-clause-stop
 returns-in-Err-push_verdict-clause-stop g c = λ d e. c.in-Ok.ensures.same
+
+pub returns-in-Err-clause-runs : goal.returns-in-Err-clause-runs
+returns-in-Err-clause-runs g c = λ e.
+    let same = as_many c.args.ring.now c.args.names.now c.args.stored.now.items c.requires.sound in
+    let below : c.args.places.1 < length c.args.stored.now.items = omega (arith, c.requires.within.1, same) in
+    subst (λ s. g.B.Groebner.runs c.keep_basis.new.engine ≡ count_after (fresh_runs s) (g.B.Groebner.runs c.args.engine.now))
+    (at_place c.args.stored.now.items c.args.places.1 c.index_mut.result.now e below c.index_mut.ensures.value) c.in-Err.ensures.runs
+
+pub returns-in-Ok-push_verdict-clause-runs : goal.returns-in-Ok-push_verdict-clause-runs
+returns-in-Ok-push_verdict-clause-runs g c = λ e.
+    let same = as_many c.args.ring.now c.args.names.now c.args.stored.now.items c.requires.sound in
+    let below : c.args.places.1 < length c.args.stored.now.items = omega (arith, c.requires.within.1, same) in
+    subst (λ s. g.B.Groebner.runs c.keep_basis.new.engine ≡ count_after (fresh_runs s) (g.B.Groebner.runs c.args.engine.now))
+    (at_place c.args.stored.now.items c.args.places.1 c.index_mut.result.now e below c.index_mut.ensures.value) c.in-Ok.ensures.runs
+
+pub returns-in-Err-push_verdict-clause-runs : goal.returns-in-Err-push_verdict-clause-runs
+returns-in-Err-push_verdict-clause-runs g c = λ e.
+    let same = as_many c.args.ring.now c.args.names.now c.args.stored.now.items c.requires.sound in
+    let below : c.args.places.1 < length c.args.stored.now.items = omega (arith, c.requires.within.1, same) in
+    subst (λ s. g.B.Groebner.runs c.keep_basis.new.engine ≡ count_after (fresh_runs s) (g.B.Groebner.runs c.args.engine.now))
+    (at_place c.args.stored.now.items c.args.places.1 c.index_mut.result.now e below c.index_mut.ensures.value) c.in-Ok.ensures.runs

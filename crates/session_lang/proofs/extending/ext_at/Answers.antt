@@ -1,4 +1,4 @@
-use Rattle.std.proofs.Common.{[], ap, length, map, subst, sym, ◌∙◌}
+use Rattle.std.proofs.Common.{[], ap, length, map, subst, sym, ◌*◌, ◌∙◌}
 use Rattle.bases.specs.Bases.{IsReducedBasis}
 use Rattle.ext_modules.specs.Ext.{AreLinked}
 use Rattle.module_vectors.specs.Rings.{ring_comparison, setting, variables}
@@ -8,6 +8,8 @@ use Rattle.schreyer_resolution.specs.Resolved.{columns_of}
 use Rattle.schreyer_resolution.specs.declared.maps.Map.{Map}
 use Rattle.session_lang.proofs.Extended.{ext_computed, extending_stops, joined_linked, maps_computed}
 use Rattle.session_lang.proofs.Reporting.{own_basis}
+use Rattle.syzygy_engine.specs.Kernels.{runs_in_order}
+use Rattle.session_lang.proofs.Counted.{none_ran}
 use Rattle.session_lang.proofs.extending.ext_at.Goals as goal
 
 pub resolve-requires-clause-basis : goal.resolve-requires-clause-basis
@@ -39,3 +41,6 @@ returns-clause-stop g c =
     extending_stops c.args.ring.now c.args.rank c.args.basis.now c.args.step _ _ _ _ (columns_of r) c.from-2.result c.in-Err-ext.stop c.from-2.ensures
     (maps_computed c.args.ring.now c.args.rank c.from.result c.args.basis.now r c.from.ensures c.in-Ok.ensures.canonical c.in-Ok.ensures.vectors)
     (rw c.deref.ensures.value at c.in-Err-ext.ensures.stop)
+
+pub returns-in-Err-clause-runs : goal.returns-in-Err-clause-runs
+returns-in-Err-clause-runs g c = none_ran (2 * runs_in_order c.args.ring.now) (g.B.Groebner.runs c.args.engine.now)

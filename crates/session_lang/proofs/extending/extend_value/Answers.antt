@@ -1,4 +1,4 @@
-use Rattle.std.proofs.Common.{subst, subst₂}
+use Rattle.std.proofs.Common.{subst, subst₂, ◌*◌}
 use Rattle.std.specs.Prelude.{is_some}
 use Rattle.groebner_iface.specs.Runs.{IsReducedBasisOf}
 use Rattle.groebner_iface.specs.Calls.{CallStops, NoTrail}
@@ -7,7 +7,10 @@ use Rattle.session_lang.proofs.KeptValues.{basis_kept}
 use Rattle.session_lang.proofs.Stopping.{run_fails}
 use Rattle.session_lang.specs.Extensions.{IsRunToExtend}
 use Rattle.session_values.specs.Kept.{value_of}
+use Rattle.session_values.specs.Runs.{fresh_runs}
+use Rattle.syzygy_engine.specs.Kernels.{runs_in_order}
 use Rattle.session_values.specs.Resolving.{IsResolvingTrail}
+use Rattle.session_lang.proofs.Counted.{ran_at_first, ran_twice}
 use Rattle.session_lang.proofs.extending.extend_value.Goals as goal
 
 pub keep_basis-requires-clause-sound : goal.keep_basis-requires-clause-sound
@@ -56,3 +59,18 @@ returns-in-Err-push_ext_at-clause-stop g c =
     a (g.B.Groebner.stops c.push_ext_at.new.engine) b (g.B.Groebner.stopped c.push_ext_at.new.engine) c.in-Err-push_ext_at.stop)
     c.in-Ok.ensures.same.0 c.in-Ok.ensures.same.1
     (value_stops _ _ _ _ c.args.ring.now value c.basis.result.now c.args.step c.in-Err-push_ext_at.stop reduced c.in-Err-push_ext_at.ensures.stop)
+
+pub returns-in-Err-clause-runs : goal.returns-in-Err-clause-runs
+returns-in-Err-clause-runs g c =
+    ran_at_first (fresh_runs c.args.stored.now) (2 * runs_in_order c.args.ring.now) (g.B.Groebner.runs c.args.engine.now)
+    (g.B.Groebner.runs c.keep_basis.new.engine) c.in-Err.ensures.runs
+
+pub returns-in-Ok-push_ext_at-clause-runs : goal.returns-in-Ok-push_ext_at-clause-runs
+returns-in-Ok-push_ext_at-clause-runs g c =
+    ran_twice (fresh_runs c.args.stored.now) (2 * runs_in_order c.args.ring.now) (g.B.Groebner.runs c.args.engine.now)
+    (g.B.Groebner.runs c.keep_basis.new.engine) (g.B.Groebner.runs c.push_ext_at.new.engine) c.in-Ok.ensures.runs c.in-Ok-push_ext_at.ensures.runs
+
+pub returns-in-Err-push_ext_at-clause-runs : goal.returns-in-Err-push_ext_at-clause-runs
+returns-in-Err-push_ext_at-clause-runs g c =
+    ran_twice (fresh_runs c.args.stored.now) (2 * runs_in_order c.args.ring.now) (g.B.Groebner.runs c.args.engine.now)
+    (g.B.Groebner.runs c.keep_basis.new.engine) (g.B.Groebner.runs c.push_ext_at.new.engine) c.in-Ok.ensures.runs c.in-Err-push_ext_at.ensures.runs

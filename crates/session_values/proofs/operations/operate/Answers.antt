@@ -1,7 +1,9 @@
-use Rattle.std.proofs.Common.{IfOk, subst, sym}
+use Rattle.std.proofs.Common.{IfOk, arith, refl, subst, sym}
 use Rattle.std.proofs.lemmas.Result.{IfErr-weaker}
 use Rattle.session_values.specs.Operations.{AreRunsOf, AreTrailsOf, IsResult, colon, eliminate, intersect, multiply, quotient, saturate, sum, syzygies}
+use Rattle.session_values.specs.Runs.{most_runs}
 use Rattle.session_values.specs.Tasks.{work_of}
+use Rattle.risen_counts.specs.Counts.{RoseAtMost}
 use Rattle.groebner_iface.proofs.CallingRuns.{more_stops}
 use Rattle.session_values.proofs.operations.operate.Goals as goal
 
@@ -143,3 +145,51 @@ returns-in-Preimage-clause-stop g c =
 pub returns-in-Preimage-clause-result : goal.returns-in-Preimage-clause-result
 returns-in-Preimage-clause-result g c =
     subst (λ x. IfOk c.preimage.result (IsResult c.args.ring.now (work_of x))) (sym c.in-Preimage.is) c.preimage.ensures.basis
+
+pub returns-in-Sum-clause-runs : goal.returns-in-Sum-clause-runs
+returns-in-Sum-clause-runs g c =
+    subst (λ x. RoseAtMost (most_runs c.args.ring.now (work_of x)) (g.B.Groebner.runs c.args.engine.now) (g.B.Groebner.runs c.sum.new.engine)) (sym c.in-Sum.is)
+    c.sum.ensures.runs
+
+pub returns-in-Product-clause-runs : goal.returns-in-Product-clause-runs
+returns-in-Product-clause-runs g c =
+    subst (λ x. RoseAtMost (most_runs c.args.ring.now (work_of x)) (g.B.Groebner.runs c.args.engine.now) (g.B.Groebner.runs c.product.new.engine)) (sym c.in-Product.is)
+    c.product.ensures.runs
+
+pub returns-in-Intersect-clause-runs : goal.returns-in-Intersect-clause-runs
+returns-in-Intersect-clause-runs g c =
+    subst (λ x. RoseAtMost (most_runs c.args.ring.now (work_of x)) (g.B.Groebner.runs c.args.engine.now) (g.B.Groebner.runs c.intersect.new.engine)) (sym c.in-Intersect.is)
+    c.intersect.ensures.runs
+
+pub returns-in-Quotient-clause-runs : goal.returns-in-Quotient-clause-runs
+returns-in-Quotient-clause-runs g c =
+    subst (λ x. RoseAtMost (most_runs c.args.ring.now (work_of x)) (g.B.Groebner.runs c.args.engine.now) (g.B.Groebner.runs c.quotient.new.engine)) (sym c.in-Quotient.is)
+    c.quotient.ensures.runs
+
+pub returns-in-Saturate-clause-runs : goal.returns-in-Saturate-clause-runs
+returns-in-Saturate-clause-runs g c =
+    subst (λ x. RoseAtMost (most_runs c.args.ring.now (work_of x)) (g.B.Groebner.runs c.args.engine.now) (g.B.Groebner.runs c.saturate.new.engine)) (sym c.in-Saturate.is)
+    c.saturate.ensures.runs
+
+pub returns-in-Eliminate-clause-runs : goal.returns-in-Eliminate-clause-runs
+returns-in-Eliminate-clause-runs g c =
+    subst (λ x. RoseAtMost (most_runs c.args.ring.now (work_of x)) (g.B.Groebner.runs c.args.engine.now) (g.B.Groebner.runs c.eliminate.new.engine)) (sym c.in-Eliminate.is)
+    c.eliminate.ensures.runs
+
+pub returns-in-Syzygies-clause-runs : goal.returns-in-Syzygies-clause-runs
+returns-in-Syzygies-clause-runs g c =
+    subst (λ x. RoseAtMost (most_runs c.args.ring.now (work_of x)) (g.B.Groebner.runs c.args.engine.now) (g.B.Groebner.runs c.syzygies.new.engine)) (sym c.in-Syzygies.is)
+    c.syzygies.ensures.runs
+
+pub returns-in-Preimage-clause-runs : goal.returns-in-Preimage-clause-runs
+returns-in-Preimage-clause-runs g c =
+    subst (λ x. RoseAtMost (most_runs c.args.ring.now (work_of x)) (g.B.Groebner.runs c.args.engine.now) (g.B.Groebner.runs c.preimage.new.engine)) (sym c.in-Preimage.is)
+    c.preimage.ensures.runs
+
+pub returns-else-len-gt-MOST_BLOCKS-clause-runs : goal.returns-else-len-gt-MOST_BLOCKS-clause-runs
+returns-else-len-gt-MOST_BLOCKS-clause-runs g c =
+    subst (λ x. RoseAtMost (most_runs c.args.ring.now (work_of x)) (g.B.Groebner.runs c.args.engine.now) (g.B.Groebner.runs c.colon.new.engine)) (sym c.in-Colon.is)
+    c.colon.ensures.runs
+
+pub returns-then-len-gt-MOST_BLOCKS-clause-runs : goal.returns-then-len-gt-MOST_BLOCKS-clause-runs
+returns-then-len-gt-MOST_BLOCKS-clause-runs g c = record { times = 0; within = omega arith; counted = refl }

@@ -4,6 +4,7 @@ use Rattle.groebner_iface.specs.Runs.{IsReducedBasisOf}
 use Rattle.groebner_iface.specs.Stops.{op_stop_of_run}
 use Rattle.syzygy_engine.specs.Kernels.{IsSyzygyRun}
 use Rattle.syzygy_engine.specs.Marking.{IsMarkedRun}
+use Rattle.syzygy_engine.proofs.Counted.{one_run, one_run_more}
 use Rattle.syzygy_engine.proofs.Generated.{by_position_done, generate, run_done, run_generates}
 use Rattle.groebner_iface.proofs.CallingRuns.{more_stops, run_stops}
 use Rattle.syzygy_engine.proofs.generating.syzygies.Goals as goal
@@ -51,3 +52,15 @@ returns-clause-stop g c =
     rw c.from.ensures
     (subst₂ (λ a k. CallStops (IsSyzygyRun ring q list) NoTrail a (g.B.Groebner.stops c.reduced.new.self) k (g.B.Groebner.stopped c.reduced.new.self) (op_stop_of_run stop)) c.in-Ok.ensures.same.0 c.in-Ok.ensures.same.1
     (run_stops _ _ _ _ (IsSyzygyRun ring q list) NoTrail ring c.len.result kernel stop (inr (refl, c.len.ensures, c.in-Ok.ensures.vectors, c.in-Ok.ensures.kernel)) c.in-Err-reduced.ensures.stop))
+
+pub returns-in-Err-clause-runs : goal.returns-in-Err-clause-runs
+returns-in-Err-clause-runs g c = one_run c.args.ring.now _ _ c.in-Err.ensures.runs
+
+pub returns-in-Pot-clause-runs : goal.returns-in-Pot-clause-runs
+returns-in-Pot-clause-runs g c = one_run c.args.ring.now _ _ c.in-Ok.ensures.runs
+
+pub returns-in-Ok-reduced-clause-runs : goal.returns-in-Ok-reduced-clause-runs
+returns-in-Ok-reduced-clause-runs g c = one_run_more c.args.ring.now _ _ _ c.in-Top.is c.in-Ok.ensures.runs c.in-Ok-reduced.ensures.run
+
+pub returns-clause-runs : goal.returns-clause-runs
+returns-clause-runs g c = one_run_more c.args.ring.now _ _ _ c.in-Top.is c.in-Ok.ensures.runs c.in-Err-reduced.ensures.run

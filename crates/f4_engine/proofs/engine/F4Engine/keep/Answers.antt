@@ -11,6 +11,7 @@ invariant_of-self c =
       workers = c.self.inside.workers;
       helpers = c.self.inside.helpers;
       update = c.self.inside.update;
+      runs = c.self.inside.runs;
       stops = c.saturating_add-self-inside.result;
       state = state;
       trail = trail;

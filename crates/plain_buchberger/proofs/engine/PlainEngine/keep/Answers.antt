@@ -6,7 +6,14 @@ use Rattle.plain_buchberger.proofs.engine.PlainEngine.keep.Goals as goal
 pub invariant_of-self : goal.invariant_of-self
 invariant_of-self c =
     let more : 0 < c.saturating_add-self-inside.result = omega (arith, c.saturating_add-self-inside.ensures) in
-    subst₂ (λ state trail. IsKeptBy (record { pairs = c.self.inside.pairs; update = c.self.inside.update; stops = c.saturating_add-self-inside.result; state = state; trail = trail }))
+    subst₂ (λ state trail. IsKeptBy (record {
+      pairs = c.self.inside.pairs;
+      update = c.self.inside.update;
+      runs = c.self.inside.runs;
+      stops = c.saturating_add-self-inside.result;
+      state = state;
+      trail = trail;
+    }))
     (sym c.replace.ensures.after) (sym c.replace-2.ensures.after) (record {
       stop = subst (λ (e : EngineShown). IsStop e.pairs 1 e.update c.args.state c.args.trail) (sym c.self.view_is) c.requires.stop;
       counted = subst (IsKeptWhereCounted c.saturating_add-self-inside.result) (sym c.requires.some.1) more;

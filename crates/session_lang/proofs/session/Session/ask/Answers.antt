@@ -9,6 +9,7 @@ use Rattle.session_lang.proofs.Performing.{asked_fit, asked_given, asked_perform
 use Rattle.session_lang.proofs.Placing.{is_placed, placed_after, placed_has, placed_keeps, placed_same, placed_sound}
 use Rattle.script_parse.proofs.NamePlaces.{place_bound}
 use Rattle.session_values.proofs.Values.{kept_as_many}
+use Rattle.session_lang.proofs.Counted.{asked_ran}
 use Rattle.session_lang.proofs.session.Session.ask.Goals as goal
 
 pub unreachable-requires-in_default-place_of : goal.unreachable-requires-in_default-place_of
@@ -64,3 +65,10 @@ returns-clause-performed g c =
     c.args.name.now (asked_of c.args.question) c.as_bytes.result.now c.in-Some.ring (value_of c.info_at.result.now c.index_mut.result.now)
     c.as_bytes.ensures.value (placed_has placed)
     (on_ok_weaker called (placed_after placed c.answer_value.new.stored e.list) e.kept) e.text e.stop
+
+pub returns-clause-runs : goal.returns-clause-runs
+returns-clause-runs g c =
+    let infos = c.self.inside.names in
+    let found : place_named infos c.as_bytes.result.now ≡ Some c.in-Some-place_of.i = search rules in
+    let placed = is_placed infos c.self.inside.stored.items c.self.view_is c.self.invariant c.in-Some.is found c.info_at.ensures c.index_mut.ensures.value in
+    asked_ran c.args.self.now c.args.name.now _ _ c.as_bytes.result.now c.in-Some.ring c.info_at.result.now c.index_mut.result.now c.as_bytes.ensures.value (placed_has placed) (asked_of c.args.question) c.answer_value.ensures.runs

@@ -1,4 +1,4 @@
-use Rattle.std.proofs.Common.{None, Some, ap, get_or, rules, subst, subst₂, sym, ◌∙◌, ◌≡◌}
+use Rattle.std.proofs.Common.{None, Some, ap, get_or, rules, subst, subst₂, sym, ◌∙◌, ◌≡◌, refl}
 use Rattle.std.proofs.lemmas.Result.{IfErr-weaker, on_err_weaker, on_ok_weaker}
 use Rattle.groebner_iface.specs.Calls.{NoTrail}
 use Rattle.script_parse.specs.Places.{place_named}
@@ -11,6 +11,10 @@ use Rattle.groebner_iface.proofs.CallingRuns.{more_stops}
 use Rattle.session_lang.proofs.Stopping.{no_trail}
 use Rattle.script_parse.proofs.NamePlaces.{place_bound}
 use Rattle.session_values.proofs.Values.{kept_as_many}
+use Rattle.session_lang.proofs.Counted.{both_ran}
+use Rattle.std.specs.Prelude.{string_bytes}
+use Rattle.risen_counts.specs.Counts.{RoseAtMost}
+use Rattle.session_lang.specs.Runs.{runs_for_both}
 use Rattle.session_lang.proofs.session.Session.compare.Goals as goal
 
 pub unreachable-requires-in_default-place_of : goal.unreachable-requires-in_default-place_of
@@ -84,3 +88,25 @@ returns-clause-performed g c =
     (run_for_either before own infos stored view c.in-Some.ring first second i j d same c.in-Some.is found found')
     (no_trail NoTrail) stop (k d no_stored))
     e.stop)
+
+pub returns-clause-runs : goal.returns-clause-runs
+returns-clause-runs g c =
+    let infos = c.self.inside.names in
+    let stored = c.self.inside.stored.items in
+    let before = c.args.self.now in
+    let own = c.self.inside.ring in
+    let first = c.as_bytes.result.now in
+    let second = c.as_bytes-2.result.now in
+    let i = c.in-Some-place_of.i in
+    let same = kept_as_many own infos stored c.self.invariant in
+    let found : place_named infos first ≡ Some i = search rules in
+    let found' : place_named infos second ≡ Some c.in-Some-place_of-2.j = search rules in
+    let d = some_info infos i (place_bound infos first i found) in
+    let ran =
+    both_ran before own infos stored c.self.view_is c.in-Some.ring first second i c.in-Some-place_of-2.j d no_stored _ _ same c.in-Some.is found found'
+    (c.compare_values.ensures.runs no_stored) in (
+      runs_for_both before (string_bytes c.args.first.now) (string_bytes c.args.second.now),
+      refl,
+      subst₂ (λ n m. RoseAtMost (runs_for_both before n m) (g.B.Groebner.runs c.args.engine.now) (g.B.Groebner.runs c.compare_values.new.engine))
+          c.as_bytes.ensures.value c.as_bytes-2.ensures.value ran,
+    )

@@ -1,4 +1,4 @@
-use Rattle.std.proofs.Common.{ap, length, subst, sym, ◌∙◌, ◌≡◌}
+use Rattle.std.proofs.Common.{ap, length, subst, sym, ◌∙◌, ◌≡◌, refl}
 use Rattle.std.proofs.lemmas.Option.{same_Some}
 use Rattle.std.proofs.lemmas.Result.{IfErr-weaker, on_ok_weaker}
 use Rattle.module_vectors.specs.Rings.{variables}
@@ -34,3 +34,6 @@ returns-clause-performed g c =
     expressed_performed called c.done.result c.args.f.now c.args.images.now c.done.ensures.ok c.done.ensures.err
     (on_ok_weaker called (λ t. (t.0, (ring, stated, t.1), t.2)) e.text) e.unwritten e.same
     (IfErr-weaker called _ _ (more_stops _ _ _ _ _ _ _ _ (λ r m l h. (ring, stated, h)) (λ t h. (ring, stated, h))) e.stop)
+
+pub returns-clause-runs : goal.returns-clause-runs
+returns-clause-runs g c = (1, refl, c.push_expression.ensures.runs)

@@ -1,4 +1,4 @@
-use Rattle.std.proofs.Common.{None, Some, arith, length, rules, subst, sym, ◌<◌, ◌≡◌}
+use Rattle.std.proofs.Common.{None, Some, arith, length, rules, subst, sym, ◌<◌, ◌≡◌, ap, ◌∙◌}
 use Rattle.std.proofs.lemmas.Result.{on_err_weaker, on_ok_weaker}
 use Rattle.script_parse.specs.Places.{place_named}
 use Rattle.session_lang.specs.Fitting.{IsGiven}
@@ -8,6 +8,7 @@ use Rattle.session_lang.proofs.Performing.{extended_performed}
 use Rattle.session_lang.proofs.Placing.{is_placed, placed_after, placed_has, placed_keeps, placed_same, placed_sound}
 use Rattle.script_parse.proofs.NamePlaces.{place_bound}
 use Rattle.session_values.proofs.Values.{kept_as_many}
+use Rattle.session_lang.proofs.Counted.{extended_ran}
 use Rattle.session_lang.proofs.session.Session.extend.Goals as goal
 
 pub unreachable-requires-in_default-place_of : goal.unreachable-requires-in_default-place_of
@@ -57,3 +58,11 @@ returns-clause-performed g c =
     c.as_bytes.ensures.value (placed_has placed) c.done.ensures.ok c.done.ensures.err
     (on_err_weaker called (placed_same placed item) e.as_before) e.unwritten e.same
     (on_ok_weaker called (placed_after placed item e.list) e.kept) e.text e.stop
+
+pub returns-clause-runs : goal.returns-clause-runs
+returns-clause-runs g c =
+    let infos = c.self.inside.names in
+    let found : place_named infos c.as_bytes.result.now ≡ Some c.in-Some-place_of.i = search rules in
+    let placed = is_placed infos c.self.inside.stored.items c.self.view_is c.self.invariant c.in-Some.is found c.info_at.ensures c.index_mut.ensures.value in
+    let stated = ap (λ s. s.ring) (sym c.self.view_is) ∙ c.in-Some.is in
+    extended_ran c.args.self.now c.args.name.now _ _ c.as_bytes.result.now c.in-Some.ring c.info_at.result.now c.index_mut.result.now c.as_bytes.ensures.value (placed_has placed) c.args.step stated c.extend_value.ensures.runs

@@ -1,4 +1,4 @@
-use Rattle.std.proofs.Common.{subst, sym}
+use Rattle.std.proofs.Common.{subst, sym, refl}
 use Rattle.std.proofs.lemmas.Result.{IfErr-weaker, on_ok_weaker}
 use Rattle.module_vectors.specs.Rings.{ring_comparison}
 use Rattle.module_vectors.specs.Vectors.{HasPositions, IsVectorOver}
@@ -40,3 +40,6 @@ returns-clause-performed g c =
     (IfErr-weaker called _ _
     (more_stops _ _ _ _ _ _ _ _ (λ r m l h. (ring, value, found.ensures.has, h)) (λ t h. (ring, value, found.ensures.has, h)))
     e.stop)
+
+pub returns-clause-runs : goal.returns-clause-runs
+returns-clause-runs g c = (1, refl, c.push_lift.ensures.runs)

@@ -8,6 +8,7 @@ use Rattle.session_values.specs.Tasks.{work_of}
 use Rattle.session_lang.proofs.Making.{sound_result}
 use Rattle.session_lang.proofs.Performing.{nothing_behind, was_done, was_stopped}
 use Rattle.groebner_iface.proofs.CallingRuns.{more_stops}
+use Rattle.session_values.specs.Runs.{most_runs}
 use Rattle.session_lang.proofs.session.Session.make.Goals as goal
 
 pub operate-requires-after_bounds : goal.operate-requires-after_bounds
@@ -52,3 +53,21 @@ pub returns-in-Err-give-clause-performed : goal.returns-in-Err-give-clause-perfo
 returns-in-Err-give-clause-performed g c text =
     was_stopped c.args.self.now (statements.Let c.args.name c.args.operation.now) c.give.new.self text text _ _ _ _ causes.Memory
     c.in-Err-give.ensures.same refl c.in-Ok.ensures.same
+
+pub returns-in-Err-clause-runs : goal.returns-in-Err-clause-runs
+returns-in-Err-clause-runs g c =
+    let stated = ap (λ s. s.ring) (sym c.self.view_is) ∙ c.in-Some.is in
+    let work = work_of c.task-task.result in
+    (most_runs c.in-Some.ring work, (c.in-Some.ring, work, (c.task-task.ensures c.in-Some.ring stated).0, refl), c.in-Err.ensures.runs)
+
+pub returns-in-Ok-give-clause-runs : goal.returns-in-Ok-give-clause-runs
+returns-in-Ok-give-clause-runs g c =
+    let stated = ap (λ s. s.ring) (sym c.self.view_is) ∙ c.in-Some.is in
+    let work = work_of c.task-task.result in
+    (most_runs c.in-Some.ring work, (c.in-Some.ring, work, (c.task-task.ensures c.in-Some.ring stated).0, refl), c.in-Ok.ensures.runs)
+
+pub returns-in-Err-give-clause-runs : goal.returns-in-Err-give-clause-runs
+returns-in-Err-give-clause-runs g c =
+    let stated = ap (λ s. s.ring) (sym c.self.view_is) ∙ c.in-Some.is in
+    let work = work_of c.task-task.result in
+    (most_runs c.in-Some.ring work, (c.in-Some.ring, work, (c.task-task.ensures c.in-Some.ring stated).0, refl), c.in-Ok.ensures.runs)

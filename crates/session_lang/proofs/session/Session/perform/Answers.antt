@@ -2,6 +2,7 @@ use Rattle.std.proofs.Common.{[], arith, refl, subst, sym}
 use Rattle.session_lang.specs.Fitting.{IsFit}
 use Rattle.session_lang.specs.Lines.{Does}
 use Rattle.session_lang.proofs.Performing.{ideal_given, nothing_behind, performed_as, was_done}
+use Rattle.session_lang.proofs.Counted.{none_ran, ran_as}
 use Rattle.session_lang.proofs.session.Session.perform.Goals as goal
 
 pub returns-in-Nothing-clause-performed : goal.returns-in-Nothing-clause-performed
@@ -221,3 +222,66 @@ returns-in-Ext-clause-later g c = c.extend.ensures.later
 
 pub returns-in-Ext-clause-settings : goal.returns-in-Ext-clause-settings
 returns-in-Ext-clause-settings g c = c.extend.ensures.settings
+
+pub returns-in-Nothing-clause-runs : goal.returns-in-Nothing-clause-runs
+returns-in-Nothing-clause-runs g c = ran_as c.args.self.now _ _ c.in-Nothing.is (0, refl, none_ran 0 _)
+
+pub returns-in-Ring-clause-runs : goal.returns-in-Ring-clause-runs
+returns-in-Ring-clause-runs g c = ran_as c.args.self.now _ _ c.in-Ring.is (0, refl, none_ran 0 _)
+
+pub returns-in-Show-clause-runs : goal.returns-in-Show-clause-runs
+returns-in-Show-clause-runs g c = ran_as c.args.self.now _ _ c.in-Show.is (0, refl, none_ran 0 _)
+
+pub returns-in-Ideal-clause-runs : goal.returns-in-Ideal-clause-runs
+returns-in-Ideal-clause-runs g c = ran_as c.args.self.now _ _ c.in-Ideal.is (0, refl, none_ran 0 _)
+
+pub returns-in-Module-clause-runs : goal.returns-in-Module-clause-runs
+returns-in-Module-clause-runs g c = ran_as c.args.self.now _ _ c.in-Module.is (0, refl, none_ran 0 _)
+
+pub returns-in-Gens-clause-runs : goal.returns-in-Gens-clause-runs
+returns-in-Gens-clause-runs g c = ran_as c.args.self.now _ _ c.in-Gens.is (0, refl, none_ran 0 _)
+
+pub returns-in-Let-clause-runs : goal.returns-in-Let-clause-runs
+returns-in-Let-clause-runs g c = ran_as c.args.self.now _ _ c.in-Let.is c.make.ensures.runs
+
+pub returns-in-Gb-clause-runs : goal.returns-in-Gb-clause-runs
+returns-in-Gb-clause-runs g c = ran_as c.args.self.now _ _ c.in-Gb.is c.ask.ensures.runs
+
+pub returns-in-Size-clause-runs : goal.returns-in-Size-clause-runs
+returns-in-Size-clause-runs g c = ran_as c.args.self.now _ _ c.in-Size.is c.ask-in-Size.ensures.runs
+
+pub returns-in-NormalForm-clause-runs : goal.returns-in-NormalForm-clause-runs
+returns-in-NormalForm-clause-runs g c = ran_as c.args.self.now _ _ c.in-NormalForm.is c.ask-in-NormalForm.ensures.runs
+
+pub returns-in-Member-clause-runs : goal.returns-in-Member-clause-runs
+returns-in-Member-clause-runs g c = ran_as c.args.self.now _ _ c.in-Member.is c.ask-in-Member.ensures.runs
+
+pub returns-in-Lift-clause-runs : goal.returns-in-Lift-clause-runs
+returns-in-Lift-clause-runs g c = ran_as c.args.self.now _ _ c.in-Lift.is c.lift.ensures.runs
+
+pub returns-in-Hilbert-clause-runs : goal.returns-in-Hilbert-clause-runs
+returns-in-Hilbert-clause-runs g c = ran_as c.args.self.now _ _ c.in-Hilbert.is c.report.ensures.runs
+
+pub returns-in-Resolution-clause-runs : goal.returns-in-Resolution-clause-runs
+returns-in-Resolution-clause-runs g c = ran_as c.args.self.now _ _ c.in-Resolution.is c.report-in-Resolution.ensures.runs
+
+pub returns-in-Minimal-clause-runs : goal.returns-in-Minimal-clause-runs
+returns-in-Minimal-clause-runs g c = ran_as c.args.self.now _ _ c.in-Minimal.is c.report-in-Minimal.ensures.runs
+
+pub returns-in-Betti-clause-runs : goal.returns-in-Betti-clause-runs
+returns-in-Betti-clause-runs g c = ran_as c.args.self.now _ _ c.in-Betti.is c.report-in-Betti.ensures.runs
+
+pub returns-in-Regularity-clause-runs : goal.returns-in-Regularity-clause-runs
+returns-in-Regularity-clause-runs g c = ran_as c.args.self.now _ _ c.in-Regularity.is c.report-in-Regularity.ensures.runs
+
+pub returns-in-Change-clause-runs : goal.returns-in-Change-clause-runs
+returns-in-Change-clause-runs g c = ran_as c.args.self.now _ _ c.in-Change.is c.report-in-Change.ensures.runs
+
+pub returns-in-Equal-clause-runs : goal.returns-in-Equal-clause-runs
+returns-in-Equal-clause-runs g c = ran_as c.args.self.now _ _ c.in-Equal.is c.compare.ensures.runs
+
+pub returns-in-Express-clause-runs : goal.returns-in-Express-clause-runs
+returns-in-Express-clause-runs g c = ran_as c.args.self.now _ _ c.in-Express.is c.express.ensures.runs
+
+pub returns-in-Ext-clause-runs : goal.returns-in-Ext-clause-runs
+returns-in-Ext-clause-runs g c = ran_as c.args.self.now _ _ c.in-Ext.is c.extend.ensures.runs

@@ -8,6 +8,7 @@ use Rattle.session_values.specs.Names.{HasValue}
 use Rattle.session_lang.proofs.Placing.{is_placed, placed_after, placed_has, placed_keeps, placed_same, placed_sound}
 use Rattle.script_parse.proofs.NamePlaces.{place_bound}
 use Rattle.session_values.proofs.Values.{kept_as_many}
+use Rattle.session_lang.proofs.Counted.{reported_ran}
 use Rattle.session_lang.proofs.session.Session.report.Goals as goal
 
 pub unreachable-requires-in_default-place_of : goal.unreachable-requires-in_default-place_of
@@ -63,3 +64,10 @@ returns-clause-performed g c =
     reported_performed c.report_value.result c.args.name.now c.args.report c.as_bytes.result.now c.in-Some.ring (value_of c.info_at.result.now c.index_mut.result.now)
     c.index_mut.result.now item c.as_bytes.ensures.value (placed_has placed)
     (placed_after placed item e.list) (placed_same placed item) e.kept e.as_before e.reports e.unwritten e.same e.stop
+
+pub returns-clause-runs : goal.returns-clause-runs
+returns-clause-runs g c =
+    let infos = c.self.inside.names in
+    let found : place_named infos c.as_bytes.result.now ≡ Some c.in-Some-place_of.i = search rules in
+    let placed = is_placed infos c.self.inside.stored.items c.self.view_is c.self.invariant c.in-Some.is found c.info_at.ensures c.index_mut.ensures.value in
+    reported_ran c.args.self.now c.args.name.now _ _ c.as_bytes.result.now c.in-Some.ring c.info_at.result.now c.index_mut.result.now c.as_bytes.ensures.value (placed_has placed) c.args.report c.report_value.ensures.runs

@@ -5,6 +5,7 @@ use Rattle.std.proofs.lemmas.Result.{IfErr-weaker}
 use Rattle.session_lang.proofs.Performing.{performed_line}
 use Rattle.groebner_iface.proofs.CallingRuns.{more_stops}
 use Rattle.session_lang.specs.Lines.{Refuses}
+use Rattle.session_lang.proofs.Counted.{ran_line}
 use Rattle.session_lang.proofs.session.Session.step.Goals as goal
 
 pub perform-requires-clause-fit : goal.perform-requires-clause-fit
@@ -46,3 +47,10 @@ returns-in-Err-Refused-clause-steps g c = (
   refl,
   refl,
 )
+
+pub returns-in-Ok-clause-runs : goal.returns-in-Ok-clause-runs
+returns-in-Ok-clause-runs g c =
+    let stated =
+    states c.args.self.now c.self.inside.ring c.self.inside.names c.self.inside.stored.items c.self.view_is c.self.invariant
+    (option_copied c.as_ref.result) c.self.inside.names c.as_ref.ensures.value refl c.args.line.now c.in-Ok.stated c.in-Ok.ensures in
+    ran_line c.args.self.now _ _ c.args.line.now c.in-Ok.stated stated c.perform.ensures.runs
