@@ -1,3 +1,4 @@
+pub mod Splitting
 pub mod Summing
 pub mod Heading
 pub mod Pushing

@@ -9,8 +9,9 @@ use Rattle.monomials.specs.Exponents.{cons, exponents_of, times, unit}
 use Rattle.monomials.specs.Weights.{weighted_degree}
 use Rattle.orders.specs.MonomialOrders.{lex}
 use Rattle.orders.specs.WeightedOrders.{weighted_elimination, weighted_grevlex}
-use Rattle.monomial_orders.proofs.Comparing.{AreParts, elimination_first, elimination_second, graded, then_keeps}
+use Rattle.monomial_orders.proofs.Comparing.{then_keeps}
 use Rattle.schreyer_resolution.specs.Heads.{AreSummands, summed}
+use Rattle.schreyer_resolution.proofs.Splitting.{AreParts, elimination_first, elimination_second, graded}
 
 pub length-summed : (xs es : List ℕ) → length (summed xs es) ≡ length xs
 length-summed [] es = refl
