@@ -39,7 +39,7 @@ pub record IsNextLine (before after : Reading) (left left' : Option (List ℕ)) 
   pub counts : before.room ≡ length line + 1 + after.room
 
 -- the input is at its end, and these bytes are left, which all count and hold no newline
-pub record IsRest (before : Reading) (left left' : Option (List ℕ)) (bytes : List ℕ) : Type 0 where
+pub record IsLastBytes (before : Reading) (left left' : Option (List ℕ)) (bytes : List ℕ) : Type 0 where
   pub taken : AreTaken before left left' bytes
   pub line : HasNoNewline bytes
   pub counts : length bytes ≤ before.room
@@ -62,8 +62,8 @@ pub record IsCutOff (before : Reading) (left left' : Option (List ℕ)) : Type 0
 -- what each answer says; where memory ran out nothing is said of what was taken
 abbrev pub Answers : (before after : Reading) (left left' : Option (List ℕ)) (line : List ℕ) → Result Next LinesStop → Type 0
 Answers before after left left' line (Ok next.Line) = IsNextLine before after left left' line
-Answers before after left left' line (Ok next.Last) = IsRest before left left' line × (0 < length line)
-Answers before after left left' line (Ok next.End) = IsRest before left left' []
+Answers before after left left' line (Ok next.Last) = IsLastBytes before left left' line × (0 < length line)
+Answers before after left left' line (Ok next.End) = IsLastBytes before left left' []
 Answers before after left left' line (Ok next.Long) = IsTooLong before left left'
 Answers before after left left' line (Err stop.Fault) = IsCutOff before left left'
 Answers before after left left' line (Err stop.Memory) = ⊤

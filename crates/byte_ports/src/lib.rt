@@ -9,7 +9,8 @@ mod std_ports;
 mod sure;
 
 pub use line_reader::{Lines, LinesStop, Next};
-pub use memory::{MemSink, MemSource, NoMemory};
+pub use memory::{MemSink, MemSource};
+pub use no_memory::NoMemory;
 pub use ports::{Failed, Sink, Source, write_all_to};
 pub use std_ports::{StdSink, StdSource};
 pub use sure::{SureSink, SureSource};

@@ -8,19 +8,9 @@ ghost use Rattle.risen_counts.specs.Counts.{next_count};
 ghost use Rattle.byte_ports.specs.InMemory.{Giving, Taking, is_failing, given, not_given, taken_of, not_taken, taken_count};
 
 use crate::ports::move_front;
-use crate::{Failed, Sink, Source};
-use std::alloc::{AllocError, Global};
+use crate::{Failed, NoMemory, Sink, Source};
+use std::alloc::Global;
 use std::marker::Model;
-
-/// There was no room for what is to be made.
-#[derive(Clone, Copy, Debug, PartialEq, Eq)]
-pub struct NoMemory;
-
-impl From<AllocError> for NoMemory {
-    fn from(_: AllocError) -> Self {
-        NoMemory
-    }
-}
 
 /// Bytes in memory that are read a few at a time. Its reads take no memory.
 #[derive(Drop)]

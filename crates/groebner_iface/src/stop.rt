@@ -46,16 +46,6 @@ impl From<NoMemory> for Stop {
     }
 }
 
-impl From<monomial_orders::NoMemory> for Stop {
-    ghost use Rattle.groebner_iface.specs.declared.stop.Stop.TheVariants.{Memory};
-
-    ghost from_gives = { λ _ stop. stop ≡ Memory };
-
-    fn from(_error: monomial_orders::NoMemory) -> Stop {
-        Stop::Memory
-    }
-}
-
 /// Why an operation that stands on runs and on products of its own has no answer.
 #[derive(Drop)]
 pub enum OpStop {
@@ -95,16 +85,6 @@ impl From<NoMemory> for OpStop {
     ghost from_gives = { λ _ stop. stop ≡ Memory };
 
     fn from(_error: NoMemory) -> OpStop {
-        OpStop::Memory
-    }
-}
-
-impl From<monomial_orders::NoMemory> for OpStop {
-    ghost use Rattle.groebner_iface.specs.declared.stop.OpStop.TheVariants.{Memory};
-
-    ghost from_gives = { λ _ stop. stop ≡ Memory };
-
-    fn from(_error: monomial_orders::NoMemory) -> OpStop {
         OpStop::Memory
     }
 }

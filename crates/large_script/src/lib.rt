@@ -2,7 +2,6 @@
 #![tactic(auto)]
 
 mod script;
-mod stop;
 
+pub use no_memory::NoMemory;
 pub use script::large_script;
-pub use stop::NoMemory;

@@ -30,6 +30,10 @@ pub trait Frame {
         ensures { let n = variables (over self.now) in
             result ≡ compare self.now n (key_of n a.now) (key_of n b.now) };
 
+    /// A number for a key, by which a sort need not read most keys: where the numbers of two differ, the keys mostly compare as they
+    /// do. No clause says so: who sorts by it tests what comes out.
+    fn hint(&self, key: &Key) -> u64;
+
     /// It is total, kept under multiplication, never has a multiple below what it is of, and is well-founded on
     /// keys of bounded position.
     ghost laws: { (f : Self) (n r : ℕ) → IsKeyOrder r (compare f n) };

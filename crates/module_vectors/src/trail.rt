@@ -106,11 +106,3 @@ impl From<NoMemory> for WorkStop {
         WorkStop::Memory
     }
 }
-
-impl From<monomial_orders::NoMemory> for WorkStop {
-    ghost from_gives = { λ _ stop. stop ≡ Memory };
-
-    fn from(_error: monomial_orders::NoMemory) -> WorkStop {
-        WorkStop::Memory
-    }
-}

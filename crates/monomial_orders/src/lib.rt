@@ -5,6 +5,7 @@
 #![tactic(auto)]
 
 mod compare;
+mod hints;
 mod mono;
 mod order;
 mod order_laws;
@@ -15,7 +16,8 @@ mod storage;
 mod weights;
 
 pub use mono::Mono;
+pub use no_memory::NoMemory;
 pub use order::{ModOrder, MonomialOrder, Order};
 pub use order_laws::key_orders;
-pub use stop::{MonoStop, NoMemory};
+pub use stop::MonoStop;
 pub use weights::Weights;

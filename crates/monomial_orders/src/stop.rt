@@ -4,23 +4,6 @@ ghost use Rattle.monomial_orders.specs.declared.stop.MonoStop.TheVariants.{Memor
 
 use std::alloc::{AllocError, AllocFailed};
 
-/// There was no memory for a monomial of more than 16 variables, or no room for the degree of 2^32 or more of a least common
-/// multiple over more than 257 variables.
-#[derive(Clone, Copy, Debug, PartialEq, Eq)]
-pub struct NoMemory;
-
-impl From<AllocError> for NoMemory {
-    fn from(_error: AllocError) -> NoMemory {
-        NoMemory
-    }
-}
-
-impl<T: Drop> From<AllocFailed<T>> for NoMemory {
-    fn from(_error: AllocFailed<T>) -> NoMemory {
-        NoMemory
-    }
-}
-
 /// Why there is no such monomial.
 #[derive(Clone, Copy, Debug, PartialEq, Eq)]
 pub enum MonoStop {

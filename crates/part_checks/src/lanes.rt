@@ -1,6 +1,6 @@
 // Both kernels beside their plain loops, at lengths about one and more vectors, over each modulus.
 ghost use Rattle.std.specs.Prelude.{◌≡◌, ◌<◌, ◌≤◌, ◌+◌, ◌-◌, ◌^◌, length};
-ghost use Rattle.lane_kernels.specs.Places.{AreBelow};
+ghost use Rattle.lane_kernels.specs.Places.{AreNumbersBelow};
 
 use lane_kernels::{axpy_dense, reduce_lanes};
 use std::test::Fail;
@@ -24,7 +24,7 @@ fn reduce_plainly(acc: &mut [u64], p: u64)
 // Residues that differ from place to place.
 fn fill_row(row: &mut [u32], p: &Modulus)
     ensures count { length row.new ≡ length row.old }
-    ensures residues { AreBelow p.now.value row.new }
+    ensures residues { AreNumbersBelow p.now.value row.new }
 {
     for i in 0..row.len() {
         row[i] = p.from_u128(3 * i as u128 + 2147483600);
@@ -34,7 +34,7 @@ fn fill_row(row: &mut [u32], p: &Modulus)
 // Numbers below 2^63 that differ from place to place.
 fn fill_numbers(acc: &mut [u64])
     ensures count { length acc.new ≡ length acc.old }
-    ensures small { AreBelow (2 ^ 63) acc.new }
+    ensures small { AreNumbersBelow (2 ^ 63) acc.new }
 {
     for i in 0..acc.len() {
         acc[i] = (i as u64).wrapping_mul(0x9e37_79b9_7f4a_7c15) / 2;
@@ -45,11 +45,11 @@ fn fill_numbers(acc: &mut [u64])
 fn add_below(acc: &mut [u64], _limit: u64, c: u32, row: &[u32], p: &Modulus)
     requires count { length row.now ≡ length acc.old }
     requires factor { c < p.now.value }
-    requires row { AreBelow p.now.value row.now }
+    requires row { AreNumbersBelow p.now.value row.now }
     requires limit { _limit ≤ 2 ^ 63 }
-    requires numbers { AreBelow _limit acc.old }
+    requires numbers { AreNumbersBelow _limit acc.old }
     ensures count { length acc.new ≡ length acc.old }
-    ensures numbers { AreBelow (_limit + (2 ^ 62 - 1)) acc.new }
+    ensures numbers { AreNumbersBelow (_limit + (2 ^ 62 - 1)) acc.new }
 {
     p.domain();
     axpy_dense(acc, c, row, p);

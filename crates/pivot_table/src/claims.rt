@@ -7,17 +7,8 @@ use crate::law::{ClaimSeat, Law, Rows, View};
 use crate::plays::{Claimed, Cut, Glue, Looked};
 use crate::words::{rows_of, words_of};
 use atomic_table::Table;
+use no_memory::NoMemory;
 use std::alloc::{AllocError, Global};
-
-/// There was no memory.
-#[derive(Clone, Copy, Debug, PartialEq, Eq)]
-pub struct NoMemory;
-
-impl From<AllocError> for NoMemory {
-    fn from(_error: AllocError) -> NoMemory {
-        NoMemory
-    }
-}
 
 /// The columns of one pass, each with a word: 0, or one more than the number of the row that has the column.
 #[derive(Drop)]

@@ -15,5 +15,6 @@ mod law;
 mod plays;
 mod words;
 
-pub use claims::{Claim, Claims, NoMemory};
+pub use claims::{Claim, Claims};
 pub use law::{ClaimSeat, Entry, Law, Rows, View};
+pub use no_memory::NoMemory;

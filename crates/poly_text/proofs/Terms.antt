@@ -5,7 +5,7 @@ use Rattle.std.proofs.lemmas.List.{append-nil}
 use Rattle.std.proofs.lemmas.Fmt.{decimal_injective}
 use Rattle.std.proofs.lemmas.Bool.Decides.{nat_tests}
 use Rattle.formal_sums.specs.FormalSums.{Each}
-use Rattle.poly_text.specs.Names.{AreDistinct, IsLetter, IsName, IsNameByte}
+use Rattle.poly_text.specs.Names.{AreAllDistinct, IsLetter, IsName, IsNameByte}
 use Rattle.poly_text.specs.Texts.{factor_texts, joined, power_texts, powers_texts}
 use Rattle.poly_text.specs.Writing.{power_text}
 use Rattle.poly_text.proofs.Decimals.{AreDigits, IsDigit, decimal_digits}
@@ -82,7 +82,7 @@ other_head n e rest (m ∷ ms) (suc k ∷ fs) hn he other hms hfs h =
     other.0 (sym (power_injective m n (suc k) e hms.0 hn hfs.0 he head).0)
 
 -- the powers say the exponents
-pub powers_injective : (names : List (List ℕ)) (es fs : List ℕ) → Each IsName names → AreDistinct names → length es ≡ length names → length fs ≡ length names
+pub powers_injective : (names : List (List ℕ)) (es fs : List ℕ) → Each IsName names → AreAllDistinct names → length es ≡ length names → length fs ≡ length names
     → Each (λ e. e < 2 ^ 64) es → Each (λ f. f < 2 ^ 64) fs → powers_texts names es ≡ powers_texts names fs → es ≡ fs
 powers_injective [] [] [] hn dn le lf he hf h = refl
 powers_injective [] (e ∷ es) fs hn dn le lf he hf h = absurd (omega arith)

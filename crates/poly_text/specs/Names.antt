@@ -16,10 +16,10 @@ IsName [] = ⊥
 IsName (b ∷ bs) = IsLetter b × Each IsNameByte bs
 
 -- no two are the same
-abbrev pub AreDistinct : List (List ℕ) → Type 0
-AreDistinct [] = ⊤
-AreDistinct (x ∷ xs) = Each (λ y. x ≢ y) xs × AreDistinct xs
+abbrev pub AreAllDistinct : List (List ℕ) → Type 0
+AreAllDistinct [] = ⊤
+AreAllDistinct (x ∷ xs) = Each (λ y. x ≢ y) xs × AreAllDistinct xs
 
 -- distinct names
 abbrev pub AreDistinctNames : List (List ℕ) → Type 0
-AreDistinctNames names = Each IsName names × AreDistinct names
+AreDistinctNames names = Each IsName names × AreAllDistinct names

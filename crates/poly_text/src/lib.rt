@@ -18,13 +18,12 @@ use vector::append_entries;
 
 mod list;
 mod polynomial;
-mod stop;
 mod text_laws;
 mod undo;
 mod vector;
 mod zeros;
 
-pub use stop::NoMemory;
+pub use no_memory::NoMemory;
 pub use text_laws::{lists, numbers, polynomials, vectors};
 
 /// Appends the text of a polynomial: its terms, the greatest first. After an error nothing is appended.

@@ -1,7 +1,9 @@
-// Why there is no text.
+//! Want of memory, as the one error of calls that fail for nothing else. Each crate whose calls answer it re-exports it.
+#![tactic(auto)]
+
 use std::alloc::{AllocError, AllocFailed};
 
-/// There was no memory for a text.
+/// There was no memory, or no room for a number that the call keeps.
 #[derive(Clone, Copy, Debug, PartialEq, Eq)]
 pub struct NoMemory;
 
