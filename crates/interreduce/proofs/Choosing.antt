@@ -12,7 +12,7 @@ use Rattle.reduced_bases.proofs.Dropping.{KeyDivides_refl}
 use Rattle.module_vectors.specs.Trails.{lead_at}
 use Rattle.vector_division.proofs.Occurring.{Contains_here, Contains_later}
 use Rattle.vector_division.specs.Divisors.{AreEnough, IsDividedAt}
-use Rattle.interreduce.specs.Leads.{AreApart, AreNeeded, AreNeededSoFar, IsCoveredBy, Rises}
+use Rattle.interreduce.specs.Leads.{HaveApartLeads, AreNeeded, AreNeededSoFar, IsCoveredBy, LeadsRise}
 use Rattle.interreduce.proofs.Leading.{Terms}
 
 -- what holds of each number below i that has the property, and the number i at the end
@@ -63,16 +63,16 @@ module _ (n : ℕ) (compare : Key n → Key n → Ordering) (list : List Terms) 
 
   apart_push :
       (kept : List ℕ) (x : ℕ)
-      → AreApart n compare list kept
+      → HaveApartLeads n compare list kept
       → Each (λ k. (compare (lead_at n list k) (lead_at n list x) ≡ Less) × (KeyDivides (lead_at n list k) (lead_at n list x) → ⊥)) kept
-      → AreApart n compare list (kept ++ x ∷ [])
+      → HaveApartLeads n compare list (kept ++ x ∷ [])
   apart_push [] x h e = (tt, tt)
   apart_push (k ∷ kept) x h e = (Each_append _ kept (x ∷ []) h.0 (e.0, tt), apart_push kept x h.1 e.1)
 
   -- of two members of the choice the earlier has the lower lead, which does not divide the other
   pub apart_at :
       (kept : List ℕ) (i j : ℕ)
-      → AreApart n compare list kept → i < j → j < length kept
+      → HaveApartLeads n compare list kept → i < j → j < length kept
       → (compare (lead_at n list (get_or kept i 0)) (lead_at n list (get_or kept j 0)) ≡ Less)
       × (KeyDivides (lead_at n list (get_or kept i 0)) (lead_at n list (get_or kept j 0)) → ⊥)
   apart_at [] i j h lt le = absurd (omega arith)
@@ -90,7 +90,7 @@ module _ (n : ℕ) (compare : Key n → Key n → Ordering) (list : List Terms) 
       each_at (m ∷ ks) (suc j) h lt = each_at ks j h.1 (omega arith)
   apart_at (k ∷ kept) (suc i) (suc j) h lt le = apart_at kept i j h.1 (omega arith) (omega arith)
 
-  pub needed_start : (order : List ℕ) → Rises n compare list order → AreNeededSoFar n compare list [] order []
+  pub needed_start : (order : List ℕ) → LeadsRise n compare list order → AreNeededSoFar n compare list [] order []
   needed_start order h = record { within = tt; leads = tt; apart = tt; covers = tt; up_to = tt; rises = h }
 
   pub needed_skip :

@@ -1,7 +1,7 @@
 -- A member whose tail the list itself reduced, or the members that were reduced before it
 use Rattle.std.proofs.Common.{Greater, Less, List, Ordering, [], ap, arith, drop, get_or, inl, inr, length, map, refl, subst, suc, sym, take, zero, ℕ, ◌++◌, ◌+◌, ◌-◌, ◌<◌, ◌∙◌, ◌∷◌, ◌≡◌, ◌≤◌, ◌⊎◌}
 use Rattle.std.proofs.lemmas.Bool.{cases_lt}
-use Rattle.std.proofs.lemmas.List.{get_or-append_right, get_or-drop, get_or-map, get_or-take, get_or_append_left, get_or_default, length-append, length-drop, length-map, length-take-le, take-append-le, take_all}
+use Rattle.std.proofs.lemmas.List.{drop-append-le, get_or-append_right, get_or-drop, get_or-map, get_or-take, get_or_append_left, get_or_default, length-append, length-drop, length-map, length-take-le, take-append-drop, take-append-le, take_all}
 use Rattle.formal_sums.proofs.Combining.{IsMember_each, IsMember_through}
 use Rattle.formal_sums.proofs.WeightedSums.{Each_append}
 use Rattle.formal_sums.specs.Combinations.{IsMember}
@@ -19,7 +19,7 @@ use Rattle.module_vectors.specs.declared.ring.Ring.{Ring}
 use Rattle.vector_division.proofs.Members.{sums_at}
 use Rattle.vector_division.specs.Divisions.{IsFreeOfLeads, IsUncovered}
 use Rattle.interreduce.specs.Leads.{AreNeeded, IsCoveredBy}
-use Rattle.interreduce.specs.Members.{AreBatchOf, HasReducedTail, IsReducedMember}
+use Rattle.interreduce.specs.Members.{AreBatchOf, AreReducedTo, HasReducedTail, HaveReducedTails, IsReducedMember}
 use Rattle.interreduce.proofs.Choosing.{apart_at}
 use Rattle.interreduce.proofs.Leading.{Terms}
 use Rattle.interreduce.proofs.Reducing.{each_index}
@@ -40,28 +40,65 @@ vectors_at ring compare list vectors [] = tt
 vectors_at ring compare list vectors (i ∷ indices) =
     (each_at_index (IsVectorOver ring compare) list i (record { each = tt; descends = tt }) vectors, vectors_at ring compare list vectors indices)
 
--- the list that a batch is divided by
-pub list_known :
-    (at : ℕ → Terms) (batch : List ℕ) (reduced unneeded vectors whole known : List Terms) (n : ℕ) → vectors ≡ reduced ++ map at (take n batch) → n ≡ length batch - 1
-    → whole ≡ vectors ++ unneeded → known ≡ whole → known ≡ (reduced ++ map at (take (length batch - 1) batch)) ++ unneeded
-list_known at batch reduced unneeded vectors whole known n a e b c = c ∙ b ∙ ap (λ z. z ++ unneeded) (a ∙ ap (λ m. reduced ++ map at (take m batch)) e)
+-- the vectors that a batch is divided by
+pub known_batch :
+    (at : ℕ → Terms) (batch : List ℕ) (known start copies whole : List Terms) (n : ℕ) → start ≡ [] → copies ≡ start ++ map at (take n batch)
+    → n ≡ length batch - 1 → whole ≡ known ++ copies → whole ≡ known ++ map at (take (length batch - 1) batch)
+known_batch at batch known start copies whole n none a e b =
+    b ∙ ap (λ z. known ++ z) (a ∙ ap (λ z. z ++ map at (take n batch)) none ∙ ap (λ m. map at (take m batch)) e)
 
-pub known_vectors :
-    (ring : Ring) (compare : (n : ℕ) → Key n → Key n → Ordering) (list : List Terms) → AreVectorsOver ring compare list
-    → (reduced unneeded : List Terms) (indices : List ℕ) → AreVectorsOver ring compare reduced → AreVectorsOver ring compare unneeded
-    → AreVectorsOver ring compare ((reduced ++ map (λ i. get_or list i []) indices) ++ unneeded)
-known_vectors ring compare list vectors reduced unneeded indices a b =
-    Each_append (IsVectorOver ring compare) (reduced ++ map (λ i. get_or list i []) indices) unneeded
-    (Each_append (IsVectorOver ring compare) reduced (map (λ i. get_or list i []) indices) a (vectors_at ring compare list vectors indices)) b
+-- the first none of the members
+pub none_before : (at : ℕ → Terms) (batch : List ℕ) (n : ℕ) → n ≡ 0 → map at (take n batch) ≡ []
+none_before at [] n e = ap (λ z. map at z) (ap (λ m. take m []) e) ∙ refl
+none_before at (i ∷ batch) n e = ap (λ m. map at (take m (i ∷ batch))) e
+
+-- what stood before the last vector
+pub front_of : (known whole : List Terms) (v : Terms) → whole ≡ known ++ v ∷ [] → take (length whole - 1) whole ≡ known
+front_of known whole v e =
+    let l : length whole ≡ length known + 1 = ap length e ∙ length-append known (v ∷ []) in
+    let m : length whole - 1 ≡ length known = omega (arith, l) in
+    ap (λ z. take z whole) m ∙ ap (take (length known)) e ∙ take-append-le (length known) known (v ∷ []) (omega arith)
+    ∙ take_all (length known) known (omega arith)
 
 -- what is left of the front of a list
 pub front_again :
-    (reduced vectors others whole split cut : List Terms) (width end : ℕ) → cut ≡ take width split → split ≡ take end whole → whole ≡ vectors ++ others
-    → (more : List Terms) → vectors ≡ reduced ++ more → width ≡ length reduced → end ≡ length vectors → cut ≡ reduced
-front_again reduced vectors others whole split cut width end a b c more d w e =
-    let one : take end whole ≡ vectors = ap (take end) c ∙ take-append-le end vectors others (omega (arith, e)) ∙ take_all end vectors (omega (arith, e)) in
-    let two : take width vectors ≡ reduced = ap (take width) d ∙ take-append-le width reduced more (omega (arith, w)) ∙ take_all width reduced (omega (arith, w)) in
-    a ∙ ap (take width) (b ∙ one) ∙ two
+    (known more whole cut : List Terms) (width : ℕ) → cut ≡ take width whole → whole ≡ known ++ more → width ≡ length known → cut ≡ known
+front_again known more whole cut width a b e =
+    a ∙ ap (take width) b ∙ take-append-le width known more (omega (arith, e)) ∙ take_all width known (omega (arith, e))
+
+pub vectors_known :
+    (ring : Ring) (compare : (n : ℕ) → Key n → Key n → Ordering) (list : List Terms) → AreVectorsOver ring compare list
+    → (known more : List Terms) (indices : List ℕ) → AreVectorsOver ring compare known → more ≡ known ++ map (λ i. get_or list i []) indices
+    → AreVectorsOver ring compare more
+vectors_known ring compare list vectors known more indices h e =
+    subst (AreVectorsOver ring compare) (sym e)
+    (Each_append (IsVectorOver ring compare) known (map (λ i. get_or list i []) indices) h (vectors_at ring compare list vectors indices))
+
+abbrev at_index : List Terms → ℕ → Terms
+at_index list i = get_or list i []
+
+module _ (ring : Ring) (compare : (n : ℕ) → Key n → Key n → Ordering) (list : List Terms) where
+  pub first_known :
+      (kept others : List ℕ) (w : ℕ) (known start copies : List Terms) → start ≡ [] → copies ≡ start ++ map (at_index list) others → known ≡ copies
+      → w ≡ length copies → AreReducedTo ring compare list kept others w 0 known
+  first_known kept others w known start copies none a e l =
+      let same : known ≡ map (at_index list) others = e ∙ a ∙ ap (λ z. z ++ map (at_index list) others) none in
+      let long : w ≡ length known = omega (arith, l, ap length e) in
+      record {
+        front = take_all w known (omega (arith, long)) ∙ same;
+        long = omega (arith, long);
+        count = length-drop w known ∙ omega (arith, long);
+        each = λ k lt. absurd (omega (arith, lt));
+      }
+
+  pub in_two : (kept others : List ℕ) (w s : ℕ) (known : List Terms) → AreReducedTo ring compare list kept others w s known → known ≡ map (at_index list) others ++ drop w known
+  in_two kept others w s known h = sym (take-append-drop w known) ∙ ap (λ z. z ++ drop w known) h.front
+
+  pub all_vectors : (kept others : List ℕ) (w s : ℕ) (known : List Terms) → AreVectorsOver ring compare list → AreReducedTo ring compare list kept others w s known → AreVectorsOver ring compare known
+  all_vectors kept others w s known vectors h =
+      subst (AreVectorsOver ring compare) (sym (in_two kept others w s known h))
+      (Each_append (IsVectorOver ring compare) (map (at_index list) others) (drop w known) (vectors_at ring compare list vectors others)
+      (each_index (IsVectorOver ring compare) (drop w known) (λ k lt. (h.each k (subst (λ z. k < z) h.count lt)).vector)))
 
 has_term : (n : ℕ) (w : Terms) → (sum_of n w ≡ [] → ⊥) → 0 < length w
 has_term n [] some = absurd (some refl)
@@ -178,23 +215,20 @@ module _ (ring : Ring) (compare : (n : ℕ) → Key n → Key n → Ordering)
       tail = tail_free v h;
     }
 
-  abbrev at_index : ℕ → Terms
-  at_index i = get_or list i []
-
   -- what holds of each member, and of none past the end, holds of those with these indices
-  members_at : (P : Terms → Type 0) → ((i : ℕ) → P (get_or list i [])) → (indices : List ℕ) → Each P (map at_index indices)
+  members_at : (P : Terms → Type 0) → ((i : ℕ) → P (get_or list i [])) → (indices : List ℕ) → Each P (map (at_index list) indices)
   members_at P h [] = tt
   members_at P h (i ∷ indices) = (h i, members_at P h indices)
 
-  -- the members that were reduced, those of the batch but its last one, and some others
+  -- some members, those that were reduced, and those of the batch but its last one
   abbrev together : List Terms → List ℕ → List ℕ → List Terms
-  together reduced batch rest = (reduced ++ map at_index (take (length batch - 1) batch)) ++ map at_index rest
+  together reduced batch rest = (map (at_index list) rest ++ reduced) ++ map (at_index list) (take (length batch - 1) batch)
 
-  pub each_together :
+  each_together :
       (P : Terms → Type 0) → ((i : ℕ) → P (get_or list i [])) → (reduced : List Terms) (batch rest : List ℕ) → Each P reduced → Each P (together reduced batch rest)
   each_together P h reduced batch rest e =
-      Each_append P (reduced ++ map at_index (take (length batch - 1) batch)) (map at_index rest)
-      (Each_append P reduced (map at_index (take (length batch - 1) batch)) e (members_at P h (take (length batch - 1) batch))) (members_at P h rest)
+      Each_append P (map (at_index list) rest ++ reduced) (map (at_index list) (take (length batch - 1) batch))
+      (Each_append P (map (at_index list) rest) reduced (members_at P h rest) e) (members_at P h (take (length batch - 1) batch))
 
   -- a batch of the needed members, of which the earlier ones are reduced
   module _ (kept : List ℕ) (needed : AreNeeded (variables ring) (compare (variables ring)) list kept) (reduced : List Terms) (s : ℕ)
@@ -207,76 +241,90 @@ module _ (ring : Ring) (compare : (n : ℕ) → Key n → Key n → Ordering)
         (each_index (λ v. IsMember ring.modulus.value F (sum_of (variables ring) v)) reduced (λ j l. (done j (subst (λ z. j < z) count l)).generated))) lt
 
     abbrev raw : List Terms
-    raw = map at_index (take (length batch - 1) batch)
+    raw = map (at_index list) (take (length batch - 1) batch)
 
     length-raw : length raw ≡ length batch - 1
-    length-raw = length-map (take (length batch - 1) batch) at_index ∙ length-take-le (length batch - 1) batch (omega arith)
+    length-raw = length-map (take (length batch - 1) batch) (at_index list) ∙ length-take-le (length batch - 1) batch (omega arith)
+
+    abbrev w : ℕ
+    w = length (map (at_index list) rest)
+
+    known_length : length (map (at_index list) rest ++ reduced) ≡ w + s
+    known_length = length-append (map (at_index list) rest) reduced ∙ ap (λ z. w + z) count
 
     -- a member that is reduced, and one of the batch
-    known_reduced : (k : ℕ) → k < s → get_or (together reduced batch rest) k [] ≡ get_or reduced k []
+    known_reduced : (k : ℕ) → k < s → get_or (together reduced batch rest) (w + k) [] ≡ get_or reduced k []
     known_reduced k lt =
-        get_or_append_left (reduced ++ raw) (map at_index rest) [] k (omega (arith, length-append reduced raw, lt, count))
-        ∙ get_or_append_left reduced raw [] k (omega (arith, lt, count))
+        let e : w + k - w ≡ k = omega arith in
+        get_or_append_left (map (at_index list) rest ++ reduced) raw [] (w + k) (omega (arith, known_length, lt))
+        ∙ get_or-append_right (map (at_index list) rest) reduced w (w + k) [] refl (omega arith)
+        ∙ ap (λ z. get_or reduced z []) e
 
-    known_raw : (k : ℕ) → s ≤ k → k + 1 < s + length batch → get_or (together reduced batch rest) k [] ≡ get_or list (get_or kept k 0) []
+    known_raw : (k : ℕ) → s ≤ k → k + 1 < s + length batch → get_or (together reduced batch rest) (w + k) [] ≡ get_or list (get_or kept k 0) []
     known_raw k le lt =
-        get_or_append_left (reduced ++ raw) (map at_index rest) [] k (omega (arith, length-append reduced raw, length-raw, lt, count))
-        ∙ get_or-append_right reduced raw s k [] count le
-        ∙ get_or-map at_index (take (length batch - 1) batch) (k - s) 0 [] (omega (arith, length-take-le (length batch - 1) batch (omega arith), lt, le))
-        ∙ ap at_index (get_or-take (length batch - 1) batch (k - s) 0 (omega arith) ∙ is (k - s) (omega arith) ∙ ap (λ z. get_or kept z 0) (omega arith))
+        let e : w + k - (w + s) ≡ k - s = omega arith in
+        get_or-append_right (map (at_index list) rest ++ reduced) raw (w + s) (w + k) [] known_length (omega (arith, le))
+        ∙ ap (λ z. get_or raw z []) e
+        ∙ get_or-map (at_index list) (take (length batch - 1) batch) (k - s) 0 [] (omega (arith, length-take-le (length batch - 1) batch (omega arith), lt, le))
+        ∙ ap (at_index list) (get_or-take (length batch - 1) batch (k - s) 0 (omega arith) ∙ is (k - s) (omega arith) ∙ ap (λ z. get_or kept z 0) (omega arith))
 
     known_serves :
         (i : ℕ) → i < s + length batch → (k : ℕ) → k < i
         → (p : ℕ) × (p < length (together reduced batch rest)) × (0 < length (get_or (together reduced batch rest) p [])) × (lead_at (variables ring) (together reduced batch rest) p ≡ lead_at (variables ring) list (get_or kept k 0))
     known_serves i lt k below = go (cases_lt k s)
       where
-        within : k < length (together reduced batch rest)
-        within = omega (arith, length-append (reduced ++ raw) (map at_index rest), length-append reduced raw, length-raw, lt, below, count)
+        within : w + k < length (together reduced batch rest)
+        within = omega (arith, length-append (map (at_index list) rest ++ reduced) raw, known_length, length-raw, lt, below)
 
         go : (k < s) ⊎ (s ≤ k)
             → (p : ℕ) × (p < length (together reduced batch rest)) × (0 < length (get_or (together reduced batch rest) p [])) × (lead_at (variables ring) (together reduced batch rest) p ≡ lead_at (variables ring) list (get_or kept k 0))
         go (inl before) =
             let e = known_reduced k before in
             let d = done k before in (
-              k,
+              w + k,
               within,
               subst (λ z. 0 < length z) (sym e) (has_term (variables ring) (get_or reduced k []) (not_zero (sum_of (variables ring) (get_or reduced k [])) d.monic)),
               ap (λ z. head_key (sum_of (variables ring) z)) e ∙ d.lead,
             )
         go (inr le) =
             let e = known_raw k le (omega arith) in (
-              k,
+              w + k,
               within,
               subst (λ z. 0 < length z) (sym e) (Each_member (λ j. 0 < length (get_or list j [])) kept k 0 needed.leads (omega arith)),
               ap (λ z. head_key (sum_of (variables ring) z)) e,
             )
 
-    pub batch_reduced :
-        (answer : List Terms) → AreBatchOf ring compare list reduced (map at_index rest) batch answer
-        → (length answer ≡ s + length batch) × ((k : ℕ) → k < s + length batch → IsReducedMember ring compare list (get_or kept k 0) (get_or answer k []))
-    batch_reduced answer h = (ap length h.behind ∙ length-append reduced h.members ∙ omega (arith, count, h.tails.count), λ k lt. subst (λ z. IsReducedMember ring compare list (get_or kept k 0) (get_or z k [])) (sym h.behind) (go k lt (cases_lt k s)))
+    batch_reduced :
+        (members : List Terms) → HaveReducedTails ring compare list (together reduced batch rest) batch members
+        → (length (reduced ++ members) ≡ s + length batch) × ((k : ℕ) → k < s + length batch → IsReducedMember ring compare list (get_or kept k 0) (get_or (reduced ++ members) k []))
+    batch_reduced members h = (length-append reduced members ∙ omega (arith, count, h.count), λ k lt. go k lt (cases_lt k s))
       where
-        go : (k : ℕ) → k < s + length batch → (k < s) ⊎ (s ≤ k) → IsReducedMember ring compare list (get_or kept k 0) (get_or (reduced ++ h.members) k [])
+        go : (k : ℕ) → k < s + length batch → (k < s) ⊎ (s ≤ k) → IsReducedMember ring compare list (get_or kept k 0) (get_or (reduced ++ members) k [])
         go k lt (inl before) =
-            subst (IsReducedMember ring compare list (get_or kept k 0)) (sym (get_or_append_left reduced h.members [] k (omega (arith, before, count)))) (done k before)
+            subst (IsReducedMember ring compare list (get_or kept k 0)) (sym (get_or_append_left reduced members [] k (omega (arith, before, count)))) (done k before)
         go k lt (inr le) =
             let at : get_or batch (k - s) 0 ≡ get_or kept k 0 = is (k - s) (omega arith) ∙ ap (λ z. get_or kept z 0) (omega arith) in
-            subst (IsReducedMember ring compare list (get_or kept k 0)) (sym (get_or-append_right reduced h.members s k [] count le))
-            (by_known kept needed (together reduced batch rest) k known_members (known_serves k lt) (get_or h.members (k - s) [])
-            (subst (λ z. HasReducedTail ring compare (together reduced batch rest) (get_or list z []) (get_or h.members (k - s) [])) at (h.tails.each (k - s) (omega (arith, h.tails.count)))))
+            subst (IsReducedMember ring compare list (get_or kept k 0)) (sym (get_or-append_right reduced members s k [] count le))
+            (by_known kept needed (together reduced batch rest) k known_members (known_serves k lt) (get_or members (k - s) [])
+            (subst (λ z. HasReducedTail ring compare (together reduced batch rest) (get_or list z []) (get_or members (k - s) [])) at (h.each (k - s) (omega (arith, h.count)))))
 
   -- a batch from one place to another of the needed members
   pub next_batch :
-      (kept : List ℕ) (needed : AreNeeded (variables ring) (compare (variables ring)) list kept) (reduced : List Terms) (s : ℕ)
-      → length reduced ≡ s → ((k : ℕ) → k < s → IsReducedMember ring compare list (get_or kept k 0) (get_or reduced k []))
-      → (rest : List ℕ) (unneeded answer : List Terms) (end : ℕ) → unneeded ≡ map (λ i. get_or list i []) rest → (s < end) × (end ≤ length kept)
-      → AreBatchOf ring compare list reduced unneeded (take (end - s) (drop s kept)) answer
-      → (length answer ≡ end) × ((k : ℕ) → k < end → IsReducedMember ring compare list (get_or kept k 0) (get_or answer k []))
-  next_batch kept needed reduced s count done rest unneeded answer end u ends h =
+      (kept : List ℕ) (needed : AreNeeded (variables ring) (compare (variables ring)) list kept) (others : List ℕ) (w s : ℕ) (known : List Terms)
+      → AreReducedTo ring compare list kept others w s known → (end : ℕ) (answer : List Terms) → (s < end) × (end ≤ length kept)
+      → AreBatchOf ring compare list known (take (end - s) (drop s kept)) answer → AreReducedTo ring compare list kept others w end answer
+  next_batch kept needed others w s known h end answer ends b =
       let batch = take (end - s) (drop s kept) in
       let behind : length (drop s kept) ≡ length kept - s = length-drop s kept in
       let long : length batch ≡ end - s = length-take-le (end - s) (drop s kept) (omega (arith, behind, ends.1)) in
-      let r = batch_reduced kept needed reduced s count done batch rest
+      let raw = map (at_index list) (take (length batch - 1) batch) in
+      let r = batch_reduced kept needed (drop w known) s h.count h.each batch others
       (λ k lt. get_or-take (end - s) (drop s kept) k 0 (omega (arith, long, lt)) ∙ get_or-drop s kept k 0) (omega (arith, long, ends.0, ends.1))
-      answer (subst (λ z. AreBatchOf ring compare list reduced z batch answer) u h) in
-      (r.0 ∙ omega (arith, long, ends.0), λ k lt. r.1 k (omega (arith, long, lt, ends.0)))
+      b.members (subst (λ z. HaveReducedTails ring compare list (z ++ raw) batch b.members) (in_two ring compare list kept others w s known h) b.tails) in
+      let back : drop w answer ≡ drop w known ++ b.members = ap (drop w) b.behind ∙ drop-append-le w known b.members h.long in
+      record {
+        front = ap (take w) b.behind ∙ take-append-le w known b.members h.long ∙ h.front;
+        long = omega (arith, h.long, ap length b.behind ∙ length-append known b.members);
+        count = ap length back ∙ r.0 ∙ omega (arith, long, ends.0);
+        each = λ k lt. subst (λ z. IsReducedMember ring compare list (get_or kept k 0) (get_or z k [])) (sym back) (r.1 k (omega (arith, long, lt, ends.0)));
+      }

@@ -15,7 +15,7 @@ use Rattle.module_vectors.specs.Trails.{lead_at}
 use Rattle.module_vectors.specs.Vectors.{HasVariables, key_of, sum_of}
 use Rattle.module_vectors.specs.declared.key.Key.{Key as CodeKey}
 use Rattle.vector_division.specs.Progress.{HaveVariables}
-use Rattle.interreduce.specs.Leads.{HaveLeads, Rises, by_lead, lack_of}
+use Rattle.interreduce.specs.Leads.{HaveLeads, LeadsRise, by_lead, lack_of}
 
 abbrev pub Terms : Type 0
 Terms = List (CodeKey × ℕ)
@@ -48,7 +48,7 @@ each_from P (x ∷ xs) h = (h 0 x (omega arith), each_from P xs (λ k d lt. h (s
 rises_from :
     (n : ℕ) (compare : Key n → Key n → Ordering) (list : List Terms) (xs : List ℕ)
     → ((i j d : ℕ) → i < j → j < length xs → compare (lead_at n list (get_or xs i d)) (lead_at n list (get_or xs j d)) ≡ Greater → ⊥)
-    → Rises n compare list xs
+    → LeadsRise n compare list xs
 rises_from n compare list [] h = tt
 rises_from n compare list (x ∷ xs) h =
     (each_from (λ j. compare (lead_at n list x) (lead_at n list j) ≡ Greater → ⊥) xs (λ k d lt. h 0 (suc k) d (omega arith) (omega arith)), rises_from n compare list xs (λ i j d lt le. h (suc i) (suc j) d (omega arith) (omega arith)))
@@ -56,7 +56,7 @@ rises_from n compare list (x ∷ xs) h =
 pub sorted_rises :
     (n : ℕ) (compare : Key n → Key n → Ordering) → IsKeyOrder 0 compare → (list : List Terms) (order : List ℕ)
     → HaveLeads list order → IsSortedBy (λ i j. is_lt (by_lead n compare list i j)) order
-    → Rises n compare list order
+    → LeadsRise n compare list order
 sorted_rises n compare laws list order leads sorted = rises_from n compare list order far
   where
     far :

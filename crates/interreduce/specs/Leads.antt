@@ -23,35 +23,35 @@ by_lead n compare list i j =
     ordering_then (nat_cmp (lack_of (get_or list i [])) (lack_of (get_or list j []))) (compare (lead_at n list i) (lead_at n list j))
 
 -- no lead is above that of a later member
-abbrev pub Rises : (n : ℕ) → (Key n → Key n → Ordering) → List (List (CodeKey × ℕ)) → List ℕ → Type 0
-Rises n compare list [] = ⊤
-Rises n compare list (i ∷ order) =
-    Each (λ j. compare (lead_at n list i) (lead_at n list j) ≡ Greater → ⊥) order × Rises n compare list order
+abbrev pub LeadsRise : (n : ℕ) → (Key n → Key n → Ordering) → List (List (CodeKey × ℕ)) → List ℕ → Type 0
+LeadsRise n compare list [] = ⊤
+LeadsRise n compare list (i ∷ order) =
+    Each (λ j. compare (lead_at n list i) (lead_at n list j) ≡ Greater → ⊥) order × LeadsRise n compare list order
 
 -- the lead of one of these members divides that of member i
 abbrev pub IsCoveredBy : (n : ℕ) → List (List (CodeKey × ℕ)) → List ℕ → ℕ → Type 0
 IsCoveredBy n list kept i = (j : ℕ) × Contains kept j × KeyDivides (lead_at n list j) (lead_at n list i)
 
 -- the leads strictly ascend, and none divides a later one
-abbrev pub AreApart : (n : ℕ) → (Key n → Key n → Ordering) → List (List (CodeKey × ℕ)) → List ℕ → Type 0
-AreApart n compare list [] = ⊤
-AreApart n compare list (i ∷ kept) =
+abbrev pub HaveApartLeads : (n : ℕ) → (Key n → Key n → Ordering) → List (List (CodeKey × ℕ)) → List ℕ → Type 0
+HaveApartLeads n compare list [] = ⊤
+HaveApartLeads n compare list (i ∷ kept) =
     Each (λ j. (compare (lead_at n list i) (lead_at n list j) ≡ Less) × (KeyDivides (lead_at n list i) (lead_at n list j) → ⊥)) kept
-    × AreApart n compare list kept
+    × HaveApartLeads n compare list kept
 
 -- by ascending leads, a minimal choice of members that are not zero, whose leads cover those of all such members
 -- (IVA chapter 2, section 7)
 pub record AreNeeded (n : ℕ) (compare : Key n → Key n → Ordering) (list : List (List (CodeKey × ℕ))) (kept : List ℕ) : Type 0 where
   pub within : Each (λ i. i < length list) kept
   pub leads : HaveLeads list kept
-  pub apart : AreApart n compare list kept
+  pub apart : HaveApartLeads n compare list kept
   pub covers : (i : ℕ) → i < length list → 0 < length (get_or list i []) → IsCoveredBy n list kept i
 
 -- the same of the members up to here, where `rest` are still to come by ascending leads
 pub record AreNeededSoFar (n : ℕ) (compare : Key n → Key n → Ordering) (list : List (List (CodeKey × ℕ))) (done rest kept : List ℕ) : Type 0 where
   pub within : Each (λ i. i < length list) kept
   pub leads : HaveLeads list kept
-  pub apart : AreApart n compare list kept
+  pub apart : HaveApartLeads n compare list kept
   pub covers : Each (λ i. IsCoveredBy n list kept i) done
   pub up_to : Each (λ k. Each (λ j. compare (lead_at n list k) (lead_at n list j) ≡ Greater → ⊥) rest) kept
-  pub rises : Rises n compare list rest
+  pub rises : LeadsRise n compare list rest

@@ -1,5 +1,5 @@
 -- A member with its tail reduced
-use Rattle.std.specs.Prelude.{IfOk, List, MatchResult, [], drop, get_or, length, map, take, ⊤, ℕ, ◌++◌, ◌-◌, ◌<◌, ◌∷◌, ◌≡◌}
+use Rattle.std.specs.Prelude.{IfOk, List, MatchResult, [], drop, get_or, length, map, take, ⊤, ℕ, ◌++◌, ◌-◌, ◌<◌, ◌≤◌, ◌∷◌, ◌≡◌}
 use Rattle.std.specs.declared.cmp.Ordering.{Ordering}
 use Rattle.std.specs.declared.result.Result.{Result}
 use Rattle.std.specs.declared.result.Result.TheVariants.{Err, Ok}
@@ -77,14 +77,20 @@ pub record HaveReducedTails (ring : Ring) (compare : (n : ℕ) → Key n → Key
   pub count : length answer ≡ length indices
   pub each : (k : ℕ) → k < length answer → HasReducedTail ring compare known (get_or list (get_or indices k 0) []) (get_or answer k [])
 
--- the reduced members, and behind them those of a batch with their tails reduced: by these, by the batch but its last one, and by
--- vectors that are not needed
-pub record AreBatchOf (ring : Ring) (compare : (n : ℕ) → Key n → Key n → Ordering) (list reduced unneeded : List (List (CodeKey × ℕ)))
+-- the known vectors, and behind them the members of a batch with their tails reduced: by these and by the batch but its last one
+pub record AreBatchOf (ring : Ring) (compare : (n : ℕ) → Key n → Key n → Ordering) (list known : List (List (CodeKey × ℕ)))
     (batch : List ℕ) (answer : List (List (CodeKey × ℕ))) : Type 0 where
   pub members : List (List (CodeKey × ℕ))
-  pub behind : answer ≡ reduced ++ members
-  pub tails :
-      HaveReducedTails ring compare list ((reduced ++ map (λ i. get_or list i []) (take (length batch - 1) batch)) ++ unneeded) batch members
+  pub behind : answer ≡ known ++ members
+  pub tails : HaveReducedTails ring compare list (known ++ map (λ i. get_or list i []) (take (length batch - 1) batch)) batch members
+
+-- so many vectors are these members, and those behind them are the first of the needed members with their tails reduced
+pub record AreReducedTo (ring : Ring) (compare : (n : ℕ) → Key n → Key n → Ordering) (list : List (List (CodeKey × ℕ))) (kept others : List ℕ)
+    (width reached : ℕ) (known : List (List (CodeKey × ℕ))) : Type 0 where
+  pub front : take width known ≡ map (λ i. get_or list i []) others
+  pub long : width ≤ length known
+  pub count : length (drop width known) ≡ reached
+  pub each : (k : ℕ) → k < reached → IsReducedMember ring compare list (get_or kept k 0) (get_or (drop width known) k [])
 
 -- the trail is that of the first of these members whose tail can't be divided by the list: the tails of those before it are
 pub record IsFirstTrail (ring : Ring) (compare : (n : ℕ) → Key n → Key n → Ordering) (list : List (List (CodeKey × ℕ))) (kept : List ℕ)

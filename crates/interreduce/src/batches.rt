@@ -1,17 +1,18 @@
 // Tails divided by the members that were reduced before them.
-ghost use Rattle.std.specs.Prelude.{◌≡◌, ◌<◌, ◌≤◌, ◌+◌, ◌++◌, ℕ, [], IfOk, OnOk, get_or, length, map};
+ghost use Rattle.std.specs.Prelude.{◌≡◌, ◌<◌, ◌≤◌, ◌+◌, ◌-◌, ◌++◌, ◌∷◌, ℕ, [], IfOk, OnOk, get_or, length, map, take};
 ghost use Rattle.formal_sums.specs.FormalSums.{Each};
 ghost use Rattle.module_vectors.specs.Rings.{variables};
 ghost use Rattle.module_vectors.specs.Vectors.{AreVectorsOver};
+ghost use Rattle.vector_division.specs.Divisors.{AreDivisors};
 ghost use Rattle.interreduce.specs.Leads.{AreNeeded, HaveLeads};
-ghost use Rattle.interreduce.specs.Members.{AreBatchOf, AreReducedMembers};
+ghost use Rattle.interreduce.specs.Members.{AreBatchOf, AreReducedMembers, HaveReducedTails};
 
 use crate::leads::lead_degree;
 use crate::side_by_side::{is_worth_threads, reduced_by_known};
 use module_vectors::{Frame, NoMemory, Vect, VectList, Vectors, WorkStop, lawful_setting};
 use std::alloc::Global;
 use std::thread::Threads;
-use vector_division::divisors_from_last;
+use vector_division::{Divisor, divisors_from_last, insert_divisor};
 
 // Appends the members with these indices, as they are.
 fn push_members<L: Vectors>(
@@ -58,42 +59,137 @@ fn batch_end<L: Vectors>(list: &L, kept: &[usize], start: usize) -> usize
     }
 }
 
-// The members of a batch with their tails reduced, behind those that were reduced before, and the vectors that are not needed
-// again. A key is divided by one of the latter where that is possible, else by a member of the batch as it came, else by a reduced
-// one: of each kind the greatest lead is tried first.
+// A vector more behind the known ones, with its divisor at this place.
+fn push_known(
+    known: &mut VectList,
+    divisors: &mut Vec<Divisor>,
+    place: usize,
+    v: Vect,
+) -> Result<(), NoMemory>
+    requires place { place ≤ length divisors.old.items }
+    requires divisors { (n : ℕ) → AreDivisors n known.old divisors.old.items }
+    ensures known { OnOk result (known.new ≡ known.old ++ v ∷ []) }
+    ensures divisors { OnOk result ((n : ℕ) → AreDivisors n known.new divisors.new.items) }
+    ensures place { OnOk result (place ≤ length divisors.new.items) }
+{
+    known.push(v)?;
+    insert_divisor(known, divisors, place)?;
+    Ok(())
+}
+
+// These vectors behind the known ones, each with its divisor at this place.
+fn push_all(
+    vectors: Vec<Vect>,
+    known: &mut VectList,
+    divisors: &mut Vec<Divisor>,
+    place: usize,
+) -> Result<(), NoMemory>
+    requires place { place ≤ length divisors.old.items }
+    requires divisors { (n : ℕ) → AreDivisors n known.old divisors.old.items }
+    ensures known { OnOk result (known.new ≡ known.old ++ vectors.items) }
+    ensures divisors { OnOk result ((n : ℕ) → AreDivisors n known.new divisors.new.items) }
+    ensures place { OnOk result (place ≤ length divisors.new.items) }
+{
+    for v in vectors {
+        match push_known(known, divisors, place, v) {
+            Ok(()) => {}
+            Err(NoMemory) => return Err(NoMemory),
+        }
+    }
+    Ok(())
+}
+
+// The members of a batch of more than one with their tails reduced, and the known vectors again.
+fn tails_together<R: Threads + Sync, F: Frame + Sync, L: Vectors + Sync>(
+    rt: &R,
+    alloc: Global,
+    frame: &F,
+    list: &L,
+    known: VectList,
+    divisors: &[Divisor],
+    place: usize,
+    batch: &[usize],
+) -> Result<(VectList, Vec<Vect>), WorkStop>
+    requires some { 0 < length batch.now }
+    requires batch { Each (λ i. i < length (L.listed list.now)) batch.now }
+    requires vectors { AreVectorsOver (F.over frame.now) (F.compare frame.now) (L.listed list.now) }
+    requires leads { HaveLeads (L.listed list.now) batch.now }
+    requires known { AreVectorsOver (F.over frame.now) (F.compare frame.now) known }
+    requires place { place ≤ length divisors.now }
+    requires divisors { (n : ℕ) → AreDivisors n known divisors.now }
+    ensures known { IfOk result (λ r. r.0 ≡ known) }
+    ensures tails { IfOk result (λ r. HaveReducedTails (F.over frame.now) (F.compare frame.now) (L.listed list.now)
+        (known ++ map (λ i. get_or (L.listed list.now) i []) (take (length batch.now - 1) batch.now)) batch.now r.1.items) }
+{
+    let width = known.len();
+    let mut copies = Vec::new(alloc);
+    push_members(alloc, list, &batch[0..batch.len() - 1], &mut copies)?;
+    let mut tried = Vec::new(alloc);
+    tried.extend_from_slice(divisors)?;
+    let mut together = known;
+    push_all(copies, &mut together, &mut tried, place)?;
+    let members = reduced_by_known(rt, alloc, frame, list, &together, &tried, batch)?;
+    let mut whole = together.into_vec();
+    whole.truncate(width);
+    Ok((VectList::from_vec(whole), members))
+}
+
+// The members of a batch with their tails reduced, and the known vectors again. A key is divided by a member that is not needed
+// where that is possible, else by a member of the batch as it came, else by a reduced one: of each kind the greatest lead is
+// tried first.
+fn batch_tails<R: Threads + Sync, F: Frame + Sync, L: Vectors + Sync>(
+    rt: &R,
+    alloc: Global,
+    frame: &F,
+    list: &L,
+    known: VectList,
+    divisors: &[Divisor],
+    place: usize,
+    batch: &[usize],
+) -> Result<(VectList, Vec<Vect>), WorkStop>
+    requires some { 0 < length batch.now }
+    requires batch { Each (λ i. i < length (L.listed list.now)) batch.now }
+    requires vectors { AreVectorsOver (F.over frame.now) (F.compare frame.now) (L.listed list.now) }
+    requires leads { HaveLeads (L.listed list.now) batch.now }
+    requires known { AreVectorsOver (F.over frame.now) (F.compare frame.now) known }
+    requires place { place ≤ length divisors.now }
+    requires divisors { (n : ℕ) → AreDivisors n known divisors.now }
+    ensures known { IfOk result (λ r. r.0 ≡ known) }
+    ensures tails { IfOk result (λ r. HaveReducedTails (F.over frame.now) (F.compare frame.now) (L.listed list.now)
+        (known ++ map (λ i. get_or (L.listed list.now) i []) (take (length batch.now - 1) batch.now)) batch.now r.1.items) }
+{
+    if batch.len() > 1 {
+        return tails_together(rt, alloc, frame, list, known, divisors, place, batch);
+    }
+    let members = reduced_by_known(rt, alloc, frame, list, &known, divisors, batch)?;
+    Ok((known, members))
+}
+
+// The known vectors, and behind them the members of a batch with their tails reduced; their divisors stand at this place.
 fn with_batch<R: Threads + Sync, F: Frame + Sync, L: Vectors + Sync>(
     rt: &R,
     alloc: Global,
     frame: &F,
     list: &L,
-    reduced: Vec<Vect>,
-    unneeded: Vec<Vect>,
+    known: VectList,
+    divisors: &mut Vec<Divisor>,
+    place: usize,
     batch: &[usize],
-) -> Result<(Vec<Vect>, Vec<Vect>), WorkStop>
+) -> Result<VectList, WorkStop>
     requires some { 0 < length batch.now }
     requires batch { Each (λ i. i < length (L.listed list.now)) batch.now }
     requires vectors { AreVectorsOver (F.over frame.now) (F.compare frame.now) (L.listed list.now) }
     requires leads { HaveLeads (L.listed list.now) batch.now }
-    requires reduced { AreVectorsOver (F.over frame.now) (F.compare frame.now) reduced.items }
-    requires unneeded { AreVectorsOver (F.over frame.now) (F.compare frame.now) unneeded.items }
-    ensures reduced { IfOk result (λ r. AreBatchOf (F.over frame.now) (F.compare frame.now) (L.listed list.now)
-        reduced.items unneeded.items batch.now r.0.items) }
-    ensures unneeded { IfOk result (λ r. r.1.items ≡ unneeded.items) }
+    requires known { AreVectorsOver (F.over frame.now) (F.compare frame.now) known }
+    requires place { place ≤ length divisors.old.items }
+    requires divisors { (n : ℕ) → AreDivisors n known divisors.old.items }
+    ensures known { IfOk result (λ r. AreBatchOf (F.over frame.now) (F.compare frame.now) (L.listed list.now) known batch.now r) }
+    ensures divisors { IfOk result (λ r. (n : ℕ) → AreDivisors n r divisors.new.items) }
+    ensures place { OnOk result (place ≤ length divisors.new.items) }
 {
-    let width = reduced.len();
-    let mut vectors = reduced;
-    push_members(alloc, list, &batch[0..batch.len() - 1], &mut vectors)?;
-    let end = vectors.len();
-    let mut others = unneeded;
-    vectors.append(&mut others)?;
-    let known = VectList::from_vec(vectors);
-    let divisors = divisors_from_last(alloc, &known)?;
-    let mut members = reduced_by_known(rt, alloc, frame, list, &known, &divisors, batch)?;
-    let mut whole = known.into_vec();
-    let back = whole.split_off(end)?;
-    whole.truncate(width);
-    whole.append(&mut members)?;
-    Ok((whole, back))
+    let (mut more, members) = batch_tails(rt, alloc, frame, list, known, divisors, place, batch)?;
+    push_all(members, &mut more, divisors, place)?;
+    Ok(more)
 }
 
 /// The needed members, by ascending leads, each with its tail reduced: each tail is divided by the members reduced before it, those
@@ -115,20 +211,22 @@ pub(crate) fn reduced_by_earlier<R: Threads + Sync, F: Frame + Sync, L: Vectors 
     ensures { IfOk result (λ members. AreReducedMembers (F.over frame.now) (F.compare frame.now) (L.listed list.now) kept.now members.items) }
 {
     lawful_setting(frame);
-    let mut reduced = Vec::with_capacity(alloc, kept.len())?;
-    let mut unneeded = Vec::with_capacity(alloc, others.len())?;
-    push_members(alloc, list, others, &mut unneeded)?;
+    let mut vectors = Vec::new(alloc);
+    push_members(alloc, list, others, &mut vectors)?;
+    let width = vectors.len();
+    let mut known = VectList::from_vec(vectors);
+    let mut divisors = divisors_from_last(alloc, &known)?;
+    let place = divisors.len();
     let mut start = 0;
     while start < kept.len() {
         let end = batch_end(list, kept, start);
-        match with_batch(rt, alloc, frame, list, reduced, unneeded, &kept[start..end]) {
-            Ok((more, back)) => {
-                reduced = more;
-                unneeded = back;
-            }
+        let batch = &kept[start..end];
+        match with_batch(rt, alloc, frame, list, known, &mut divisors, place, batch) {
+            Ok(more) => known = more,
             Err(stop) => return Err(stop),
         }
         start = end;
     }
-    Ok(reduced)
+    let mut whole = known.into_vec();
+    Ok(whole.split_off(width)?)
 }

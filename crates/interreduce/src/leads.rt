@@ -1,16 +1,16 @@
 // Which members of a list are needed for its leads, and their order.
 ghost use Rattle.std.specs.Prelude.{◌≡◌, ◌<◌, ◌↔◌, ◌∷◌, ℕ, List, [], Contains, IfOk, IsTrue, MatchOption, get_or, length};
 ghost use Rattle.formal_sums.specs.FormalSums.{Each};
-ghost use Rattle.orders.specs.KeyOrders.{KeyDivides};
 ghost use Rattle.module_vectors.specs.Rings.{variables};
 ghost use Rattle.module_vectors.specs.Trails.{lead_at};
 ghost use Rattle.module_vectors.specs.Vectors.{AreVectorsOver, key_of};
 ghost use Rattle.vector_division.specs.Progress.{HaveVariables};
-ghost use Rattle.interreduce.specs.Leads.{AreNeeded, HaveLeads, IsCoveredBy, Rises, by_lead};
+ghost use Rattle.interreduce.specs.Leads.{AreNeeded, HaveLeads, IsCoveredBy, LeadsRise, by_lead};
 
 use module_vectors::{Frame, Key, LeadTerm, NoMemory, Vectors};
 use std::alloc::Global;
 use std::cmp::Ordering;
+use vector_division::key_divides;
 
 // The lead of a member, or `None` where it is zero or is not in the list.
 fn lead_of<L: Vectors>(list: &L, index: usize) -> Option<LeadTerm<'_>>
@@ -65,22 +65,11 @@ fn by_ascending_lead<F: Frame, L: Vectors>(
     ensures within { IfOk result (λ order. Each (λ i. i < length (L.listed list.now)) order.items) }
     ensures leads { IfOk result (λ order. HaveLeads (L.listed list.now) order.items) }
     ensures all { IfOk result (λ order. (i : ℕ) → i < length (L.listed list.now) → 0 < length (get_or (L.listed list.now) i []) → Contains order.items i) }
-    ensures rises { let n = variables (F.over frame.now) in IfOk result (λ order. Rises n (F.compare frame.now n) (L.listed list.now) order.items) }
+    ensures rises { let n = variables (F.over frame.now) in IfOk result (λ order. LeadsRise n (F.compare frame.now n) (L.listed list.now) order.items) }
 {
     let mut order = nonzero_members(alloc, list)?;
     order.sort_unstable_by(|i, j| ascending(frame, list, *i, *j));
     Ok(order)
-}
-
-// Does the one key divide the other?
-fn key_divides(divisor: &Key, multiple: &Key) -> bool
-    requires { length divisor.now.monomial.exponents ≡ length multiple.now.monomial.exponents }
-    ensures { let n = length divisor.now.monomial.exponents in IsTrue result ↔ KeyDivides (key_of n divisor.now) (key_of n multiple.now) }
-{
-    if divisor.position != multiple.position {
-        return false;
-    }
-    divisor.monomial.divides(&multiple.monomial)
 }
 
 // The key of a member's lead.

@@ -13,7 +13,7 @@ use Rattle.module_vectors.proofs.Scaling.{Each_at}
 use Rattle.module_vectors.proofs.SumsOfProducts.{Each_member}
 use Rattle.module_vectors.specs.Vectors.{key_of, sum_of}
 use Rattle.module_vectors.specs.declared.key.Key.{Key as CodeKey}
-use Rattle.vector_division.specs.Divisors.{AreBy, AreDivisors, AreLeast, AreTriedTo, IsNoHigher, indexed}
+use Rattle.vector_division.specs.Divisors.{AreBy, AreDivisors, AreLeast, AreLeastFrom, AreTriedTo, IsLeastFrom, IsNoHigher, indexed}
 use Rattle.vector_division.specs.Marks.{IsMarkOf}
 use Rattle.vector_division.specs.Progress.{AreWeighed}
 use Rattle.vector_division.specs.declared.divisors.Divisor.{Divisor}
@@ -25,17 +25,7 @@ at_place (x ∷ xs) zero lt = (x, refl)
 at_place (x ∷ xs) (suc m) lt = at_place xs m (omega arith)
 
 -- ---- the degrees by places
--- no lead of the divisors from place i on has a degree below this one
-abbrev pub IsLeastFrom : List (List (CodeKey × ℕ)) → List Divisor → ℕ → ℕ → Type 0
-IsLeastFrom list divisors i least =
-    (j : ℕ) (d : Divisor) → i ≤ j → j < length divisors → d ≡ get_or divisors j d → IsNoHigher least (get_or list d.index [])
-
--- each divisor from this place on keeps such a degree
-abbrev pub AreLeastFrom : List (List (CodeKey × ℕ)) → List Divisor → ℕ → Type 0
-AreLeastFrom list divisors from =
-    (i : ℕ) (d : Divisor) → from ≤ i → i < length divisors → d ≡ get_or divisors i d → IsLeastFrom list divisors i d.least
-
-each_of_all :
+pub each_of_all :
     (P : Divisor → Type 0) (divisors : List Divisor)
     → ((j : ℕ) (d : Divisor) → j < length divisors → d ≡ get_or divisors j d → P d) → Each P divisors
 each_of_all P [] h = tt
@@ -53,7 +43,7 @@ are_least list (d ∷ divisors) h = (
       (λ i e ge lt at j x le m is. h (suc i) e (omega arith) (omega arith) at (suc j) x (omega arith) (omega arith) is),
 )
 
-least_at :
+pub least_at :
     (list : List (List (CodeKey × ℕ))) (divisors : List Divisor) (i : ℕ) (d : Divisor)
     → AreLeast list divisors → d ≡ get_or divisors i d → IsLeastFrom list divisors i d.least
 least_at list [] i d h at j e le lt is = absurd (omega arith)
@@ -72,7 +62,7 @@ no_higher_less a b (t ∷ v) le h = omega arith
 pub indexed_length : (old new : List Divisor) → map indexed new ≡ map indexed old → length new ≡ length old
 indexed_length old new e = sym (length-map new indexed) ∙ ap length e ∙ length-map old indexed
 
-indexed_at :
+pub indexed_at :
     (old new : List Divisor) (m : ℕ) (d : Divisor)
     → map indexed new ≡ map indexed old → m < length old → d ≡ get_or new m d → indexed d ≡ indexed (get_or old m d)
 indexed_at old new m d e lt at =

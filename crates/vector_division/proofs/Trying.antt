@@ -91,7 +91,7 @@ module _ (f : ℕ → ℕ) (total : ℕ) (list : List (List (CodeKey × ℕ))) (
       go j (m, lt, at) = stands n j m lt at
 
 -- a lead divides itself
-divides_itself : (n : ℕ) (list : List (List (CodeKey × ℕ))) (j : ℕ) → 0 < length (get_or list j []) → IsDividedAt n list j j
+pub divides_itself : (n : ℕ) (list : List (List (CodeKey × ℕ))) (j : ℕ) → 0 < length (get_or list j []) → IsDividedAt n list j j
 divides_itself n list j some = record { some = some; divides = (unit n, shift-unit (lead_at n list j)) }
 
 abbrev pub turned : Bool → ℕ → ℕ → ℕ

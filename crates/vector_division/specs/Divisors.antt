@@ -39,6 +39,16 @@ abbrev pub AreLeast : List (List (CodeKey × ℕ)) → List Divisor → Type 0
 AreLeast list [] = ⊤
 AreLeast list (d ∷ divisors) = Each (λ e. IsNoHigher d.least (get_or list e.index [])) (d ∷ divisors) × AreLeast list divisors
 
+-- no lead of the divisors from place i on has a degree below this one
+abbrev pub IsLeastFrom : List (List (CodeKey × ℕ)) → List Divisor → ℕ → ℕ → Type 0
+IsLeastFrom list divisors i least =
+    (j : ℕ) (d : Divisor) → i ≤ j → j < length divisors → d ≡ get_or divisors j d → IsNoHigher least (get_or list d.index [])
+
+-- each divisor from this place on keeps such a degree
+abbrev pub AreLeastFrom : List (List (CodeKey × ℕ)) → List Divisor → ℕ → Type 0
+AreLeastFrom list divisors from =
+    (i : ℕ) (d : Divisor) → from ≤ i → i < length divisors → d ≡ get_or divisors i d → IsLeastFrom list divisors i d.least
+
 -- vectors of the list with their marks and least degrees, and the lead of each vector of the list is divisible by that of one of them
 pub record AreDivisors (n : ℕ) (list : List (List (CodeKey × ℕ))) (divisors : List Divisor) : Type 0 where
   pub each : (k : ℕ) (d : Divisor) → k < length divisors → d ≡ get_or divisors k d → IsOf list d

@@ -1,5 +1,5 @@
 // The loop of a division.
-ghost use Rattle.std.specs.Prelude.{◌++◌, ◌≡◌, [], true, IfOk, IfErr};
+ghost use Rattle.std.specs.Prelude.{◌++◌, ◌<◌, ◌≡◌, [], length, true, IfOk, IfErr};
 ghost use Rattle.formal_sums.specs.FormalSums.{Each};
 ghost use Rattle.formal_sums.specs.Combinations.{combination};
 ghost use Rattle.bases.specs.Leads.{head_key};
@@ -8,12 +8,13 @@ ghost use Rattle.module_vectors.specs.Vectors.{sum_of, sums_of, IsVectorOver, Ar
 ghost use Rattle.vector_division.specs.Divisors.{AreDivisors};
 ghost use Rattle.vector_division.specs.Divisions.{IsFreeOfLeads, HasReducedLead, DivisionStops};
 ghost use Rattle.vector_division.specs.Reductions.{cofactors_of, IsScaledProduct, AreMetFrom, HaveLeadsUpTo};
+ghost use Rattle.vector_division.specs.Runs.{total, IsEnded, IsSplit, IsWhether};
 
 use crate::buckets::Buckets;
-use crate::divisors::{Divisor, divisors_from_first, find_divisor};
+use crate::divisors::{Divisor, divisors_from_first, is_uncovered};
 use crate::runs::Run;
 use crate::underway::advance;
-use module_vectors::{Frame, NoMemory, Vect, Vectors, WorkStop};
+use module_vectors::{Frame, Key, Vect, Vectors, WorkStop};
 use monomial_orders::Mono;
 use std::alloc::Global;
 
@@ -31,6 +32,77 @@ pub struct ScaledProduct {
 pub struct Reduction {
     pub quotients: Vec<ScaledProduct>,
     pub rest: Vect,
+}
+
+// What a division has taken away, the terms that stay, and what is left.
+#[derive(Drop)]
+struct Taken {
+    quotients: Vec<ScaledProduct>,
+    rest: Vec<(Key, u32)>,
+    left: Buckets,
+}
+
+// Is the lead alone wanted, and does a term stay?
+fn is_lead_there(lead_alone: bool, rest: &Vec<(Key, u32)>) -> bool
+    ensures { IsWhether ((lead_alone ≡ true) × (0 < length rest.now.items)) result }
+{
+    lead_alone && !rest.is_empty()
+}
+
+// Takes products away until no term is left or, where the lead alone is wanted, until a term stays.
+fn take_products<F: Frame, L: Vectors>(
+    alloc: Global,
+    frame: &F,
+    v: &Vect,
+    list: &L,
+    divisors: &[Divisor],
+    lead_alone: bool,
+) -> Result<Taken, WorkStop>
+    requires vector { IsVectorOver (F.over frame.now) (F.compare frame.now) v.now }
+    requires list { AreVectorsOver (F.over frame.now) (F.compare frame.now) (L.listed list.now) }
+    requires divisors { AreDivisors (variables (F.over frame.now)) (L.listed list.now) divisors.now }
+    ensures kept { let n = variables (F.over frame.now) in
+        IfOk result (λ t. IsSplit n (F.over frame.now).weights (F.over frame.now).modulus.value (F.compare frame.now n) v.now
+        (L.listed list.now) t.quotients.items t.rest.items t.left (total n t.left)) }
+    ensures ended { let n = variables (F.over frame.now) in IfOk result (λ t. IsEnded n (F.compare frame.now n) lead_alone t.rest.items t.left) }
+    ensures stop { IfErr result (DivisionStops (F.over frame.now) v.now (L.listed list.now)) }
+{
+    let mut left = Buckets::from_run(alloc, Run::from_vect(v.try_copy(alloc)?))?;
+    let mut quotients = Vec::new(alloc);
+    let mut rest = Vec::new(alloc);
+    let mut next = left.take_top(alloc, frame)?;
+    loop {
+        match next {
+            None => {
+                return Ok(Taken {
+                    quotients,
+                    rest,
+                    left,
+                });
+            }
+            Some(term) => {
+                advance(
+                    alloc,
+                    frame,
+                    v,
+                    list,
+                    divisors,
+                    term,
+                    &mut left,
+                    &mut quotients,
+                    &mut rest,
+                )?;
+                if is_lead_there(lead_alone, &rest) {
+                    return Ok(Taken {
+                        quotients,
+                        rest,
+                        left,
+                    });
+                }
+                next = left.take_top(alloc, frame)?;
+            }
+        }
+    }
 }
 
 /// Takes products of the list's vectors away from `v` until no key of it is divisible by a lead of the list: each time of the
@@ -62,34 +134,16 @@ pub fn reduce_by<F: Frame, L: Vectors>(
     ensures stop { IfErr result (DivisionStops (F.over frame.now) v.now (L.listed list.now)) }
 {
     frame.ring().modulus.domain();
-    let mut buckets = Buckets::from_run(alloc, Run::from_vect(v.try_copy(alloc)?))?;
-    let mut quotients = Vec::new(alloc);
-    let mut rest = Vec::new(alloc);
-    let mut next = buckets.take_top(alloc, frame)?;
-    loop {
-        match next {
-            None => {
-                return Ok(Reduction {
-                    quotients,
-                    rest: Vect::from_terms(alloc, frame, rest)?,
-                });
-            }
-            Some(term) => {
-                advance(
-                    alloc,
-                    frame,
-                    v,
-                    list,
-                    divisors,
-                    term,
-                    &mut buckets,
-                    &mut quotients,
-                    &mut rest,
-                )?;
-                next = buckets.take_top(alloc, frame)?;
-            }
-        }
-    }
+    let Taken {
+        quotients,
+        rest,
+        left,
+    } = take_products(alloc, frame, v, list, divisors, false)?;
+    drop(left);
+    Ok(Reduction {
+        quotients,
+        rest: Vect::from_terms(alloc, frame, rest)?,
+    })
 }
 
 /// The same, where the vectors of the list are tried in its order.
@@ -118,25 +172,15 @@ pub fn reduce<F: Frame, L: Vectors>(
 }
 
 // Is the lead of `v`, if it has one, divisible by no lead of the list?
-fn has_reduced_lead<F: Frame, L: Vectors>(
-    alloc: Global,
-    frame: &F,
-    v: &Vect,
-    list: &L,
-    divisors: &[Divisor],
-) -> Result<bool, NoMemory>
-    requires vector { IsVectorOver (F.over frame.now) (F.compare frame.now) v.now }
-    requires list { AreVectorsOver (F.over frame.now) (F.compare frame.now) (L.listed list.now) }
-    requires divisors { AreDivisors (variables (F.over frame.now)) (L.listed list.now) divisors.now }
-    ensures { let n = variables (F.over frame.now) in
-        IfOk result (λ b. b ≡ true → HasReducedLead (sums_of n (L.listed list.now)) (sum_of n v.now)) }
+fn has_reduced_lead<F: Frame, L: Vectors>(_frame: &F, v: &Vect, list: &L) -> bool
+    requires vector { IsVectorOver (F.over _frame.now) (F.compare _frame.now) v.now }
+    requires list { AreVectorsOver (F.over _frame.now) (F.compare _frame.now) (L.listed list.now) }
+    ensures { let n = variables (F.over _frame.now) in
+        result ≡ true → HasReducedLead (sums_of n (L.listed list.now)) (sum_of n v.now) }
 {
     match v.lead() {
-        None => Ok(true),
-        Some(lead) => match find_divisor(alloc, frame, lead.key, list, divisors)? {
-            None => Ok(true),
-            Some(_) => Ok(false),
-        },
+        None => true,
+        Some(lead) => is_uncovered(lead.key, list),
     }
 }
 
@@ -163,41 +207,20 @@ fn reduce_lead_by<F: Frame, L: Vectors>(
     ensures reduced { let n = variables (F.over frame.now) in IfOk result (λ r. HasReducedLead (sums_of n (L.listed list.now)) (sum_of n r.rest)) }
     ensures stop { IfErr result (DivisionStops (F.over frame.now) v.now (L.listed list.now)) }
 {
-    let mut buckets = Buckets::from_run(alloc, Run::from_vect(v.try_copy(alloc)?))?;
-    let mut quotients = Vec::new(alloc);
-    let mut rest = Vec::new(alloc);
-    let mut next = buckets.take_top(alloc, frame)?;
-    loop {
-        match next {
-            None => {
-                return Ok(Reduction {
-                    quotients,
-                    rest: Vect::zero(alloc),
-                });
-            }
-            Some(term) => {
-                advance(
-                    alloc,
-                    frame,
-                    v,
-                    list,
-                    divisors,
-                    term,
-                    &mut buckets,
-                    &mut quotients,
-                    &mut rest,
-                )?;
-                match rest.pop() {
-                    Some(lead) => {
-                        return Ok(Reduction {
-                            quotients,
-                            rest: buckets.behind(alloc, frame, lead)?,
-                        });
-                    }
-                    None => next = buckets.take_top(alloc, frame)?,
-                }
-            }
-        }
+    let Taken {
+        quotients,
+        mut rest,
+        left,
+    } = take_products(alloc, frame, v, list, divisors, true)?;
+    match rest.pop() {
+        None => Ok(Reduction {
+            quotients,
+            rest: Vect::zero(alloc),
+        }),
+        Some(lead) => Ok(Reduction {
+            quotients,
+            rest: left.behind(alloc, frame, lead)?,
+        }),
     }
 }
 
@@ -223,12 +246,12 @@ pub fn reduce_lead<F: Frame, L: Vectors>(
     ensures reduced { let n = variables (F.over frame.now) in IfOk result (λ r. HasReducedLead (sums_of n (L.listed list.now)) (sum_of n r.rest)) }
     ensures stop { IfErr result (DivisionStops (F.over frame.now) v.now (L.listed list.now)) }
 {
-    let divisors = divisors_from_first(alloc, list)?;
-    if has_reduced_lead(alloc, frame, v, list, &divisors)? {
+    if has_reduced_lead(frame, v, list) {
         return Ok(Reduction {
             quotients: Vec::new(alloc),
             rest: v.try_copy(alloc)?,
         });
     }
+    let divisors = divisors_from_first(alloc, list)?;
     reduce_lead_by(alloc, frame, v, list, &divisors)
 }

@@ -1,42 +1,30 @@
-use Rattle.std.proofs.Common.{[], ap, arith, get_or, length, subst, sym, take, ◌++◌, ◌-◌, ◌∙◌}
-use Rattle.module_vectors.specs.Rings.{variables}
-use Rattle.module_vectors.specs.Vectors.{AreVectorsOver}
+use Rattle.std.proofs.Common.{ap, length, subst, sym, ◌++◌, ◌∙◌, ◌≤◌}
 use Rattle.vector_division.specs.Divisors.{AreDivisors}
-use Rattle.interreduce.specs.Members.{HaveReducedTails}
-use Rattle.interreduce.proofs.Earlier.{front_again, known_vectors, list_known}
 use Rattle.interreduce.proofs.batches.with_batch.Goals as goal
 
-pub reduced_by_known-requires-clause-divisors : goal.reduced_by_known-requires-clause-divisors
-reduced_by_known-requires-clause-divisors g c κs within =
-    let n = variables (g.F.Frame.over c.args.frame.now) in
-    subst (AreDivisors n c.from_vec-known.result) (sym c.deref.ensures.value) (c.in_ok-divisors.ensures n)
+pub batch_tails-requires-clause-divisors : goal.batch_tails-requires-clause-divisors
+batch_tails-requires-clause-divisors g c κs within = λ n.
+    subst (AreDivisors n c.args.known) (sym c.deref.ensures.value) (c.requires.divisors n)
 
-pub reduced_by_known-requires-clause-known : goal.reduced_by_known-requires-clause-known
-reduced_by_known-requires-clause-known g c κs within =
-    let ring = g.F.Frame.over c.args.frame.now in
-    let compare = g.F.Frame.compare c.args.frame.now in
-    let list = g.L.Vectors.listed c.args.list.now in
-    let batch = c.args.batch.now in
-    let known = list_known (λ i. get_or list i []) batch c.args.reduced.items c.args.unneeded.items c.push_members.new.vectors.items c.append.new.self.items c.from_vec-known.result _
-    c.in_ok-push_members.ensures (omega arith) c.in_ok-append.ensures.items c.from_vec-known.ensures in
-    subst (AreVectorsOver ring compare) (sym known)
-    (known_vectors ring compare list c.requires.vectors c.args.reduced.items c.args.unneeded.items (take (length batch - 1) batch) c.requires.reduced c.requires.unneeded)
+pub batch_tails-requires-clause-place : goal.batch_tails-requires-clause-place
+batch_tails-requires-clause-place g c κs within =
+    subst (λ z. c.args.place ≤ length z) (sym c.deref.ensures.value) c.requires.place
 
-pub returns-clause-reduced : goal.returns-clause-reduced
-returns-clause-reduced g c =
-    let ring = g.F.Frame.over c.args.frame.now in
-    let compare = g.F.Frame.compare c.args.frame.now in
-    let list = g.L.Vectors.listed c.args.list.now in
-    let batch = c.args.batch.now in
-    let reduced = c.args.reduced.items in
-    let members = c.in_ok-members.members.items in
-    let known = list_known (λ i. get_or list i []) batch reduced c.args.unneeded.items c.push_members.new.vectors.items c.append.new.self.items c.from_vec-known.result _
-    c.in_ok-push_members.ensures (omega arith) c.in_ok-append.ensures.items c.from_vec-known.ensures in
-    let front = front_again reduced c.push_members.new.vectors.items c.args.unneeded.items c.into_vec-whole.result.items c.split_off.new.self.items c.truncate.new.self.items
-    c.len-width.result c.len-end.result c.truncate.ensures.items c.in_ok-back.ensures.items (c.into_vec-whole.ensures ∙ (c.from_vec-known.ensures ∙ c.in_ok-append.ensures.items)) _ c.in_ok-push_members.ensures
-    (omega arith) (omega arith) in
+pub push_all-requires-clause-place : goal.push_all-requires-clause-place
+push_all-requires-clause-place g c = c.requires.place
+
+pub push_all-requires-clause-divisors : goal.push_all-requires-clause-divisors
+push_all-requires-clause-divisors g c = λ n.
+    subst (λ z. AreDivisors n z c.args.divisors.now.items) (sym c.in_ok-more.ensures.known) (c.requires.divisors n)
+
+pub returns-clause-known : goal.returns-clause-known
+returns-clause-known g c =
+    let members = c.in_ok-more.members.items in
     record {
       members = members;
-      behind = c.in_ok-append-2.ensures.items ∙ ap (λ z. z ++ members) front;
-      tails = subst (λ z. HaveReducedTails ring compare list z batch members) known c.in_ok-members.ensures;
+      behind = c.in_ok-push_all.ensures.known ∙ ap (λ z. z ++ members) c.in_ok-more.ensures.known;
+      tails = c.in_ok-more.ensures.tails;
     }
+
+pub returns-clause-divisors : goal.returns-clause-divisors
+returns-clause-divisors g c = c.in_ok-push_all.ensures.divisors

@@ -1,4 +1,4 @@
-use Rattle.std.proofs.Common.{length, reverse, subst, sym, ℕ, ◌<◌, ◌∙◌, ◌≡◌}
+use Rattle.std.proofs.Common.{length, reverse, subst, sym, ◌<◌, ◌∙◌, ◌≡◌}
 use Rattle.formal_sums.specs.FormalSums.{Each}
 use Rattle.bases.specs.Bases.{IsReducedBasis}
 use Rattle.module_vectors.specs.Rings.{setting, variables}

@@ -8,7 +8,7 @@ use Rattle.module_vectors.proofs.SumsOfProducts.{Each_member}
 use Rattle.module_vectors.specs.Rings.{variables}
 use Rattle.vector_division.proofs.Looping.{have_variables}
 use Rattle.vector_division.specs.Progress.{HaveVariables}
-use Rattle.interreduce.specs.Leads.{AreNeededSoFar, HaveLeads, IsCoveredBy, Rises}
+use Rattle.interreduce.specs.Leads.{AreNeededSoFar, HaveLeads, IsCoveredBy, LeadsRise}
 use Rattle.interreduce.proofs.Choosing.{needed_all, needed_push, needed_skip, needed_start}
 use Rattle.interreduce.proofs.leads.needed_members.Goals as goal
 use Rattle.interreduce.proofs.leads.needed_members.Goals.{then-not-is_covered+in_ok-push, else-not-is_covered+in_ok-push-2}
@@ -78,7 +78,7 @@ loop-i-init g c =
     let order = c.deref-i-items.result.now in
     record {
       needed = subst (AreNeededSoFar n compare list [] order) (sym c.new-kept.ensures.items)
-          (needed_start n compare list order (subst (Rises n compare list) (sym c.deref-i-items.ensures.value) c.in_ok-order.ensures.rises));
+          (needed_start n compare list order (subst (LeadsRise n compare list) (sym c.deref-i-items.ensures.value) c.in_ok-order.ensures.rises));
       others = subst (Each (λ j. j < length list)) (sym c.new-others.ensures.items) tt;
     }
 

@@ -36,3 +36,9 @@ loop-k-preserved g c =
           (items_more IsMarked old _ k c.loop-k.invariant.listed c.loop-k.invariant.each
           (refl, subst (λ z. IsMarkOf z c.mark_of.result) c.at.ensures c.mark_of.ensures));
     }
+
+pub set_least-requires-clause-behind : goal.set_least-requires-clause-behind
+set_least-requires-clause-behind g c =
+    let indices = c.args.indices.now in
+    let e : c.loop-k.k ≡ length indices = omega arith in
+    λ i d ge lt at. absurd (omega (arith, ge, lt, e, c.loop-k.invariant.listed))
