@@ -8,6 +8,7 @@ use Rattle.formal_sums.proofs.Sameness.{IsSame_append, IsSame_of, IsSame_refl, I
 use Rattle.formal_sums.proofs.WeightedSums.{coefficient-append}
 use Rattle.formal_sums.specs.FormalSums.{Each, IsSame, Key, coefficient, indicator, scale, weighted_sum}
 use Rattle.module_vectors.proofs.Scaling.{Each_at, take_item}
+use Rattle.module_vectors.proofs.SumsOfProducts.{added_zero}
 use Rattle.row_matrix.specs.Rows.{AreEntries, Entry, row_sum}
 use Rattle.dense_reduction.proofs.Entries.{entries_from, entries_within}
 use Rattle.dense_reduction.specs.Dense.{AddsMultiple, AreWithin, HasRoom, IsDense, dense_sum}
@@ -66,6 +67,15 @@ pub adds_nothing : (p factor : ℕ) (acc : List ℕ) → AddsMultiple p factor [
 adds_nothing p factor acc = record {
   count = refl;
   sum = λ n key. IsSame_of p _ _ (sym (append-nil (dense_sum key 0 acc)));
+  before = λ j _. refl;
+}
+
+-- 0 times entries is nothing
+pub adds_none : (p factor : ℕ) (entries : List Entry) (acc : List ℕ) → factor ≡ 0 → AddsMultiple p factor entries acc acc
+adds_none p factor entries acc z = record {
+  count = refl;
+  sum = λ n key. subst (λ f. IsSame p (dense_sum key 0 acc) (dense_sum key 0 acc ++ scale f (unit n) (row_sum key entries))) (sym z)
+      (added_zero p (unit n) (dense_sum key 0 acc) (row_sum key entries));
   before = λ j _. refl;
 }
 

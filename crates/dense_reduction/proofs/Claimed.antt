@@ -15,7 +15,7 @@ use Rattle.row_matrix.specs.Rows.{RowShown, first_column}
 use Rattle.dense_reduction.proofs.Naming.{told_last, told_stays}
 use Rattle.dense_reduction.specs.LostRows.{AreClaimed, IsLost, numbers}
 use Rattle.dense_reduction.specs.Pivots.{lead_column, no_row}
-use Rattle.dense_reduction.specs.Words.{AreAsTold, Follows, IsTold, Names, leads_of}
+use Rattle.dense_reduction.specs.Words.{AreAsTold, IsToldAfter, IsTold, WordNames, row_leads_of}
 use Rattle.dense_reduction.specs.declared.lefts.Lost.{Lost}
 
 -- the row has its column
@@ -23,13 +23,13 @@ abbrev pub HasWon : List RowShown → List Told → ℕ → Type 0
 HasWon rows told m = IsTold rows told (lead_column rows m) m
 
 -- ---- what an answer tells
-pub lead_read : (rows : List RowShown) (leads : List ℕ) (k : ℕ) → leads ≡ leads_of rows → k < length rows → slice_index leads k ≡ lead_column rows k
+pub lead_read : (rows : List RowShown) (leads : List ℕ) (k : ℕ) → leads ≡ row_leads_of rows → k < length rows → slice_index leads k ≡ lead_column rows k
 lead_read rows leads k e lt = ap (λ xs. slice_index xs k) e ∙ get_or-map (λ (r : RowShown). first_column r.entries) rows k no_row 0 lt
 
 -- the word of the column names this row
 pub told_now :
     (rows : List RowShown) (leads : List ℕ) (old new : List Told) (answer : Claim) (number k : ℕ)
-    → leads ≡ leads_of rows → number < length rows
+    → leads ≡ row_leads_of rows → number < length rows
     → new ≡ old ++ entry (slice_index leads number) (found_by answer) (word_of number answer) ∷ []
     → NamesRowOf leads (slice_index leads number) (word_of number answer) → word_of number answer ≡ k + 1
     → IsTold rows new (lead_column rows number) k
@@ -42,15 +42,15 @@ told_now rows leads old new answer number k known lt is names after =
       known = l;
       lead = sym (lead_read rows leads k known l) ∙ ap (slice_index leads) (sym back) ∙ n.1 ∙ column;
       named = λ words a.
-          subst (λ c. Names words c k) column
+          subst (λ c. WordNames words c k) column
           (told_last words old (entry (slice_index leads number) (found_by answer) (word_of number answer)) k after (subst (AreAsTold words) is a));
     }
 
-pub lost_stays : (rows : List RowShown) (old new : List Told) (l : Lost) → Follows old new → IsLost rows old l → IsLost rows new l
+pub lost_stays : (rows : List RowShown) (old new : List Told) (l : Lost) → IsToldAfter old new → IsLost rows old l → IsLost rows new l
 lost_stays rows old new l f h = record { known = h.known; other = h.other; held = told_stays rows old new (lead_column rows l.number) l.winner f h.held }
 
 pub all_lost_stay :
-    (rows : List RowShown) (old new : List Told) (lost : List Lost) → Follows old new → Each (IsLost rows old) lost
+    (rows : List RowShown) (old new : List Told) (lost : List Lost) → IsToldAfter old new → Each (IsLost rows old) lost
     → Each (IsLost rows new) lost
 all_lost_stay rows old new lost f h = Each_map (IsLost rows old) (IsLost rows new) lost (λ l. lost_stays rows old new l f) h
 
@@ -64,7 +64,7 @@ put_between xs ys m =
 
 pub lost_at :
     (rows : List RowShown) (old new : List Told) (lost : List Lost) (i : ℕ) (d : Lost)
-    → Follows old new → Each (IsLost rows old) lost → i < length lost → IsLost rows new (get_or lost i d)
+    → IsToldAfter old new → Each (IsLost rows old) lost → i < length lost → IsLost rows new (get_or lost i d)
 lost_at rows old new lost i d f h lt = lost_stays rows old new (get_or lost i d) f (Each_member (IsLost rows old) lost i d h lt)
 
 -- ---- claimed rows
@@ -80,7 +80,7 @@ claimed_none rows mine told lost e =
 -- one more row, which has its column
 pub claimed_won :
     (rows : List RowShown) (mine : List ℕ) (old new : List Told) (lost : List Lost) (i d : ℕ)
-    → i < length mine → Follows old new
+    → i < length mine → IsToldAfter old new
     → AreClaimed rows (take i mine) old lost → IsTold rows new (lead_column rows (get_or mine i d)) (get_or mine i d)
     → AreClaimed rows (take (i + 1) mine) new lost
 claimed_won rows mine old new lost i d lt f h won = let m = get_or mine i d in record {
@@ -96,7 +96,7 @@ claimed_won rows mine old new lost i d lt f h won = let m = get_or mine i d in r
 -- one more row, which lost it
 pub claimed_lost :
     (rows : List RowShown) (mine : List ℕ) (old new : List Told) (lost lost' : List Lost) (l : Lost) (i d : ℕ)
-    → i < length mine → Follows old new
+    → i < length mine → IsToldAfter old new
     → AreClaimed rows (take i mine) old lost → (l.number ≡ get_or mine i d) × IsLost rows new l → lost' ≡ lost ++ l ∷ []
     → AreClaimed rows (take (i + 1) mine) new lost'
 claimed_lost rows mine old new lost lost' l i d lt f h one e = let m = get_or mine i d in record {

@@ -19,7 +19,7 @@ use Rattle.dense_reduction.proofs.Adding.{Each_set, dense_add}
 use Rattle.dense_reduction.proofs.Entries.{entries_from, entries_push, entries_widen, monic_entries}
 use Rattle.dense_reduction.specs.Dense.{AddsMultiple, AreWithin, HasRoom, IsDense, dense_sum}
 use Rattle.dense_reduction.specs.Pivots.{lead_column, no_row, row_at, row_vectors}
-use Rattle.dense_reduction.specs.Underway.{AreCombined, IsReducedTo, IsUnderway, sources_sum, taken_sum}
+use Rattle.dense_reduction.specs.Underway.{AreRowsCombined, IsReducedTo, IsRowUnderway, sources_sum, taken_sum}
 
 -- the number at a column is its residue, which is taken out
 pub dense_clear :
@@ -172,9 +172,9 @@ combined_more {n} p pos F key rows row pivot taken taken' number factor t t' mor
 -- nothing stands at the columns from c to d
 pub underway_skip :
     (p limit c d columns count : ℕ) (pivots : List ℕ) (left : List Entry) (numbers : List ℕ) (taken : List Entry)
-    → IsUnderway p limit c columns count pivots left numbers taken
+    → IsRowUnderway p limit c columns count pivots left numbers taken
     → c ≤ d → ((j : ℕ) → c ≤ j → j < d → get_or numbers j 0 ≡ 0)
-    → IsUnderway p limit d columns count pivots left numbers taken
+    → IsRowUnderway p limit d columns count pivots left numbers taken
 underway_skip p limit c d columns count pivots left numbers taken h le zeros = record {
   numbered = h.numbered;
   room = h.room;
@@ -188,7 +188,7 @@ underway_skip p limit c d columns count pivots left numbers taken h le zeros = r
   free = h.free;
 }
 
-module _ (p limit c columns count : ℕ) (pivots : List ℕ) (left : List Entry) (numbers : List ℕ) (taken : List Entry) (h : IsUnderway p limit c columns count pivots left numbers taken) (lt : c < length numbers) where
+module _ (p limit c columns count : ℕ) (pivots : List ℕ) (left : List Entry) (numbers : List ℕ) (taken : List Entry) (h : IsRowUnderway p limit c columns count pivots left numbers taken) (lt : c < length numbers) where
   cleared_more : (j : ℕ) → j < c + 1 → get_or (set numbers c 0) j 0 ≡ 0
   cleared_more j l = elim (cases_eq j c) [
     | inl e ↦ ap (λ k. get_or (set numbers c 0) k 0) e ∙ get_or-set_same numbers c 0 0 lt
@@ -200,7 +200,7 @@ module _ (p limit c columns count : ℕ) (pivots : List ℕ) (left : List Entry)
       let a : get_or numbers c 0 < limit = Each_at (λ a. a < limit) numbers c (get_or numbers c 0) h.small lt (get_or_default numbers c 0 (get_or numbers c 0) lt) in
       Each_set (λ a. a < limit) numbers c 0 h.small (omega arith)
 
-  pub underway_none : IsUnderway p limit (c + 1) columns count pivots left (set numbers c 0) taken
+  pub underway_none : IsRowUnderway p limit (c + 1) columns count pivots left (set numbers c 0) taken
   underway_none = record {
     numbered = length-set numbers c 0 ∙ h.numbered;
     room = h.room;
@@ -214,7 +214,7 @@ module _ (p limit c columns count : ℕ) (pivots : List ℕ) (left : List Entry)
   pub underway_left :
       (r : ℕ) (left' : List Entry)
       → 0 < r → r < p → get_or pivots c 0 ≡ 0 → left' ≡ left ++ (c, r) ∷ []
-      → IsUnderway p limit (c + 1) columns count pivots left' (set numbers c 0) taken
+      → IsRowUnderway p limit (c + 1) columns count pivots left' (set numbers c 0) taken
   underway_left r left' pos small none e = record {
     numbered = length-set numbers c 0 ∙ h.numbered;
     room = h.room;
@@ -229,7 +229,7 @@ module _ (p limit c columns count : ℕ) (pivots : List ℕ) (left : List Entry)
       (number factor limit' : ℕ) (tail : List Entry) (numbers' : List ℕ) (taken' : List Entry)
       → AreEntries p (c + 1) columns tail → AddsMultiple p factor tail (set numbers c 0) numbers' → number < count → factor < p
       → taken' ≡ taken ++ (number, factor) ∷ [] → HasRoom p limit' → IsDense limit' numbers'
-      → IsUnderway p limit' (c + 1) columns count pivots left numbers' taken'
+      → IsRowUnderway p limit' (c + 1) columns count pivots left numbers' taken'
   underway_pivot number factor limit' tail numbers' taken' es a known small e room below = record {
     numbered = a.count ∙ length-set numbers c 0 ∙ h.numbered;
     room = room;
@@ -277,7 +277,7 @@ pivot_spanned {n} p c columns inputs rows row key h =
 -- it is the combination of the input rows by its sources
 pub pivot_combined :
     {n : ℕ} (p c columns inputs : ℕ) (F : List (FormalSum n)) (rows : List RowShown) (row : RowShown) (key : ℕ → Key n)
-    → IsPivot p c columns inputs rows row → AreCombined p F key rows
+    → IsPivot p c columns inputs rows row → AreRowsCombined p F key rows
     → IsSame p (combination F (row_sum (source_key n) row.sources)) (row_sum key row.entries)
 pivot_combined {n} p c columns inputs F rows row key h g =
     Each_at (λ (r : RowShown). IsSame p (combination F (row_sum (source_key n) r.sources)) (row_sum key r.entries)) rows h.number row g h.within

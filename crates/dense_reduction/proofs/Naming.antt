@@ -10,7 +10,7 @@ use Rattle.row_laws.proofs.RowSpans.{IsInSpan_itself, IsInSpan_through}
 use Rattle.row_laws.specs.Rows.{IsInSpan}
 use Rattle.row_matrix.specs.Rows.{RowShown, row_sum}
 use Rattle.dense_reduction.specs.Pivots.{no_row, row_at, row_vectors}
-use Rattle.dense_reduction.specs.Words.{AreAsTold, Follows, IsTold, Names, named}
+use Rattle.dense_reduction.specs.Words.{AreAsTold, IsToldAfter, IsTold, WordNames, named}
 
 -- ---- rows in the span of rows
 -- each row itself
@@ -55,7 +55,7 @@ span_right {n} {p} key (b ∷ before) rows v s =
 -- ---- named rows
 -- a row that a word names is one of them
 pub named_at :
-    (rows : List RowShown) (words : List (Option ℕ)) (c k : ℕ) → Names words c k
+    (rows : List RowShown) (words : List (Option ℕ)) (c k : ℕ) → WordNames words c k
     → (i : ℕ) × (i < length (named rows words)) × (row_at (named rows words) i ≡ row_at rows k)
 named_at rows [] c k h = absurd (none-some (Some k) h)
 named_at rows (None ∷ words) zero k h = absurd (none-some k (same_Some None (Some k) h))
@@ -68,7 +68,7 @@ named_at rows (Some j ∷ words) (suc c) k h =
 -- each of them is a row that a word names
 pub named_of :
     (rows : List RowShown) (words : List (Option ℕ)) (i : ℕ) → i < length (named rows words)
-    → (c : ℕ) × (k : ℕ) × Names words c k × (row_at (named rows words) i ≡ row_at rows k)
+    → (c : ℕ) × (k : ℕ) × WordNames words c k × (row_at (named rows words) i ≡ row_at rows k)
 named_of rows [] i lt = absurd (omega arith)
 named_of rows (None ∷ words) i lt =
     let r = named_of rows words i lt in
@@ -81,7 +81,7 @@ named_of rows (Some j ∷ words) (suc i) lt =
 -- what holds of all rows holds of them
 pub Each_named :
     (P : RowShown → Type 0) (rows : List RowShown) (words : List (Option ℕ)) → Each P rows
-    → ((c k : ℕ) → Names words c k → k < length rows) → Each P (named rows words)
+    → ((c k : ℕ) → WordNames words c k → k < length rows) → Each P (named rows words)
 Each_named P rows [] h known = tt
 Each_named P rows (None ∷ words) h known = Each_named P rows words h (λ c k e. known (suc c) k e)
 Each_named P rows (Some j ∷ words) h known =
@@ -90,7 +90,7 @@ Each_named P rows (Some j ∷ words) h known =
 
 -- a row that a word names is in their span
 pub named_span :
-    {n p : ℕ} (key : ℕ → Key n) (rows : List RowShown) (words : List (Option ℕ)) (c k : ℕ) → Names words c k
+    {n p : ℕ} (key : ℕ → Key n) (rows : List RowShown) (words : List (Option ℕ)) (c k : ℕ) → WordNames words c k
     → IsInSpan p (row_vectors key (named rows words)) (row_sum key (row_at rows k).entries)
 named_span {n} {p} key rows words c k h =
     let r = named_at rows words c k h in
@@ -99,13 +99,13 @@ named_span {n} {p} key rows words c k h =
 -- ---- what was told
 -- words that are as was told later are as was told before
 pub told_before :
-    (words : List (Option ℕ)) (old new : List Told) → Follows old new → AreAsTold words new → AreAsTold words old
+    (words : List (Option ℕ)) (old new : List Told) → IsToldAfter old new → AreAsTold words new → AreAsTold words old
 told_before words old new f h =
     All-from_get_or P old none (λ i lt. subst P (get_or_append_left old f.0 none i lt)
     (All-get_or P (old ++ f.0) i none (omega (arith, length-append old f.0, lt)) (subst (All P) f.1 h)))
   where
     P : Told → Type 0
-    P e = (k : ℕ) → e.after ≡ k + 1 → Names words e.column k
+    P e = (k : ℕ) → e.after ≡ k + 1 → WordNames words e.column k
 
     none : Told
     none = record { column = 0; before = 0; after = 0 }
@@ -113,25 +113,25 @@ told_before words old new f h =
 -- the last that was told, of a column that has a row
 pub told_last :
     (words : List (Option ℕ)) (old : List Told) (e : Told) (k : ℕ) → e.after ≡ k + 1
-    → AreAsTold words (old ++ e ∷ []) → Names words e.column k
+    → AreAsTold words (old ++ e ∷ []) → WordNames words e.column k
 told_last words old e k is h =
     subst P (get_or_push old e e (length old) refl)
     (All-get_or P (old ++ e ∷ []) (length old) e (omega (arith, length-append old (e ∷ []))) h) k is
   where
     P : Told → Type 0
-    P x = (j : ℕ) → x.after ≡ j + 1 → Names words x.column j
+    P x = (j : ℕ) → x.after ≡ j + 1 → WordNames words x.column j
 
-pub follows_same : (old : List Told) → Follows old old
+pub follows_same : (old : List Told) → IsToldAfter old old
 follows_same old = ([], sym (append-nil old))
 
-pub follows_one : (old new : List Told) (e : Told) → new ≡ old ++ e ∷ [] → Follows old new
+pub follows_one : (old new : List Told) (e : Told) → new ≡ old ++ e ∷ [] → IsToldAfter old new
 follows_one old new e is = (e ∷ [], is)
 
-pub follows_trans : (a b c : List Told) → Follows a b → Follows b c → Follows a c
+pub follows_trans : (a b c : List Told) → IsToldAfter a b → IsToldAfter b c → IsToldAfter a c
 follows_trans a b c f g = (f.0 ++ g.0, g.1 ∙ ap (λ x. x ++ g.0) f.1 ∙ append_assoc a f.0 g.0)
 
 -- what was told stays told
-pub told_stays : (rows : List RowShown) (old new : List Told) (column k : ℕ) → Follows old new → IsTold rows old column k → IsTold rows new column k
+pub told_stays : (rows : List RowShown) (old new : List Told) (column k : ℕ) → IsToldAfter old new → IsTold rows old column k → IsTold rows new column k
 told_stays rows old new column k f h = record {
   known = h.known;
   lead = h.lead;

@@ -20,9 +20,9 @@ use Rattle.dense_reduction.specs.Eights.{AreDense, lane}
 use Rattle.dense_reduction.specs.LostRows.{IsLost}
 use Rattle.dense_reduction.specs.Pivots.{ArePivots, lead_column, no_row, row_at}
 use Rattle.dense_reduction.specs.Reductions.{IsPivotFor, IsReducedSoFar}
-use Rattle.dense_reduction.specs.Together.{AreOnTheirWay, AreRests, IsAdded, IsOnItsWay, IsRestOf, lane_left, lane_taken, put_residue}
-use Rattle.dense_reduction.specs.Underway.{IsLeftRow, IsUnderway}
-use Rattle.dense_reduction.specs.Words.{Follows}
+use Rattle.dense_reduction.specs.Together.{AreOnTheirWay, AreRests, IsAdded, IsOnItsWay, IsRowRestOrGone, lane_left, lane_taken, put_residue}
+use Rattle.dense_reduction.specs.Underway.{IsLeftRow, IsRowUnderway}
+use Rattle.dense_reduction.specs.Words.{IsToldAfter}
 use Rattle.dense_reduction.specs.declared.lefts.Lost.{Lost}
 
 -- the rows that were added to row j of the eight, first the one that has its column
@@ -78,7 +78,7 @@ way_same p limit limit' c columns rows own pivots told left left' numbers number
     subst (λ m. IsOnItsWay p m c columns rows own pivots told left' numbers' taken' j l) (sym e)
     (subst (λ es. IsOnItsWay p limit c columns rows own pivots told es numbers' taken' j l) (sym el)
     (subst (λ ts. IsOnItsWay p limit c columns rows own pivots told left numbers' ts j l) (sym et) record {
-      under = subst (λ xs. IsUnderway p limit c columns (length (rows ++ own)) pivots (lane_left j left) xs (taken_of p l j taken)) (sym en) h.under;
+      under = subst (λ xs. IsRowUnderway p limit c columns (length (rows ++ own)) pivots (lane_left j left) xs (taken_of p l j taken)) (sym en) h.under;
       reduced =
           subst (λ xs. IsReducedSoFar p (lead_column rows l.number + 1) rows own told (row_at rows l.number) (lane_left j left) xs (taken_of p l j taken))
           (sym en) h.reduced;
@@ -100,7 +100,7 @@ way_skip p limit c d columns rows own pivots told left numbers taken j l le zero
 
 module _ (p limit c columns : ℕ) (rows own : List RowShown) (pivots : List ℕ) (told told' : List Told)
     (left : List (ℕ × List ℕ)) (numbers : List (List ℕ)) (taken : List (ℕ × List ℕ)) (j r : ℕ) (l : Lost)
-    (pos : 0 < p) (at : c < columns) (follows : Follows told told') (is : r ≡ get_or (lane j numbers) c 0 % p)
+    (pos : 0 < p) (at : c < columns) (follows : IsToldAfter told told') (is : r ≡ get_or (lane j numbers) c 0 % p)
     (h : IsOnItsWay p limit c columns rows own pivots told left numbers taken j l) where
   inside : c < length (lane j numbers)
   inside = omega (arith, at, h.under.numbered)
@@ -119,7 +119,7 @@ module _ (p limit c columns : ℕ) (rows own : List RowShown) (pivots : List ℕ
       → IsOnItsWay p limit (c + 1) columns rows own pivots told' left' numbers' taken j l
   way_none left' numbers' z el en = record {
     under =
-        subst₂ (λ es xs. IsUnderway p limit (c + 1) columns (length (rows ++ own)) pivots es xs (taken_of p l j taken)) (sym el) (sym en)
+        subst₂ (λ es xs. IsRowUnderway p limit (c + 1) columns (length (rows ++ own)) pivots es xs (taken_of p l j taken)) (sym el) (sym en)
         (underway_none p limit c columns (length (rows ++ own)) pivots (lane_left j left) (lane j numbers) (taken_of p l j taken) h.under inside);
     reduced =
         subst₂ (λ es xs. IsReducedSoFar p (lead_column rows l.number + 1) rows own told' (row_at rows l.number) es xs (taken_of p l j taken)) (sym el) (sym en)
@@ -136,7 +136,7 @@ module _ (p limit c columns : ℕ) (rows own : List RowShown) (pivots : List ℕ
       → IsOnItsWay p limit (c + 1) columns rows own pivots told' left' numbers' taken j l
   way_left left' numbers' some small none el en = record {
     under =
-        subst (λ xs. IsUnderway p limit (c + 1) columns (length (rows ++ own)) pivots (lane_left j left') xs (taken_of p l j taken)) (sym en)
+        subst (λ xs. IsRowUnderway p limit (c + 1) columns (length (rows ++ own)) pivots (lane_left j left') xs (taken_of p l j taken)) (sym en)
         (underway_left p limit c columns (length (rows ++ own)) pivots (lane_left j left) (lane j numbers) (taken_of p l j taken) h.under inside
         r (lane_left j left') (omega (arith, some)) small none el);
     reduced =
@@ -180,7 +180,7 @@ module _ (p limit c columns : ℕ) (rows own : List RowShown) (pivots : List ℕ
       let T' = taken_of p l j taken' in
       let grown : T' ≡ T ++ (number, f) ∷ [] =
       ap (taken_of p l j) et ∙ ap (λ ts. (l.winner, p - 1) ∷ ts) (lane_taken_push j taken (number, factors)) in
-      let under : IsUnderway p limit' (c + 1) columns (length (rows ++ own)) pivots (lane_left j left) (lane j numbers') T' =
+      let under : IsRowUnderway p limit' (c + 1) columns (length (rows ++ own)) pivots (lane_left j left) (lane j numbers') T' =
       underway_pivot p limit c columns (length (rows ++ own)) pivots (lane_left j left) (lane j numbers) T h.under inside
       number f limit' tail (lane j numbers') T' g.tail adds pivot.known a.small grown room small in
       record {
@@ -253,7 +253,7 @@ ways_skip p limit c d columns rows own pivots told left numbers taken lost few l
 
 module _ (p limit c columns : ℕ) (rows own : List RowShown) (pivots : List ℕ) (told told' : List Told)
     (left : List (ℕ × List ℕ)) (numbers middle : List (List ℕ)) (taken : List (ℕ × List ℕ)) (residues : List ℕ) (lost : List Lost)
-    (pos : 0 < p) (at : c < columns) (few : length lost ≤ 8) (follows : Follows told told') (out : IsTakenOut p c residues numbers middle)
+    (pos : 0 < p) (at : c < columns) (few : length lost ≤ 8) (follows : IsToldAfter told told') (out : IsTakenOut p c residues numbers middle)
     (h : AreOnTheirWay p limit c columns rows own pivots told left numbers taken 0 lost) where
   -- nothing stood there
   pub ways_none :
@@ -297,7 +297,7 @@ pub way_rest :
     → MatchOption rest (lane_left j left ≡ [])
     (IsLeftRow p columns inputs (rows ++ own) (row_at rows l.number) (lane_left j left) (taken_of p l j taken))
     → IsOnItsWay p limit columns columns rows own pivots known left numbers taken j l
-    → IsRestOf p columns inputs rows own known (row_at rows l.number) rest
+    → IsRowRestOrGone p columns inputs rows own known (row_at rows l.number) rest
 way_rest p limit columns inputs rows own pivots known left numbers taken j l None pos h e w =
     gone_row p (lead_column rows l.number + 1) limit columns inputs (length (rows ++ own)) pos rows own known pivots (row_at rows l.number)
     (lane_left j left) (lane j numbers) (taken_of p l j taken) w.under w.reduced e
@@ -314,7 +314,7 @@ pub way_left_over :
     → es ≡ lane_left j left → ts ≡ taken_of p l j taken
     → MatchOption rest (es ≡ []) (IsLeftRow p m inputs (rows ++ own) row es ts)
     → IsOnItsWay p limit columns columns rows own pivots known left numbers taken j l
-    → IsRestOf p columns inputs rows own known (row_at rows l.number) rest
+    → IsRowRestOrGone p columns inputs rows own known (row_at rows l.number) rest
 way_left_over p limit columns inputs rows own pivots known left numbers taken j l rest m row es ts pos h em er ee et e w =
     way_rest p limit columns inputs rows own pivots known left numbers taken j l rest pos h
     (subst₂ (λ k r. MatchOption rest (lane_left j left ≡ []) (IsLeftRow p k inputs (rows ++ own) r (lane_left j left) (taken_of p l j taken))) em er
@@ -323,7 +323,7 @@ way_left_over p limit columns inputs rows own pivots known left numbers taken j 
 -- one row more
 pub rests_push :
     (p columns inputs : ℕ) (rows own : List RowShown) (known : List Told) (lost : List Lost) (rests : List (Option RowShown)) (l : Lost) (r : Option RowShown)
-    → IsRestOf p columns inputs rows own known (row_at rows l.number) r → AreRests p columns inputs rows own known lost rests
+    → IsRowRestOrGone p columns inputs rows own known (row_at rows l.number) r → AreRests p columns inputs rows own known lost rests
     → AreRests p columns inputs rows own known (lost ++ l ∷ []) (rests ++ r ∷ [])
 rests_push p columns inputs rows own known [] [] l r one h = (one, tt)
 rests_push p columns inputs rows own known [] (x ∷ rests) l r one h = absurd h

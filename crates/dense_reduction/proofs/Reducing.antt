@@ -21,7 +21,7 @@ use Rattle.dense_reduction.proofs.Entries.{entries_from, entries_push}
 use Rattle.dense_reduction.proofs.Naming.{span_left}
 use Rattle.dense_reduction.specs.Dense.{AddsMultiple, AreWithin, HasRoom, IsDense, dense_sum}
 use Rattle.dense_reduction.specs.Pivots.{row_at, row_vectors}
-use Rattle.dense_reduction.specs.Underway.{AreIdle, IsCombinedDense, IsLeftRow, IsReducedRow, IsSpanned, IsUnderway, rescaled, sources_sum}
+use Rattle.dense_reduction.specs.Underway.{AreIdle, IsCombinedDense, IsLeftRow, IsReducedRow, IsSpanned, IsRowUnderway, rescaled, sources_sum}
 
 -- ---- numbers, one after another
 dense_push : {n : ℕ} (key : ℕ → Key n) (j a : ℕ) (xs : List ℕ) → dense_sum key j (xs ++ a ∷ []) ≡ dense_sum key j xs ++ (key (j + length xs), a) ∷ []
@@ -49,6 +49,11 @@ pub product_is :
     (p factor a r product : ℕ) → product ≡ (factor * r) % p → r ≡ a % p → IsCongruent p product (factor * a)
 product_is p factor a r product e f =
     IsCongruent_trans (IsCongruent_of p _ _ e) (IsCongruent_trans (IsCongruent_mod p (factor * r)) (IsCongruent_multiply (IsCongruent_refl p factor) (IsCongruent_trans (IsCongruent_of p _ _ f) (IsCongruent_mod p a))))
+
+pub product_none : (p factor a r : ℕ) → r ≡ a % p → r ≡ 0 → IsCongruent p 0 (factor * a)
+product_none p factor a r f z =
+    IsCongruent_trans (IsCongruent_of p 0 (factor * 0) (omega arith))
+    (IsCongruent_multiply (IsCongruent_refl p factor) (IsCongruent_trans (IsCongruent_of p 0 (a % p) (sym z ∙ f)) (IsCongruent_mod p a)))
 
 pub collect_one :
     {n p : ℕ} (key : ℕ → Key n) (factor i product : ℕ) (es : List Entry) (numbers : List ℕ)
@@ -170,7 +175,7 @@ pub start_underway :
     → AreEntries p (c + 1) columns tail → AreEntries p (c + 1) columns tail' → zeros ≡ replicate columns 0
     → AddsMultiple p 1 tail zeros numbers → AddsMultiple p factor tail' numbers numbers' → number < count → factor < p
     → left ≡ [] → taken ≡ (number, factor) ∷ [] → HasRoom p limit → IsDense limit numbers'
-    → IsUnderway p limit (c + 1) columns count pivots left numbers' taken
+    → IsRowUnderway p limit (c + 1) columns count pivots left numbers' taken
 start_underway p limit c columns count number factor pivots tail tail' zeros numbers numbers' left taken es es' z a a' known small e one room below = record {
   numbered = a'.count ∙ a.count ∙ ap length z ∙ length-replicate columns 0;
   room = room;
@@ -188,7 +193,7 @@ pub stays_underway :
     (p limit c columns count : ℕ) (pivots : List ℕ) (tail : List Entry) (zeros numbers : List ℕ) (left taken : List Entry)
     → 1 < p → AreEntries p (c + 1) columns tail → zeros ≡ replicate columns 0 → AddsMultiple p 1 tail zeros numbers
     → get_or pivots c 0 ≡ 0 → left ≡ (c, 1) ∷ [] → taken ≡ [] → HasRoom p limit → IsDense limit numbers
-    → IsUnderway p limit (c + 1) columns count pivots left numbers taken
+    → IsRowUnderway p limit (c + 1) columns count pivots left numbers taken
 stays_underway p limit c columns count pivots tail zeros numbers left taken one es z a none e e' room below = record {
   numbered = a.count ∙ ap length z ∙ length-replicate columns 0;
   room = room;

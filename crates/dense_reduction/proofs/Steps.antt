@@ -20,8 +20,8 @@ use Rattle.dense_reduction.specs.Dense.{AddsMultiple, dense_sum}
 use Rattle.dense_reduction.specs.Pivots.{ArePivots, lead_column, no_row, row_at, row_vectors}
 use Rattle.dense_reduction.specs.Reductions.{IsPivotFor, IsReducedSoFar, least_left}
 use Rattle.dense_reduction.specs.Rests.{IsGone, IsRestFrom}
-use Rattle.dense_reduction.specs.Underway.{AreCombined, IsLeftRow, IsReducedTo, IsUnderway, sources_sum}
-use Rattle.dense_reduction.specs.Words.{AreAsTold, AreReady, Follows, IsTold, named}
+use Rattle.dense_reduction.specs.Underway.{AreRowsCombined, IsLeftRow, IsReducedTo, IsRowUnderway, sources_sum}
+use Rattle.dense_reduction.specs.Words.{AreAsTold, AreRowsReady, IsToldAfter, IsTold, named}
 
 -- ---- the pivot of a column
 -- a row that was told
@@ -40,7 +40,7 @@ pivot_told p column number rows own told h =
 -- a row that a look found
 pub pivot_looked :
     (p columns inputs column number : ℕ) (rows own : List RowShown) (leads : List ℕ) (held : List (Option ℕ)) (old new : List Told)
-    → AreReady p columns inputs rows leads held → NamesRowOf leads column (number + 1)
+    → AreRowsReady p columns inputs rows leads held → NamesRowOf leads column (number + 1)
     → new ≡ old ++ entry column (number + 1) (number + 1) ∷ [] → IsPivotFor p rows own new column number
 pivot_looked p columns inputs column number rows own leads held old new ready names is =
     let h = names (omega arith) in
@@ -90,7 +90,7 @@ pub record IsReducedWith (p : ℕ) (rows own : List RowShown) (told : List Told)
   pub outside : (n : ℕ) (key : ℕ → Key n) → IsReducedTo p (row_vectors key (rows ++ own)) (row_sum key row.entries) (v n key)
   pub combined :
       (n : ℕ) (F : List (FormalSum n)) (key : ℕ → Key n)
-      → AreCombined p F key (rows ++ own) → IsSame p (combination F (row_sum (source_key n) row.sources)) (row_sum key row.entries)
+      → AreRowsCombined p F key (rows ++ own) → IsSame p (combination F (row_sum (source_key n) row.sources)) (row_sum key row.entries)
       → IsSame p (combination F (sources_sum (source_key n) (rows ++ own) row taken)) (v n key)
 
 -- the row itself
@@ -112,7 +112,7 @@ reduced_start p rows own told row = record {
 pub reduced_pivot :
     (p column number factor residue : ℕ) (rows own : List RowShown) (old new : List Told) (row : RowShown)
     (v v' : (n : ℕ) → (ℕ → Key n) → FormalSum n) (taken taken' : List Entry)
-    → 0 < p → Follows old new → IsPivotFor p rows own new column number → IsCongruent p (factor + residue) 0 → taken' ≡ taken ++ (number, factor) ∷ []
+    → 0 < p → IsToldAfter old new → IsPivotFor p rows own new column number → IsCongruent p (factor + residue) 0 → taken' ≡ taken ++ (number, factor) ∷ []
     → ((n : ℕ) (key : ℕ → Key n) → IsSame p (v' n key) (v n key ++ scale factor (unit n) (row_sum key (row_at (rows ++ own) number).entries)))
     → IsReducedWith p rows own old row v taken → IsReducedWith p rows own new row v' taken'
 reduced_pivot p column number factor residue rows own old new row v v' taken taken' pos f pivot cancels more added h = record {
@@ -136,7 +136,7 @@ so_far p column rows own told row left numbers taken h = record { inside = h.ins
 -- the same is left
 pub reduced_kept :
     (p low : ℕ) (rows own : List RowShown) (old new : List Told) (row : RowShown) (left left' : List Entry) (numbers numbers' : List ℕ) (taken : List Entry)
-    → Follows old new → Each (λ e. low ≤ e.0) left'
+    → IsToldAfter old new → Each (λ e. low ≤ e.0) left'
     → ((n : ℕ) (key : ℕ → Key n) → IsSame p (row_sum key left' ++ dense_sum key 0 numbers') (row_sum key left ++ dense_sum key 0 numbers))
     → IsReducedSoFar p low rows own old row left numbers taken → IsReducedSoFar p low rows own new row left' numbers' taken
 reduced_kept p low rows own old new row left left' numbers numbers' taken f above same h = record {
@@ -150,7 +150,7 @@ reduced_kept p low rows own old new row left left' numbers numbers' taken f abov
 pub reduced_added :
     (p low column number factor residue : ℕ) (rows own : List RowShown) (old new : List Told) (row : RowShown)
     (left left' : List Entry) (numbers numbers' : List ℕ) (taken taken' : List Entry)
-    → 0 < p → Follows old new → IsPivotFor p rows own new column number → IsCongruent p (factor + residue) 0
+    → 0 < p → IsToldAfter old new → IsPivotFor p rows own new column number → IsCongruent p (factor + residue) 0
     → left' ≡ left → taken' ≡ taken ++ (number, factor) ∷ []
     → ((n : ℕ) (key : ℕ → Key n)
     → IsSame p (row_sum key left ++ dense_sum key 0 numbers') ((row_sum key left ++ dense_sum key 0 numbers) ++ scale factor (unit n) (row_sum key (row_at (rows ++ own) number).entries)))
@@ -244,7 +244,7 @@ first_free pivots (e ∷ es) s h = h.0
 -- ---- the end
 module _ (p low limit columns inputs count : ℕ) (pos : 0 < p) (rows own : List RowShown) (told : List Told) (pivots : List ℕ) (row : RowShown)
     (left : List Entry) (numbers : List ℕ) (taken : List Entry)
-    (underway : IsUnderway p limit columns columns count pivots left numbers taken) (reduced : IsReducedSoFar p low rows own told row left numbers taken) where
+    (underway : IsRowUnderway p limit columns columns count pivots left numbers taken) (reduced : IsReducedSoFar p low rows own told row left numbers taken) where
   cleared : (j : ℕ) → j < length numbers → get_or numbers j 0 ≡ 0
   cleared j lt = underway.cleared j (omega (arith, lt, underway.numbered))
 

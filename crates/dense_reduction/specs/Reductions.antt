@@ -5,7 +5,7 @@ use Rattle.formal_sums.specs.FormalSums.{Each, FormalSum, IsSame, Key}
 use Rattle.pivot_table.specs.declared.law.Entry.{Entry as Told}
 use Rattle.row_matrix.specs.Rows.{Entry, RowShown, first_column, row_sum, source_key}
 use Rattle.dense_reduction.specs.Pivots.{lead_column, row_at}
-use Rattle.dense_reduction.specs.Underway.{AreCombined, IsCombinedDense, IsReducedRow, IsSpanned}
+use Rattle.dense_reduction.specs.Underway.{AreRowsCombined, IsCombinedDense, IsReducedRow, IsSpanned}
 use Rattle.dense_reduction.specs.Words.{AreAsTold, named}
 
 -- of the pass's rows and the own ones behind them, the one with this number has its lead at the column; the rows told and the own ones
@@ -34,5 +34,5 @@ pub record IsReducedSoFar
   pub outside : IsReducedRow p (rows ++ own) row left numbers
   pub combined :
       (n : ℕ) (F : List (FormalSum n)) (key : ℕ → Key n)
-      → AreCombined p F key (rows ++ own) → IsSame p (combination F (row_sum (source_key n) row.sources)) (row_sum key row.entries)
+      → AreRowsCombined p F key (rows ++ own) → IsSame p (combination F (row_sum (source_key n) row.sources)) (row_sum key row.entries)
       → IsCombinedDense p F key (rows ++ own) row left numbers taken

@@ -4,7 +4,7 @@ use Rattle.formal_sums.specs.FormalSums.{FormalSum, Key}
 use Rattle.pivot_table.specs.declared.law.Entry.{Entry as Told}
 use Rattle.row_matrix.specs.Rows.{IsRow, RowShown, first_column}
 use Rattle.dense_reduction.specs.Pivots.{lead_column}
-use Rattle.dense_reduction.specs.Underway.{AreCombined, IsSpanned}
+use Rattle.dense_reduction.specs.Underway.{AreRowsCombined, IsSpanned}
 use Rattle.dense_reduction.specs.Words.{AreAsTold, named}
 use Rattle.dense_reduction.specs.declared.lefts.Left.{Left}
 
@@ -24,10 +24,10 @@ pub record IsRestFrom (p columns inputs column : ℕ) (rows own : List RowShown)
   pub apart : (k : ℕ) → k < length own → lead_column own k ≡ first_column r.entries → ⊥
   pub combined :
       (n : ℕ) (F : List (FormalSum n)) (key : ℕ → Key n)
-      → AreCombined p F key (rows ++ own) → AreCombined p F key (row ∷ []) → AreCombined p F key (r ∷ [])
+      → AreRowsCombined p F key (rows ++ own) → AreRowsCombined p F key (row ∷ []) → AreRowsCombined p F key (r ∷ [])
   pub inside : (words : List (Option ℕ)) → AreAsTold words told → IsSpanned p ((named rows words ++ own) ++ r ∷ []) row
   pub outside : IsSpanned p ((rows ++ own) ++ row ∷ []) r
 
 -- r is left of the row, with a lower lead
-abbrev pub IsRest : (p columns inputs : ℕ) → List RowShown → List RowShown → List Told → RowShown → RowShown → Type 0
-IsRest p columns inputs rows own told row r = IsRestFrom p columns inputs (first_column row.entries + 1) rows own told row r
+abbrev pub IsRowLeft : (p columns inputs : ℕ) → List RowShown → List RowShown → List Told → RowShown → RowShown → Type 0
+IsRowLeft p columns inputs rows own told row r = IsRestFrom p columns inputs (first_column row.entries + 1) rows own told row r

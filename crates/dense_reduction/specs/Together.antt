@@ -7,8 +7,8 @@ use Rattle.dense_reduction.specs.Dense.{AddsMultiple}
 use Rattle.dense_reduction.specs.Eights.{lane}
 use Rattle.dense_reduction.specs.Pivots.{lead_column, row_at}
 use Rattle.dense_reduction.specs.Reductions.{IsReducedSoFar}
-use Rattle.dense_reduction.specs.Rests.{IsGone, IsRest}
-use Rattle.dense_reduction.specs.Underway.{IsUnderway}
+use Rattle.dense_reduction.specs.Rests.{IsGone, IsRowLeft}
+use Rattle.dense_reduction.specs.Underway.{IsRowUnderway}
 use Rattle.dense_reduction.specs.declared.lefts.Lost.{Lost}
 
 -- what is left of row j of the eight, where these residues of all are left at these columns
@@ -35,7 +35,7 @@ pub record IsOnItsWay
     (p limit c columns : ℕ) (rows own : List RowShown) (pivots : List ℕ) (told : List Told)
     (left : List (ℕ × List ℕ)) (numbers : List (List ℕ)) (taken : List (ℕ × List ℕ)) (j : ℕ) (l : Lost) : Type 0 where
   pub under :
-      IsUnderway p limit c columns (length (rows ++ own)) pivots (lane_left j left) (lane j numbers) ((l.winner, p - 1) ∷ lane_taken j taken)
+      IsRowUnderway p limit c columns (length (rows ++ own)) pivots (lane_left j left) (lane j numbers) ((l.winner, p - 1) ∷ lane_taken j taken)
   pub reduced :
       IsReducedSoFar p (lead_column rows l.number + 1) rows own told (row_at rows l.number) (lane_left j left) (lane j numbers)
       ((l.winner, p - 1) ∷ lane_taken j taken)
@@ -51,9 +51,9 @@ AreOnTheirWay p limit c columns rows own pivots told left numbers taken j (l ∷
     × AreOnTheirWay p limit c columns rows own pivots told left numbers taken (j + 1) lost
 
 -- this is left of the row, or it is gone
-abbrev pub IsRestOf : (p columns inputs : ℕ) → List RowShown → List RowShown → List Told → RowShown → Option RowShown → Type 0
-IsRestOf p columns inputs rows own told row None = IsGone p rows own told row
-IsRestOf p columns inputs rows own told row (Some r) = IsRest p columns inputs rows own told row r
+abbrev pub IsRowRestOrGone : (p columns inputs : ℕ) → List RowShown → List RowShown → List Told → RowShown → Option RowShown → Type 0
+IsRowRestOrGone p columns inputs rows own told row None = IsGone p rows own told row
+IsRowRestOrGone p columns inputs rows own told row (Some r) = IsRowLeft p columns inputs rows own told row r
 
 -- of each of these rows this is left, or it is gone
 abbrev pub AreRests : (p columns inputs : ℕ) → List RowShown → List RowShown → List Told → List Lost → List (Option RowShown) → Type 0
@@ -61,4 +61,4 @@ AreRests p columns inputs rows own told [] [] = ⊤
 AreRests p columns inputs rows own told [] (r ∷ rests) = ⊥
 AreRests p columns inputs rows own told (l ∷ lost) [] = ⊥
 AreRests p columns inputs rows own told (l ∷ lost) (r ∷ rests) =
-    IsRestOf p columns inputs rows own told (row_at rows l.number) r × AreRests p columns inputs rows own told lost rests
+    IsRowRestOrGone p columns inputs rows own told (row_at rows l.number) r × AreRests p columns inputs rows own told lost rests

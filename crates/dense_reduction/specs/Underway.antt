@@ -26,7 +26,7 @@ sources_sum key rows row taken = row_sum key row.sources ++ taken_sum key rows t
 
 -- what is left of the row at the columns before c, the numbers at those from c on, and the rows, of so many, that were
 -- added; the numbers are below the limit
-pub record IsUnderway (p limit c columns count : ℕ) (pivots : List ℕ) (left : List Entry) (numbers : List ℕ) (taken : List Entry) : Type 0 where
+pub record IsRowUnderway (p limit c columns count : ℕ) (pivots : List ℕ) (left : List Entry) (numbers : List ℕ) (taken : List Entry) : Type 0 where
   pub numbered : length numbers ≡ columns
   pub room : HasRoom p limit
   pub small : IsDense limit numbers
@@ -47,8 +47,8 @@ IsReducedRow p rows row left numbers =
     (n : ℕ) (key : ℕ → Key n) → IsReducedTo p (row_vectors key rows) (row_sum key row.entries) (row_sum key left ++ dense_sum key 0 numbers)
 
 -- each row is the combination of the input rows F by its sources
-abbrev pub AreCombined : {n : ℕ} → ℕ → List (FormalSum n) → (ℕ → Key n) → List RowShown → Type 0
-AreCombined {n} p F key rows = Each (λ r. IsSame p (combination F (row_sum (source_key n) r.sources)) (row_sum key r.entries)) rows
+abbrev pub AreRowsCombined : {n : ℕ} → ℕ → List (FormalSum n) → (ℕ → Key n) → List RowShown → Type 0
+AreRowsCombined {n} p F key rows = Each (λ r. IsSame p (combination F (row_sum (source_key n) r.sources)) (row_sum key r.entries)) rows
 
 -- the entries with each residue c times itself
 abbrev pub rescaled : ℕ → ℕ → List Entry → List Entry
@@ -70,12 +70,12 @@ abbrev pub IsSpanned : ℕ → List RowShown → RowShown → Type 0
 IsSpanned p rows row = (n : ℕ) (key : ℕ → Key n) → IsInSpan p (row_vectors key rows) (row_sum key row.entries)
 
 -- r is what the pivots leave of the row: it spans with them what the row spans with them
-pub record IsRemainder (p inputs : ℕ) (rows : List RowShown) (pivots : List ℕ) (row r : RowShown) : Type 0 where
+pub record IsRowRemainder (p inputs : ℕ) (rows : List RowShown) (pivots : List ℕ) (row r : RowShown) : Type 0 where
   pub good : IsRow p (length pivots) inputs r
   pub free : get_or pivots (first_column r.entries) 0 ≡ 0
   pub combined :
       (n : ℕ) (F : List (FormalSum n)) (key : ℕ → Key n)
-      → AreCombined p F key rows → IsSame p (combination F (row_sum (source_key n) row.sources)) (row_sum key row.entries)
+      → AreRowsCombined p F key rows → IsSame p (combination F (row_sum (source_key n) row.sources)) (row_sum key row.entries)
       → IsSame p (combination F (row_sum (source_key n) r.sources)) (row_sum key r.entries)
   pub inside : IsSpanned p (rows ++ r ∷ []) row
   pub outside : IsSpanned p (rows ++ row ∷ []) r

@@ -6,8 +6,8 @@ use Rattle.row_matrix.specs.Rows.{IsRow, RowShown, first_column}
 use Rattle.dense_reduction.specs.Pivots.{lead_column, row_at}
 
 -- the first column of each row
-abbrev pub leads_of : List RowShown → List ℕ
-leads_of rows = map (λ r. first_column r.entries) rows
+abbrev pub row_leads_of : List RowShown → List ℕ
+row_leads_of rows = map (λ r. first_column r.entries) rows
 
 -- the rows that words name, column after column
 abbrev pub named : List RowShown → List (Option ℕ) → List RowShown
@@ -16,25 +16,25 @@ named rows (None ∷ words) = named rows words
 named rows (Some k ∷ words) = row_at rows k ∷ named rows words
 
 -- the column's word names this row
-abbrev pub Names : List (Option ℕ) → ℕ → ℕ → Type 0
-Names words column k = slice_get words column ≡ Some (Some k)
+abbrev pub WordNames : List (Option ℕ) → ℕ → ℕ → Type 0
+WordNames words column k = slice_get words column ≡ Some (Some k)
 
 -- the words are as was told
 abbrev pub AreAsTold : List (Option ℕ) → List Told → Type 0
-AreAsTold words told = All (λ (e : Told). (k : ℕ) → e.after ≡ k + 1 → Names words e.column k) told
+AreAsTold words told = All (λ (e : Told). (k : ℕ) → e.after ≡ k + 1 → WordNames words e.column k) told
 
 -- new was told after old
-abbrev pub Follows : List Told → List Told → Type 0
-Follows old new = (more : List Told) × (new ≡ old ++ more)
+abbrev pub IsToldAfter : List Told → List Told → Type 0
+IsToldAfter old new = (more : List Told) × (new ≡ old ++ more)
 
 -- the row with this number has this lead, and whatever the words are at the end, they name it there
 pub record IsTold (rows : List RowShown) (told : List Told) (column k : ℕ) : Type 0 where
   pub known : k < length rows
   pub lead : lead_column rows k ≡ column
-  pub named : (words : List (Option ℕ)) → AreAsTold words told → Names words column k
+  pub named : (words : List (Option ℕ)) → AreAsTold words told → WordNames words column k
 
 -- monic rows over as many columns as have words, and the leads that claims know are theirs
-pub record AreReady (p columns inputs : ℕ) (rows : List RowShown) (leads : List ℕ) (held : List (Option ℕ)) : Type 0 where
+pub record AreRowsReady (p columns inputs : ℕ) (rows : List RowShown) (leads : List ℕ) (held : List (Option ℕ)) : Type 0 where
   pub monic : Each (IsRow p columns inputs) rows
-  pub known : leads ≡ leads_of rows
+  pub known : leads ≡ row_leads_of rows
   pub wide : length held ≡ columns

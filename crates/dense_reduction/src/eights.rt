@@ -171,14 +171,16 @@ pub(crate) fn negate_all(modulus: &Modulus, residues: &[u32; 8]) -> [u32; 8]
     factors
 }
 
-// Are all eight numbers 0?
+// Are all eight numbers 0? Their bits are joined, so that one test serves for all.
 fn are_zero(numbers: &[u64; 8]) -> bool
     ensures { IsTrue result → (j : ℕ) → j < 8 → get_or numbers.now j 0 ≡ 0 }
 {
+    let mut joined = 0;
     for j in 0..EIGHT {
-        if numbers[j] != 0 {
-            return false;
-        }
+        joined |= numbers[j];
+    }
+    if joined != 0 {
+        return false;
     }
     true
 }

@@ -16,5 +16,5 @@ mod together;
 pub use claiming::claim_rows;
 pub use eights::EIGHT;
 pub use lefts::{Left, Lost};
-pub use reduction::{Own, Shared, Work, own_pivot, reduce_row, room_for_one};
+pub use reduction::{Own, PassShared, Work, own_pivot, reduce_row, room_for_one};
 pub use together::{Together, reduce_together, room_for_eight};

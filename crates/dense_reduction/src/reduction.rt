@@ -1,5 +1,6 @@
 // The reduction of a row by the pivots that words name and by a helper's own.
-ghost use Rattle.std.specs.Prelude.{◌≡◌, ◌<◌, ◌≤◌, ◌+◌, ◌++◌, ◌-◌, ◌%◌, List, [], ◌∷◌, ℕ, drop, length, get_or, IfOk, MatchOption, OnOk};
+ghost use Rattle.std.specs.Prelude.{◌≡◌, ◌<◌, ◌≤◌, ◌+◌, ◌*◌, ◌++◌, ◌-◌, ◌%◌, List, [], ◌∷◌, ℕ, drop, length, get_or, IfOk, MatchOption, OnOk};
+ghost use Rattle.residues.specs.Residues.{IsCongruent};
 ghost use Rattle.monomials.specs.Exponents.{unit};
 ghost use Rattle.formal_sums.specs.FormalSums.{Each, IsSame, Key as KeyOf, scale};
 ghost use Rattle.pivot_table.specs.Law.{IsSeatOf, told};
@@ -9,8 +10,8 @@ ghost use Rattle.dense_reduction.specs.Dense.{AddsMultiple, AreWithin, HasRoom, 
 ghost use Rattle.dense_reduction.specs.Pivots.{ArePivots, row_at};
 ghost use Rattle.dense_reduction.specs.Reductions.{HasPivot, IsReducedSoFar, least_left};
 ghost use Rattle.dense_reduction.specs.Rests.{IsGone, IsRestFrom, rows_left};
-ghost use Rattle.dense_reduction.specs.Underway.{AreIdle, IsLeftRow, IsUnderway, rescaled, sources_sum};
-ghost use Rattle.dense_reduction.specs.Words.{AreReady, Follows};
+ghost use Rattle.dense_reduction.specs.Underway.{AreIdle, IsLeftRow, IsRowUnderway, rescaled, sources_sum};
+ghost use Rattle.dense_reduction.specs.Words.{AreRowsReady, IsToldAfter};
 
 use crate::accumulating::{add_multiple, first_limit};
 use crate::lefts::Left;
@@ -22,7 +23,7 @@ use zp_field::Modulus;
 
 /// What the helpers of a pass read together.
 #[derive(Clone, Copy)]
-pub struct Shared<'a> {
+pub struct PassShared<'a> {
     /// The modulus of all residues.
     pub modulus: &'a Modulus,
     /// The rows of the pass, known by their numbers.
@@ -91,7 +92,7 @@ pub(crate) fn row_numbered<'a>(rows: &'a [Row], left: &'a [Left], number: usize)
 }
 
 /// The number of the helper's own pivot of the column, behind those of the pass's rows, or none.
-pub fn own_pivot(shared: Shared<'_>, own: &Own, c: u32) -> Option<usize>
+pub fn own_pivot(shared: PassShared<'_>, own: &Own, c: u32) -> Option<usize>
     requires at { c < length own.now.pivots.items }
     requires own { ArePivots shared.modulus.now.value (length own.now.pivots.items) shared.inputs (rows_left own.now.left.items) own.now.pivots.items }
     ensures { (told : List Told)
@@ -105,14 +106,19 @@ pub fn own_pivot(shared: Shared<'_>, own: &Own, c: u32) -> Option<usize>
 }
 
 /// The number of the column's pivot: the row that its word names at a look, or the helper's own.
-pub(crate) fn pivot_of(shared: Shared<'_>, seat: &mut ClaimSeat, own: &Own, c: u32) -> Option<usize>
+pub(crate) fn pivot_of(
+    shared: PassShared<'_>,
+    seat: &mut ClaimSeat,
+    own: &Own,
+    c: u32,
+) -> Option<usize>
     requires at { c < length own.now.pivots.items }
-    requires ready { AreReady shared.modulus.now.value (length own.now.pivots.items) shared.inputs shared.rows.now
+    requires ready { AreRowsReady shared.modulus.now.value (length own.now.pivots.items) shared.inputs shared.rows.now
         shared.claims.now.rows.leads.items shared.claims.now.rows.held.items }
     requires own { ArePivots shared.modulus.now.value (length own.now.pivots.items) shared.inputs (rows_left own.now.left.items) own.now.pivots.items }
     requires seat { IsSeatOf shared.claims.now.table.shared.table_id shared.claims.now.rows.leads.items seat.old }
     ensures seat { IsSeatOf shared.entry.claims.now.table.shared.table_id shared.entry.claims.now.rows.leads.items seat.new }
-    ensures follows { Follows (told seat.old) (told seat.new) }
+    ensures follows { IsToldAfter (told seat.old) (told seat.new) }
     ensures pivot { HasPivot shared.entry.modulus.now.value shared.entry.rows.now (rows_left own.now.left.items) own.now.pivots.items
         (told seat.new) c result }
 {
@@ -145,7 +151,7 @@ fn add_tail(modulus: &Modulus, row: &Row, factor: u32, numbers: &mut Vec<u64>, l
 
 // Adds a pivot, `factor` times, behind its first entry, where the number is taken away.
 fn add_pivot(
-    shared: Shared<'_>,
+    shared: PassShared<'_>,
     own: &Own,
     work: &mut Work,
     pivot: usize,
@@ -171,22 +177,22 @@ fn add_pivot(
 
 // Clears a column, by its pivot if it has one; else what stands there is left.
 fn clear_column(
-    shared: Shared<'_>,
+    shared: PassShared<'_>,
     seat: &mut ClaimSeat,
     own: &Own,
     work: &mut Work,
     c: u32,
 ) -> Result<(), NoMemory>
     requires at { c < length own.now.pivots.items }
-    requires ready { AreReady shared.modulus.now.value (length own.now.pivots.items) shared.inputs shared.rows.now
+    requires ready { AreRowsReady shared.modulus.now.value (length own.now.pivots.items) shared.inputs shared.rows.now
         shared.claims.now.rows.leads.items shared.claims.now.rows.held.items }
     requires own { ArePivots shared.modulus.now.value (length own.now.pivots.items) shared.inputs (rows_left own.now.left.items) own.now.pivots.items }
     requires seat { IsSeatOf shared.claims.now.table.shared.table_id shared.claims.now.rows.leads.items seat.old }
-    requires underway { IsUnderway shared.modulus.now.value work.old.limit c (length own.now.pivots.items)
+    requires underway { IsRowUnderway shared.modulus.now.value work.old.limit c (length own.now.pivots.items)
         (length (shared.rows.now ++ rows_left own.now.left.items)) own.now.pivots.items work.old.left.items work.old.numbers.items work.old.taken.items }
     ensures seat { IsSeatOf shared.entry.claims.now.table.shared.table_id shared.entry.claims.now.rows.leads.items seat.new }
-    ensures follows { Follows (told seat.old) (told seat.new) }
-    ensures underway { OnOk result (IsUnderway shared.entry.modulus.now.value work.new.limit (c + 1) (length own.now.pivots.items)
+    ensures follows { IsToldAfter (told seat.old) (told seat.new) }
+    ensures underway { OnOk result (IsRowUnderway shared.entry.modulus.now.value work.new.limit (c + 1) (length own.now.pivots.items)
         (length (shared.entry.rows.now ++ rows_left own.now.left.items)) own.now.pivots.items work.new.left.items work.new.numbers.items work.new.taken.items) }
     ensures reduced { (from : ℕ) (row : RowShown) → from ≤ c
         → IsReducedSoFar shared.entry.modulus.now.value from shared.entry.rows.now (rows_left own.now.left.items) (told seat.old) row
@@ -215,7 +221,7 @@ fn clear_column(
 
 // The row with a number for each column, where its first column is cleared by this pivot. Without one the first entry stays.
 fn start_work(
-    shared: Shared<'_>,
+    shared: PassShared<'_>,
     own: &Own,
     work: &mut Work,
     row: &Row,
@@ -226,7 +232,7 @@ fn start_work(
     requires row { IsRow shared.modulus.now.value (length work.old.numbers.items) shared.inputs row.now }
     requires pivot { (told : List Told) × HasPivot shared.modulus.now.value shared.rows.now (rows_left own.now.left.items) own.now.pivots.items
         told (first_column row.now.entries) pivot }
-    ensures underway { OnOk result (IsUnderway shared.entry.modulus.now.value work.new.limit (first_column row.now.entries + 1)
+    ensures underway { OnOk result (IsRowUnderway shared.entry.modulus.now.value work.new.limit (first_column row.now.entries + 1)
         (length work.old.numbers.items) (length (shared.entry.rows.now ++ rows_left own.now.left.items)) own.now.pivots.items
         work.new.left.items work.new.numbers.items work.new.taken.items) }
     ensures reduced { (told : List Told)
@@ -271,7 +277,7 @@ fn next_column(numbers: &[u64], from: u32, columns: u32) -> u32
 
 // The row with all columns cleared from its first one on, or behind it where that has no pivot; most have nothing.
 fn clear_columns(
-    shared: Shared<'_>,
+    shared: PassShared<'_>,
     seat: &mut ClaimSeat,
     own: &Own,
     work: &mut Work,
@@ -280,7 +286,7 @@ fn clear_columns(
     columns: u32,
 ) -> Result<(), NoMemory>
     requires columns { columns ≡ length own.now.pivots.items }
-    requires ready { AreReady shared.modulus.now.value (length own.now.pivots.items) shared.inputs shared.rows.now
+    requires ready { AreRowsReady shared.modulus.now.value (length own.now.pivots.items) shared.inputs shared.rows.now
         shared.claims.now.rows.leads.items shared.claims.now.rows.held.items }
     requires own { ArePivots shared.modulus.now.value (length own.now.pivots.items) shared.inputs (rows_left own.now.left.items) own.now.pivots.items }
     requires idle { AreIdle (length own.now.pivots.items) work.old.numbers.items }
@@ -289,8 +295,8 @@ fn clear_columns(
     requires pivot { HasPivot shared.modulus.now.value shared.rows.now (rows_left own.now.left.items) own.now.pivots.items
         (told seat.old) (first_column row.now.entries) pivot }
     ensures seat { IsSeatOf shared.entry.claims.now.table.shared.table_id shared.entry.claims.now.rows.leads.items seat.new }
-    ensures follows { Follows (told seat.old) (told seat.new) }
-    ensures underway { OnOk result (IsUnderway shared.entry.modulus.now.value work.new.limit (length own.now.pivots.items) (length own.now.pivots.items)
+    ensures follows { IsToldAfter (told seat.old) (told seat.new) }
+    ensures underway { OnOk result (IsRowUnderway shared.entry.modulus.now.value work.new.limit (length own.now.pivots.items) (length own.now.pivots.items)
         (length (shared.entry.rows.now ++ rows_left own.now.left.items)) own.now.pivots.items work.new.left.items work.new.numbers.items work.new.taken.items) }
     ensures reduced { OnOk result (IsReducedSoFar shared.entry.modulus.now.value (least_left row.now.entries pivot) shared.entry.rows.now
         (rows_left own.now.left.items) (told seat.new) row.now work.new.left.items work.new.numbers.items work.new.taken.items) }
@@ -315,6 +321,31 @@ fn residue_of(modulus: &Modulus, number: u64) -> u32
     (number % u64::from(modulus.value())) as u32
 }
 
+// `factor` times the number, as a residue.
+fn product_of(modulus: &Modulus, factor: u32, number: u64) -> u32
+    requires { factor < modulus.now.value }
+    ensures small { result < modulus.now.value }
+    ensures congruent { IsCongruent modulus.now.value result (factor * number) }
+{
+    modulus.domain();
+    let residue = residue_of(modulus, number);
+    if residue == 0 {
+        return 0;
+    }
+    modulus.mul(factor, residue)
+}
+
+// How many of the numbers are not 0, for room alone.
+fn count_some(numbers: &[u64]) -> usize {
+    let mut count: usize = 0;
+    for number in numbers {
+        if *number != 0 {
+            count = count.wrapping_add(1);
+        }
+    }
+    count
+}
+
 // The entries of `factor` times these numbers.
 fn collect_entries(
     alloc: Global,
@@ -328,11 +359,10 @@ fn collect_entries(
         → IfOk result (λ es. IsSame modulus.now.value (row_sum key es.items) (scale factor (unit n) (dense_sum key 0 numbers.now))) }
 {
     modulus.domain();
-    let mut entries = Vec::new(alloc);
+    let mut entries = Vec::with_capacity(alloc, count_some(numbers))?;
     let count = kept_number(numbers.len())?;
     for i in 0..count {
-        let residue = residue_of(modulus, numbers[i as usize]);
-        let product = modulus.mul(factor, residue);
+        let product = product_of(modulus, factor, numbers[i as usize]);
         if product != 0 {
             entries.push((i, product))?;
         }
@@ -358,7 +388,7 @@ fn rescaled_entries(
     Ok(out)
 }
 
-// Adds the sources of a row, `factor` times.
+// Adds the sources of a row, `factor` times. Of rows that were reduced together with others many have no part.
 fn add_sources(modulus: &Modulus, row: &Row, factor: u32, sources: &mut Vec<u64>, limit: u64) -> u64
     requires factor { factor < modulus.now.value }
     requires entries { AreEntries modulus.now.value 0 (length sources.old.items) row.now.sources }
@@ -368,6 +398,9 @@ fn add_sources(modulus: &Modulus, row: &Row, factor: u32, sources: &mut Vec<u64>
     ensures room { HasRoom modulus.now.value result }
     ensures small { IsDense result sources.new.items }
 {
+    if factor == 0 {
+        return limit;
+    }
     add_multiple(
         modulus,
         sources.as_mut_slice(),
@@ -380,7 +413,7 @@ fn add_sources(modulus: &Modulus, row: &Row, factor: u32, sources: &mut Vec<u64>
 // The combination of the input rows that the row is with the rows that were added: a number for each input row.
 fn compose_sources(
     alloc: Global,
-    shared: Shared<'_>,
+    shared: PassShared<'_>,
     own: &Own,
     row: &Row,
     taken: &[(usize, u32)],
@@ -407,7 +440,7 @@ fn compose_sources(
 /// The row whose multiple is left of a row to which these rows were added, monic, or none where nothing is left.
 pub(crate) fn left_row(
     alloc: Global,
-    shared: Shared<'_>,
+    shared: PassShared<'_>,
     own: &Own,
     row: &Row,
     left: &[(u32, u32)],
@@ -442,14 +475,14 @@ pub(crate) fn left_row(
 /// `NoMemory` is the only error.
 pub fn reduce_row(
     alloc: Global,
-    shared: Shared<'_>,
+    shared: PassShared<'_>,
     seat: &mut ClaimSeat,
     own: &Own,
     work: &mut Work,
     row: &Row,
     pivot: Option<usize>,
 ) -> Result<Option<Row>, NoMemory>
-    requires ready { AreReady shared.modulus.now.value (length own.now.pivots.items) shared.inputs shared.rows.now
+    requires ready { AreRowsReady shared.modulus.now.value (length own.now.pivots.items) shared.inputs shared.rows.now
         shared.claims.now.rows.leads.items shared.claims.now.rows.held.items }
     requires own { ArePivots shared.modulus.now.value (length own.now.pivots.items) shared.inputs (rows_left own.now.left.items) own.now.pivots.items }
     requires idle { AreIdle (length own.now.pivots.items) work.old.numbers.items }
@@ -458,7 +491,7 @@ pub fn reduce_row(
     requires pivot { HasPivot shared.modulus.now.value shared.rows.now (rows_left own.now.left.items) own.now.pivots.items
         (told seat.old) (first_column row.now.entries) pivot }
     ensures seat { IsSeatOf shared.entry.claims.now.table.shared.table_id shared.entry.claims.now.rows.leads.items seat.new }
-    ensures follows { Follows (told seat.old) (told seat.new) }
+    ensures follows { IsToldAfter (told seat.old) (told seat.new) }
     ensures idle { OnOk result (AreIdle (length own.now.pivots.items) work.new.numbers.items) }
     ensures rest { IfOk result (λ r. MatchOption r
         (IsGone shared.entry.modulus.now.value shared.entry.rows.now (rows_left own.now.left.items) (told seat.new) row.now)

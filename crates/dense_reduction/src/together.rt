@@ -9,14 +9,14 @@ ghost use Rattle.dense_reduction.specs.Eights.{AreAllIdle, AreCleared, AreDense,
 ghost use Rattle.dense_reduction.specs.LostRows.{IsLost};
 ghost use Rattle.dense_reduction.specs.Pivots.{ArePivots, lead_column, row_at};
 ghost use Rattle.dense_reduction.specs.Rests.{rows_left};
-ghost use Rattle.dense_reduction.specs.Together.{AreOnTheirWay, AreRests, IsAdded, IsOnItsWay, IsRestOf, lane_left, lane_taken};
-ghost use Rattle.dense_reduction.specs.Words.{AreReady, Follows};
+ghost use Rattle.dense_reduction.specs.Together.{AreOnTheirWay, AreRests, IsAdded, IsOnItsWay, IsRowRestOrGone, lane_left, lane_taken};
+ghost use Rattle.dense_reduction.specs.Words.{AreRowsReady, IsToldAfter};
 ghost use Rattle.dense_reduction.specs.declared.lefts.Lost.{Lost as LostRow};
 
 use crate::accumulating::first_limit;
 use crate::eights::{add_to_all, add_to_one, negate_all, next_column_of_all, take_residues};
 use crate::lefts::Lost;
-use crate::reduction::{Own, Shared, left_row, pivot_of, row_numbered};
+use crate::reduction::{Own, PassShared, left_row, pivot_of, row_numbered};
 use module_vectors::NoMemory;
 use pivot_table::ClaimSeat;
 use row_matrix::{Row, kept_number};
@@ -59,7 +59,7 @@ pub fn room_for_eight(alloc: Global, columns: usize) -> Result<Together, NoMemor
 }
 
 // Row `j` of the eight, where its first column is cleared by the row that has it: the tails of both stand in its numbers.
-fn start_row(shared: Shared<'_>, together: &mut Together, j: usize, lost: Lost)
+fn start_row(shared: PassShared<'_>, together: &mut Together, j: usize, lost: Lost)
     requires row { j < 8 }
     requires rows { Each (IsRow shared.modulus.now.value (length together.old.numbers.items) shared.inputs) shared.rows.now }
     requires cleared { AreCleared shared.modulus.now.value together.old.limit 0 (length together.old.numbers.items) together.old.numbers.items }
@@ -85,7 +85,7 @@ fn start_row(shared: Shared<'_>, together: &mut Together, j: usize, lost: Lost)
 }
 
 // The eight rows where their first columns are cleared.
-fn start_rows(shared: Shared<'_>, together: &mut Together, lost: &[Lost])
+fn start_rows(shared: PassShared<'_>, together: &mut Together, lost: &[Lost])
     requires few { length lost.now ≤ 8 }
     requires rows { Each (IsRow shared.modulus.now.value (length together.old.numbers.items) shared.inputs) shared.rows.now }
     requires idle { AreAllIdle (length together.old.numbers.items) together.old.numbers.items }
@@ -107,7 +107,7 @@ fn start_rows(shared: Shared<'_>, together: &mut Together, lost: &[Lost])
 
 // Adds a pivot to all eight rows behind its first column, so that these residues there are cleared.
 fn add_pivot_to_all(
-    shared: Shared<'_>,
+    shared: PassShared<'_>,
     own: &Own,
     together: &mut Together,
     pivot: usize,
@@ -143,20 +143,20 @@ fn add_pivot_to_all(
 
 // Clears a column of all eight rows, by its pivot if it has one; else what stands there is left.
 fn clear_column_of_all(
-    shared: Shared<'_>,
+    shared: PassShared<'_>,
     seat: &mut ClaimSeat,
     own: &Own,
     together: &mut Together,
     c: u32,
 ) -> Result<(), NoMemory>
     requires at { c < length own.now.pivots.items }
-    requires ready { AreReady shared.modulus.now.value (length own.now.pivots.items) shared.inputs shared.rows.now
+    requires ready { AreRowsReady shared.modulus.now.value (length own.now.pivots.items) shared.inputs shared.rows.now
         shared.claims.now.rows.leads.items shared.claims.now.rows.held.items }
     requires own { ArePivots shared.modulus.now.value (length own.now.pivots.items) shared.inputs (rows_left own.now.left.items) own.now.pivots.items }
     requires seat { IsSeatOf shared.claims.now.table.shared.table_id shared.claims.now.rows.leads.items seat.old }
     requires cleared { AreCleared shared.modulus.now.value together.old.limit c (length own.now.pivots.items) together.old.numbers.items }
     ensures seat { IsSeatOf shared.entry.claims.now.table.shared.table_id shared.entry.claims.now.rows.leads.items seat.new }
-    ensures follows { Follows (told seat.old) (told seat.new) }
+    ensures follows { IsToldAfter (told seat.old) (told seat.new) }
     ensures cleared { OnOk result (AreCleared shared.entry.modulus.now.value together.new.limit (c + 1) (length own.now.pivots.items)
         together.new.numbers.items) }
     ensures way { (lost : List LostRow) → length lost ≤ 8
@@ -186,7 +186,7 @@ fn clear_column_of_all(
 
 // The rows with all columns cleared.
 fn clear_all(
-    shared: Shared<'_>,
+    shared: PassShared<'_>,
     seat: &mut ClaimSeat,
     own: &Own,
     together: &mut Together,
@@ -195,14 +195,14 @@ fn clear_all(
 ) -> Result<(), NoMemory>
     requires few { length lost.now ≤ 8 }
     requires columns { columns ≡ length own.now.pivots.items }
-    requires ready { AreReady shared.modulus.now.value (length own.now.pivots.items) shared.inputs shared.rows.now
+    requires ready { AreRowsReady shared.modulus.now.value (length own.now.pivots.items) shared.inputs shared.rows.now
         shared.claims.now.rows.leads.items shared.claims.now.rows.held.items }
     requires own { ArePivots shared.modulus.now.value (length own.now.pivots.items) shared.inputs (rows_left own.now.left.items) own.now.pivots.items }
     requires idle { AreAllIdle (length own.now.pivots.items) together.old.numbers.items }
     requires seat { IsSeatOf shared.claims.now.table.shared.table_id shared.claims.now.rows.leads.items seat.old }
     requires lost { Each (IsLost shared.rows.now (told seat.old)) lost.now }
     ensures seat { IsSeatOf shared.entry.claims.now.table.shared.table_id shared.entry.claims.now.rows.leads.items seat.new }
-    ensures follows { Follows (told seat.old) (told seat.new) }
+    ensures follows { IsToldAfter (told seat.old) (told seat.new) }
     ensures idle { OnOk result (AreAllIdle (length own.now.pivots.items) together.new.numbers.items) }
     ensures way { OnOk result (AreOnTheirWay shared.entry.modulus.now.value together.new.limit (length own.now.pivots.items) (length own.now.pivots.items)
         shared.entry.rows.now (rows_left own.now.left.items) own.now.pivots.items (told seat.new)
@@ -256,7 +256,7 @@ fn rows_taken(
 // What is left of row `j`, monic, or none where nothing is left.
 fn rest_of(
     alloc: Global,
-    shared: Shared<'_>,
+    shared: PassShared<'_>,
     own: &Own,
     together: &Together,
     j: usize,
@@ -272,7 +272,7 @@ fn rest_of(
     ensures { (known : List Told) → IsOnItsWay shared.entry.modulus.now.value together.now.limit
         (length together.now.numbers.items) (length together.now.numbers.items) shared.entry.rows.now (rows_left own.now.left.items) own.now.pivots.items
         known together.now.left.items together.now.numbers.items together.now.taken.items j lost
-        → IfOk result (IsRestOf shared.entry.modulus.now.value (length together.now.numbers.items) shared.entry.inputs
+        → IfOk result (IsRowRestOrGone shared.entry.modulus.now.value (length together.now.numbers.items) shared.entry.inputs
         shared.entry.rows.now (rows_left own.now.left.items) known (row_at shared.entry.rows.now lost.number)) }
 {
     let modulus = shared.modulus;
@@ -291,7 +291,7 @@ fn rest_of(
 // What is left of each of the rows.
 fn rests_of(
     alloc: Global,
-    shared: Shared<'_>,
+    shared: PassShared<'_>,
     own: &Own,
     together: &Together,
     lost: &[Lost],
@@ -322,21 +322,21 @@ fn rests_of(
 /// winner of the claim. What is left of one row does not serve another one here. `NoMemory` is the only error.
 pub fn reduce_together(
     alloc: Global,
-    shared: Shared<'_>,
+    shared: PassShared<'_>,
     seat: &mut ClaimSeat,
     own: &Own,
     together: &mut Together,
     lost: &[Lost],
 ) -> Result<Vec<Option<Row>>, NoMemory>
     requires few { length lost.now ≤ 8 }
-    requires ready { AreReady shared.modulus.now.value (length own.now.pivots.items) shared.inputs shared.rows.now
+    requires ready { AreRowsReady shared.modulus.now.value (length own.now.pivots.items) shared.inputs shared.rows.now
         shared.claims.now.rows.leads.items shared.claims.now.rows.held.items }
     requires own { ArePivots shared.modulus.now.value (length own.now.pivots.items) shared.inputs (rows_left own.now.left.items) own.now.pivots.items }
     requires idle { AreAllIdle (length own.now.pivots.items) together.old.numbers.items }
     requires seat { IsSeatOf shared.claims.now.table.shared.table_id shared.claims.now.rows.leads.items seat.old }
     requires lost { Each (IsLost shared.rows.now (told seat.old)) lost.now }
     ensures seat { IsSeatOf shared.entry.claims.now.table.shared.table_id shared.entry.claims.now.rows.leads.items seat.new }
-    ensures follows { Follows (told seat.old) (told seat.new) }
+    ensures follows { IsToldAfter (told seat.old) (told seat.new) }
     ensures idle { OnOk result (AreAllIdle (length own.now.pivots.items) together.new.numbers.items) }
     ensures rests { IfOk result (λ rests. AreRests shared.entry.modulus.now.value (length own.now.pivots.items) shared.entry.inputs
         shared.entry.rows.now (rows_left own.now.left.items) (told seat.new) lost.now rests.items) }

@@ -19,13 +19,13 @@ use Rattle.vector_division.proofs.Members.{sums_at}
 use Rattle.basis_steps.specs.Divisions.{IsMonicMember}
 use Rattle.basis_steps.specs.States.{vectors}
 use Rattle.basis_core.specs.Jobs.{IsJob, JobShown}
-use Rattle.basis_core.specs.Members.{IsTracked, Shared, Tracked, members_of, setting_of}
+use Rattle.basis_core.specs.Members.{IsMemberShown, Shared, MemberShown, members_of, setting_of}
 use Rattle.basis_core.specs.Rows.{vectors_in}
 use Rattle.s_vectors.proofs.JobTrails.{job_pair}
 use Rattle.s_vectors.proofs.Lists.{vectors_are}
 use Rattle.s_vectors.proofs.TopParts.{shared_lawful}
 use Rattle.symbolic_prep.proofs.Matrices.{Each_index}
-use Rattle.symbolic_prep.specs.Plans.{IsPairOf}
+use Rattle.symbolic_prep.specs.Plans.{IsMemberPair}
 use Rattle.symbolic_prep.specs.Prepared.{IsMonicVector}
 
 monic_vector :
@@ -39,8 +39,8 @@ monic_vector n S lawful (t ∷ v) h m = (
 )
 
 pub job_monic :
-    (shared : Shared) (ms : List Tracked)
-    → Each (IsTracked shared) ms → Each (IsMonicMember (setting_of (variables shared.ring) shared)) (vectors (members_of (variables shared.ring) ms))
+    (shared : Shared) (ms : List MemberShown)
+    → Each (IsMemberShown shared) ms → Each (IsMonicMember (setting_of (variables shared.ring) shared)) (vectors (members_of (variables shared.ring) ms))
     → Each (IsMonicVector (variables shared.ring)) (vectors_in ms)
 job_monic shared [] a b = tt
 job_monic shared (m ∷ ms) a b = (
@@ -52,7 +52,7 @@ job_monic shared (m ∷ ms) a b = (
 -- a pair of the job
 one_pair : (j : JobShown) (i : ℕ) → IsJob (variables j.shared.ring) j → i < length j.pairs → (x : CodePair) → x ≡ get_or j.pairs i x
     → Each (λ (v : List (CodeKey × ℕ)). 0 < length v) (vectors_in j.members)
-    → IsPairOf (variables j.shared.ring) j.shared.ring.weights (vectors_in j.members) x
+    → IsMemberPair (variables j.shared.ring) j.shared.ring.weights (vectors_in j.members) x
 one_pair j i h lt x is some =
     let n = variables j.shared.ring in
     let list = vectors_in j.members in
@@ -80,9 +80,9 @@ somes n [] h = tt
 somes n (v ∷ list) h = (h.0.0, somes n list h.1)
 
 pub job_pairs : (j : JobShown) → IsJob (variables j.shared.ring) j → Each (IsMonicVector (variables j.shared.ring)) (vectors_in j.members)
-    → Each (IsPairOf (variables j.shared.ring) j.shared.ring.weights (vectors_in j.members)) j.pairs
+    → Each (IsMemberPair (variables j.shared.ring) j.shared.ring.weights (vectors_in j.members)) j.pairs
 job_pairs j h m =
-    Each_index (IsPairOf (variables j.shared.ring) j.shared.ring.weights (vectors_in j.members)) j.pairs none
+    Each_index (IsMemberPair (variables j.shared.ring) j.shared.ring.weights (vectors_in j.members)) j.pairs none
     (λ i lt. one_pair j i h lt (get_or j.pairs i none) (get_or_default j.pairs i none (get_or j.pairs i none) lt)
     (somes (variables j.shared.ring) (vectors_in j.members) m))
   where

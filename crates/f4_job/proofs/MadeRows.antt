@@ -17,7 +17,7 @@ use Rattle.module_vectors.specs.Vectors.{AreTermsOver, IsMonomialOver, IsVectorO
 use Rattle.module_vectors.specs.declared.key.Key.{Key as CodeKey}
 use Rattle.module_vectors.specs.declared.ring.Ring.{Ring}
 use Rattle.monomial_orders.specs.Kept.{IsWeighed}
-use Rattle.member_products.specs.declared.member.Row.{Row as CodeRow}
+use Rattle.member_products.specs.declared.member.Reduct.{Reduct as CodeReduct}
 use Rattle.row_matrix.specs.Hashes.{no_key}
 use Rattle.row_matrix.specs.Rows.{AreEntries, AreKeys, Descend, Entry, IsRow, RowShown, column_key, row_sum, vector_of}
 use Rattle.dense_reduction.proofs.Entries.{entries_within}
@@ -94,7 +94,7 @@ vector_same ring columns inputs r v descend good over sum =
     (residues_of n ring.weights ring.modulus.value v over.each) normal.residues sum
 
 -- one row more
-pub made_more : (ring : Ring) (columns : List CodeKey) (products : List KeptProduct) (rs : List RowShown) (ms : List CodeRow) (r : RowShown) (m : CodeRow)
+pub made_more : (ring : Ring) (columns : List CodeKey) (products : List KeptProduct) (rs : List RowShown) (ms : List CodeReduct) (r : RowShown) (m : CodeReduct)
     → AreMadeRows ring columns products rs ms → IsMadeRow ring columns products r m → AreMadeRows ring columns products (rs ++ r ∷ []) (ms ++ m ∷ [])
 made_more ring columns products [] [] r m h g = (g, tt)
 made_more ring columns products [] (x ∷ ms) r m h g = absurd h

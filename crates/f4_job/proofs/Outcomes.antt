@@ -21,19 +21,19 @@ use Rattle.pair_criteria.specs.declared.pair.Pair.{Pair as CodePair}
 use Rattle.vector_division.proofs.Members.{sums_at}
 use Rattle.vector_division.specs.Reductions.{cofactors_of, unscaled}
 use Rattle.member_products.proofs.Ranks.{ranked_by}
-use Rattle.member_products.specs.declared.member.Row.{Row as CodeRow}
+use Rattle.member_products.specs.declared.member.Reduct.{Reduct as CodeReduct}
 use Rattle.basis_steps.proofs.JobProducts.{IsJobProductAt, job_products_from}
 use Rattle.basis_steps.specs.Criteria.{IsRepresented, lcm_of}
 use Rattle.basis_steps.specs.Divisions.{Occurs}
 use Rattle.basis_steps.specs.Outcomes as plain
-use Rattle.basis_steps.specs.Outcomes.{AreJobProducts, HasLeadBelowJob, IsRow as IsSumRow, product_at}
+use Rattle.basis_steps.specs.Outcomes.{AreJobProducts, HasLeadBelowJob, IsReduct as IsSumRow, product_at}
 use Rattle.basis_steps.specs.Pairs.{Pair}
 use Rattle.basis_steps.specs.States.{Member, vectors}
 use Rattle.basis_core.proofs.MemberKeys.{in_occurs, lead_same}
 use Rattle.basis_core.proofs.Tracing.{pair_counted}
 use Rattle.basis_core.proofs.Tracking.{vectors_over, vectors_rank}
-use Rattle.basis_core.specs.Jobs.{HasLcm, IsJobOver, JobShown, pair_of, pairs_of}
-use Rattle.basis_core.specs.Members.{IsRunRow, IsTracked, members_of, row_of, rows_of, setting_of}
+use Rattle.basis_core.specs.Jobs.{HasLcmOfMembers, IsJobOver, JobShown, pair_of, pairs_of}
+use Rattle.basis_core.specs.Members.{IsRunRow, IsMemberShown, members_of, row_of, rows_of, setting_of}
 use Rattle.basis_core.specs.Outcomes.{IsOutcomeOver, product_of, products_of}
 use Rattle.basis_core.specs.Rows.{vectors_in}
 use Rattle.row_matrix.specs.Rows.{AreEntries, Entry, IsFromSources, IsRow, RowShown, row_sum, source_key, vector_of, vectors_of}
@@ -49,7 +49,7 @@ use Rattle.symbolic_prep.specs.Plans.{product_sum}
 use Rattle.f4_job.specs.Made.{AreMadeRows, IsMadeRow, source_parts}
 use Rattle.f4_job.specs.Solved.{AreNewRows, IsBelowPairs}
 
-module _ (j : JobShown) (job : IsJobOver j) (tracked : Each (IsTracked j.shared) j.members) (columns : List CodeKey) (products : List KeptProduct) (rows : List RowShown)
+module _ (j : JobShown) (job : IsJobOver j) (tracked : Each (IsMemberShown j.shared) j.members) (columns : List CodeKey) (products : List KeptProduct) (rows : List RowShown)
     (new : AreNewRows (variables j.shared.ring) (setting_of (variables j.shared.ring) j.shared) (vectors_in j.members) j.pairs products columns rows) where
   abbrev n : ℕ
   n = variables j.shared.ring
@@ -114,7 +114,7 @@ module _ (j : JobShown) (job : IsJobOver j) (tracked : Each (IsTracked j.shared)
   listed_in (e ∷ es) w k (suc i, lt, is) = listed_in es w.1 k (i, omega arith, is)
 
   -- ---- a row
-  module _ (r : RowShown) (row : CodeRow) (good : IsRow j.shared.ring.modulus.value (length columns) (length products) r)
+  module _ (r : RowShown) (row : CodeReduct) (good : IsRow j.shared.ring.modulus.value (length columns) (length products) r)
       (combined : IsFromSources (variables j.shared.ring) j.shared.ring.modulus.value F columns r) (made : IsMadeRow j.shared.ring columns products r row) where
     within : Each (λ (x : Entry). (x.0 < length products) × (x.1 < j.shared.ring.modulus.value)) r.sources
     within = entries_within j.shared.ring.modulus.value 0 (length products) r.sources good.sources
@@ -145,17 +145,17 @@ module _ (j : JobShown) (job : IsJobOver j) (tracked : Each (IsTracked j.shared)
         let e : k ≡ head_key (vector_of n columns r) =
         lead_unique S lawful (vector_of n columns r) k (head_key (vector_of n columns r)) (subst (λ v. IsLead S v k) made.sum lead)
         (IsLead_of_monic S lawful (row_monic n S lawful columns new.descend (length products) r good)) in
-        let l = Each_at (HasLcm n j.shared.ring.weights j.members) j.pairs i x job.lcms lt (sym is) in
+        let l = Each_at (HasLcmOfMembers n j.shared.ring.weights j.members) j.pairs i x job.lcms lt (sym is) in
         (pair_of x, pair_counted x j.pairs (i, lt, is), subst₂ (λ a b. S.compare a b ≡ Less) (sym e) l.lcm less)
 
   -- ---- all rows
-  made_vectors : (rs : List RowShown) (ms : List CodeRow) → AreMadeRows j.shared.ring columns products rs ms → vectors (rows_of n ms) ≡ vectors_of n columns rs
+  made_vectors : (rs : List RowShown) (ms : List CodeReduct) → AreMadeRows j.shared.ring columns products rs ms → vectors (rows_of n ms) ≡ vectors_of n columns rs
   made_vectors [] [] h = refl
   made_vectors [] (m ∷ ms) h = absurd h
   made_vectors (r ∷ rs) [] h = absurd h
   made_vectors (r ∷ rs) (m ∷ ms) h = ap₂ (λ a b. a ∷ b) h.0.sum (made_vectors rs ms h.1)
 
-  made_length : (rs : List RowShown) (ms : List CodeRow) → AreMadeRows j.shared.ring columns products rs ms → length (rows_of n ms) ≡ length rs
+  made_length : (rs : List RowShown) (ms : List CodeReduct) → AreMadeRows j.shared.ring columns products rs ms → length (rows_of n ms) ≡ length rs
   made_length [] [] h = refl
   made_length [] (m ∷ ms) h = absurd h
   made_length (r ∷ rs) [] h = absurd h
@@ -172,14 +172,14 @@ module _ (j : JobShown) (job : IsJobOver j) (tracked : Each (IsTracked j.shared)
   good_rows [] a b c = tt
   good_rows (r ∷ rs) a b c = ((a.0, b.0, c.0), good_rows rs a.1 b.1 c.1)
 
-  made_each : (Q : CodeRow → Type 0) → ((r : RowShown) (m : CodeRow) → Good r → IsMadeRow j.shared.ring columns products r m → Q m)
-      → (rs : List RowShown) (ms : List CodeRow) → Each Good rs → AreMadeRows j.shared.ring columns products rs ms → Each Q ms
+  made_each : (Q : CodeReduct → Type 0) → ((r : RowShown) (m : CodeReduct) → Good r → IsMadeRow j.shared.ring columns products r m → Q m)
+      → (rs : List RowShown) (ms : List CodeReduct) → Each Good rs → AreMadeRows j.shared.ring columns products rs ms → Each Q ms
   made_each Q f [] [] g h = tt
   made_each Q f [] (m ∷ ms) g h = absurd h
   made_each Q f (r ∷ rs) [] g h = absurd h
   made_each Q f (r ∷ rs) (m ∷ ms) g h = (f r m g.0 h.0, made_each Q f rs ms g.1 h.1)
 
-  over_rows : (Q : Member (variables j.shared.ring) → Type 0) (ms : List CodeRow) → Each (λ m. Q (row_of (variables j.shared.ring) m)) ms
+  over_rows : (Q : Member (variables j.shared.ring) → Type 0) (ms : List CodeReduct) → Each (λ m. Q (row_of (variables j.shared.ring) m)) ms
       → Each Q (rows_of (variables j.shared.ring) ms)
   over_rows Q [] h = tt
   over_rows Q (m ∷ ms) h = (h.0, over_rows Q ms h.1)
@@ -202,7 +202,7 @@ module _ (j : JobShown) (job : IsJobOver j) (tracked : Each (IsTracked j.shared)
             (subst (λ (t : ℕ × Exponents (variables j.shared.ring)). t.0 < length list) (sym (step_is i li)) (new.each_product i li).member),
         elim (traced_at n list j.pairs products new.traced i li) [
           | inl (x, q) ↦
-              let l = Each_at (HasLcm n j.shared.ring.weights j.members) j.pairs q.0.0 x job.lcms q.0.1 (sym q.0.2) in
+              let l = Each_at (HasLcmOfMembers n j.shared.ring.weights j.members) j.pairs q.0.0 x job.lcms q.0.1 (sym q.0.2) in
               inl (pair_of x, pair_counted x j.pairs q.0, lead ∙ q.1 ∙ l.lcm ∙ ap (λ g. lcm_of g (pair_of x)) same)
           | inr (k, lk, has) ↦
               let lk' : k < length products = omega arith in
@@ -230,7 +230,7 @@ module _ (j : JobShown) (job : IsJobOver j) (tracked : Each (IsTracked j.shared)
       subst (IsOfRank j.shared.ring.modulus.value j.shared.rank) (append-nil (scale 1 (unit n) (get_or G i [])) ∙ scale-one (get_or G i []))
       (vectors_rank j.shared j.members tracked (((i, unit n), 1) ∷ []))
 
-  pub outcome : (ms : List CodeRow) → AreMadeRows j.shared.ring columns products rows ms → IsOutcomeOver (record { job = j; rows = ms; products = products })
+  pub outcome : (ms : List CodeReduct) → AreMadeRows j.shared.ring columns products rows ms → IsOutcomeOver (record { job = j; rows = ms; products = products })
   outcome ms made =
       let p = j.shared.ring.modulus.value in
       let good = good_rows rows new.rows_good new.combined new.low in

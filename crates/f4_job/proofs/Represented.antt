@@ -25,11 +25,11 @@ use Rattle.vector_division.proofs.Members.{sums_at}
 use Rattle.row_matrix.specs.Rows.{IsFromSources, IsRow, MatrixShown, RowShown, column_key, first_column, row_sum, source_key, vector_of, vectors_of}
 use Rattle.dense_reduction.proofs.Entries.{first_below, monic_entries}
 use Rattle.dense_reduction.specs.Pivots.{no_row, row_at}
-use Rattle.dense_reduction.specs.Underway.{AreCombined}
+use Rattle.dense_reduction.specs.Underway.{AreRowsCombined}
 use Rattle.row_reduce.proofs.Forms.{echelon_form}
 use Rattle.row_reduce.specs.Echelons.{IsEchelonOf}
 use Rattle.symbolic_prep.proofs.Matrices.{Each_index}
-use Rattle.symbolic_prep.specs.Plans.{IsPairOf, product_sum}
+use Rattle.symbolic_prep.specs.Plans.{IsMemberPair, product_sum}
 use Rattle.symbolic_prep.specs.Prepared.{IsMonicVector, IsPrepared}
 use Rattle.f4_job.specs.Flags.{AreFlags, unflagged}
 use Rattle.f4_job.specs.Solved.{AreNewRows}
@@ -64,7 +64,7 @@ module _ (n : ℕ) (S : Setting n) (lawful : IsLawful S) (list : List (List (Cod
 -- ---- all of it
 module _ (n : ℕ) (S : Setting n) (lawful : IsLawful S) (list : List (List (CodeKey × ℕ))) (pairs : List CodePair) (m : MatrixShown) (products : List KeptProduct)
     (flags : List Bool) (E : List RowShown)
-    (vectors : Each (IsVector n S.weights S.modulus S.compare) list) (monic : Each (IsMonicVector n) list) (of_pairs : Each (IsPairOf n S.weights list) pairs)
+    (vectors : Each (IsVector n S.weights S.modulus S.compare) list) (monic : Each (IsMonicVector n) list) (of_pairs : Each (IsMemberPair n S.weights list) pairs)
     (h : IsPrepared n S list pairs m products) (form : IsEchelonOf S.modulus (length m.columns) m.inputs m.rows E) (flagged : AreFlags m.rows flags) where
   abbrev F : List (FormalSum n)
   F = map (λ (s : KeptProduct). product_sum n list s) products
@@ -78,7 +78,7 @@ module _ (n : ℕ) (S : Setting n) (lawful : IsLawful S) (list : List (List (Cod
       ap (λ es. combination F (row_sum (source_key n) es)) (h.sources i lt) ∙ append-nil (scale 1 (unit n) (get_or F i [])) ∙ scale-one (get_or F i [])
       ∙ ap (λ xs. get_or xs i []) (sym h.vectors) ∙ get_or-map (λ (r : RowShown). vector_of n m.columns r) m.rows i no_row [] lt)
 
-  from : AreCombined S.modulus F (column_key n m.columns) m.rows
+  from : AreRowsCombined S.modulus F (column_key n m.columns) m.rows
   from = Each_index (IsFromSources n S.modulus F m.columns) m.rows no_row itself
 
   new : IsNewRows (vectors_of n m.columns m.rows) (vectors_of n m.columns E) (vectors_of n m.columns (unflagged flags E))
@@ -89,7 +89,7 @@ module _ (n : ℕ) (S : Setting n) (lawful : IsLawful S) (list : List (List (Cod
 
   each :
       ((i : ℕ) → i < length (sums_of n list) → IsOfRank S.modulus S.rank (get_or (sums_of n list) i []))
-      → (ps : List CodePair) → Each (IsPairOf n S.weights list) ps
+      → (ps : List CodePair) → Each (IsMemberPair n S.weights list) ps
       → Each (λ (x : CodePair). HasPairRows S.modulus (sums_of n list) (vectors_of n m.columns m.rows) x.i x.j) ps
       → Each (λ (x : CodePair). HasLcmRepresentation S (sums_of n list ++ vectors_of n m.columns (unflagged flags E)) x.i x.j) ps
   each ranks [] a b = tt

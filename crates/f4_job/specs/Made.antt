@@ -8,7 +8,7 @@ use Rattle.module_vectors.specs.Vectors.{StandsFor, sum_of}
 use Rattle.module_vectors.specs.declared.key.Key.{Key as CodeKey}
 use Rattle.module_vectors.specs.declared.ring.Ring.{Ring}
 use Rattle.member_products.specs.Generators.{IsVectorOf}
-use Rattle.member_products.specs.declared.member.Row.{Row as CodeRow}
+use Rattle.member_products.specs.declared.member.Reduct.{Reduct as CodeReduct}
 use Rattle.row_matrix.specs.Hashes.{no_key}
 use Rattle.row_matrix.specs.Rows.{Entry, RowShown, vector_of}
 use Rattle.vector_division.specs.Reductions.{cofactors_of}
@@ -27,14 +27,14 @@ abbrev pub source_parts : List KeptProduct → List Entry → List ScaledProduct
 source_parts ps sources = map (λ e. source_part ps e) sources
 
 -- the row has this vector, and the products that its sources name
-pub record IsMadeRow (ring : Ring) (columns : List CodeKey) (ps : List KeptProduct) (r : RowShown) (row : CodeRow) : Type 0 where
+pub record IsMadeRow (ring : Ring) (columns : List CodeKey) (ps : List KeptProduct) (r : RowShown) (row : CodeReduct) : Type 0 where
   pub vector : IsVectorOf ring row.vector
   pub sum : sum_of (variables ring) row.vector ≡ vector_of (variables ring) columns r
   pub products : IsVectorOf ring row.products
   pub made : StandsFor ring row.products (cofactors_of (variables ring) (source_parts ps r.sources))
 
 -- each row in turn
-abbrev pub AreMadeRows : Ring → List CodeKey → List KeptProduct → List RowShown → List CodeRow → Type 0
+abbrev pub AreMadeRows : Ring → List CodeKey → List KeptProduct → List RowShown → List CodeReduct → Type 0
 AreMadeRows ring columns ps [] [] = ⊤
 AreMadeRows ring columns ps [] (row ∷ rows) = ⊥
 AreMadeRows ring columns ps (r ∷ rs) [] = ⊥

@@ -10,7 +10,7 @@ use Rattle.module_vectors.specs.Vectors.{key_of, sums_of}
 use Rattle.module_vectors.specs.declared.key.Key.{Key as CodeKey}
 use Rattle.pair_criteria.specs.declared.pair.Pair.{Pair as CodePair}
 use Rattle.row_matrix.specs.Rows.{AreKeys, Descend, IsFromSources, IsRow, RowShown, vector_of, vectors_of}
-use Rattle.symbolic_prep.specs.Plans.{IsProductOf, product_sum}
+use Rattle.symbolic_prep.specs.Plans.{IsMemberProduct, product_sum}
 use Rattle.pair_criteria.specs.Traces.{AreTraced}
 
 -- the key is below the least common multiple of one of the pairs
@@ -23,7 +23,7 @@ pub record AreNewRows (n : ℕ) (S : Setting n) (list : List (List (CodeKey × �
     (rows : List RowShown) : Type 0 where
   pub monomials : AreKeys n S.weights columns
   pub descend : Descend n S.compare columns
-  pub each_product : (i : ℕ) → i < length products → IsProductOf n S.weights list (kept_at products i)
+  pub each_product : (i : ℕ) → i < length products → IsMemberProduct n S.weights list (kept_at products i)
   pub traced : AreTraced n list pairs products
   pub rows_good : Each (IsRow S.modulus (length columns) (length products)) rows
   pub combined : Each (IsFromSources n S.modulus (map (λ s. product_sum n list s) products) columns) rows

@@ -11,7 +11,7 @@ use crate::making::make_rows;
 use crate::solving::{NewRows, new_rows};
 use crate::stop::MatrixStop;
 use basis_core::{Job, Outcome};
-use member_products::Row;
+use member_products::Reduct;
 use module_vectors::{Ring, WorkStop};
 use monomial_orders::Mono;
 use std::alloc::Global;
@@ -43,7 +43,7 @@ fn rows_over<R: Threads + Sync>(
 // Rows of a job and the products that they are made of.
 #[derive(Drop)]
 struct Solution {
-    rows: Vec<Row>,
+    rows: Vec<Reduct>,
     products: Vec<(u64, Mono)>,
 }
 

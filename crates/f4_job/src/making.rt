@@ -7,7 +7,7 @@ ghost use Rattle.f4_job.specs.Made.{AreMadeRows, AreWeighedProducts, IsMadeRow, 
 
 use crate::ranking::{ranks_of, sorted_sources};
 use basis_core::quotient_products;
-use member_products::Row;
+use member_products::Reduct;
 use module_vectors::{Key, NoMemory, Ring, Vect};
 use monomial_orders::Mono;
 use row_matrix::Row as MatrixRow;
@@ -62,7 +62,7 @@ fn make_row(
     products: &[(u64, Mono)],
     ranks: &[u32],
     row: &MatrixRow,
-) -> Result<Row, NoMemory>
+) -> Result<Reduct, NoMemory>
     requires columns { AreKeys (variables ring.now) ring.now.weights columns.now }
     requires descend { Descend (variables ring.now) (ring_comparison ring.now (variables ring.now)) columns.now }
     requires products { AreWeighedProducts (variables ring.now) ring.now.weights products.now }
@@ -74,7 +74,7 @@ fn make_row(
     let sources = sorted_sources(alloc, ranks, row.sources())?;
     let parts = row_parts(alloc, products, &sources)?;
     let products = quotient_products(alloc, ring, &parts)?;
-    Ok(Row { vector, products })
+    Ok(Reduct { vector, products })
 }
 
 /// The rows of an outcome that these rows of a matrix are.
@@ -84,7 +84,7 @@ pub(crate) fn make_rows(
     columns: &[Key],
     products: &[(u64, Mono)],
     rows: &[MatrixRow],
-) -> Result<Vec<Row>, NoMemory>
+) -> Result<Vec<Reduct>, NoMemory>
     requires columns { AreKeys (variables ring.now) ring.now.weights columns.now }
     requires descend { Descend (variables ring.now) (ring_comparison ring.now (variables ring.now)) columns.now }
     requires products { AreWeighedProducts (variables ring.now) ring.now.weights products.now }

@@ -3,7 +3,7 @@ ghost use Rattle.std.specs.Prelude.{◌<◌, ℕ, IfOk};
 ghost use Rattle.formal_sums.specs.FormalSums.{Each};
 ghost use Rattle.module_vectors.specs.Rings.{ring_comparison, setting, variables};
 ghost use Rattle.module_vectors.specs.Vectors.{AreVectorsOver};
-ghost use Rattle.symbolic_prep.specs.Plans.{IsPairOf};
+ghost use Rattle.symbolic_prep.specs.Plans.{IsMemberPair};
 ghost use Rattle.symbolic_prep.specs.Prepared.{IsMonicVector};
 ghost use Rattle.f4_job.specs.Solved.{AreNewRows};
 
@@ -41,7 +41,7 @@ pub(crate) fn new_rows<R: Threads + Sync, L: Vectors>(
 ) -> Result<NewRows, MatrixStop>
     requires members { AreVectorsOver ring.now (ring_comparison ring.now) (L.listed members.now) }
     requires monic { Each (IsMonicVector (variables ring.now)) (L.listed members.now) }
-    requires pairs { Each (IsPairOf (variables ring.now) ring.now.weights (L.listed members.now)) pairs.now }
+    requires pairs { Each (IsMemberPair (variables ring.now) ring.now.weights (L.listed members.now)) pairs.now }
     requires helpers { 0 < helpers }
     ensures { let n = variables ring.now in (rank : ℕ) → IfOk result (λ r. AreNewRows n (setting ring.now n (ring_comparison ring.now n) rank)
         (L.listed members.now) pairs.now r.products.items r.columns.items r.rows.items) }

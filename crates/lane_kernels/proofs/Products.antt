@@ -1,5 +1,5 @@
 -- Sums of numbers and products, lane by lane
-use Rattle.std.proofs.Common.{subst, sym, ◌∙◌, get_or, get_or, List, [], length, arith, refl, ap, ℕ, ◌*◌, ◌+◌, ◌<◌, ◌^◌, ◌∷◌, ◌≡◌, ◌≤◌, Fits, w64, zero, suc, suc-ne-zero, mul-le-mul}
+use Rattle.std.proofs.Common.{subst, sym, ◌∙◌, get_or, List, [], length, arith, refl, ap, ℕ, ◌*◌, ◌+◌, ◌<◌, ◌^◌, ◌∷◌, ◌≡◌, ◌≤◌, Fits, w64, zero, suc, suc-ne-zero, mul-le-mul}
 use Rattle.std.specs.Prelude.{replicate}
 use Rattle.std.specs.Simd.Lanes.{Each1, Each2, chunk, put_chunk, zip2}
 use Rattle.std.proofs.lemmas.Simd.{get_or-chunk, get_or-zip2, length-chunk, length-zip2}

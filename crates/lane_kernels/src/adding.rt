@@ -1,7 +1,7 @@
 // Sums of a row of numbers and a multiple of a row of residues.
 ghost use Rattle.std.specs.Prelude.{◌≡◌, ◌<◌, ◌≤◌, ◌*◌, ◌+◌, ◌^◌, ℕ, length, get_or};
 ghost use Rattle.std.specs.Simd.Lanes.{zip2, Each1, put_chunk, chunk};
-ghost use Rattle.lane_kernels.specs.Places.{AddsMultiple, AreBelow};
+ghost use Rattle.lane_kernels.specs.Places.{AddsRow, AreNumbersBelow};
 
 use std::simd::prelude::*;
 use zp_field::Modulus;
@@ -22,7 +22,7 @@ fn add_eight(numbers: &mut [u64], at: usize, factor: u64, residues: &[u32])
     requires room { at + 8 ≤ length numbers.old }
     requires count { length residues.now ≡ length numbers.old }
     requires factor { factor < 2 ^ 31 }
-    requires residues { AreBelow (2 ^ 31) residues.now }
+    requires residues { AreNumbersBelow (2 ^ 31) residues.now }
     requires numbers { (i : ℕ) → at ≤ i → i < length numbers.old → get_or numbers.old i 0 < 2 ^ 63 }
     ensures { numbers.new ≡ put_chunk at numbers.old (zip2 (λ a x. a + factor * x) (chunk at 8 numbers.old) (chunk at 8 residues.now)) }
 {
@@ -41,9 +41,9 @@ fn add_eight(numbers: &mut [u64], at: usize, factor: u64, residues: &[u32])
 pub fn axpy_dense(acc: &mut [u64], c: u32, row: &[u32], p: &Modulus)
     requires count { length row.now ≡ length acc.old }
     requires factor { c < p.now.value }
-    requires row { AreBelow p.now.value row.now }
-    requires numbers { AreBelow (2 ^ 63) acc.old }
-    ensures { AddsMultiple c row.now acc.old acc.new }
+    requires row { AreNumbersBelow p.now.value row.now }
+    requires numbers { AreNumbersBelow (2 ^ 63) acc.old }
+    ensures { AddsRow c row.now acc.old acc.new }
 {
     p.domain();
     let factor = u64::from(c);

@@ -1,12 +1,14 @@
 -- Keys get their places among columns, the greatest first
-use Rattle.std.proofs.Common.{Contains, Equal, Greater, Less, List, Ordering, [], ap, ap₂, arith, false, get_or, get_or-set_other, get_or-set_same, inl, inr, length, refl, set, subst, suc, sym, true, ℕ, ◌+◌, ◌++◌, ◌-◌, ◌<◌, ◌∙◌, ◌∷◌, ◌≡◌, ◌≤◌, ◌⊎◌}
+use Rattle.std.proofs.Common.{Bool, Contains, Equal, Greater, Less, List, Ordering, [], ap, ap₂, arith, false, get_or, get_or-set_other, get_or-set_same, inl, inr, length, refl, set, subst, suc, sym, true, zero, ℕ, ◌+◌, ◌++◌, ◌-◌, ◌<◌, ◌∙◌, ◌∷◌, ◌≡◌, ◌≤◌, ◌⊎◌}
 use Rattle.std.proofs.lemmas.Bool.{cases_eq}
 use Rattle.std.proofs.lemmas.Cmp.{back_total, nat_cmp_total, on_total, then_total}
-use Rattle.std.proofs.lemmas.List.{get_or_append_left, get_or_past, get_or_push, length-set, length_push}
+use Rattle.std.proofs.lemmas.List.{get_or_append_left, get_or_default, get_or_past, get_or_push, length-set, length_push, map-id}
+use Rattle.std.proofs.lemmas.List.FromFn.{map-range_with_len_more}
 use Rattle.std.proofs.lemmas.List.Elements.{Contains-append_left, Contains-push}
 use Rattle.std.proofs.lemmas.List.Sorted.{ranks_by, sorted_far}
 use Rattle.std.specs.Cmp.{IsStrictWeakOrder}
-use Rattle.std.specs.List.Sorted.{IsSortedBy}
+use Rattle.std.specs.List.{range_with_len}
+use Rattle.std.specs.List.Sorted.{IsSortedBy, IsSortedWithin}
 use Rattle.std.specs.Ordering.{is_lt, nat_cmp, ordering_then}
 use Rattle.formal_sums.proofs.WeightedSums.{Each_append}
 use Rattle.formal_sums.specs.FormalSums.{Each, Key}
@@ -30,6 +32,40 @@ pub numbers_push :
 numbers_push xs i all k lt = elim (cases_eq k i) [
   | inl e ↦ subst (Contains (xs ++ i ∷ [])) (sym e) (Contains-push xs i)
   | inr ne ↦ Contains-append_left xs (i ∷ []) k (all k (omega arith))
+]
+
+-- the numbers below n
+pub range_push : (n : ℕ) → range_with_len 0 n ++ n ∷ [] ≡ range_with_len 0 (n + 1)
+range_push n =
+    ap (λ xs. xs ++ n ∷ []) (sym (map-id (range_with_len 0 n)))
+    ∙ sym (map-range_with_len_more (λ x. x) 0 n n (omega arith)) ∙ map-id (range_with_len 0 (n + 1))
+
+pub range_below : (n : ℕ) → Each (λ i. i < n) (range_with_len 0 n)
+range_below n = go n n (omega arith)
+  where
+    go : (m n : ℕ) → m ≤ n → Each (λ i. i < n) (range_with_len 0 m)
+    go zero n le = tt
+    go (suc m) n le =
+        let more : range_with_len 0 m ++ m ∷ [] ≡ range_with_len 0 (suc m) = range_push m ∙ ap (range_with_len 0) (let q : m + 1 ≡ suc m = omega arith in q) in
+        subst (Each (λ i. i < n)) more (Each_append (λ i. i < n) (range_with_len 0 m) (m ∷ []) (go m n (omega arith)) (omega arith, tt))
+
+pub range_all : (n i : ℕ) → i < n → Contains (range_with_len 0 n) i
+range_all zero i lt = absurd (omega arith)
+range_all (suc n) i lt =
+    let more : range_with_len 0 n ++ n ∷ [] ≡ range_with_len 0 (suc n) = range_push n ∙ ap (range_with_len 0) (let q : n + 1 ≡ suc n = omega arith in q) in
+    subst (λ xs. Contains xs i) more (numbers_push (range_with_len 0 n) n (λ k l. range_all n k l) i (omega arith))
+
+-- one number more in a sorted list
+pub sorted_more :
+    (lt : ℕ → ℕ → Bool) (xs : List ℕ) (k : ℕ)
+    → 0 < k → k < length xs → IsSortedWithin lt xs 0 k → lt (get_or xs k 0) (get_or xs (k - 1) 0) ≡ false → IsSortedWithin lt xs 0 (k + 1)
+sorted_more lt xs k some within sorted last j d low less = elim (cases_eq (j + 1) k) [
+  | inl e ↦
+      let left : get_or xs (j + 1) d ≡ get_or xs k 0 = ap (λ i. get_or xs i d) e ∙ get_or_default xs k d 0 within in
+      let before : k - 1 ≡ j = omega arith in
+      let right : get_or xs j d ≡ get_or xs (k - 1) 0 = get_or_default xs j d 0 (omega arith) ∙ ap (λ i. get_or xs i 0) (sym before) in
+      ap₂ lt left right ∙ last
+  | inr ne ↦ sorted j d low (omega arith)
 ]
 
 -- ---- keys of one ring are one where they stand for one

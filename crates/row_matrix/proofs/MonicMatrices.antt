@@ -20,7 +20,7 @@ use Rattle.row_laws.proofs.RowSpans.{IsInSpan_itself, IsInSpan_same, IsInSpan_sc
 use Rattle.row_laws.specs.Rows.{HasSameSpan, IsInSpan}
 use Rattle.row_matrix.proofs.PlacedRows.{entries_of_sum, placed_sum, placed_within, residue_of}
 use Rattle.row_matrix.proofs.DividedRows.{inverse_positive, nonzero_has, one_first}
-use Rattle.row_matrix.specs.MonicRows.{AreDivided, AreNamedRows, IsDivided, IsNamedRow, first_source, nonzero_from}
+use Rattle.row_matrix.specs.MonicRows.{AreDivided, AreNamedRows, IsMadeMonic, IsNamedRow, first_source, nonzero_from}
 use Rattle.row_matrix.specs.Placed.{IsPlacedMatrix, placed_entries, placed_row}
 use Rattle.row_matrix.specs.Rows.{AreEntries, Entry, IsFromSources, IsMatrix, IsRow, MatrixShown, RowShown, column_key, first_column, row_sum, source_key, vector_of, vectors_of}
 
@@ -67,7 +67,7 @@ multiple_back {n} p a c v w i lt h = record {
 -- what is shown of a row over the columns
 record IsMonicRow (n p : ℕ) (list : List (List (CodeKey × ℕ))) (m : MatrixShown) (r : RowShown) : Type 0 where
   row : IsRow p (length m.columns) m.inputs r
-  divided : IsDivided n p list r
+  divided : IsMadeMonic n p list r
   combined : IsFromSources n p (sums_of n list) m.columns r
   inside : IsInSpan p (sums_of n list) (vector_of n m.columns r)
   back : (a : ℕ) × IsSame p (scale a (unit n) (vector_of n m.columns r)) (sum_of n (get_or list (first_source r) []))
@@ -149,7 +149,7 @@ module _ (n : ℕ) (ws : List ℕ) (p : ℕ) (domain : IsDomain p) (compare : Ke
   in_order = ap (map first_source) placed.placed ∙ sources_kept rows ∙ named.order
 
   pub are_divided : AreDivided n p list m.rows
-  are_divided = record { each = Each_map (IsMonicRow n p list m) (IsDivided n p list) m.rows (λ r h. h.divided) each; order = in_order }
+  are_divided = record { each = Each_map (IsMonicRow n p list m) (IsMadeMonic n p list) m.rows (λ r h. h.divided) each; order = in_order }
 
   pub are_from_sources : Each (IsFromSources n p (sums_of n list) m.columns) m.rows
   are_from_sources = Each_map (IsMonicRow n p list m) (IsFromSources n p (sums_of n list) m.columns) m.rows (λ r h. h.combined) each

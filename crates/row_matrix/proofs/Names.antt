@@ -13,7 +13,7 @@ use Rattle.module_vectors.proofs.Merges.{sum_of-append}
 use Rattle.module_vectors.specs.Vectors.{key_of, sum_of}
 use Rattle.module_vectors.specs.declared.key.Key.{Key as CodeKey}
 use Rattle.row_matrix.specs.Hashes.{IsNumbered, no_key}
-use Rattle.row_matrix.specs.Naming.{AreNamed, IsGrown, Names}
+use Rattle.row_matrix.specs.Naming.{AreNamed, IsGrown, NamesNumber}
 use Rattle.row_matrix.specs.Rows.{AreKeys, Entry, column_key, row_sum}
 
 -- more keys change nothing for entries that name the old ones
@@ -60,10 +60,10 @@ named_step n old new key entries v i r h g = named_push n new entries v i r (key
     go (inr e) = subst (λ ks. AreNamed n ks entries v) (sym e.0) (named_more n old (key ∷ []) entries v h)
 
 -- what is named stays named
-names_more : (entries more : List Entry) (i : ℕ) → Names entries i → Names (entries ++ more) i
+names_more : (entries more : List Entry) (i : ℕ) → NamesNumber entries i → NamesNumber (entries ++ more) i
 names_more entries more i h = subst (λ xs. Contains xs i) (sym (map-append (λ (e : Entry). e.0) entries more)) (Contains-append_left (map (λ (e : Entry). e.0) entries) (map (λ (e : Entry). e.0) more) i h)
 
-names_last : (entries : List Entry) (i r : ℕ) → Names (entries ++ (i, r) ∷ []) i
+names_last : (entries : List Entry) (i r : ℕ) → NamesNumber (entries ++ (i, r) ∷ []) i
 names_last entries i r = subst (λ xs. Contains xs i) (sym (map-append (λ (e : Entry). e.0) entries ((i, r) ∷ []))) (Contains-push (map (λ (e : Entry). e.0) entries) i)
 
 -- the keys grow by one at most, which the entry names
@@ -82,7 +82,7 @@ grown_step start old new key entries i r h g = go g.grown
       added = h.added ++ key ∷ [];
       grown = e.0 ∙ ap (λ xs. xs ++ key ∷ []) h.grown ∙ append_assoc start h.added (key ∷ []);
       named = λ j le lt. elim (cases_eq j i) [
-        | inl f ↦ subst (Names (entries ++ (i, r) ∷ [])) (sym f) (names_last entries i r)
+        | inl f ↦ subst (NamesNumber (entries ++ (i, r) ∷ [])) (sym f) (names_last entries i r)
         | inr ne ↦
             let size : length new ≡ length old + 1 = ap length e.0 ∙ length_push old key in
             let at : i ≡ length old = e.1 in

@@ -13,12 +13,12 @@ use Rattle.row_matrix.proofs.Digits.{digits_same, sums_few}
 use Rattle.row_matrix.proofs.KeyProducts.{key_product_weighed}
 use Rattle.row_matrix.specs.Hashes.{IsNumbered, key_product, no_key}
 use Rattle.row_matrix.specs.Rows.{AreKeys}
-use Rattle.row_matrix.specs.Told.{AreTold, AreToldWith, HashesShown, IsToldKey, IsUpTo, TellsProduct}
+use Rattle.row_matrix.specs.Told.{AreTold, AreToldWith, HashesShown, IsToldKey, IsKeyUpTo, TellsProduct}
 
 -- a product within the bounds is a key that its hash tells
 product_told :
     (keys : List Key) (t : Monomial) (h : HashesShown) (key : Key)
-    → AreToldWith keys t h → IsUpTo h.position h.degree key → IsToldKey (key_product t key)
+    → AreToldWith keys t h → IsKeyUpTo h.position h.degree key → IsToldKey (key_product t key)
 product_told keys t h key a u =
     (omega (arith, u.place, a.position), sums_few t.degree h.degree t.exponents key.monomial.exponents a.exponents u.exponents a.degree)
 
@@ -33,7 +33,7 @@ same_key n ws a b v w p e =
 
 tells_product :
     (n : ℕ) (ws : List ℕ) (keys : List Key) (t : Monomial) (h : HashesShown) (key : Key)
-    → AreToldWith keys t h → IsUpTo h.position h.degree key → IsWeighed n ws t → IsWeighed n ws key.monomial → AreKeys n ws keys
+    → AreToldWith keys t h → IsKeyUpTo h.position h.degree key → IsWeighed n ws t → IsWeighed n ws key.monomial → AreKeys n ws keys
     → TellsProduct keys t key
 tells_product n ws keys t h key a u wt wk known =
     let product = key_product t key in
@@ -54,7 +54,7 @@ tells_product n ws keys t h key a u wt wk known =
 
 pub tells_products :
     (n : ℕ) (ws : List ℕ) (keys : List Key) (t : Monomial) (h : HashesShown) (v : List (Key × ℕ))
-    → AreToldWith keys t h → Each (λ u. IsUpTo h.position h.degree u.0) v → IsWeighed n ws t → Each (λ u. IsWeighed n ws u.0.monomial) v
+    → AreToldWith keys t h → Each (λ u. IsKeyUpTo h.position h.degree u.0) v → IsWeighed n ws t → Each (λ u. IsWeighed n ws u.0.monomial) v
     → AreKeys n ws keys → Each (λ u. TellsProduct keys t u.0) v
 tells_products n ws keys t h [] a bounded wt wv known = tt
 tells_products n ws keys t h (u ∷ v) a bounded wt wv known =
@@ -63,7 +63,7 @@ tells_products n ws keys t h (u ∷ v) a bounded wt wv known =
 -- the table has one key more at most, and that is the product
 pub told_more :
     (old new : List Key) (t : Monomial) (h : HashesShown) (key : Key) (i : ℕ)
-    → AreToldWith old t h → IsUpTo h.position h.degree key → IsNumbered old new (key_product t key) i → AreToldWith new t h
+    → AreToldWith old t h → IsKeyUpTo h.position h.degree key → IsNumbered old new (key_product t key) i → AreToldWith new t h
 told_more old new t h key i a u g = record {
   told = more g.grown;
   variables = a.variables;
@@ -79,10 +79,10 @@ told_more old new t h key i a u g = record {
 -- the bounds of the first terms and of one more
 pub up_to_more :
     (v : List (Key × ℕ)) (i : ℕ) (u : Key × ℕ) (position degree position' degree' : ℕ)
-    → Each (λ t. IsUpTo position degree t.0) (take i v) → position ≤ position' → degree ≤ degree' → i < length v → u ≡ get_or v i u
-    → IsUpTo position' degree' u.0 → Each (λ t. IsUpTo position' degree' t.0) (take (i + 1) v)
+    → Each (λ t. IsKeyUpTo position degree t.0) (take i v) → position ≤ position' → degree ≤ degree' → i < length v → u ≡ get_or v i u
+    → IsKeyUpTo position' degree' u.0 → Each (λ t. IsKeyUpTo position' degree' t.0) (take (i + 1) v)
 up_to_more v i u position degree position' degree' each le le' lt at one =
-    Each_more (λ t. IsUpTo position' degree' t.0) v i u (Each_map _ _ (take i v) (λ t h. wider t.0 h) each) lt at one
+    Each_more (λ t. IsKeyUpTo position' degree' t.0) v i u (Each_map _ _ (take i v) (λ t h. wider t.0 h) each) lt at one
   where
-    wider : (key : Key) → IsUpTo position degree key → IsUpTo position' degree' key
+    wider : (key : Key) → IsKeyUpTo position degree key → IsKeyUpTo position' degree' key
     wider key h = record { place = omega (arith, le, h.place); few = omega (arith, le', h.few); exponents = λ k. omega (arith, le', h.exponents k) }

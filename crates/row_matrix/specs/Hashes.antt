@@ -60,12 +60,12 @@ abbrev pub Lacks : List Key → Key → Type 0
 Lacks keys key = (i : ℕ) → i < length keys → get_or keys i no_key ≡ key → ⊥
 
 -- no key of the list has two numbers
-abbrev pub AreApart : List Key → Type 0
-AreApart keys = (i j : ℕ) → i < j → j < length keys → get_or keys i no_key ≡ get_or keys j no_key → ⊥
+abbrev pub AreDistinctKeys : List Key → Type 0
+AreDistinctKeys keys = (i j : ℕ) → i < j → j < length keys → get_or keys i no_key ≡ get_or keys j no_key → ⊥
 
 -- the keys are apart, and found by their hashes
 pub record IsTable (keys : List Key) (hashes earlier last : List ℕ) : Type 0 where
-  pub apart : AreApart keys
+  pub apart : AreDistinctKeys keys
   pub hashed : hashes ≡ map hash_of keys
   pub lengths : length earlier ≡ length keys
   pub few : length keys ≤ 4294967295

@@ -20,7 +20,7 @@ abbrev pub first_source : RowShown → ℕ
 first_source r = first_column r.sources
 
 -- the row is one vector of the list times the inverse of its first residue
-pub record IsDivided (n p : ℕ) (list : List (List (CodeKey × ℕ))) (r : RowShown) : Type 0 where
+pub record IsMadeMonic (n p : ℕ) (list : List (List (CodeKey × ℕ))) (r : RowShown) : Type 0 where
   pub number : ℕ
   pub within : number < length list
   pub factor : ℕ
@@ -29,13 +29,13 @@ pub record IsDivided (n p : ℕ) (list : List (List (CodeKey × ℕ))) (r : RowS
 
 -- the rows are those of the vectors that are not zero, in their order
 pub record AreDivided (n p : ℕ) (list : List (List (CodeKey × ℕ))) (rows : List RowShown) : Type 0 where
-  pub each : Each (IsDivided n p list) rows
+  pub each : Each (IsMadeMonic n p list) rows
   pub order : map first_source rows ≡ nonzero_from 0 list
 
 -- the row is so, and its entries have numbers of these keys
 abbrev pub IsNamedRow : (n p : ℕ) → List (List (CodeKey × ℕ)) → List CodeKey → RowShown → Type 0
 IsNamedRow n p list keys r =
-    (h : IsDivided n p list r) × AreNamed n keys r.entries (sum_of n (rescaled p h.factor (get_or list h.number [])))
+    (h : IsMadeMonic n p list r) × AreNamed n keys r.entries (sum_of n (rescaled p h.factor (get_or list h.number [])))
 
 -- the rows of the vectors that are not zero, over numbers of keys
 pub record AreNamedRows (n : ℕ) (ws : List ℕ) (p : ℕ) (list : List (List (CodeKey × ℕ))) (keys : List CodeKey)

@@ -17,14 +17,14 @@ pub record AreNamed (n : ℕ) (keys : List CodeKey) (entries : List Entry) (v : 
   pub sum : row_sum (column_key n keys) entries ≡ v
 
 -- an entry has this number
-abbrev pub Names : List Entry → ℕ → Type 0
-Names entries i = Contains (map (λ e. e.0) entries) i
+abbrev pub NamesNumber : List Entry → ℕ → Type 0
+NamesNumber entries i = Contains (map (λ e. e.0) entries) i
 
 -- new has the keys of old and behind them others, each of which an entry names
 pub record IsGrown (old new : List CodeKey) (entries : List Entry) : Type 0 where
   pub added : List CodeKey
   pub grown : new ≡ old ++ added
-  pub named : (i : ℕ) → length old ≤ i → i < length new → Names entries i
+  pub named : (i : ℕ) → length old ≤ i → i < length new → NamesNumber entries i
 
 -- the entries are those of t times the first terms of v, one each; the keys have grown from `start` by what they name alone
 pub record IsPartOfProduct (start keys : List CodeKey) (t : Monomial) (v : List (CodeKey × ℕ)) (entries : List Entry) : Type 0 where

@@ -12,7 +12,7 @@ pub record HashesShown : Type 0 where
   pub degree : ℕ
 
 -- the key stands at no later position, and neither its degree nor an exponent is greater
-pub record IsUpTo (position degree : ℕ) (key : Key) : Type 0 where
+pub record IsKeyUpTo (position degree : ℕ) (key : Key) : Type 0 where
   pub place : key.position ≤ position
   pub few : key.monomial.degree ≤ degree
   pub exponents : (k : ℕ) → get_or key.monomial.exponents k 0 ≤ degree
@@ -20,7 +20,7 @@ pub record IsUpTo (position degree : ℕ) (key : Key) : Type 0 where
 -- the hashes of the keys of these terms, and their bounds
 pub record AreHashesOf (h : HashesShown) (v : List (Key × ℕ)) : Type 0 where
   pub hashes : h.hashes ≡ term_hashes v
-  pub bounded : Each (λ u. IsUpTo h.position h.degree u.0) v
+  pub bounded : Each (λ u. IsKeyUpTo h.position h.degree u.0) v
 
 -- among keys in at most 12 variables the hash tells this one: its position and exponents are digits of a number of 64 bits
 abbrev pub IsToldKey : Key → Type 0

@@ -5,7 +5,7 @@ ghost use Rattle.std.specs.Vec.{vec_len, vec_capacity};
 ghost use Rattle.formal_sums.specs.FormalSums.{Each};
 ghost use Rattle.module_vectors.specs.Vectors.{HasVariables};
 ghost use Rattle.monomial_orders.specs.Monomials.{StopsAbove};
-ghost use Rattle.row_matrix.specs.Hashes.{AreApart, Lacks, IsChained, IsTable, IsNumbered};
+ghost use Rattle.row_matrix.specs.Hashes.{AreDistinctKeys, Lacks, IsChained, IsTable, IsNumbered};
 ghost use Rattle.row_matrix.specs.Hashes.{bucket_of, factor_hash, hash_of, hash_step, no_key, key_product, sums, term_hashes};
 ghost use Rattle.row_matrix.specs.Naming.{IsPartOfProduct};
 ghost use Rattle.row_matrix.specs.Told.{AreTold, AreToldWith, IsToldKey, TellsProduct};
@@ -29,6 +29,9 @@ const MOST_DIGITS: usize = 12;
 const POSITIONS: u64 = 16;
 
 const FIRST_BUCKETS: usize = 64;
+
+// Room for so many keys is there from the start: as many as have the first buckets.
+const FIRST_KEYS: usize = 32;
 
 // The greatest degree of a product.
 const MAX_DEGREE: u128 = 65535;
@@ -295,9 +298,9 @@ impl KeyTable {
         ensures { IfOk result (λ t. t ≡ []) }
     {
         Ok(KeyTable {
-            keys: Vec::new(alloc),
-            hashes: Vec::new(alloc),
-            earlier: Vec::new(alloc),
+            keys: Vec::with_capacity(alloc, FIRST_KEYS)?,
+            hashes: Vec::with_capacity(alloc, FIRST_KEYS)?,
+            earlier: Vec::with_capacity(alloc, FIRST_KEYS)?,
             last: vec![in alloc; 0; FIRST_BUCKETS]?,
             told: true,
         })
@@ -306,7 +309,7 @@ impl KeyTable {
     /// The keys, in the order of their numbers.
     pub fn keys(&self) -> &[Key]
         ensures keys { result.now ≡ self.now }
-        ensures apart { AreApart result.now }
+        ensures apart { AreDistinctKeys result.now }
     {
         &self.keys
     }
@@ -314,7 +317,7 @@ impl KeyTable {
     /// The keys, in the order of their numbers, without taking memory.
     pub fn into_keys(self) -> Vec<Key>
         ensures keys { result.items ≡ self }
-        ensures apart { AreApart result.items }
+        ensures apart { AreDistinctKeys result.items }
     {
         let KeyTable {
             keys,

@@ -1,5 +1,8 @@
 // Columns: the keys of a table, strictly descending.
-ghost use Rattle.std.specs.Prelude.{◌≡◌, ◌<◌, ◌≤◌, ◌+◌, ◌-◌, ◌++◌, List, [], ◌∷◌, ℕ, Contains, length, get_or, IfOk, OnOk};
+ghost use Rattle.std.specs.Prelude.{◌≡◌, ◌<◌, ◌≤◌, ◌+◌, ◌-◌, ◌++◌, List, [], ◌∷◌, ℕ, Contains, IsTrue, length, get_or, map, IfOk, OnOk};
+ghost use Rattle.std.specs.List.{range_with_len};
+ghost use Rattle.std.specs.List.Sorted.{IsPermutation, IsSortedBy};
+ghost use Rattle.std.specs.Ordering.{is_lt};
 ghost use Rattle.std.specs.Vec.{vec_len, vec_capacity};
 ghost use Rattle.formal_sums.specs.FormalSums.{Each};
 ghost use Rattle.module_vectors.specs.Rings.{variables};
@@ -36,16 +39,70 @@ fn descending<F: Frame>(frame: &F, keys: &[Key], i: usize, j: usize) -> Ordering
     Ordering::Equal
 }
 
-// The numbers below the count.
-fn numbers_below(alloc: Global, count: usize) -> Result<Vec<usize>, NoMemory>
-    ensures known { IfOk result (λ numbers. Each (λ i. i < count) numbers.items) }
-    ensures all { IfOk result (λ numbers. (i : ℕ) → i < count → Contains numbers.items i) }
+// Compares two numbers, each behind the hint of its key, for a sort with the greatest key first.
+fn by_hints<F: Frame>(
+    frame: &F,
+    keys: &[Key],
+    left: &(u64, usize),
+    right: &(u64, usize),
+) -> Ordering
+    requires { AreKeys (variables (F.over frame.now)) (F.over frame.now).weights keys.now }
 {
-    let mut numbers = Vec::with_capacity(alloc, count)?;
-    for i in 0..count {
-        numbers.push_reserved(i);
+    if left.0 > right.0 {
+        return Ordering::Less;
+    }
+    if left.0 < right.0 {
+        return Ordering::Greater;
+    }
+    descending(frame, keys, left.1, right.1)
+}
+
+// The numbers of the keys, each behind the hint of its key.
+fn hinted_numbers<F: Frame>(
+    alloc: Global,
+    frame: &F,
+    keys: &[Key],
+) -> Result<Vec<(u64, usize)>, NoMemory>
+    ensures { IfOk result (λ hinted. map (λ h. h.1) hinted.items ≡ range_with_len 0 (length keys.now)) }
+{
+    let mut hinted = Vec::with_capacity(alloc, keys.len())?;
+    for i in 0..keys.len() {
+        hinted.push_reserved((frame.hint(&keys[i]), i));
+    }
+    Ok(hinted)
+}
+
+// The numbers of the keys in the order of the hints, and of the keys where hints are equal: mostly the greatest key first.
+fn numbers_by_hints<F: Frame>(
+    alloc: Global,
+    frame: &F,
+    keys: &[Key],
+) -> Result<Vec<usize>, NoMemory>
+    requires { AreKeys (variables (F.over frame.now)) (F.over frame.now).weights keys.now }
+    ensures { IfOk result (λ numbers. IsPermutation (range_with_len 0 (length keys.now)) numbers.items) }
+{
+    let mut hinted = hinted_numbers(alloc, frame, keys)?;
+    hinted.sort_unstable_by(|left, right| by_hints(frame, keys, left, right));
+    let mut numbers = Vec::with_capacity(alloc, hinted.len())?;
+    for one in &hinted {
+        numbers.push_reserved(one.1);
     }
     Ok(numbers)
+}
+
+// Is no key above that of the number before it?
+fn descend<F: Frame>(frame: &F, keys: &[Key], numbers: &[usize]) -> bool
+    requires { AreKeys (variables (F.over frame.now)) (F.over frame.now).weights keys.now }
+    ensures { let n = variables (F.over frame.now) in
+        IsTrue result → IsSortedBy (λ i j. is_lt (by_descent n (F.compare frame.now n) keys.now i j)) numbers.now }
+{
+    for k in 1..numbers.len() {
+        let is_above = descending(frame, keys, numbers[k], numbers[k - 1]).is_lt();
+        if is_above {
+            return false;
+        }
+    }
+    true
 }
 
 // The numbers of the keys, the greatest key first.
@@ -55,7 +112,11 @@ fn sorted_numbers<F: Frame>(alloc: Global, frame: &F, keys: &[Key]) -> Result<Ve
     ensures all { IfOk result (λ numbers. (i : ℕ) → i < length keys.now → Contains numbers.items i) }
     ensures falls { let n = variables (F.over frame.now) in IfOk result (λ numbers. Falls n (F.compare frame.now n) keys.now numbers.items) }
 {
-    let mut numbers = numbers_below(alloc, keys.len())?;
+    let mut numbers = numbers_by_hints(alloc, frame, keys)?;
+    // What the order of hints comes to is tested, and not proved.
+    if descend(frame, keys, &numbers) {
+        return Ok(numbers);
+    }
     numbers.sort_unstable_by(|i, j| descending(frame, keys, *i, *j));
     Ok(numbers)
 }

@@ -29,7 +29,7 @@ use Rattle.dense_reduction.proofs.Reducing.{zeros_at}
 use Rattle.dense_reduction.specs.Pivots.{ArePivots, lead_column, no_row, row_at, row_vectors}
 use Rattle.dense_reduction.specs.Rests.{rows_left}
 use Rattle.dense_reduction.specs.Underway.{IsSpanned}
-use Rattle.dense_reduction.specs.Words.{Names, leads_of, named}
+use Rattle.dense_reduction.specs.Words.{WordNames, row_leads_of, named}
 use Rattle.dense_reduction.specs.declared.lefts.Left.{Left}
 use Rattle.row_reduce.proofs.Orders.{vector_at}
 use Rattle.row_reduce.specs.Echelons.{AreBetween, AreFrom, IsEchelonOf, IsPassOverSome, with_left, columns_behind}
@@ -111,7 +111,7 @@ each_both P Q (x ∷ xs) a b = ((a.0, b.0), each_both P Q xs a.1 b.1)
 pub row_of : (P : RowShown → Type 0) (rows : List RowShown) (k : ℕ) → Each P rows → k < length rows → P (row_at rows k)
 row_of P rows k h lt = Each_at P rows k (row_at rows k) h lt (get_or_default rows k no_row (row_at rows k) lt)
 
-pub lead_at : (rows : List RowShown) (k : ℕ) → k < length rows → get_or (leads_of rows) k 0 ≡ lead_column rows k
+pub lead_at : (rows : List RowShown) (k : ℕ) → k < length rows → get_or (row_leads_of rows) k 0 ≡ lead_column rows k
 lead_at rows k lt = get_or-map (λ (r : RowShown). first_column r.entries) rows k no_row 0 lt
 
 row_some : (p columns inputs : ℕ) (r : RowShown) → IsRow p columns inputs r → 0 < length r.entries
@@ -159,14 +159,14 @@ some_some j k e = cc
 
 named_each :
     (P : RowShown → Type 0) (rows : List RowShown) (words : List (Option ℕ))
-    → ((c k : ℕ) → Names words c k → P (row_at rows k)) → Each P (named rows words)
+    → ((c k : ℕ) → WordNames words c k → P (row_at rows k)) → Each P (named rows words)
 named_each P rows [] h = tt
 named_each P rows (None ∷ words) h = named_each P rows words (λ c k e. h (suc c) k e)
 named_each P rows (Some j ∷ words) h = (h 0 j refl, named_each P rows words (λ c k e. h (suc c) k e))
 
 named_same :
     (rows others : List RowShown) (words : List (Option ℕ))
-    → ((c k : ℕ) → Names words c k → row_at others k ≡ row_at rows k) → named others words ≡ named rows words
+    → ((c k : ℕ) → WordNames words c k → row_at others k ≡ row_at rows k) → named others words ≡ named rows words
 named_same rows others [] h = refl
 named_same rows others (None ∷ words) h = named_same rows others words (λ c k e. h (suc c) k e)
 named_same rows others (Some j ∷ words) h =
@@ -177,7 +177,7 @@ named_same rows others (Some j ∷ words) h =
 contains_more : {X : Type 0} (x : X) (xs : List X) (y : X) → Contains xs y → Contains (x ∷ xs) y
 contains_more x xs y h = (suc h.0, omega (arith, h.1), h.2)
 
-named_contains : (rows : List RowShown) (words : List (Option ℕ)) (c k : ℕ) → Names words c k → Contains (named rows words) (row_at rows k)
+named_contains : (rows : List RowShown) (words : List (Option ℕ)) (c k : ℕ) → WordNames words c k → Contains (named rows words) (row_at rows k)
 named_contains rows [] c k e = cc
 named_contains rows (None ∷ words) zero k e = cc
 named_contains rows (Some j ∷ words) zero k e = (0, omega arith, ap (row_at rows) (some_some j k e))
@@ -366,10 +366,10 @@ module _ (p columns inputs : ℕ) (rows : List RowShown) (leads : List ℕ) (hel
       (distinct_parts (places left) later next_apart)
 
   -- the row that has a column stays
-  untouched : (c k : ℕ) → Names words c k → row_at new k ≡ row_at rows k
+  untouched : (c k : ℕ) → WordNames words c k → row_at new k ≡ row_at rows k
   untouched c k e = placed_other rows left k (each_more (IsLeftOf rows words) (λ (l : Left). l.number ≡ k → ⊥) (λ l lost same. clash l lost same) left pass.replaced)
     where
-      fit : (k < length (leads_of rows)) × (get_or (leads_of rows) k 0 ≡ c)
+      fit : (k < length (row_leads_of rows)) × (get_or (row_leads_of rows) k 0 ≡ c)
       fit = pass.fits c k e
 
       lead : lead_column rows k ≡ c
@@ -377,7 +377,7 @@ module _ (p columns inputs : ℕ) (rows : List RowShown) (leads : List ℕ) (hel
 
       clash : (l : Left) → IsLeftOf rows words l → l.number ≡ k → ⊥
       clash l lost same =
-          let mine : Names words c lost.winner = subst (λ d. Names words d lost.winner) (ap (lead_column rows) same ∙ lead) lost.lost in
+          let mine : WordNames words c lost.winner = subst (λ d. WordNames words d lost.winner) (ap (lead_column rows) same ∙ lead) lost.lost in
           let one : Some (Some lost.winner) ≡ Some (Some k) = sym mine ∙ e in
           lost.other (some_some lost.winner k one ∙ sym same)
 
@@ -390,7 +390,7 @@ module _ (p columns inputs : ℕ) (rows : List RowShown) (leads : List ℕ) (hel
   monic : Each (IsRow p columns inputs) new
   monic = each_placed (IsRow p columns inputs) rows left h.ready.monic pass.good
 
-  fits : LeadsFit (leads_of new) words
+  fits : LeadsFit (row_leads_of new) words
   fits c k e =
       let old = pass.fits c k e in
       let lt : k < length rows = omega (arith, old.0, length-map rows (λ (r : RowShown). first_column r.entries)) in
@@ -399,7 +399,7 @@ module _ (p columns inputs : ℕ) (rows : List RowShown) (leads : List ℕ) (hel
         lead_at new k lt' ∙ ap (λ (r : RowShown). first_column r.entries) (untouched c k e) ∙ sym (lead_at rows k lt) ∙ old.1,
       )
 
-  pub between_next : AreBetween p columns inputs new (leads_of new) words (places left ++ later)
+  pub between_next : AreBetween p columns inputs new (row_leads_of new) words (places left ++ later)
   between_next = record {
     ready = record { monic = monic; known = refl; wide = pass.wide ∙ h.ready.wide };
     fits = fits;
@@ -446,11 +446,11 @@ module _ (p columns inputs : ℕ) (rows : List RowShown) (leads : List ℕ) (hel
   -- a lead whose row is pending has its column, or is pending still
   lead_next :
       (c i : ℕ) → lead_column rows i ≡ c → Contains pending i
-      → ((k : ℕ) × Names words c k) ⊎ (Contains (places left ++ later) i × (lead_column new i ≡ c))
+      → ((k : ℕ) × WordNames words c k) ⊎ (Contains (places left ++ later) i × (lead_column new i ≡ c))
   lead_next c i e there = elim (Contains-append_cases now later i (Contains-permutation pending (now ++ later) i some.parts there)) [
     | inl k ↦
-        let own = member_of (λ m. (w : ℕ) × Names words (lead_column rows m) w) now i pass.claimed k in
-        inl (own.0, subst (λ d. Names words d own.0) e own.1)
+        let own = member_of (λ m. (w : ℕ) × WordNames words (lead_column rows m) w) now i pass.claimed k in
+        inl (own.0, subst (λ d. WordNames words d own.0) e own.1)
     | inr k ↦
         let same : row_at new i ≡ row_at rows i = member_of (λ m. row_at new m ≡ row_at rows m) later i later_stay k in
         inr (Contains-append_right (places left) later i k, ap (λ (r : RowShown). first_column r.entries) same ∙ e)
@@ -508,7 +508,7 @@ module _ (p columns inputs : ℕ) (rows : List RowShown) (leads : List ℕ) (hel
       omega (arith, room_now)
 
 -- ---- the first pass
-none_named : (columns c k : ℕ) → Names (replicate columns None) c k → ⊥
+none_named : (columns c k : ℕ) → WordNames (replicate columns None) c k → ⊥
 none_named zero c k e = cc
 none_named (suc columns) zero k e = cc
 none_named (suc columns) (suc c) k e = none_named columns c k e
@@ -533,7 +533,7 @@ range_apart n = IsDistinct-from_AllPairs Decides-eqb (range_with_len 0 n) (λ i 
 -- all rows are pending
 pub between_start :
     (p columns inputs : ℕ) (rows : List RowShown) → Each (IsRow p columns inputs) rows
-    → AreBetween p columns inputs rows (leads_of rows) (replicate columns None) (range_with_len 0 (length rows))
+    → AreBetween p columns inputs rows (row_leads_of rows) (replicate columns None) (range_with_len 0 (length rows))
 between_start p columns inputs rows good = record {
   ready = record { monic = good; known = refl; wide = length-replicate columns None };
   fits = λ c k e. absurd (none_named columns c k e);
@@ -569,7 +569,7 @@ numbers (Some k ∷ words) = k ∷ numbers words
 -- words that name rows with the leads b, b + 1 and so on
 module _ (rows : List RowShown) where
   abbrev AreLeads : ℕ → List (Option ℕ) → Type 0
-  AreLeads b words = (c k : ℕ) → Names words c k → lead_column rows k ≡ b + c
+  AreLeads b words = (c k : ℕ) → WordNames words c k → lead_column rows k ≡ b + c
 
   leads_behind : (b : ℕ) (w : Option ℕ) (words : List (Option ℕ)) → AreLeads b (w ∷ words) → AreLeads (b + 1) words
   leads_behind b w words h c k e = h (suc c) k e ∙ (let q : b + suc c ≡ (b + 1) + c = omega arith in q)
@@ -617,18 +617,18 @@ module _ (rows : List RowShown) where
   )
 
   numbers_below :
-      (words : List (Option ℕ)) → ((c k : ℕ) → Names words c k → k < length rows) → (q : ℕ) → list_any (eqb q) (numbers words) ≡ true → q < length rows
+      (words : List (Option ℕ)) → ((c k : ℕ) → WordNames words c k → k < length rows) → (q : ℕ) → list_any (eqb q) (numbers words) ≡ true → q < length rows
   unfolding numbers
   numbers_below words h q e = member_of (λ k. k < length rows) (numbers words) q (all words h) (Contains-from_any (λ x y same. eqb-true x y same) q (numbers words) e)
     where
-      all : (ws : List (Option ℕ)) → ((c k : ℕ) → Names ws c k → k < length rows) → Each (λ k. k < length rows) (numbers ws)
+      all : (ws : List (Option ℕ)) → ((c k : ℕ) → WordNames ws c k → k < length rows) → Each (λ k. k < length rows) (numbers ws)
       all [] g = tt
       all (None ∷ ws) g = all ws (λ c k e. g (suc c) k e)
       all (Some k ∷ ws) g = (g 0 k refl, all ws (λ c k e. g (suc c) k e))
 
 module _ (p columns inputs : ℕ) (M rows : List RowShown) (leads : List ℕ) (held : List (Option ℕ)) (pending : List ℕ)
     (h : AreBetween p columns inputs rows leads held pending) (from : AreFrom p M rows held pending) (none : pending ≡ []) where
-  fit : (c k : ℕ) → Names held c k → (k < length rows) × (lead_column rows k ≡ c)
+  fit : (c k : ℕ) → WordNames held c k → (k < length rows) × (lead_column rows k ≡ c)
   fit c k e =
       let f = subst (λ ls. LeadsFit ls held) h.ready.known h.fits c k e in
       let lt : k < length rows = omega (arith, f.0, length-map rows (λ (r : RowShown). first_column r.entries)) in
@@ -707,10 +707,10 @@ column_below p inputs rows leads held pending h items same i lt x is =
 
 pub leads_push :
     (rows : List RowShown) (i : ℕ) (r : RowShown) (lead : ℕ)
-    → i < length rows → r ≡ get_or rows i r → lead ≡ first_column r.entries → leads_of (take i rows) ++ lead ∷ [] ≡ leads_of (take (i + 1) rows)
+    → i < length rows → r ≡ get_or rows i r → lead ≡ first_column r.entries → row_leads_of (take i rows) ++ lead ∷ [] ≡ row_leads_of (take (i + 1) rows)
 leads_push rows i r lead lt is e =
-    ap (λ x. leads_of (take i rows) ++ x ∷ []) e ∙ sym (map-append (λ (x : RowShown). first_column x.entries) (take i rows) (r ∷ []))
-    ∙ ap leads_of (sym (take_item rows i r lt is))
+    ap (λ x. row_leads_of (take i rows) ++ x ∷ []) e ∙ sym (map-append (λ (x : RowShown). first_column x.entries) (take i rows) (r ∷ []))
+    ∙ ap row_leads_of (sym (take_item rows i r lt is))
 
 pub range_push : (n m : ℕ) → m ≡ n → range_with_len 0 n ++ m ∷ [] ≡ range_with_len 0 (n + 1)
 range_push n m e =
@@ -728,11 +728,11 @@ pass_read p inputs rows' rows held' held pending' pending words left r h k pass 
 
 pub between_read :
     (p columns inputs : ℕ) (rows' rows : List RowShown) (leads : List ℕ) (held' held : List (Option ℕ)) (pending' pending : List ℕ)
-    → rows' ≡ rows → leads ≡ leads_of rows → held' ≡ held → pending' ≡ pending
-    → AreBetween p columns inputs rows (leads_of rows) held pending → AreBetween p columns inputs rows' leads held' pending'
+    → rows' ≡ rows → leads ≡ row_leads_of rows → held' ≡ held → pending' ≡ pending
+    → AreBetween p columns inputs rows (row_leads_of rows) held pending → AreBetween p columns inputs rows' leads held' pending'
 between_read p columns inputs rows' rows leads held' held pending' pending r l h k between =
     subst₂ (λ rs ls. AreBetween p columns inputs rs ls held' pending') (sym r) (sym l)
-    (subst₂ (λ hs ks. AreBetween p columns inputs rows (leads_of rows) hs ks) (sym h) (sym k) between)
+    (subst₂ (λ hs ks. AreBetween p columns inputs rows (row_leads_of rows) hs ks) (sym h) (sym k) between)
 
 pub from_read :
     (p : ℕ) (M rows' rows : List RowShown) (held' held : List (Option ℕ)) (pending' pending : List ℕ)
@@ -746,7 +746,7 @@ pub room_read :
 room_read columns before rows' rows pending' pending r k less = subst₂ (λ rs ks. columns_behind columns rs ks < before) (sym r) (sym k) less
 
 -- one row more is taken out
-module _ (R : List RowShown) (held : List (Option ℕ)) (past : ℕ) (lt : past < length held) (fits : LeadsFit (leads_of R) held) where
+module _ (R : List RowShown) (held : List (Option ℕ)) (past : ℕ) (lt : past < length held) (fits : LeadsFit (row_leads_of R) held) where
   here : drop (length held - (past + 1)) held ≡ get_or held (length held - 1 - past) None ∷ drop (length held - past) held
   here =
       let at : length held - (past + 1) ≡ length held - 1 - past = omega arith in

@@ -19,9 +19,9 @@ use Rattle.dense_reduction.proofs.Entries.{first_below}
 use Rattle.dense_reduction.proofs.Naming.{named_span, span_at, span_left, span_right, span_through, told_before}
 use Rattle.dense_reduction.specs.LostRows.{AreClaimed, IsLost, numbers}
 use Rattle.dense_reduction.specs.Pivots.{ArePivots, lead_column, no_row, row_at}
-use Rattle.dense_reduction.specs.Rests.{IsGone, IsRest, IsRestFrom, rows_left}
-use Rattle.dense_reduction.specs.Underway.{AreCombined, IsSpanned}
-use Rattle.dense_reduction.specs.Words.{AreAsTold, Follows, Names, leads_of, named}
+use Rattle.dense_reduction.specs.Rests.{IsGone, IsRowLeft, IsRestFrom, rows_left}
+use Rattle.dense_reduction.specs.Underway.{AreRowsCombined, IsSpanned}
+use Rattle.dense_reduction.specs.Words.{AreAsTold, IsToldAfter, WordNames, row_leads_of, named}
 use Rattle.dense_reduction.specs.declared.lefts.Left.{Left}
 use Rattle.dense_reduction.specs.declared.lefts.Lost.{Lost}
 use Rattle.row_reduce.proofs.Echelons.{pivots_more, pivots_none}
@@ -30,7 +30,7 @@ use Rattle.row_reduce.specs.Replaced.{IsReplaced}
 
 -- its column has a row
 abbrev HasColumn : List RowShown → List (Option ℕ) → ℕ → Type 0
-HasColumn rows words m = (k : ℕ) × Names words (lead_column rows m) k
+HasColumn rows words m = (k : ℕ) × WordNames words (lead_column rows m) k
 
 -- rows that words name and rows left span it
 abbrev IsInside : ℕ → List RowShown → List (Option ℕ) → List RowShown → ℕ → Type 0
@@ -83,7 +83,7 @@ inside_before p rows words before own mine h =
 pub told_after : (words : List (Option ℕ)) (told more : List Told) → AreAsTold words (told ++ more) → AreAsTold words more
 told_after words [] more a = a
 told_after words (e ∷ told) more a =
-    told_after words told more (All-tail (λ (x : Told). (k : ℕ) → x.after ≡ k + 1 → Names words x.column k) e (told ++ more) a)
+    told_after words told more (All-tail (λ (x : Told). (k : ℕ) → x.after ≡ k + 1 → WordNames words x.column k) e (told ++ more) a)
 
 -- ---- dealt rows
 -- none yet
@@ -171,7 +171,7 @@ module _ (p columns inputs : ℕ) (rows : List RowShown) where
   }
 
   pub helped_later :
-      (mine : List ℕ) (old new : List Told) (left : List Left) → Follows old new
+      (mine : List ℕ) (old new : List Told) (left : List Left) → IsToldAfter old new
       → AreHelped p columns inputs rows mine old left → AreHelped p columns inputs rows mine new left
   helped_later mine old new left f h = helped_known mine old new left (λ words a. told_before words old new f a) h
 
@@ -212,7 +212,7 @@ module _ (p columns inputs : ℕ) (rows : List RowShown) where
         (inside_before p rows words (rows_left left) (rows_left rest) more (b.inside words t)));
     outside = subst (Each (IsSpanned p rows)) (sym shown) (Each_append (IsSpanned p rows) (rows_left left) (rows_left rest) a.outside b.outside);
     combined = λ n F key from.
-        subst (AreCombined p F key) (sym shown)
+        subst (AreRowsCombined p F key) (sym shown)
         (Each_append _ (rows_left left) (rows_left rest) (a.combined n F key from) (b.combined n F key from));
   }
     where
@@ -250,7 +250,7 @@ module _ (p columns inputs : ℕ) (rows : List RowShown) where
   -- one more row, and what is left in its place
   helped_rest :
       (mine : List ℕ) (told : List Told) (left : List Left) (l : Lost) (r : RowShown)
-      → AreHelped p columns inputs rows mine told left → IsLost rows told l → IsRest p columns inputs rows (rows_left left) told (row_at rows l.number) r
+      → AreHelped p columns inputs rows mine told left → IsLost rows told l → IsRowLeft p columns inputs rows (rows_left left) told (row_at rows l.number) r
       → AreHelped p columns inputs rows (mine ++ l.number ∷ []) told (left ++ record { number = l.number; row = r } ∷ [])
   helped_rest mine told left l r h lost rest = record {
     good = subst (Each (IsRow p columns inputs)) (sym shown) (Each_append (IsRow p columns inputs) (rows_left left) (r ∷ []) h.good (rest.good, tt));
@@ -271,7 +271,7 @@ module _ (p columns inputs : ℕ) (rows : List RowShown) where
     outside = subst (Each (IsSpanned p rows)) (sym shown) (Each_append (IsSpanned p rows) (rows_left left) (r ∷ []) h.outside (spanned, tt));
     combined = λ n F key from.
         let own = h.combined n F key from in
-        subst (AreCombined p F key) (sym shown)
+        subst (AreRowsCombined p F key) (sym shown)
         (Each_append _ (rows_left left) (r ∷ []) own
         (rest.combined n F key (Each_append _ rows (rows_left left) from own) (Each_member _ rows l.number no_row from lost.known, tt)));
   }
@@ -298,7 +298,7 @@ module _ (p columns inputs : ℕ) (rows : List RowShown) where
   -- one more row that was replaced
   pub helped_more :
       (mine : List ℕ) (old told : List Told) (left left' : List Left) (l : Lost)
-      → AreHelped p columns inputs rows mine old left → Follows old told → IsLost rows old l → IsReplaced p columns inputs rows told l left left'
+      → AreHelped p columns inputs rows mine old left → IsToldAfter old told → IsLost rows old l → IsReplaced p columns inputs rows told l left left'
       → AreHelped p columns inputs rows (mine ++ l.number ∷ []) told left'
   helped_more mine old told left left' l h f lost done =
       let later = helped_later mine old told left f h in
@@ -311,7 +311,7 @@ module _ (p columns inputs : ℕ) (rows : List RowShown) where
   -- the next of those that lost their columns
   pub helped_next :
       (lost : List Lost) (first old told : List Told) (left left' : List Left) (i : ℕ) (d : Lost)
-      → i < length lost → Each (IsLost rows first) lost → Follows first old → Follows old told
+      → i < length lost → Each (IsLost rows first) lost → IsToldAfter first old → IsToldAfter old told
       → AreHelped p columns inputs rows (numbers (take i lost)) old left → IsReplaced p columns inputs rows told (get_or lost i d) left left'
       → AreHelped p columns inputs rows (numbers (take (i + 1) lost)) told left'
   helped_next lost first old told left left' i d lt all f g h done =
@@ -341,7 +341,7 @@ module _ (p columns inputs : ℕ) (rows : List RowShown) where
   -- the rows that have their columns, and those that were replaced
   pub helped_all :
       (mine : List ℕ) (old told : List Told) (lost : List Lost) (left : List Left)
-      → AreClaimed rows mine old lost → Follows old told → AreHelped p columns inputs rows (numbers lost) told left
+      → AreClaimed rows mine old lost → IsToldAfter old told → AreHelped p columns inputs rows (numbers lost) told left
       → AreHelped p columns inputs rows mine told left
   helped_all mine old told lost left c f h =
       helped_permuted mine (numbers lost ++ c.won) told left c.split
@@ -371,7 +371,7 @@ module _ (p columns inputs : ℕ) (rows : List RowShown) where
   -- ---- a pass
   -- each lead is a column
   pub leads_within :
-      (leads : List ℕ) → Each (IsRow p columns inputs) rows → leads ≡ leads_of rows
+      (leads : List ℕ) → Each (IsRow p columns inputs) rows → leads ≡ row_leads_of rows
       → (row : ℕ) → row < length leads → slice_index leads row < columns
   leads_within leads good known row lt =
       let l : row < length rows = omega (arith, lt, ap length known, length-map rows (λ (r : RowShown). first_column r.entries)) in
@@ -381,13 +381,13 @@ module _ (p columns inputs : ℕ) (rows : List RowShown) where
   -- what helpers leave, and the words at the end
   pub passed :
       (leads leads' pending : List ℕ) (held held' words : List (Option ℕ)) (told : List Told) (left : List Left)
-      → leads ≡ leads_of rows → leads' ≡ leads → held' ≡ held
+      → leads ≡ row_leads_of rows → leads' ≡ leads → held' ≡ held
       → AreHelped p columns inputs rows pending told left → Tallies leads' held' told words
       → IsPass p columns inputs rows held pending words left
   passed leads leads' pending held held' words told left known same kept h t = record {
     wide = t.wide ∙ ap length kept;
     fits = subst (λ xs. LeadsFit xs words) (same ∙ known) t.fits;
-    stayed = λ column row names. t.stayed column row (subst (λ ws. Names ws column row) (sym kept) names);
+    stayed = λ column row names. t.stayed column row (subst (λ ws. WordNames ws column row) (sym kept) names);
     good = h.good;
     gone = h.gone;
     split = h.split;

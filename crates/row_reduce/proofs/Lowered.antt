@@ -15,10 +15,10 @@ use Rattle.dense_reduction.proofs.Steps.{least_above}
 use Rattle.dense_reduction.specs.LostRows.{IsLost, numbers}
 use Rattle.dense_reduction.specs.Pivots.{ArePivots, lead_column, row_at}
 use Rattle.dense_reduction.specs.Reductions.{least_left}
-use Rattle.dense_reduction.specs.Rests.{IsGone, IsRest, IsRestFrom, rows_left}
-use Rattle.dense_reduction.specs.Together.{AreRests, IsRestOf}
-use Rattle.dense_reduction.specs.Underway.{AreCombined, IsSpanned}
-use Rattle.dense_reduction.specs.Words.{Follows, named}
+use Rattle.dense_reduction.specs.Rests.{IsGone, IsRowLeft, IsRestFrom, rows_left}
+use Rattle.dense_reduction.specs.Together.{AreRests, IsRowRestOrGone}
+use Rattle.dense_reduction.specs.Underway.{AreRowsCombined, IsSpanned}
+use Rattle.dense_reduction.specs.Words.{IsToldAfter, named}
 use Rattle.dense_reduction.specs.declared.lefts.Left.{Left}
 use Rattle.dense_reduction.specs.declared.lefts.Lost.{Lost}
 use Rattle.row_reduce.proofs.Echelons.{pivots_more}
@@ -52,12 +52,12 @@ rows_more p A B C =
 one_behind : (p : ℕ) (A B : List RowShown) (r : RowShown) → Each (IsSpanned p A) B → Each (IsSpanned p (A ++ r ∷ [])) B
 one_behind p A B r h = Each_map (IsSpanned p A) (IsSpanned p (A ++ r ∷ [])) B (λ x s. spanned_left p A (r ∷ []) x s) h
 
-module _ (p columns inputs : ℕ) (rows : List RowShown) (old told : List Told) (follows : Follows old told) (own more : List RowShown) (row r : RowShown) where
+module _ (p columns inputs : ℕ) (rows : List RowShown) (old told : List Told) (follows : IsToldAfter old told) (own more : List RowShown) (row r : RowShown) where
   gone_grown : IsGone p rows own old row → IsGone p rows (own ++ more) told row
   gone_grown h = λ words a. spanned_more p (named rows words) own more row (h words (told_before words old told follows a))
 
   -- the rest is gone
-  rest_gone : IsRest p columns inputs rows own old row r → IsGone p rows (own ++ more) told r → IsGone p rows (own ++ more) told row
+  rest_gone : IsRowLeft p columns inputs rows own old row r → IsGone p rows (own ++ more) told r → IsGone p rows (own ++ more) told row
   rest_gone rest gone = λ words a.
       let N = named rows words in
       spanned_through p ((N ++ own) ++ r ∷ []) (N ++ (own ++ more)) row
@@ -66,15 +66,15 @@ module _ (p columns inputs : ℕ) (rows : List RowShown) (old told : List Told) 
 
   -- s stands for the rest
   rest_lowered :
-      (s : RowShown) → IsRest p columns inputs rows own old row r → IsLowered p columns inputs rows (own ++ more) told r s
-      → IsRest p columns inputs rows (own ++ more) told row s
+      (s : RowShown) → IsRowLeft p columns inputs rows own old row r → IsLowered p columns inputs rows (own ++ more) told r s
+      → IsRowLeft p columns inputs rows (own ++ more) told row s
   rest_lowered s rest l = record {
     good = l.good;
     lower = omega (arith, rest.lower, l.lower);
     apart = l.apart;
     combined = λ n F key from one.
         l.combined n F key from
-        (rest.combined n F key (Each_front _ (rows ++ own) more (subst (AreCombined p F key) (sym (append_assoc rows own more)) from)) one);
+        (rest.combined n F key (Each_front _ (rows ++ own) more (subst (AreRowsCombined p F key) (sym (append_assoc rows own more)) from)) one);
     inside = λ words a.
         let N = named rows words in
         let B = (N ++ (own ++ more)) ++ s ∷ [] in
@@ -143,7 +143,7 @@ module _ (p columns inputs : ℕ) (rows : List RowShown) where
   -- what is kept of the rest takes the place of the row
   pub rest_kept :
       (first told : List Told) (start old new more : List Left) (l : Lost) (r : RowShown)
-      → Follows first told → old ≡ start ++ more → IsRest p columns inputs rows (rows_left start) first (row_at rows l.number) r
+      → IsToldAfter first told → old ≡ start ++ more → IsRowLeft p columns inputs rows (rows_left start) first (row_at rows l.number) r
       → IsRestKept p columns inputs rows told l.number r old new → IsReplaced p columns inputs rows told l old new
   rest_kept first told start old new more l r f e rest kept =
       let shown : rows_left old ≡ rows_left start ++ rows_left more = ap rows_left e ∙ map-append (λ (x : Left). x.row) start more in
@@ -157,7 +157,7 @@ module _ (p columns inputs : ℕ) (rows : List RowShown) where
         | inr g ↦ inr (
           g.0,
           g.1,
-          subst (λ own. IsRest p columns inputs rows own told row g.0) (sym shown)
+          subst (λ own. IsRowLeft p columns inputs rows own told row g.0) (sym shown)
               (rest_lowered p columns inputs rows first told f (rows_left start) (rows_left more) row r g.0 rest
               (subst (λ own. IsLowered p columns inputs rows own told r g.0) shown g.2)),
         )
@@ -166,7 +166,7 @@ module _ (p columns inputs : ℕ) (rows : List RowShown) where
   -- nothing is left of the row
   pub gone_kept :
       (first told : List Told) (start old more : List Left) (l : Lost)
-      → Follows first told → old ≡ start ++ more → IsGone p rows (rows_left start) first (row_at rows l.number)
+      → IsToldAfter first told → old ≡ start ++ more → IsGone p rows (rows_left start) first (row_at rows l.number)
       → IsReplaced p columns inputs rows told l old old
   gone_kept first told start old more l f e gone =
       let shown : rows_left old ≡ rows_left start ++ rows_left more = ap rows_left e ∙ map-append (λ (x : Left). x.row) start more in
@@ -178,7 +178,7 @@ module _ (p columns inputs : ℕ) (rows : List RowShown) where
 
   -- ---- rows replaced one after another
   replaced_later :
-      (old told : List Told) (l : Lost) (a b : List Left) → Follows old told
+      (old told : List Told) (l : Lost) (a b : List Left) → IsToldAfter old told
       → IsReplaced p columns inputs rows old l a b → IsReplaced p columns inputs rows told l a b
   replaced_later old told l a b f h =
       elim h [
@@ -198,7 +198,7 @@ module _ (p columns inputs : ℕ) (rows : List RowShown) where
       ]
 
   all_replaced_later :
-      (old told : List Told) (lost : List Lost) (a b : List Left) → Follows old told
+      (old told : List Told) (lost : List Lost) (a b : List Left) → IsToldAfter old told
       → AreReplaced p columns inputs rows old lost a b → AreReplaced p columns inputs rows told lost a b
   all_replaced_later old told [] a b f h = h
   all_replaced_later old told (l ∷ lost) a b f h =
@@ -213,7 +213,7 @@ module _ (p columns inputs : ℕ) (rows : List RowShown) where
 
   -- the next one
   pub replaced_next :
-      (old told : List Told) (lost : List Lost) (i : ℕ) (d : Lost) (a b c : List Left) → i < length lost → Follows old told
+      (old told : List Told) (lost : List Lost) (i : ℕ) (d : Lost) (a b c : List Left) → i < length lost → IsToldAfter old told
       → AreReplaced p columns inputs rows old (take i lost) a b → IsReplaced p columns inputs rows told (get_or lost i d) b c
       → AreReplaced p columns inputs rows told (take (i + 1) lost) a c
   replaced_next old told lost i d a b c lt f h one =
@@ -237,7 +237,7 @@ module _ (p columns inputs : ℕ) (rows : List RowShown) where
   pub rest_next :
       (own : List RowShown) (told : List Told) (lost : List Lost) (i : ℕ) (d : Lost) (r : Option RowShown) (rests rests' : List (Option RowShown))
       → i < length lost → rests ≡ r ∷ rests' → AreRests p columns inputs rows own told (drop i lost) rests
-      → IsRestOf p columns inputs rows own told (row_at rows (get_or lost i d).number) r × AreRests p columns inputs rows own told (drop (i + 1) lost) rests'
+      → IsRowRestOrGone p columns inputs rows own told (row_at rows (get_or lost i d).number) r × AreRests p columns inputs rows own told (drop (i + 1) lost) rests'
   rest_next own told lost i d r rests rests' lt e h =
       subst₂ (λ ls rs. AreRests p columns inputs rows own told ls rs) (drop_more lost i d lt) e h
 
@@ -251,7 +251,7 @@ module _ (p columns inputs : ℕ) (rows : List RowShown) where
   -- the loop's step: what is kept of the rest takes the row's place
   pub keep_next :
       (first old told : List Told) (lost : List Lost) (i : ℕ) (d : Lost) (start own new : List Left) (r : RowShown) (rests rests' : List (Option RowShown))
-      → i < length lost → Follows first told → Follows old told → rests ≡ Some r ∷ rests'
+      → i < length lost → IsToldAfter first told → IsToldAfter old told → rests ≡ Some r ∷ rests'
       → AreRests p columns inputs rows (rows_left start) first (drop i lost) rests
       → (more : List Left) × (own ≡ start ++ more) → AreReplaced p columns inputs rows old (take i lost) start own
       → IsRestKept p columns inputs rows told (get_or lost i d).number r own new
@@ -266,7 +266,7 @@ module _ (p columns inputs : ℕ) (rows : List RowShown) where
   -- nothing is left of the row
   pub skip_next :
       (first told : List Told) (lost : List Lost) (i : ℕ) (d : Lost) (start own : List Left) (rests rests' : List (Option RowShown))
-      → i < length lost → Follows first told → rests ≡ None ∷ rests'
+      → i < length lost → IsToldAfter first told → rests ≡ None ∷ rests'
       → AreRests p columns inputs rows (rows_left start) first (drop i lost) rests
       → (more : List Left) × (own ≡ start ++ more) → AreReplaced p columns inputs rows told (take i lost) start own
       → AreRests p columns inputs rows (rows_left start) first (drop (i + 1) lost) rests'
@@ -279,7 +279,7 @@ module _ (p columns inputs : ℕ) (rows : List RowShown) where
   -- ---- the next eight
   helped_through :
       (mine : List ℕ) (old told : List Told) (lost : List Lost) (left left' : List Left)
-      → AreHelped p columns inputs rows mine old left → Follows old told → Each (IsLost rows old) lost
+      → AreHelped p columns inputs rows mine old left → IsToldAfter old told → Each (IsLost rows old) lost
       → AreReplaced p columns inputs rows told lost left left'
       → AreHelped p columns inputs rows (mine ++ numbers lost) told left'
   helped_through mine old told [] left left' h f all done =
@@ -291,7 +291,7 @@ module _ (p columns inputs : ℕ) (rows : List RowShown) where
 
   pub helped_eight :
       (lost : List Lost) (first old told : List Told) (left left' : List Left) (from to : ℕ)
-      → from ≤ to → Each (IsLost rows first) lost → Follows first old → Follows old told
+      → from ≤ to → Each (IsLost rows first) lost → IsToldAfter first old → IsToldAfter old told
       → AreHelped p columns inputs rows (numbers (take from lost)) old left
       → AreReplaced p columns inputs rows told (slice_range lost from to) left left'
       → AreHelped p columns inputs rows (numbers (take to lost)) told left'

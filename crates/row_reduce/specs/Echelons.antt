@@ -8,8 +8,8 @@ use Rattle.pivot_table.specs.Law.{LeadsFit}
 use Rattle.row_laws.specs.Rows.{IsInSpan}
 use Rattle.row_matrix.specs.Rows.{IsRow, RowShown}
 use Rattle.dense_reduction.specs.Pivots.{lead_column, row_at, row_vectors}
-use Rattle.dense_reduction.specs.Underway.{AreCombined, IsSpanned}
-use Rattle.dense_reduction.specs.Words.{AreReady, Names, named}
+use Rattle.dense_reduction.specs.Underway.{AreRowsCombined, IsSpanned}
+use Rattle.dense_reduction.specs.Words.{AreRowsReady, WordNames, named}
 use Rattle.dense_reduction.specs.declared.lefts.Left.{Left}
 use Rattle.row_reduce.specs.Passes.{IsPass}
 
@@ -22,13 +22,13 @@ pub record IsEchelonOf (p columns inputs : ℕ) (M E : List RowShown) : Type 0 w
   pub leads : (i : ℕ) → i < length M → (k : ℕ) × (k < length E) × (lead_column E k ≡ lead_column M i)
   pub inside : (n : ℕ) (key : ℕ → Key n) (i : ℕ) → i < length M → IsInSpan p (row_vectors key E) (get_or (row_vectors key M) i [])
   pub outside : (n : ℕ) (key : ℕ → Key n) (k : ℕ) → k < length E → IsInSpan p (row_vectors key M) (get_or (row_vectors key E) k [])
-  pub combined : (n : ℕ) (F : List (FormalSum n)) (key : ℕ → Key n) → AreCombined p F key M → AreCombined p F key E
+  pub combined : (n : ℕ) (F : List (FormalSum n)) (key : ℕ → Key n) → AreRowsCombined p F key M → AreRowsCombined p F key E
 
 -- rows between two passes with the leads that are known, the words of the columns, and the numbers of those that have no column yet
 pub record AreBetween
     (p columns inputs : ℕ) (rows : List RowShown) (leads : List ℕ) (held : List (Option ℕ)) (pending : List ℕ)
     : Type 0 where
-  pub ready : AreReady p columns inputs rows leads held
+  pub ready : AreRowsReady p columns inputs rows leads held
   pub fits : LeadsFit leads held
   pub known : Each (λ k. k < length rows) pending
   pub apart : IsDistinct eqb pending
@@ -39,10 +39,10 @@ pub record AreFrom (p : ℕ) (M rows : List RowShown) (held : List (Option ℕ))
   pub count : length rows ≡ length M
   pub leads :
       (i : ℕ) → i < length M
-      → ((k : ℕ) × Names held (lead_column M i) k) ⊎ (Contains pending i × (lead_column rows i ≡ lead_column M i))
+      → ((k : ℕ) × WordNames held (lead_column M i) k) ⊎ (Contains pending i × (lead_column rows i ≡ lead_column M i))
   pub inside : Each (IsSpanned p (named rows held ++ map (row_at rows) pending)) M
   pub outside : Each (IsSpanned p M) rows
-  pub combined : (n : ℕ) (F : List (FormalSum n)) (key : ℕ → Key n) → AreCombined p F key M → AreCombined p F key rows
+  pub combined : (n : ℕ) (F : List (FormalSum n)) (key : ℕ → Key n) → AreRowsCombined p F key M → AreRowsCombined p F key rows
 
 -- the rows with these in their places
 abbrev pub with_left : List RowShown → List Left → List RowShown

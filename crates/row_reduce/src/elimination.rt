@@ -8,7 +8,7 @@ ghost use Rattle.pivot_table.specs.Law.{LeadsFit};
 ghost use Rattle.row_laws.specs.Jobs.{IsEchelonForm};
 ghost use Rattle.row_matrix.specs.Rows.{Descend, IsRow, RowShown, vectors_of};
 ghost use Rattle.dense_reduction.specs.Rests.{rows_left};
-ghost use Rattle.dense_reduction.specs.Words.{leads_of, named};
+ghost use Rattle.dense_reduction.specs.Words.{row_leads_of, named};
 ghost use Rattle.row_reduce.specs.Echelons.{AreBetween, AreFrom, IsEchelonOf, IsPassOverSome, with_left, columns_behind};
 ghost use Rattle.row_reduce.specs.Passes.{places};
 
@@ -56,7 +56,7 @@ fn by_weight(rows: Vec<Row>) -> Vec<Row>
 fn begin(alloc: Global, columns: usize, rows: Vec<Row>) -> Result<Underway, NoMemory>
     requires { Each (λ r. 0 < length r.entries) rows.items }
     ensures rows { IfOk result (λ s. s.rows.items ≡ rows.items) }
-    ensures leads { IfOk result (λ s. s.leads.items ≡ leads_of rows.items) }
+    ensures leads { IfOk result (λ s. s.leads.items ≡ row_leads_of rows.items) }
     ensures held { IfOk result (λ s. s.held.items ≡ replicate columns None) }
     ensures pending { IfOk result (λ s. s.pending.items ≡ range_with_len 0 (length rows.items)) }
 {
@@ -79,9 +79,9 @@ fn begin(alloc: Global, columns: usize, rows: Vec<Row>) -> Result<Underway, NoMe
 fn put_left(state: &mut Underway, left: Left) -> Result<(), NoMemory>
     requires within { left.number < length state.old.rows.items }
     requires some { 0 < length left.row.entries }
-    requires leads { state.old.leads.items ≡ leads_of state.old.rows.items }
+    requires leads { state.old.leads.items ≡ row_leads_of state.old.rows.items }
     ensures rows { OnOk result (state.new.rows.items ≡ slice_set state.old.rows.items left.number left.row) }
-    ensures leads { OnOk result (state.new.leads.items ≡ leads_of state.new.rows.items) }
+    ensures leads { OnOk result (state.new.leads.items ≡ row_leads_of state.new.rows.items) }
     ensures held { state.new.held.items ≡ state.old.held.items }
     ensures pending { OnOk result (state.new.pending.items ≡ state.old.pending.items ++ left.number ∷ []) }
 {
@@ -96,9 +96,9 @@ fn put_left(state: &mut Underway, left: Left) -> Result<(), NoMemory>
 fn put_all(state: &mut Underway, passed: Passed, later: Vec<u64>) -> Result<(), NoMemory>
     requires within { Each (λ k. k < length state.old.rows.items) (places passed.left.items) }
     requires some { Each (λ r. 0 < length r.entries) (rows_left passed.left.items) }
-    requires leads { state.old.leads.items ≡ leads_of state.old.rows.items }
+    requires leads { state.old.leads.items ≡ row_leads_of state.old.rows.items }
     ensures rows { OnOk result (state.new.rows.items ≡ with_left state.old.rows.items passed.left.items) }
-    ensures leads { OnOk result (state.new.leads.items ≡ leads_of state.new.rows.items) }
+    ensures leads { OnOk result (state.new.leads.items ≡ row_leads_of state.new.rows.items) }
     ensures held { OnOk result (state.new.held.items ≡ passed.words.items) }
     ensures pending { OnOk result (state.new.pending.items ≡ places passed.left.items ++ later.items) }
 {
@@ -208,7 +208,7 @@ fn run_passes<R: Threads + Sync>(
 
 // The rows that have columns, the last column's first.
 fn named_rows(alloc: Global, rows: Vec<Row>, held: &[Option<u64>]) -> Result<Vec<Row>, NoMemory>
-    requires { LeadsFit (leads_of rows.items) held.now }
+    requires { LeadsFit (row_leads_of rows.items) held.now }
     ensures { IfOk result (λ found. found.items ≡ reverse (named rows.items held.now)) }
 {
     let mut rows = rows;

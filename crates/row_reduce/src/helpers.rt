@@ -6,11 +6,11 @@ ghost use Rattle.formal_sums.specs.FormalSums.{Each};
 ghost use Rattle.pivot_table.specs.Law.{IsSeatOf, LeadsFit, told};
 ghost use Rattle.pivot_table.specs.declared.law.Entry.{Entry as Told};
 ghost use Rattle.row_matrix.specs.Rows.{RowShown};
-ghost use Rattle.dense_reduction.specs.Words.{AreReady};
+ghost use Rattle.dense_reduction.specs.Words.{AreRowsReady};
 ghost use Rattle.row_reduce.specs.Passes.{AreHelped, IsPass};
 
 use crate::helping::help;
-use dense_reduction::{Left, Shared};
+use dense_reduction::{Left, PassShared};
 use module_vectors::NoMemory;
 use pivot_table::{ClaimSeat, Claims};
 use row_matrix::Row;
@@ -92,7 +92,7 @@ fn unite(
 fn help_all<R: Threads + Sync>(
     rt: &R,
     alloc: Global,
-    shared: Shared<'_>,
+    shared: PassShared<'_>,
     columns: usize,
     gate: &SharedGate,
     mut seat: ClaimSeat,
@@ -101,7 +101,7 @@ fn help_all<R: Threads + Sync>(
     free: &[u64],
     share: usize,
 ) -> (Result<Vec<Left>, NoMemory>, ClaimSeat)
-    requires ready { AreReady shared.modulus.now.value columns shared.inputs shared.rows.now
+    requires ready { AreRowsReady shared.modulus.now.value columns shared.inputs shared.rows.now
         shared.claims.now.rows.leads.items shared.claims.now.rows.held.items }
     requires seat { IsSeatOf shared.claims.now.table.shared.table_id shared.claims.now.rows.leads.items seat }
     requires fresh { told seat ≡ [] }
@@ -123,7 +123,7 @@ fn help_all<R: Threads + Sync>(
     let (late, others) = (dealt.last.as_slice(), dealt.others.as_slice());
     let other = shared.claims.split(&mut seat);
     // Nothing is known of what a closure returns that holds a struct of references, so these hold each apart.
-    let Shared {
+    let PassShared {
         modulus,
         rows,
         inputs,
@@ -132,13 +132,13 @@ fn help_all<R: Threads + Sync>(
     let (theirs, ours) = join(
         rt,
         || -> (Result<Vec<Left>, NoMemory>, ClaimSeat)
-            requires { AreReady modulus.now.value columns inputs rows.now claims.now.rows.leads.items claims.now.rows.held.items
+            requires { AreRowsReady modulus.now.value columns inputs rows.now claims.now.rows.leads.items claims.now.rows.held.items
                 × IsSeatOf claims.now.table.shared.table_id claims.now.rows.leads.items other
                 × (told other ≡ []) × Each (λ m. m < length rows.now) late.now × Each (λ m. m < length rows.now) free.now }
             ensures { IsSeatOf claims.entry.now.table.shared.table_id claims.entry.now.rows.leads.items result.1
                 × IfOk result.0 (λ left. AreHelped modulus.entry.now.value columns inputs rows.entry.now late.entry.now (told result.1) left.items) }
         {
-            let shared = Shared {
+            let shared = PassShared {
                 modulus,
                 rows,
                 inputs,
@@ -147,13 +147,13 @@ fn help_all<R: Threads + Sync>(
             help(alloc, shared, columns, gate, last, other, late, free, from)
         },
         || -> (Result<Vec<Left>, NoMemory>, ClaimSeat)
-            requires { IsSync R.row × AreReady modulus.now.value columns inputs rows.now claims.now.rows.leads.items claims.now.rows.held.items
+            requires { IsSync R.row × AreRowsReady modulus.now.value columns inputs rows.now claims.now.rows.leads.items claims.now.rows.held.items
                 × IsSeatOf claims.now.table.shared.table_id claims.now.rows.leads.items seat
                 × (told seat ≡ []) × Each (λ m. m < length rows.now) others.now × Each (λ m. m < length rows.now) free.now }
             ensures { IsSeatOf claims.entry.now.table.shared.table_id claims.entry.now.rows.leads.items result.1
                 × IfOk result.0 (λ left. AreHelped modulus.entry.now.value columns inputs rows.entry.now others.entry.now (told result.1) left.items) }
         {
-            let shared = Shared {
+            let shared = PassShared {
                 modulus,
                 rows,
                 inputs,
@@ -198,16 +198,16 @@ pub(crate) fn pass<R: Threads + Sync>(
     helpers: u32,
 ) -> Result<Passed, NoMemory>
     requires some { 0 < length held.now }
-    requires ready { AreReady modulus.now.value (length held.now) inputs rows.now leads.now held.now }
+    requires ready { AreRowsReady modulus.now.value (length held.now) inputs rows.now leads.now held.now }
     requires fits { LeadsFit leads.now held.now }
     requires pending { Each (λ m. m < length rows.now) pending.now }
     ensures { IfOk result (λ p. IsPass modulus.now.value (length held.now) inputs rows.now held.now pending.now p.words.items p.left.items) }
 {
     let (claims, seat) = match Claims::new(alloc, held.len() as u64, leads, held) {
         Ok(made) => made,
-        Err(_) => return Err(NoMemory),
+        Err(NoMemory) => return Err(NoMemory),
     };
-    let shared = Shared {
+    let shared = PassShared {
         modulus,
         rows,
         inputs,

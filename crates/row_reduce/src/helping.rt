@@ -8,13 +8,13 @@ ghost use Rattle.dense_reduction.specs.Pivots.{ArePivots};
 ghost use Rattle.dense_reduction.specs.Rests.{rows_left};
 ghost use Rattle.dense_reduction.specs.Together.{AreRests};
 ghost use Rattle.dense_reduction.specs.Underway.{AreIdle};
-ghost use Rattle.dense_reduction.specs.Words.{AreReady, Follows, leads_of};
+ghost use Rattle.dense_reduction.specs.Words.{AreRowsReady, IsToldAfter, row_leads_of};
 ghost use Rattle.row_reduce.specs.Passes.{AreHelped};
 ghost use Rattle.row_reduce.specs.Replaced.{AreReplaced, IsReplaced, IsRestKept};
 ghost use Rattle.row_reduce.specs.Room.{HasIdleRoom};
 
 use dense_reduction::{
-    EIGHT, Left, Lost, Own, Shared, Together, Work, claim_rows, own_pivot, reduce_row,
+    EIGHT, Left, Lost, Own, PassShared, Together, Work, claim_rows, own_pivot, reduce_row,
     reduce_together, room_for_eight, room_for_one,
 };
 use module_vectors::NoMemory;
@@ -43,20 +43,20 @@ fn keep_left(own: &mut Own, number: u64, row: Row) -> Result<(), NoMemory>
 // Reduces a row alone, and keeps what is left of it.
 fn replace_row(
     alloc: Global,
-    shared: Shared<'_>,
+    shared: PassShared<'_>,
     seat: &mut ClaimSeat,
     own: &mut Own,
     work: &mut Work,
     lost: &Lost,
 ) -> Result<(), NoMemory>
-    requires ready { AreReady shared.modulus.now.value (length own.old.pivots.items) shared.inputs shared.rows.now
+    requires ready { AreRowsReady shared.modulus.now.value (length own.old.pivots.items) shared.inputs shared.rows.now
         shared.claims.now.rows.leads.items shared.claims.now.rows.held.items }
     requires own { ArePivots shared.modulus.now.value (length own.old.pivots.items) shared.inputs (rows_left own.old.left.items) own.old.pivots.items }
     requires idle { AreIdle (length own.old.pivots.items) work.old.numbers.items }
     requires seat { IsSeatOf shared.claims.now.table.shared.table_id shared.claims.now.rows.leads.items seat.old }
     requires lost { IsLost shared.rows.now (told seat.old) lost.now }
     ensures seat { IsSeatOf shared.entry.claims.now.table.shared.table_id shared.entry.claims.now.rows.leads.items seat.new }
-    ensures follows { Follows (told seat.old) (told seat.new) }
+    ensures follows { IsToldAfter (told seat.old) (told seat.new) }
     ensures idle { OnOk result (AreIdle (length own.old.pivots.items) work.new.numbers.items) }
     ensures own { OnOk result (ArePivots shared.entry.modulus.now.value (length own.old.pivots.items) shared.entry.inputs
         (rows_left own.new.left.items) own.new.pivots.items) }
@@ -85,20 +85,20 @@ fn replace_row(
 // Reduces rows one after another, and keeps what is left of each.
 fn replace_each(
     alloc: Global,
-    shared: Shared<'_>,
+    shared: PassShared<'_>,
     seat: &mut ClaimSeat,
     own: &mut Own,
     work: &mut Work,
     lost: &[Lost],
 ) -> Result<(), NoMemory>
-    requires ready { AreReady shared.modulus.now.value (length own.old.pivots.items) shared.inputs shared.rows.now
+    requires ready { AreRowsReady shared.modulus.now.value (length own.old.pivots.items) shared.inputs shared.rows.now
         shared.claims.now.rows.leads.items shared.claims.now.rows.held.items }
     requires own { ArePivots shared.modulus.now.value (length own.old.pivots.items) shared.inputs (rows_left own.old.left.items) own.old.pivots.items }
     requires idle { AreIdle (length own.old.pivots.items) work.old.numbers.items }
     requires seat { IsSeatOf shared.claims.now.table.shared.table_id shared.claims.now.rows.leads.items seat.old }
     requires lost { Each (IsLost shared.rows.now (told seat.old)) lost.now }
     ensures seat { IsSeatOf shared.entry.claims.now.table.shared.table_id shared.entry.claims.now.rows.leads.items seat.new }
-    ensures follows { Follows (told seat.old) (told seat.new) }
+    ensures follows { IsToldAfter (told seat.old) (told seat.new) }
     ensures idle { OnOk result (AreIdle (length own.old.pivots.items) work.new.numbers.items) }
     ensures own { OnOk result (ArePivots shared.entry.modulus.now.value (length own.old.pivots.items) shared.entry.inputs
         (rows_left own.new.left.items) own.new.pivots.items) }
@@ -127,21 +127,21 @@ fn meets_own(own: &Own, row: &Row) -> bool
 // Keeps what is left of the row with this number. Where rows that were left meanwhile are pivots of columns of it, it is reduced once more.
 fn keep_rest(
     alloc: Global,
-    shared: Shared<'_>,
+    shared: PassShared<'_>,
     seat: &mut ClaimSeat,
     own: &mut Own,
     work: &mut Work,
     number: u64,
     rest: Row,
 ) -> Result<(), NoMemory>
-    requires ready { AreReady shared.modulus.now.value (length own.old.pivots.items) shared.inputs shared.rows.now
+    requires ready { AreRowsReady shared.modulus.now.value (length own.old.pivots.items) shared.inputs shared.rows.now
         shared.claims.now.rows.leads.items shared.claims.now.rows.held.items }
     requires own { ArePivots shared.modulus.now.value (length own.old.pivots.items) shared.inputs (rows_left own.old.left.items) own.old.pivots.items }
     requires idle { AreIdle (length own.old.pivots.items) work.old.numbers.items }
     requires seat { IsSeatOf shared.claims.now.table.shared.table_id shared.claims.now.rows.leads.items seat.old }
     requires rest { IsRow shared.modulus.now.value (length own.old.pivots.items) shared.inputs rest }
     ensures seat { IsSeatOf shared.entry.claims.now.table.shared.table_id shared.entry.claims.now.rows.leads.items seat.new }
-    ensures follows { Follows (told seat.old) (told seat.new) }
+    ensures follows { IsToldAfter (told seat.old) (told seat.new) }
     ensures idle { OnOk result (AreIdle (length own.old.pivots.items) work.new.numbers.items) }
     ensures own { OnOk result (ArePivots shared.entry.modulus.now.value (length own.old.pivots.items) shared.entry.inputs
         (rows_left own.new.left.items) own.new.pivots.items) }
@@ -165,14 +165,14 @@ fn keep_rest(
 // Keeps what is left of each of these rows.
 fn keep_rests(
     alloc: Global,
-    shared: Shared<'_>,
+    shared: PassShared<'_>,
     seat: &mut ClaimSeat,
     own: &mut Own,
     work: &mut Work,
     lost: &[Lost],
     rests: Vec<Option<Row>>,
 ) -> Result<(), NoMemory>
-    requires ready { AreReady shared.modulus.now.value (length own.old.pivots.items) shared.inputs shared.rows.now
+    requires ready { AreRowsReady shared.modulus.now.value (length own.old.pivots.items) shared.inputs shared.rows.now
         shared.claims.now.rows.leads.items shared.claims.now.rows.held.items }
     requires own { ArePivots shared.modulus.now.value (length own.old.pivots.items) shared.inputs (rows_left own.old.left.items) own.old.pivots.items }
     requires idle { AreIdle (length own.old.pivots.items) work.old.numbers.items }
@@ -180,7 +180,7 @@ fn keep_rests(
     requires rests { AreRests shared.modulus.now.value (length own.old.pivots.items) shared.inputs shared.rows.now
         (rows_left own.old.left.items) (told seat.old) lost.now rests.items }
     ensures seat { IsSeatOf shared.entry.claims.now.table.shared.table_id shared.entry.claims.now.rows.leads.items seat.new }
-    ensures follows { Follows (told seat.old) (told seat.new) }
+    ensures follows { IsToldAfter (told seat.old) (told seat.new) }
     ensures idle { OnOk result (AreIdle (length own.old.pivots.items) work.new.numbers.items) }
     ensures own { OnOk result (ArePivots shared.entry.modulus.now.value (length own.old.pivots.items) shared.entry.inputs
         (rows_left own.new.left.items) own.new.pivots.items) }
@@ -226,21 +226,21 @@ fn room_for(alloc: Global, columns: usize) -> Result<Room, NoMemory>
 // Reduces up to eight rows, together where that is faster, and keeps what is left of each.
 fn replace_eight(
     alloc: Global,
-    shared: Shared<'_>,
+    shared: PassShared<'_>,
     seat: &mut ClaimSeat,
     own: &mut Own,
     room: &mut Room,
     lost: &[Lost],
 ) -> Result<(), NoMemory>
     requires few { length lost.now ≤ 8 }
-    requires ready { AreReady shared.modulus.now.value (length own.old.pivots.items) shared.inputs shared.rows.now
+    requires ready { AreRowsReady shared.modulus.now.value (length own.old.pivots.items) shared.inputs shared.rows.now
         shared.claims.now.rows.leads.items shared.claims.now.rows.held.items }
     requires own { ArePivots shared.modulus.now.value (length own.old.pivots.items) shared.inputs (rows_left own.old.left.items) own.old.pivots.items }
     requires idle { HasIdleRoom (length own.old.pivots.items) room.old }
     requires seat { IsSeatOf shared.claims.now.table.shared.table_id shared.claims.now.rows.leads.items seat.old }
     requires lost { Each (IsLost shared.rows.now (told seat.old)) lost.now }
     ensures seat { IsSeatOf shared.entry.claims.now.table.shared.table_id shared.entry.claims.now.rows.leads.items seat.new }
-    ensures follows { Follows (told seat.old) (told seat.new) }
+    ensures follows { IsToldAfter (told seat.old) (told seat.new) }
     ensures idle { OnOk result (HasIdleRoom (length own.old.pivots.items) room.new) }
     ensures own { OnOk result (ArePivots shared.entry.modulus.now.value (length own.old.pivots.items) shared.entry.inputs
         (rows_left own.new.left.items) own.new.pivots.items) }
@@ -259,17 +259,17 @@ fn replace_eight(
 // What pivots leave of rows that did not win their columns.
 fn replace_rows(
     alloc: Global,
-    shared: Shared<'_>,
+    shared: PassShared<'_>,
     columns: usize,
     seat: &mut ClaimSeat,
     lost: &[Lost],
 ) -> Result<Vec<Left>, NoMemory>
-    requires ready { AreReady shared.modulus.now.value columns shared.inputs shared.rows.now
+    requires ready { AreRowsReady shared.modulus.now.value columns shared.inputs shared.rows.now
         shared.claims.now.rows.leads.items shared.claims.now.rows.held.items }
     requires seat { IsSeatOf shared.claims.now.table.shared.table_id shared.claims.now.rows.leads.items seat.old }
     requires lost { Each (IsLost shared.rows.now (told seat.old)) lost.now }
     ensures seat { IsSeatOf shared.entry.claims.now.table.shared.table_id shared.entry.claims.now.rows.leads.items seat.new }
-    ensures follows { Follows (told seat.old) (told seat.new) }
+    ensures follows { IsToldAfter (told seat.old) (told seat.new) }
     ensures helped { IfOk result (λ left. AreHelped shared.entry.modulus.now.value columns shared.entry.inputs shared.entry.rows.now
         (numbers lost.now) (told seat.new) left.items) }
 {
@@ -291,8 +291,8 @@ fn replace_rows(
 }
 
 // Claims the first column of each of these rows, whichever helper has the row.
-fn claim_each(shared: Shared<'_>, seat: &mut ClaimSeat, free: &[u64])
-    requires known { shared.claims.now.rows.leads.items ≡ leads_of shared.rows.now }
+fn claim_each(shared: PassShared<'_>, seat: &mut ClaimSeat, free: &[u64])
+    requires known { shared.claims.now.rows.leads.items ≡ row_leads_of shared.rows.now }
     requires seat { IsSeatOf shared.claims.now.table.shared.table_id shared.claims.now.rows.leads.items seat.old }
     requires free { Each (λ m. m < length shared.rows.now) free.now }
     ensures seat { IsSeatOf shared.entry.claims.now.table.shared.table_id shared.entry.claims.now.rows.leads.items seat.new }
@@ -304,8 +304,8 @@ fn claim_each(shared: Shared<'_>, seat: &mut ClaimSeat, free: &[u64])
 
 // Claims the first column of each of these rows, from this place on and round to it again. No helper waits for the others, since it
 // claims for their rows too: so these rows have their columns, whoever starts first.
-fn claim_free(shared: Shared<'_>, seat: &mut ClaimSeat, free: &[u64], from: usize)
-    requires known { shared.claims.now.rows.leads.items ≡ leads_of shared.rows.now }
+fn claim_free(shared: PassShared<'_>, seat: &mut ClaimSeat, free: &[u64], from: usize)
+    requires known { shared.claims.now.rows.leads.items ≡ row_leads_of shared.rows.now }
     requires seat { IsSeatOf shared.claims.now.table.shared.table_id shared.claims.now.rows.leads.items seat.old }
     requires free { Each (λ m. m < length shared.rows.now) free.now }
     ensures seat { IsSeatOf shared.entry.claims.now.table.shared.table_id shared.entry.claims.now.rows.leads.items seat.new }
@@ -319,7 +319,7 @@ fn claim_free(shared: Shared<'_>, seat: &mut ClaimSeat, free: &[u64], from: usiz
 // Claims the free columns for these rows and then the columns of all its own, and reduces those that lost.
 fn help_through(
     alloc: Global,
-    shared: Shared<'_>,
+    shared: PassShared<'_>,
     columns: usize,
     gate: &SharedGate,
     helper: u32,
@@ -328,7 +328,7 @@ fn help_through(
     free: &[u64],
     from: usize,
 ) -> Result<Vec<Left>, NoMemory>
-    requires ready { AreReady shared.modulus.now.value columns shared.inputs shared.rows.now
+    requires ready { AreRowsReady shared.modulus.now.value columns shared.inputs shared.rows.now
         shared.claims.now.rows.leads.items shared.claims.now.rows.held.items }
     requires seat { IsSeatOf shared.claims.now.table.shared.table_id shared.claims.now.rows.leads.items seat.old }
     requires mine { Each (λ m. m < length shared.rows.now) mine.now }
@@ -347,7 +347,7 @@ fn help_through(
 /// each of its own, and reduces those of its own whose column another row has.
 pub(crate) fn help(
     alloc: Global,
-    shared: Shared<'_>,
+    shared: PassShared<'_>,
     columns: usize,
     gate: &SharedGate,
     helper: u32,
@@ -356,7 +356,7 @@ pub(crate) fn help(
     free: &[u64],
     from: usize,
 ) -> (Result<Vec<Left>, NoMemory>, ClaimSeat)
-    requires ready { AreReady shared.modulus.now.value columns shared.inputs shared.rows.now
+    requires ready { AreRowsReady shared.modulus.now.value columns shared.inputs shared.rows.now
         shared.claims.now.rows.leads.items shared.claims.now.rows.held.items }
     requires seat { IsSeatOf shared.claims.now.table.shared.table_id shared.claims.now.rows.leads.items seat }
     requires fresh { told seat ≡ [] }

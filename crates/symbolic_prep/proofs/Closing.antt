@@ -13,17 +13,17 @@ use Rattle.module_vectors.specs.Trails.{KeptProduct, lead_at, no_product, produc
 use Rattle.module_vectors.specs.Vectors.{key_of, sums_of}
 use Rattle.module_vectors.specs.declared.key.Key.{Key as CodeKey}
 use Rattle.row_matrix.proofs.KeyPlaces.{key_exact}
-use Rattle.row_matrix.specs.Hashes.{AreApart, no_key}
+use Rattle.row_matrix.specs.Hashes.{AreDistinctKeys, no_key}
 use Rattle.row_matrix.specs.Rows.{AreKeys, RowShown, column_key, first_column}
 use Rattle.symbolic_prep.proofs.Planning.{entries_some, lead_known}
-use Rattle.symbolic_prep.specs.Plans.{AreClosed, HasPairProducts, IsLaterPlan, IsMorePlanned, IsPairOf, IsPlan, IsPlannedRow, IsTopProduct, no_row, row_at}
+use Rattle.symbolic_prep.specs.Plans.{AreClosed, HasPairProducts, IsLaterPlan, IsMorePlanned, IsMemberPair, IsPlan, IsPlannedRow, IsTopProduct, no_row, row_at}
 use Rattle.vector_division.specs.Divisions.{IsUncovered}
 use Rattle.vector_division.specs.Progress.{IsDivisor}
 
 -- keys that are apart have one number each
 pub one_number :
     (n : ℕ) (ws : List ℕ) (keys : List CodeKey) (a b : ℕ)
-    → AreApart keys → AreKeys n ws keys → a < length keys → b < length keys → column_key n keys a ≡ column_key n keys b → a ≡ b
+    → AreDistinctKeys keys → AreKeys n ws keys → a < length keys → b < length keys → column_key n keys a ≡ column_key n keys b → a ≡ b
 one_number n ws keys a b apart vars la lb e = elim (cases_eq a b) [
   | inl f ↦ f
   | inr ne ↦ elim (cases_lt a b) [
@@ -44,7 +44,7 @@ key_stays n keys added c lt = ap (key_of n) (get_or_append_left keys added no_ke
 -- the key that was to be the lead of a product is the first of its row
 pub lead_is :
     (n : ℕ) (ws : List ℕ) (list : List (List (CodeKey × ℕ))) (old new : List CodeKey) (rows rows' : List RowShown) (products products' : List KeptProduct) (led led' : List Bool) (s : KeptProduct) (cursor : ℕ)
-    → (h : IsMorePlanned n ws list old new rows rows' products products' led led' s) → AreApart new → cursor < length old
+    → (h : IsMorePlanned n ws list old new rows rows' products products' led led' s) → AreDistinctKeys new → cursor < length old
     → product_lead n list s ≡ column_key n old cursor → first_column h.rows_more.0.entries ≡ cursor
 lead_is n ws list old new rows rows' products products' led led' s cursor h apart lt e =
     let r = h.rows_more.0 in
@@ -61,7 +61,7 @@ lead_is n ws list old new rows rows' products products' led led' s cursor h apar
 -- that key is marked
 pub lead_marked :
     (n : ℕ) (ws : List ℕ) (list : List (List (CodeKey × ℕ))) (old new : List CodeKey) (rows rows' : List RowShown) (products products' : List KeptProduct) (led led' : List Bool) (s : KeptProduct) (cursor : ℕ)
-    → IsMorePlanned n ws list old new rows rows' products products' led led' s → AreApart new → cursor < length old
+    → IsMorePlanned n ws list old new rows rows' products products' led led' s → AreDistinctKeys new → cursor < length old
     → product_lead n list s ≡ column_key n old cursor → get_or led' cursor false ≡ true
 lead_marked n ws list old new rows rows' products products' led led' s cursor h apart lt e =
     subst (λ c. get_or led' c false ≡ true) (lead_is n ws list old new rows rows' products products' led led' s cursor h apart lt e) h.rows_more.3
@@ -133,10 +133,10 @@ key_read n ws keys read cursor key vars lt e is =
 pub now_marked :
     (n : ℕ) (ws : List ℕ) (list : List (List (CodeKey × ℕ))) (old new read : List CodeKey) (rows rows' : List RowShown) (products products' : List KeptProduct) (led led' : List Bool) (s : KeptProduct) (cursor : ℕ) (key : CodeKey)
     → key_of n key ≡ column_key n old cursor → IsDivisor n ws list (key_of n key) s
-    → IsMorePlanned n ws list old new rows rows' products products' led led' s → read ≡ new → AreApart read → cursor < length old
+    → IsMorePlanned n ws list old new rows rows' products products' led led' s → read ≡ new → AreDistinctKeys read → cursor < length old
     → get_or led' cursor false ≡ true
 now_marked n ws list old new read rows rows' products products' led led' s cursor key same d h r apart lt =
-    lead_marked n ws list old new rows rows' products products' led led' s cursor h (subst AreApart r apart) lt (d.lead ∙ same)
+    lead_marked n ws list old new rows rows' products products' led led' s cursor h (subst AreDistinctKeys r apart) lt (d.lead ∙ same)
 
 -- ---- the products of pairs
 pub top_step :
@@ -156,7 +156,7 @@ top_step n ws list products products' lcm member t v is h more =
 
 pub pair_divides :
     (n : ℕ) (ws : List ℕ) (list : List (List (CodeKey × ℕ))) (x : CodePair)
-    → IsPairOf n ws list x → Divides (lead_at n list x.i).1 (exponents_of n x.lcm.monomial.exponents) × Divides (lead_at n list x.j).1 (exponents_of n x.lcm.monomial.exponents)
+    → IsMemberPair n ws list x → Divides (lead_at n list x.i).1 (exponents_of n x.lcm.monomial.exponents) × Divides (lead_at n list x.j).1 (exponents_of n x.lcm.monomial.exponents)
 pair_divides n ws list x h =
     let e : exponents_of n x.lcm.monomial.exponents ≡ lcm (lead_at n list x.i).1 (lead_at n list x.j).1 = ap (λ (k : Key n). k.1) h.lcm in
     (subst (Divides (lead_at n list x.i).1) (sym e) (quotient (lcm (lead_at n list x.i).1 (lead_at n list x.j).1) (lead_at n list x.i).1, times-quotient (lead_at n list x.i).1 (lead_at n list x.j).1), subst (Divides (lead_at n list x.j).1) (sym e) (quotient (lcm (lead_at n list x.i).1 (lead_at n list x.j).1) (lead_at n list x.j).1, times-quotient_right (lead_at n list x.i).1 (lead_at n list x.j).1))

@@ -13,7 +13,7 @@ use Rattle.module_vectors.proofs.Scaling.{Each_at}
 use Rattle.module_vectors.specs.Vectors.{key_of, sum_of, sums_of}
 use Rattle.module_vectors.specs.declared.key.Key.{Key as CodeKey}
 use Rattle.orders.specs.KeyOrders.{KeyDivides}
-use Rattle.symbolic_prep.specs.Divisors.{AreAll, AreDivisors, IsDivisorOf, position_of}
+use Rattle.symbolic_prep.specs.Divisors.{AreAll, AreSortedDivisors, IsDivisorOf, position_of}
 use Rattle.symbolic_prep.specs.declared.divisors.Divisor.{Divisor}
 use Rattle.vector_division.proofs.Members.{uncovered}
 use Rattle.vector_division.specs.Divisions.{IsUncovered}
@@ -65,7 +65,7 @@ IsFrom ds position from = IsPartitionPoint (λ d. position_of d < position) (λ 
 -- those before the first of the key's position
 pub tried_before :
     (n : ℕ) (list : List Terms) (ds : List Divisor) (key : CodeKey) (from : ℕ)
-    → AreDivisors list ds → IsFrom ds key.position from → AreTriedTo n list ds (key_of n key) from
+    → AreSortedDivisors list ds → IsFrom ds key.position from → AreTriedTo n list ds (key_of n key) from
 tried_before n list ds key from h point j e lt m at =
     let below : position_of e < key.position = subst (λ d. position_of d < key.position) (sym at) (point.0 j e (omega arith) lt) in
     elsewhere n (get_or list e.member []) e.mark key (Each_at (IsDivisorOf list) ds j e h.each m at).mark (λ same. omega (arith, same))
@@ -85,7 +85,7 @@ from_first ds position d up is le = (λ k e low h. absurd (omega arith), λ k e 
 -- all, where the first that was not tried has another position
 pub tried_behind :
     (n : ℕ) (list : List Terms) (ds : List Divisor) (key : CodeKey) (from i position : ℕ) (d : Divisor)
-    → AreDivisors list ds → IsFrom ds key.position from → from ≤ i → i < length ds → position ≡ position_of (get_or ds i d)
+    → AreSortedDivisors list ds → IsFrom ds key.position from → from ≤ i → i < length ds → position ≡ position_of (get_or ds i d)
     → (position ≡ key.position → ⊥) → AreTriedTo n list ds (key_of n key) i
     → IsUncovered (sums_of n list) (key_of n key)
 tried_behind n list ds key from i position d h point le lt is other tried = tried_all n list ds (key_of n key) (length ds) h.all (omega arith) all

@@ -19,14 +19,14 @@ use Rattle.row_laws.specs.Jobs.{AreProductRows, HasPairRows, HasReducers}
 use Rattle.row_laws.specs.Rows.{ContainsLead}
 use Rattle.vector_division.proofs.Members.{sums_at}
 use Rattle.vector_division.proofs.Occurring.{occurs}
-use Rattle.row_matrix.specs.Hashes.{AreApart}
+use Rattle.row_matrix.specs.Hashes.{AreDistinctKeys}
 use Rattle.row_matrix.specs.Naming.{IsNumbering}
 use Rattle.row_matrix.specs.Placed.{IsPlacedMatrix, placed_entries, placed_row}
 use Rattle.row_matrix.specs.Rows.{AreEntries, Descend, Entry, IsRow, MatrixShown, RowShown, column_key, first_residue, row_sum, vector_of, vectors_of}
 use Rattle.symbolic_prep.proofs.Closing.{one_number}
 use Rattle.symbolic_prep.proofs.Planning.{entries_some, head_of, head_product, lead_known}
 use Rattle.symbolic_prep.specs.Counts.{HasFewRows, IsSparse}
-use Rattle.symbolic_prep.specs.Plans.{AreClosed, HasPairProducts, IsPairOf, IsPlan, IsTopProduct, lead_number, no_row, product_sum, row_at}
+use Rattle.symbolic_prep.specs.Plans.{AreClosed, HasPairProducts, IsMemberPair, IsPlan, IsTopProduct, lead_number, no_row, product_sum, row_at}
 use Rattle.pair_criteria.specs.Traces.{AreTraced}
 use Rattle.symbolic_prep.specs.Prepared.{IsMonicVector, IsPrepared}
 
@@ -115,7 +115,7 @@ module _ (n : ℕ) (ws : List ℕ) (p : ℕ) (one : 1 < p) (compare : Key n → 
     (keys : List CodeKey) (rows : List RowShown) (made : List KeptProduct) (led : List Bool) (m : MatrixShown)
     (vectors : Each (IsVector n ws p compare) list) (monic : Each (IsMonicVector n) list)
     (plan : IsPlan n ws list keys rows made led) (closed : AreClosed n list keys led (length keys))
-    (of_pairs : Each (IsPairOf n ws list) pairs) (pair_steps : Each (HasPairProducts n list made) pairs)
+    (of_pairs : Each (IsMemberPair n ws list) pairs) (pair_steps : Each (HasPairProducts n list made) pairs)
     (placed : IsPlacedMatrix n ws compare keys (length rows) rows m) where
   M : List (FormalSum n)
   M = vectors_of n m.columns m.rows
@@ -183,7 +183,7 @@ module _ (n : ℕ) (ws : List ℕ) (p : ℕ) (one : 1 < p) (compare : Key n → 
       }
 
   top_row :
-      (x : CodePair) (member number : ℕ) → IsPairOf n ws list x → IsTopProduct n list made x.lcm member number
+      (x : CodePair) (member number : ℕ) → IsMemberPair n ws list x → IsTopProduct n list made x.lcm member number
       → IsSame p (get_or (vectors_of n m.columns m.rows) number []) (scale 1 (quotient (lcm (leads (sums_of n list) x.i).1 (leads (sums_of n list) x.j).1) (leads (sums_of n list) member).1) (get_or (sums_of n list) member []))
   top_row x member number h t =
       let l : number < length m.rows = omega (arith, t.there, size, plan.count) in
@@ -194,7 +194,7 @@ module _ (n : ℕ) (ws : List ℕ) (p : ℕ) (one : 1 < p) (compare : Key n → 
       t.exponents ∙ ap₂ (λ a (b : FormalSum n). quotient a (head_key b).1) e (sym (sums_at n list member)) in
       IsSame_of p _ _ (at_is number l ∙ ap₂ (λ a b. scale 1 a b) q (ap (λ i. sum_of n (get_or list i [])) t.of ∙ sym (sums_at n list member)))
 
-  pair_rows : (ps : List CodePair) → Each (IsPairOf n ws list) ps → Each (HasPairProducts n list made) ps → Each (λ (x : CodePair). HasPairRows p (sums_of n list) (vectors_of n m.columns m.rows) x.i x.j) ps
+  pair_rows : (ps : List CodePair) → Each (IsMemberPair n ws list) ps → Each (HasPairProducts n list made) ps → Each (λ (x : CodePair). HasPairRows p (sums_of n list) (vectors_of n m.columns m.rows) x.i x.j) ps
   pair_rows [] a b = tt
   pair_rows (x ∷ ps) a b = (
     record {
@@ -229,7 +229,7 @@ module _ (n : ℕ) (ws : List ℕ) (p : ℕ) (one : 1 < p) (compare : Key n → 
       nothing (t ∷ v) lt e = let z = ap length e in omega arith
 
   few_rows :
-      AreApart keys → (chosen : List ℕ) (others : ℕ) → IsSparse rows chosen others → others < 2 * length pairs
+      AreDistinctKeys keys → (chosen : List ℕ) (others : ℕ) → IsSparse rows chosen others → others < 2 * length pairs
       → HasFewRows (vectors_of n m.columns m.rows) (length pairs)
   few_rows apart chosen others h lt = record {
     chosen = chosen;
@@ -255,7 +255,7 @@ module _ (n : ℕ) (ws : List ℕ) (p : ℕ) (one : 1 < p) (compare : Key n → 
           lead_known (length keys) (row_at rows i).entries (entries_some n list keys (row_at rows i).entries (kept_at made i) o.named o.product.some) o.named.known
 
   pub prepared :
-      AreTraced n list pairs made → AreApart keys
+      AreTraced n list pairs made → AreDistinctKeys keys
       → (0 < length pairs → (chosen : List ℕ) × IsSparse rows chosen (2 * length pairs - 1)) → (rank : ℕ)
       → IsPrepared n (record { modulus = p; weights = ws; rank = rank; compare = compare }) list pairs m made
   prepared traced apart sparse rank = record {

@@ -14,9 +14,9 @@ use Rattle.module_vectors.specs.Vectors.{HasVariables, sum_of}
 use Rattle.vector_division.specs.Progress.{AreWeighed}
 use Rattle.module_vectors.specs.declared.key.Key.{Key as CodeKey}
 use Rattle.row_matrix.proofs.Names.{named_more}
-use Rattle.row_matrix.specs.Naming.{AreNamed, IsGrown, Names}
+use Rattle.row_matrix.specs.Naming.{AreNamed, IsGrown, NamesNumber}
 use Rattle.row_matrix.specs.Rows.{AreKeys, Entry, RowShown, column_key, first_column, row_sum}
-use Rattle.symbolic_prep.specs.Plans.{IsMorePlanned, IsPlan, IsPlannedRow, IsProductOf, lead_number, no_row, product_sum, row_at}
+use Rattle.symbolic_prep.specs.Plans.{IsMorePlanned, IsPlan, IsPlannedRow, IsMemberProduct, lead_number, no_row, product_sum, row_at}
 
 -- the first key of what entries stand for
 pub head_of : {n : ℕ} (key : ℕ → Key n) (es : List Entry) → 0 < length es → head_key (row_sum key es) ≡ key (first_column es)
@@ -50,7 +50,7 @@ lead_known count [] lt h = absurd (omega arith)
 lead_known count (e ∷ es) lt h = h.0
 
 module _ (n : ℕ) (ws : List ℕ) (list : List (List (CodeKey × ℕ))) (old new : List CodeKey) (rows rows' : List RowShown) (products products' : List KeptProduct) (led led' : List Bool) (s : KeptProduct) (es : List Entry) (r : RowShown)
-    (h : IsPlan n ws list old rows products led) (product : IsProductOf n ws list s) (named : AreNamed n new es (product_sum n list s)) (grown : IsGrown old new es)
+    (h : IsPlan n ws list old rows products led) (product : IsMemberProduct n ws list s) (named : AreNamed n new es (product_sum n list s)) (grown : IsGrown old new es)
     (monomials : AreKeys n ws new) (re : r.entries ≡ es) (rs : r.sources ≡ (length rows, 1) ∷ []) (rows_more : rows' ≡ rows ++ r ∷ []) (products_more : products' ≡ products ++ s ∷ [])
     (lead : get_or led' (first_column es) false ≡ true) (kept : (c : ℕ) → get_or led c false ≡ true → get_or led' c false ≡ true)
     (only : (c : ℕ) → get_or led' c false ≡ true → (get_or led c false ≡ true) ⊎ (c ≡ first_column es)) where
@@ -83,12 +83,12 @@ module _ (n : ℕ) (ws : List ℕ) (list : List (List (CodeKey × ℕ))) (old ne
         })
   ]
 
-  met : (c : ℕ) → c < length new → (i : ℕ) × (i < length rows') × Names (row_at rows' i).entries c
+  met : (c : ℕ) → c < length new → (i : ℕ) × (i < length rows') × NamesNumber (row_at rows' i).entries c
   met c lt = elim (cases_lt c (length old)) [
     | inl l ↦ (
         let o = h.met c l in
-        (o.0, omega (arith, o.1, size), subst (λ (x : RowShown). Names x.entries c) (sym (old_row o.0 o.1)) o.2))
-    | inr ge ↦ (length rows, omega (arith, size), subst (λ (x : RowShown). Names x.entries c) (sym (last_row (length rows) refl)) (subst (λ xs. Names xs c) (sym re) (grown.named c ge lt)))
+        (o.0, omega (arith, o.1, size), subst (λ (x : RowShown). NamesNumber x.entries c) (sym (old_row o.0 o.1)) o.2))
+    | inr ge ↦ (length rows, omega (arith, size), subst (λ (x : RowShown). NamesNumber x.entries c) (sym (last_row (length rows) refl)) (subst (λ xs. NamesNumber xs c) (sym re) (grown.named c ge lt)))
   ]
 
   marked : (c : ℕ) → get_or led' c false ≡ true → (i : ℕ) × (i < length rows') × (lead_number rows' i ≡ c)

@@ -16,9 +16,9 @@ use Rattle.module_vectors.specs.Vectors.{key_of, sum_of}
 use Rattle.module_vectors.specs.declared.key.Key.{Key as CodeKey}
 use Rattle.pair_criteria.specs.declared.pair.Pair.{Pair as CodePair}
 use Rattle.vector_division.specs.Progress.{AreWeighed, IsDivisor}
-use Rattle.row_matrix.specs.Naming.{Names}
+use Rattle.row_matrix.specs.Naming.{NamesNumber}
 use Rattle.row_matrix.specs.Rows.{Entry, RowShown, column_key, row_sum}
-use Rattle.symbolic_prep.specs.Plans.{IsPairOf, IsPlan, IsProductOf, row_at}
+use Rattle.symbolic_prep.specs.Plans.{IsMemberPair, IsPlan, IsMemberProduct, row_at}
 use Rattle.pair_criteria.specs.Traces.{AreTraced}
 use Rattle.symbolic_prep.specs.Traces.{IsGreatEnd, IsOfEarlier, IsOfPair, PlanStops, ProductEnds}
 use Rattle.symbolic_prep.specs.declared.stop.PlanStop.{PlanStop}
@@ -81,7 +81,7 @@ module _ (n : ℕ) (list : List (List (CodeKey × ℕ))) (pairs : List CodePair)
   -- ---- a product that is too great
   pub great_end :
       (ws : List ℕ) (last : Monomial)
-      → AreTraced n list pairs products → Each (IsKeptProduct n ws list) products → AreWeighed n ws list → IsProductOf n ws list s
+      → AreTraced n list pairs products → Each (IsKeptProduct n ws list) products → AreWeighed n ws list → IsMemberProduct n ws list s
       → IsOfPair n list pairs s ⊎ IsOfEarlier n list products (length products) s
       → HasMonomial (get_or list s.0 []) last → IsTooGreat s.1 last → IsGreatEnd n ws list pairs products' last
   great_end ws last h known weighed product here has great =
@@ -100,7 +100,7 @@ module _ (n : ℕ) (list : List (List (CodeKey × ℕ))) (pairs : List CodePair)
 -- what a product that has no row says of the plan's products
 pub ends_plan :
     (n : ℕ) (ws : List ℕ) (list : List Terms) (pairs : List CodePair) (products products' : List KeptProduct) (s : KeptProduct) (stop : PlanStop)
-    → AreTraced n list pairs products → Each (IsKeptProduct n ws list) products → AreWeighed n ws list → IsProductOf n ws list s
+    → AreTraced n list pairs products → Each (IsKeptProduct n ws list) products → AreWeighed n ws list → IsMemberProduct n ws list s
     → IsOfPair n list pairs s ⊎ IsOfEarlier n list products (length products) s
     → ProductEnds (get_or list s.0 []) products products' s stop → PlanStops n ws list pairs products' stop
 ends_plan n ws list pairs products products' s Memory h known weighed product here e = tt
@@ -119,7 +119,7 @@ plan_steps n ws list keys rows products led h =
     each_step (IsKeptProduct n ws list) products (λ i lt. let o = h.each i (omega (arith, h.count)) in (o.product.member, o.product.weighed))
 
 named_key :
-    {n : ℕ} (key : ℕ → Key n) (es : List Entry) (c : ℕ) → Names es c → HasKey (row_sum key es) (key c)
+    {n : ℕ} (key : ℕ → Key n) (es : List Entry) (c : ℕ) → NamesNumber es c → HasKey (row_sum key es) (key c)
 named_key key [] c (i, lt, e) = absurd (omega arith)
 named_key key (x ∷ es) c (zero, lt, e) = (zero, omega arith, ap key e)
 named_key key (x ∷ es) c (suc i, lt, e) = let r = named_key key es c (i, omega arith, e) in (suc r.0, omega (arith, r.1), r.2)
@@ -157,7 +157,7 @@ of_pair n ws list pairs x member t v s es is position f there =
 
 -- ---- the products of pairs
 pub pair_position :
-    (n : ℕ) (ws : List ℕ) (list : List Terms) (x : CodePair) → IsPairOf n ws list x
+    (n : ℕ) (ws : List ℕ) (list : List Terms) (x : CodePair) → IsMemberPair n ws list x
     → ((lead_at n list x.i).0 ≡ x.lcm.position) × ((lead_at n list x.j).0 ≡ x.lcm.position)
 pair_position n ws list x h =
     let e : x.lcm.position ≡ (lead_at n list x.i).0 = ap (λ (k : Key n). k.0) h.lcm in
@@ -173,7 +173,7 @@ top_traced n ws list pairs products products' x member t v h more is position f 
 pub top_stop :
     (n : ℕ) (ws : List ℕ) (list : List Terms) (pairs : List CodePair) (keys : List CodeKey) (rows : List RowShown) (products products' : List KeptProduct) (led : List Bool)
     (x : CodePair) (member : ℕ) (t : Monomial) (v : Terms) (stop : PlanStop)
-    → IsPlan n ws list keys rows products led → AreTraced n list pairs products → AreWeighed n ws list → IsProductOf n ws list (member, t)
+    → IsPlan n ws list keys rows products led → AreTraced n list pairs products → AreWeighed n ws list → IsMemberProduct n ws list (member, t)
     → v ≡ get_or list member [] → (lead_at n list member).0 ≡ x.lcm.position → IsFactorOf n ws x.lcm v t → Contains pairs x
     → ProductEnds (get_or list member []) products products' (member, t) stop → PlanStops n ws list pairs products' stop
 top_stop n ws list pairs keys rows products products' led x member t v stop plan h weighed product is position f there e =

@@ -20,7 +20,7 @@ abbrev pub position_of : Divisor → ℕ
 position_of d = d.mark.position
 
 -- they are vectors of the list, and all of it, by ascending positions of their leads
-pub record AreDivisors (list : List (List (CodeKey × ℕ))) (divisors : List Divisor) : Type 0 where
+pub record AreSortedDivisors (list : List (List (CodeKey × ℕ))) (divisors : List Divisor) : Type 0 where
   pub each : Each (IsDivisorOf list) divisors
   pub all : AreAll list divisors
   pub ascending : IsNonDecreasingBy position_of divisors

@@ -9,7 +9,7 @@ use Rattle.bases.specs.Representations.{key_lcm}
 use Rattle.pair_criteria.specs.declared.pair.Pair.{Pair as CodePair}
 use Rattle.vector_division.specs.Divisions.{IsUncovered}
 use Rattle.module_vectors.specs.declared.key.Key.{Key as CodeKey}
-use Rattle.row_matrix.specs.Naming.{AreNamed, Names}
+use Rattle.row_matrix.specs.Naming.{AreNamed, NamesNumber}
 use Rattle.row_matrix.specs.Rows.{AreKeys, RowShown, column_key, first_column}
 
 -- a row without entries
@@ -29,14 +29,14 @@ abbrev pub product_sum : (n : ℕ) → List (List (CodeKey × ℕ)) → KeptProd
 product_sum n list s = scale 1 (exponents_of n s.1.exponents) (sum_of n (get_or list s.0 []))
 
 -- a monomial in n variables of these weights and a member that is not zero
-pub record IsProductOf (n : ℕ) (ws : List ℕ) (list : List (List (CodeKey × ℕ))) (s : KeptProduct) : Type 0 where
+pub record IsMemberProduct (n : ℕ) (ws : List ℕ) (list : List (List (CodeKey × ℕ))) (s : KeptProduct) : Type 0 where
   pub member : s.0 < length list
   pub some : 0 < length (get_or list s.0 [])
   pub weighed : IsWeighed n ws s.1
 
 -- row i is this product
 pub record IsPlannedRow (n : ℕ) (ws : List ℕ) (list : List (List (CodeKey × ℕ))) (keys : List CodeKey) (i : ℕ) (r : RowShown) (s : KeptProduct) : Type 0 where
-  pub product : IsProductOf n ws list s
+  pub product : IsMemberProduct n ws list s
   pub named : AreNamed n keys r.entries (product_sum n list s)
   pub sources : r.sources ≡ (i, 1) ∷ []
 
@@ -46,7 +46,7 @@ pub record IsPlan (n : ℕ) (ws : List ℕ) (list : List (List (CodeKey × ℕ))
   pub count : length rows ≡ length products
   pub monomials : AreKeys n ws keys
   pub each : (i : ℕ) → i < length rows → IsPlannedRow n ws list keys i (row_at rows i) (kept_at products i)
-  pub met : (c : ℕ) → c < length keys → (i : ℕ) × (i < length rows) × Names (row_at rows i).entries c
+  pub met : (c : ℕ) → c < length keys → (i : ℕ) × (i < length rows) × NamesNumber (row_at rows i).entries c
   pub marked : (c : ℕ) → get_or led c false ≡ true → (i : ℕ) × (i < length rows) × (lead_number rows i ≡ c)
   pub leads : (i : ℕ) → i < length rows → get_or led (lead_number rows i) false ≡ true
 
@@ -91,7 +91,7 @@ pub record HasPairProducts (n : ℕ) (list : List (List (CodeKey × ℕ))) (prod
   pub second : IsTopProduct n list products x.lcm x.j right
 
 -- the pair is of two members that are not zero, and has the least common multiple of their leads
-pub record IsPairOf (n : ℕ) (ws : List ℕ) (list : List (List (CodeKey × ℕ))) (x : CodePair) : Type 0 where
+pub record IsMemberPair (n : ℕ) (ws : List ℕ) (list : List (List (CodeKey × ℕ))) (x : CodePair) : Type 0 where
   pub left : x.i < length list
   pub right : x.j < length list
   pub left_some : 0 < length (get_or list x.i [])

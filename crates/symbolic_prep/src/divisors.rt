@@ -5,7 +5,7 @@ ghost use Rattle.formal_sums.specs.FormalSums.{Each};
 ghost use Rattle.module_vectors.specs.Rings.{variables};
 ghost use Rattle.module_vectors.specs.Vectors.{key_of, IsMonomialOver};
 ghost use Rattle.vector_division.specs.Progress.{AreWeighed, IsFound};
-ghost use Rattle.symbolic_prep.specs.Divisors.{AreAll, AreDivisors, IsDivisorOf, position_of};
+ghost use Rattle.symbolic_prep.specs.Divisors.{AreAll, AreSortedDivisors, IsDivisorOf, position_of};
 
 use module_vectors::{Key, NoMemory, Ring, Vectors};
 use monomial_orders::Mono;
@@ -46,7 +46,7 @@ pub(crate) fn find_divisor<L: Vectors>(
 ) -> Result<Option<(usize, Mono)>, NoMemory>
     requires key { IsMonomialOver ring.now key.now.monomial }
     requires list { AreWeighed (variables ring.now) ring.now.weights (L.listed list.now) }
-    requires divisors { AreDivisors (L.listed list.now) divisors.now }
+    requires divisors { AreSortedDivisors (L.listed list.now) divisors.now }
     ensures { let n = variables ring.now in IfOk result (IsFound n ring.now.weights (L.listed list.now) (key_of n key.now)) }
 {
     let occurring = occurring_variables(&key.monomial);
@@ -92,7 +92,7 @@ fn rank(divisor: &Divisor) -> u128
 /// A list's vectors by the positions of their leads, those of one position with fewer terms first: a reducer with few terms
 /// costs the least.
 pub(crate) fn divisors_of<L: Vectors>(alloc: Global, list: &L) -> Result<Vec<Divisor>, NoMemory>
-    ensures { IfOk result (λ divisors. AreDivisors (L.listed list.now) divisors.items) }
+    ensures { IfOk result (λ divisors. AreSortedDivisors (L.listed list.now) divisors.items) }
 {
     let mut divisors = list_divisors(alloc, list)?;
     divisors.sort_unstable_by_key(|divisor| rank(divisor));

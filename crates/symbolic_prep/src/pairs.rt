@@ -7,7 +7,7 @@ ghost use Rattle.module_vectors.specs.Trails.{lead_at};
 ghost use Rattle.module_vectors.specs.Vectors.{IsMonomialOver};
 ghost use Rattle.vector_division.specs.Progress.{AreWeighed};
 ghost use Rattle.symbolic_prep.specs.Hashed.{AreHashed};
-ghost use Rattle.symbolic_prep.specs.Plans.{HasPairProducts, IsLaterPlan, IsPairOf, IsPlan, IsTopProduct};
+ghost use Rattle.symbolic_prep.specs.Plans.{HasPairProducts, IsLaterPlan, IsMemberPair, IsPlan, IsTopProduct};
 ghost use Rattle.pair_criteria.specs.Traces.{AreTraced};
 ghost use Rattle.symbolic_prep.specs.Traces.{PlanStops};
 
@@ -96,7 +96,7 @@ pub(crate) fn add_pairs<L: Vectors>(
     plan: &mut Plan,
 ) -> Result<(), PlanStop>
     requires weighed { AreWeighed (variables ring.now) ring.now.weights (L.listed members.now) }
-    requires pairs { Each (IsPairOf (variables ring.now) ring.now.weights (L.listed members.now)) pairs.now }
+    requires pairs { Each (IsMemberPair (variables ring.now) ring.now.weights (L.listed members.now)) pairs.now }
     requires plan { IsPlan (variables ring.now) ring.now.weights (L.listed members.now)
         plan.old.keys plan.old.rows.items plan.old.products.items plan.old.led.items }
     requires traced { AreTraced (variables ring.now) (L.listed members.now) pairs.now plan.old.products.items }

@@ -7,7 +7,7 @@ ghost use Rattle.vector_division.specs.Progress.{AreWeighed};
 ghost use Rattle.symbolic_prep.specs.Hashed.{AreHashed};
 ghost use Rattle.row_matrix.specs.Products.{ProductStops};
 ghost use Rattle.row_matrix.specs.Rows.{RowShown, first_column};
-ghost use Rattle.symbolic_prep.specs.Plans.{IsMorePlanned, IsPlan, IsProductOf};
+ghost use Rattle.symbolic_prep.specs.Plans.{IsMorePlanned, IsPlan, IsMemberProduct};
 ghost use Rattle.symbolic_prep.specs.Traces.{ProductEnds};
 
 use crate::hashes::keep_hashes;
@@ -103,7 +103,7 @@ pub(crate) fn add_product<L: Vectors>(
     member: u64,
     t: Mono,
 ) -> Result<(), PlanStop>
-    requires product { IsProductOf (variables _ring.now) _ring.now.weights (L.listed members.now) (member, t) }
+    requires product { IsMemberProduct (variables _ring.now) _ring.now.weights (L.listed members.now) (member, t) }
     requires weighed { AreWeighed (variables _ring.now) _ring.now.weights (L.listed members.now) }
     requires plan { IsPlan (variables _ring.now) _ring.now.weights (L.listed members.now)
         plan.old.keys plan.old.rows.items plan.old.products.items plan.old.led.items }

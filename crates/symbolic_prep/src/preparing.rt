@@ -6,7 +6,7 @@ ghost use Rattle.module_vectors.specs.Vectors.{AreVectorsOver};
 ghost use Rattle.module_vectors.specs.declared.key.Key.{Key as KeyValue};
 ghost use Rattle.pair_criteria.specs.declared.pair.Pair.{Pair as PairValue};
 ghost use Rattle.symbolic_prep.specs.Counts.{IsSparse};
-ghost use Rattle.symbolic_prep.specs.Plans.{HasPairProducts, IsPairOf, IsPlan, AreClosed};
+ghost use Rattle.symbolic_prep.specs.Plans.{HasPairProducts, IsMemberPair, IsPlan, AreClosed};
 ghost use Rattle.symbolic_prep.specs.Prepared.{IsMonicVector, IsPrepared};
 ghost use Rattle.pair_criteria.specs.Traces.{AreTraced};
 ghost use Rattle.symbolic_prep.specs.Traces.{PlanStops, PrepareStops};
@@ -29,19 +29,20 @@ pub struct Prepared {
     pub products: Vec<(u64, Mono)>,
 }
 
-// No rows, with these hashes.
-fn start_plan(alloc: Global, hashes: Vec<TermHashes>) -> Result<Plan, NoMemory>
+// No rows, with these hashes, and room for as many rows as so many pairs mostly need: two products each, and as many reducers.
+fn start_plan(alloc: Global, hashes: Vec<TermHashes>, pairs: usize) -> Result<Plan, NoMemory>
     ensures hashes { IfOk result (λ plan. plan.hashes.items ≡ hashes.items) }
     ensures plan { (n : ℕ) (ws : List ℕ) (list : List (List (KeyValue × ℕ)))
         → IfOk result (λ plan. IsPlan n ws list plan.keys plan.rows.items plan.products.items plan.led.items) }
     ensures none { IfOk result (λ plan. length plan.products.items ≡ 0) }
     ensures no_rows { IfOk result (λ plan. length plan.rows.items ≡ 0) }
 {
+    let room = pairs.saturating_mul(4);
     Ok(Plan {
         keys: KeyTable::new(alloc)?,
-        rows: Vec::new(alloc),
-        products: Vec::new(alloc),
-        led: Vec::new(alloc),
+        rows: Vec::with_capacity(alloc, room)?,
+        products: Vec::with_capacity(alloc, room)?,
+        led: Vec::with_capacity(alloc, room)?,
         hashes,
     })
 }
@@ -68,7 +69,7 @@ fn matrix_of<L: Vectors>(
 ) -> Result<Prepared, NoMemory>
     requires members { AreVectorsOver ring.now (ring_comparison ring.now) (L.listed _members.now) }
     requires monic { Each (IsMonicVector (variables ring.now)) (L.listed _members.now) }
-    requires pairs { Each (IsPairOf (variables ring.now) ring.now.weights (L.listed _members.now)) _pairs.now }
+    requires pairs { Each (IsMemberPair (variables ring.now) ring.now.weights (L.listed _members.now)) _pairs.now }
     requires plan { IsPlan (variables ring.now) ring.now.weights (L.listed _members.now) plan.keys plan.rows.items plan.products.items plan.led.items }
     requires closed { AreClosed (variables ring.now) (L.listed _members.now) plan.keys plan.led.items (length plan.keys) }
     requires products { Each (HasPairProducts (variables ring.now) (L.listed _members.now) plan.products.items) _pairs.now }
@@ -104,13 +105,13 @@ pub fn prepare<L: Vectors>(
 ) -> Result<Prepared, PrepareStop>
     requires members { AreVectorsOver ring.now (ring_comparison ring.now) (L.listed members.now) }
     requires monic { Each (IsMonicVector (variables ring.now)) (L.listed members.now) }
-    requires pairs { Each (IsPairOf (variables ring.now) ring.now.weights (L.listed members.now)) pairs.now }
+    requires pairs { Each (IsMemberPair (variables ring.now) ring.now.weights (L.listed members.now)) pairs.now }
     ensures prepared { let n = variables ring.now in (rank : ℕ) → IfOk result (λ r. IsPrepared n (setting ring.now n (ring_comparison ring.now n) rank)
         (L.listed members.now) pairs.now r.matrix r.products.items) }
     ensures stop { IfErr result (PrepareStops (variables ring.now) ring.now.weights (L.listed members.now) pairs.now) }
 {
     let hashes = no_hashes(alloc, members)?;
-    let mut plan = start_plan(alloc, hashes)?;
+    let mut plan = start_plan(alloc, hashes, pairs.len())?;
     if let Err(stop) = add_pairs(alloc, ring, members, pairs, &mut plan) {
         return Err(stop_of(plan, stop));
     }

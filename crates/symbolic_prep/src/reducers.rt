@@ -6,7 +6,7 @@ ghost use Rattle.vector_division.specs.Divisions.{IsUncovered};
 ghost use Rattle.row_matrix.specs.Rows.{column_key};
 ghost use Rattle.vector_division.specs.Progress.{AreWeighed, IsFound};
 ghost use Rattle.symbolic_prep.specs.Counts.{IsSparse};
-ghost use Rattle.symbolic_prep.specs.Divisors.{AreDivisors};
+ghost use Rattle.symbolic_prep.specs.Divisors.{AreSortedDivisors};
 ghost use Rattle.symbolic_prep.specs.Hashed.{AreHashed};
 ghost use Rattle.symbolic_prep.specs.Plans.{AreClosed, IsLaterPlan, IsPlan};
 ghost use Rattle.pair_criteria.specs.Traces.{AreTraced};
@@ -31,7 +31,7 @@ fn add_reducer<L: Vectors>(
 ) -> Result<(), PlanStop>
     requires within { cursor < length plan.old.keys }
     requires weighed { AreWeighed (variables ring.now) ring.now.weights (L.listed members.now) }
-    requires divisors { AreDivisors (L.listed members.now) divisors.now }
+    requires divisors { AreSortedDivisors (L.listed members.now) divisors.now }
     requires plan { IsPlan (variables ring.now) ring.now.weights (L.listed members.now)
         plan.old.keys plan.old.rows.items plan.old.products.items plan.old.led.items }
     requires traced { AreTraced (variables ring.now) (L.listed members.now) _pairs.now plan.old.products.items }

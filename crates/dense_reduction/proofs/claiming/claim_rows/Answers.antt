@@ -32,7 +32,7 @@ loop-number-preserved c = record {
 pub loop-number-init : goal.loop-number-init
 loop-number-init c = record {
   seat = c.requires.seat;
-  claimed = claimed_none c.args.shared.rows.now c.args.mine.now (told c.args.seat.now) c.new-lost.result.items c.new-lost.ensures.items;
+  claimed = claimed_none c.args.shared.rows.now c.args.mine.now (told c.args.seat.now) c.in_ok-lost.lost.items c.in_ok-lost.ensures.items;
 }
 
 pub claim_row-requires-clause-number : goal.claim_row-requires-clause-number

@@ -1,5 +1,6 @@
 use Rattle.std.proofs.Common.{ap, arith, length, subst, subst₂, sym, ◌∙◌, ◌≡◌}
 use Rattle.row_matrix.specs.Rows.{AreEntries}
+use Rattle.dense_reduction.proofs.Adding.{adds_none}
 use Rattle.dense_reduction.proofs.Lanes.{written_back}
 use Rattle.dense_reduction.specs.Dense.{AddsMultiple, IsDense}
 use Rattle.dense_reduction.proofs.reduction.add_sources.Goals as goal
@@ -10,6 +11,10 @@ add_multiple-requires-clause-small c = subst (IsDense c.args.limit) (sym c.as_mu
 pub add_multiple-requires-clause-entries : goal.add_multiple-requires-clause-entries
 add_multiple-requires-clause-entries c =
     (0, subst₂ (AreEntries c.args.modulus.now.value 0) (sym (ap length c.as_mut_slice.ensures.value)) (sym c.sources.ensures) c.requires.entries)
+
+pub returns-then-factor-eq0-clause-adds : goal.returns-then-factor-eq0-clause-adds
+returns-then-factor-eq0-clause-adds c =
+    adds_none c.args.modulus.now.value c.args.factor c.args.row.now.sources c.args.sources.now.items c.if-factor-eq0.true
 
 pub returns-clause-adds : goal.returns-clause-adds
 returns-clause-adds c =

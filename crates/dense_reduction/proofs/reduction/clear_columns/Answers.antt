@@ -8,7 +8,7 @@ use Rattle.dense_reduction.proofs.Reducing.{first_column_read}
 use Rattle.dense_reduction.proofs.Steps.{least_below}
 use Rattle.dense_reduction.specs.Reductions.{least_left}
 use Rattle.dense_reduction.specs.Rests.{rows_left}
-use Rattle.dense_reduction.specs.Underway.{IsUnderway}
+use Rattle.dense_reduction.specs.Underway.{IsRowUnderway}
 use Rattle.dense_reduction.proofs.reduction.clear_columns.Goals as goal
 
 pub overflow_add-entries : goal.overflow_add-entries
@@ -54,7 +54,7 @@ loop-c-init c =
       seat = c.requires.seat;
       follows = follows_same (told c.args.seat.now);
       underway = underway_skip p w.limit (first + 1) c.next_column-c.result columns count pivots w.left.items w.numbers.items w.taken.items
-          (subst (λ m. IsUnderway p w.limit (first + 1) m count pivots w.left.items w.numbers.items w.taken.items) c.requires.idle.0
+          (subst (λ m. IsRowUnderway p w.limit (first + 1) m count pivots w.left.items w.numbers.items w.taken.items) c.requires.idle.0
           c.in_ok-start_work.ensures.underway) from zeros;
       reduced = c.in_ok-start_work.ensures.reduced (told c.args.seat.now) c.requires.pivot;
     }

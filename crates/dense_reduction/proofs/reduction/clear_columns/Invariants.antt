@@ -3,8 +3,8 @@ use Rattle.pivot_table.specs.Law.{IsSeatOf, told}
 use Rattle.row_matrix.specs.Rows.{first_column}
 use Rattle.dense_reduction.specs.Reductions.{IsReducedSoFar, least_left}
 use Rattle.dense_reduction.specs.Rests.{rows_left}
-use Rattle.dense_reduction.specs.Underway.{IsUnderway}
-use Rattle.dense_reduction.specs.Words.{Follows}
+use Rattle.dense_reduction.specs.Underway.{IsRowUnderway}
+use Rattle.dense_reduction.specs.Words.{IsToldAfter}
 use Rattle.dense_reduction.proofs.reduction.clear_columns.Given as goal
 
 abbrev pub invariant-loop-c : goal.invariant-loop-c
@@ -17,8 +17,8 @@ invariant-loop-c l =
       above : first_column l.row.entries < l.c;
       within : l.c ≤ l.columns;
       seat : IsSeatOf l.shared.claims.now.table.shared.table_id l.shared.claims.now.rows.leads.items l.seat;
-      follows : Follows (told l.fn.seat) (told l.seat);
-      underway : IsUnderway p l.work.limit l.c (length pivots) (length (rows ++ own)) pivots l.work.left.items l.work.numbers.items l.work.taken.items;
+      follows : IsToldAfter (told l.fn.seat) (told l.seat);
+      underway : IsRowUnderway p l.work.limit l.c (length pivots) (length (rows ++ own)) pivots l.work.left.items l.work.numbers.items l.work.taken.items;
       reduced : IsReducedSoFar p (least_left l.row.entries l.fn.pivot) rows own (told l.seat) l.row l.work.left.items l.work.numbers.items l.work.taken.items;
     }
 

@@ -3,7 +3,7 @@ use Rattle.pivot_table.specs.Law.{IsSeatOf, told}
 use Rattle.dense_reduction.specs.Eights.{AreCleared}
 use Rattle.dense_reduction.specs.Rests.{rows_left}
 use Rattle.dense_reduction.specs.Together.{AreOnTheirWay}
-use Rattle.dense_reduction.specs.Words.{Follows}
+use Rattle.dense_reduction.specs.Words.{IsToldAfter}
 use Rattle.dense_reduction.proofs.together.clear_all.Given as goal
 
 abbrev pub invariant-loop-c : goal.invariant-loop-c
@@ -15,7 +15,7 @@ invariant-loop-c l =
     record {
       within : l.c ≤ l.columns;
       seat : IsSeatOf l.shared.claims.now.table.shared.table_id l.shared.claims.now.rows.leads.items l.seat;
-      follows : Follows (told l.fn.seat) (told l.seat);
+      follows : IsToldAfter (told l.fn.seat) (told l.seat);
       cleared : AreCleared p l.together.limit l.c (length pivots) l.together.numbers.items;
       way : AreOnTheirWay p l.together.limit l.c (length pivots) rows own pivots (told l.seat) l.together.left.items l.together.numbers.items
           l.together.taken.items 0 l.lost;

@@ -1,7 +1,7 @@
 use Rattle.std.proofs.Common.{List, arith, length, subst, subst₂, sym, take}
 use Rattle.std.proofs.lemmas.List.{take_all}
 use Rattle.module_vectors.proofs.Scaling.{Each_at, take_item}
-use Rattle.member_products.specs.declared.member.Row.{Row as CodeRow}
+use Rattle.member_products.specs.declared.member.Reduct.{Reduct as CodeReduct}
 use Rattle.row_matrix.specs.Rows.{IsRow, RowShown}
 use Rattle.f4_job.proofs.MadeRows.{made_more}
 use Rattle.f4_job.specs.Made.{AreMadeRows}
@@ -21,7 +21,7 @@ loop-row-preserved c =
     let rows = c.args.rows.now in
     let i = c.loop-row.row-index in
     let x = c.row-item.result in
-    subst₂ (λ (rs : List RowShown) (ms : List CodeRow). AreMadeRows c.args.ring.now c.args.columns.now c.args.products.now rs ms)
+    subst₂ (λ (rs : List RowShown) (ms : List CodeReduct). AreMadeRows c.args.ring.now c.args.columns.now c.args.products.now rs ms)
     (sym (take_item rows i x c.loop-row-test.true c.row-item.is)) (sym c.in_ok-push.ensures.items)
     (made_more c.args.ring.now c.args.columns.now c.args.products.now
     (take i rows) c.loop-row.made.items x c.in_ok-next.next c.loop-row.invariant c.in_ok-next.ensures)

@@ -12,7 +12,7 @@ use Rattle.row_matrix.proofs.PartProducts.{part_more}
 use Rattle.row_matrix.proofs.Telling.{told_more, tells_products}
 use Rattle.row_matrix.specs.Hashes.{IsNumbered, key_product, no_key}
 use Rattle.row_matrix.specs.Naming.{AreNamed}
-use Rattle.row_matrix.specs.Told.{IsUpTo}
+use Rattle.row_matrix.specs.Told.{IsKeyUpTo}
 use Rattle.row_matrix.proofs.products.product_row.Goals as goal
 
 pub push_known-entries-requires-clause-told : goal.push_known-entries-requires-clause-told
@@ -62,7 +62,7 @@ loop-hashes-preserved c =
     let lt : i < length v = omega arith in
     let g : IsNumbered old new key number = subst (IsNumbered old new key) (sym c.in_ok-kept_number-in-Ok.ensures) c.in-Ok.ensures.ok in
     let sized : length x.0.monomial.exponents ≡ n = (Each_at (λ u. IsWeighed n w.0 u.0.monomial) v i x w.2 lt c.index-v-i.is).variables in
-    let bounded = Each_at (λ u. IsUpTo c.args.hashes.now.position c.args.hashes.now.degree u.0) v i x c.requires.hashes.bounded lt c.index-v-i.is in
+    let bounded = Each_at (λ u. IsKeyUpTo c.args.hashes.now.position c.args.hashes.now.degree u.0) v i x c.requires.hashes.bounded lt c.index-v-i.is in
     record {
       part = part_more c.args.keys.now old new t v entries c.push_reserved.new.self.items i x number
           (c.push_known-entries.ensures.part c.args.keys.now inv.part) g (omega arith) lt c.index-v-i.is sized (omega (arith, c.in-Ok.ensures.small))

@@ -4,7 +4,7 @@ use Rattle.std.specs.List.{range_with_len}
 use Rattle.module_vectors.proofs.SumsOfProducts.{Each_member}
 use Rattle.row_matrix.specs.Rows.{RowShown, first_column}
 use Rattle.dense_reduction.proofs.Reducing.{first_column_read}
-use Rattle.dense_reduction.specs.Words.{leads_of}
+use Rattle.dense_reduction.specs.Words.{row_leads_of}
 use Rattle.row_reduce.proofs.Echelons.{leads_push, range_push}
 use Rattle.row_reduce.proofs.elimination.begin.Goals as goal
 
@@ -49,7 +49,7 @@ bounds-entries-0 c =
 pub returns-clause-leads : goal.returns-clause-leads
 returns-clause-leads c =
     let le : length c.args.rows.items ≤ c.loop-row.row-index = omega (arith, c.loop-row-test.false, c.deref-row-items.ensures.len, c.args.rows.ok.0) in
-    c.loop-row.invariant.leads ∙ ap leads_of (take_all c.loop-row.row-index c.args.rows.items le)
+    c.loop-row.invariant.leads ∙ ap row_leads_of (take_all c.loop-row.row-index c.args.rows.items le)
 
 pub returns-clause-pending : goal.returns-clause-pending
 returns-clause-pending c =

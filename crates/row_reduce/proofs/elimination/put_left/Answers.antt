@@ -2,7 +2,7 @@ use Rattle.std.proofs.Common.{ap, arith, length, set, sym, ◌∙◌, ◌≡◌}
 use Rattle.std.proofs.lemmas.List.{length-map, map-set}
 use Rattle.row_matrix.specs.Rows.{RowShown, first_column}
 use Rattle.dense_reduction.proofs.Reducing.{first_column_read}
-use Rattle.dense_reduction.specs.Words.{leads_of}
+use Rattle.dense_reduction.specs.Words.{row_leads_of}
 use Rattle.row_reduce.proofs.elimination.put_left.Goals as goal
 
 pub returns-clause-leads : goal.returns-clause-leads
@@ -10,7 +10,7 @@ returns-clause-leads c =
     let rows = c.args.state.now.rows.items in
     let l = c.args.left in
     let lead : c.from.result ≡ first_column l.row.entries = c.from.ensures ∙ first_column_read c.entries.result.now ∙ ap first_column c.entries.ensures in
-    ap (λ xs. set xs l.number c.from.result) c.requires.leads ∙ ap (λ x. set (leads_of rows) l.number x) lead
+    ap (λ xs. set xs l.number c.from.result) c.requires.leads ∙ ap (λ x. set (row_leads_of rows) l.number x) lead
     ∙ sym (map-set (λ (r : RowShown). first_column r.entries) rows l.number l.row)
 
 pub bounds-entries-0 : goal.bounds-entries-0

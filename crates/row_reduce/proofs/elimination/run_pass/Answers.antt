@@ -1,5 +1,5 @@
 use Rattle.std.proofs.Common.{length, subst, ◌++◌, ◌≡◌}
-use Rattle.dense_reduction.specs.Words.{leads_of}
+use Rattle.dense_reduction.specs.Words.{row_leads_of}
 use Rattle.row_reduce.proofs.Echelons.{between_next, between_read, from_next, from_read, left_some, places_known, room_next, room_read}
 use Rattle.row_reduce.specs.Echelons.{with_left, columns_behind}
 use Rattle.row_reduce.specs.Passes.{places}
@@ -30,7 +30,7 @@ returns-clause-ready g c =
     let put = c.in_ok-put_all.ensures in
     between_read p n c.args.inputs new.rows.items (with_left s.rows.items passed.left.items) new.leads.items new.held.items passed.words.items
     new.pending.items (places passed.left.items ++ later)
-    put.rows (subst (λ rs. new.leads.items ≡ leads_of rs) put.rows put.leads) put.held put.pending
+    put.rows (subst (λ rs. new.leads.items ≡ row_leads_of rs) put.rows put.leads) put.held put.pending
     (between_next p n c.args.inputs s.rows.items s.leads.items s.held.items s.pending.items passed.words.items passed.left.items later
     c.requires.ready c.in_ok-passed.ensures)
 

@@ -5,7 +5,7 @@ use Rattle.dense_reduction.proofs.Naming.{follows_trans}
 use Rattle.dense_reduction.specs.Pivots.{ArePivots}
 use Rattle.dense_reduction.specs.Rests.{rows_left}
 use Rattle.dense_reduction.specs.Underway.{AreIdle}
-use Rattle.dense_reduction.specs.Words.{AreReady}
+use Rattle.dense_reduction.specs.Words.{AreRowsReady}
 use Rattle.dense_reduction.specs.declared.lefts.Lost.{Lost}
 use Rattle.row_reduce.proofs.Lowered.{keep_next, rest_missing, rest_next, skip_next}
 use Rattle.row_reduce.specs.Replaced.{IsRestKept}
@@ -15,7 +15,7 @@ use Rattle.row_reduce.proofs.helping.keep_rests.Goals.{in-Some-Some+in_ok-keep_r
 pub keep_rest-requires-clause-ready : goal.keep_rest-requires-clause-ready
 keep_rest-requires-clause-ready c =
     let shared = c.args.shared in
-    subst (λ m. AreReady shared.modulus.now.value m shared.inputs shared.rows.now shared.claims.now.rows.leads.items shared.claims.now.rows.held.items)
+    subst (λ m. AreRowsReady shared.modulus.now.value m shared.inputs shared.rows.now shared.claims.now.rows.leads.items shared.claims.now.rows.held.items)
     (sym c.loop-one.invariant.wide) c.requires.ready
 
 pub keep_rest-requires-clause-own : goal.keep_rest-requires-clause-own

@@ -4,7 +4,7 @@ use Rattle.dense_reduction.specs.Pivots.{ArePivots}
 use Rattle.dense_reduction.specs.Rests.{rows_left}
 use Rattle.dense_reduction.specs.Together.{AreRests}
 use Rattle.dense_reduction.specs.Underway.{AreIdle}
-use Rattle.dense_reduction.specs.Words.{Follows}
+use Rattle.dense_reduction.specs.Words.{IsToldAfter}
 use Rattle.dense_reduction.specs.declared.lefts.Left.{Left}
 use Rattle.row_reduce.specs.Replaced.{AreReplaced}
 use Rattle.row_reduce.proofs.helping.keep_rests.Given as goal
@@ -16,7 +16,7 @@ invariant-loop-one l =
     let start = l.fn.own.left.items in
     record {
       seat : IsSeatOf l.shared.claims.now.table.shared.table_id l.shared.claims.now.rows.leads.items l.seat;
-      follows : Follows (told l.fn.seat) (told l.seat);
+      follows : IsToldAfter (told l.fn.seat) (told l.seat);
       wide : length l.own.pivots.items ≡ columns;
       own : ArePivots p columns l.shared.inputs (rows_left l.own.left.items) l.own.pivots.items;
       idle : AreIdle columns l.work.numbers.items;

@@ -5,7 +5,7 @@ use Rattle.dense_reduction.proofs.Naming.{follows_trans}
 use Rattle.dense_reduction.specs.Pivots.{ArePivots}
 use Rattle.dense_reduction.specs.Rests.{rows_left}
 use Rattle.dense_reduction.specs.Underway.{AreIdle}
-use Rattle.dense_reduction.specs.Words.{AreReady}
+use Rattle.dense_reduction.specs.Words.{AreRowsReady}
 use Rattle.dense_reduction.specs.declared.lefts.Lost.{Lost}
 use Rattle.row_reduce.proofs.Lowered.{replaced_next}
 use Rattle.row_reduce.specs.Replaced.{IsReplaced}
@@ -14,7 +14,7 @@ use Rattle.row_reduce.proofs.helping.replace_each.Goals as goal
 pub replace_row-requires-clause-ready : goal.replace_row-requires-clause-ready
 replace_row-requires-clause-ready c =
     let shared = c.args.shared in
-    subst (λ m. AreReady shared.modulus.now.value m shared.inputs shared.rows.now shared.claims.now.rows.leads.items shared.claims.now.rows.held.items)
+    subst (λ m. AreRowsReady shared.modulus.now.value m shared.inputs shared.rows.now shared.claims.now.rows.leads.items shared.claims.now.rows.held.items)
     (sym c.loop-one.invariant.wide) c.requires.ready
 
 pub replace_row-requires-clause-own : goal.replace_row-requires-clause-own

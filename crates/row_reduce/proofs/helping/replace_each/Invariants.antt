@@ -3,7 +3,7 @@ use Rattle.pivot_table.specs.Law.{IsSeatOf, told}
 use Rattle.dense_reduction.specs.Pivots.{ArePivots}
 use Rattle.dense_reduction.specs.Rests.{rows_left}
 use Rattle.dense_reduction.specs.Underway.{AreIdle}
-use Rattle.dense_reduction.specs.Words.{Follows}
+use Rattle.dense_reduction.specs.Words.{IsToldAfter}
 use Rattle.row_reduce.specs.Replaced.{AreReplaced}
 use Rattle.row_reduce.proofs.helping.replace_each.Given as goal
 
@@ -13,7 +13,7 @@ invariant-loop-one l =
     let columns = length l.fn.own.pivots.items in
     record {
       seat : IsSeatOf l.shared.claims.now.table.shared.table_id l.shared.claims.now.rows.leads.items l.seat;
-      follows : Follows (told l.fn.seat) (told l.seat);
+      follows : IsToldAfter (told l.fn.seat) (told l.seat);
       wide : length l.own.pivots.items ≡ columns;
       own : ArePivots p columns l.shared.inputs (rows_left l.own.left.items) l.own.pivots.items;
       idle : AreIdle columns l.work.numbers.items;

@@ -6,7 +6,7 @@ use Rattle.dense_reduction.proofs.Naming.{follows_same, follows_trans}
 use Rattle.dense_reduction.specs.LostRows.{IsLost}
 use Rattle.dense_reduction.specs.Pivots.{ArePivots}
 use Rattle.dense_reduction.specs.Rests.{rows_left}
-use Rattle.dense_reduction.specs.Words.{AreReady}
+use Rattle.dense_reduction.specs.Words.{AreRowsReady}
 use Rattle.row_reduce.proofs.HelpedRows.{helped_empty, helped_none, helped_whole, pivots_start}
 use Rattle.row_reduce.proofs.Lowered.{Each_range, helped_eight}
 use Rattle.row_reduce.specs.Replaced.{AreReplaced}
@@ -97,7 +97,7 @@ replace_eight-requires-clause-few c =
 pub replace_eight-requires-clause-ready : goal.replace_eight-requires-clause-ready
 replace_eight-requires-clause-ready c =
     let shared = c.args.shared in
-    subst (λ m. AreReady shared.modulus.now.value m shared.inputs shared.rows.now shared.claims.now.rows.leads.items shared.claims.now.rows.held.items)
+    subst (λ m. AreRowsReady shared.modulus.now.value m shared.inputs shared.rows.now shared.claims.now.rows.leads.items shared.claims.now.rows.held.items)
     (sym c.loop-from.invariant.wide) c.requires.ready
 
 pub replace_eight-requires-clause-own : goal.replace_eight-requires-clause-own

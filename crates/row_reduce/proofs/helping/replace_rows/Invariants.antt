@@ -3,7 +3,7 @@ use Rattle.pivot_table.specs.Law.{IsSeatOf, told}
 use Rattle.dense_reduction.specs.LostRows.{numbers}
 use Rattle.dense_reduction.specs.Pivots.{ArePivots}
 use Rattle.dense_reduction.specs.Rests.{rows_left}
-use Rattle.dense_reduction.specs.Words.{Follows}
+use Rattle.dense_reduction.specs.Words.{IsToldAfter}
 use Rattle.row_reduce.specs.Passes.{AreHelped}
 use Rattle.row_reduce.specs.Room.{HasIdleRoom}
 use Rattle.row_reduce.proofs.helping.replace_rows.Given as goal
@@ -12,7 +12,7 @@ abbrev pub invariant-loop-from : goal.invariant-loop-from
 invariant-loop-from l = record {
   within : l.from ≤ length l.lost;
   seat : IsSeatOf l.shared.claims.now.table.shared.table_id l.shared.claims.now.rows.leads.items l.seat;
-  follows : Follows (told l.fn.seat) (told l.seat);
+  follows : IsToldAfter (told l.fn.seat) (told l.seat);
   wide : length l.own.pivots.items ≡ l.columns;
   own : ArePivots l.shared.modulus.now.value l.columns l.shared.inputs (rows_left l.own.left.items) l.own.pivots.items;
   idle : HasIdleRoom l.columns l.room;

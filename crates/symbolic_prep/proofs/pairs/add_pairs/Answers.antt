@@ -3,7 +3,7 @@ use Rattle.module_vectors.proofs.Scaling.{Each_at, Each_more}
 use Rattle.module_vectors.specs.Rings.{variables}
 use Rattle.symbolic_prep.proofs.Closing.{both_tops, later_itself, later_trans, pair_divides, pairs_more}
 use Rattle.symbolic_prep.proofs.Tracing.{pair_position}
-use Rattle.symbolic_prep.specs.Plans.{HasPairProducts, IsPairOf}
+use Rattle.symbolic_prep.specs.Plans.{HasPairProducts, IsMemberPair}
 use Rattle.symbolic_prep.proofs.pairs.add_pairs.Goals as goal
 
 pub loop-i-init : goal.loop-i-init
@@ -20,7 +20,7 @@ add_top-requires-clause-divides g c =
     let ring = c.args.ring.now in
     let list = g.L.Vectors.listed c.args.members.now in
     let x = c.index-pairs-i.result in
-    let h : IsPairOf (variables ring) ring.weights list x = Each_at (IsPairOf (variables ring) ring.weights list) c.args.pairs.now c.loop-i.i x c.requires.pairs c.loop-i-test.true c.index-pairs-i.is in
+    let h : IsMemberPair (variables ring) ring.weights list x = Each_at (IsMemberPair (variables ring) ring.weights list) c.args.pairs.now c.loop-i.i x c.requires.pairs c.loop-i-test.true c.index-pairs-i.is in
     (pair_divides (variables ring) ring.weights list x h).0
 
 pub add_top-requires-clause-position : goal.add_top-requires-clause-position
@@ -28,7 +28,7 @@ add_top-requires-clause-position g c =
     let ring = c.args.ring.now in
     let list = g.L.Vectors.listed c.args.members.now in
     let x = c.index-pairs-i.result in
-    let h : IsPairOf (variables ring) ring.weights list x = Each_at (IsPairOf (variables ring) ring.weights list) c.args.pairs.now c.loop-i.i x c.requires.pairs c.loop-i-test.true c.index-pairs-i.is in
+    let h : IsMemberPair (variables ring) ring.weights list x = Each_at (IsMemberPair (variables ring) ring.weights list) c.args.pairs.now c.loop-i.i x c.requires.pairs c.loop-i-test.true c.index-pairs-i.is in
     (pair_position (variables ring) ring.weights list x h).0
 
 pub add_top-requires-clause-pair : goal.add_top-requires-clause-pair
@@ -39,7 +39,7 @@ add_top-requires-in-loop-i-clause-divides g c =
     let ring = c.args.ring.now in
     let list = g.L.Vectors.listed c.args.members.now in
     let x = c.index-pairs-i.result in
-    let h : IsPairOf (variables ring) ring.weights list x = Each_at (IsPairOf (variables ring) ring.weights list) c.args.pairs.now c.loop-i.i x c.requires.pairs c.loop-i-test.true c.index-pairs-i.is in
+    let h : IsMemberPair (variables ring) ring.weights list x = Each_at (IsMemberPair (variables ring) ring.weights list) c.args.pairs.now c.loop-i.i x c.requires.pairs c.loop-i-test.true c.index-pairs-i.is in
     (pair_divides (variables ring) ring.weights list x h).1
 
 pub loop-i-preserved : goal.loop-i-preserved

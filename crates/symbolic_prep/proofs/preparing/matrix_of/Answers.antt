@@ -2,7 +2,7 @@ use Rattle.std.proofs.Common.{arith, length, subst, subst₂, sym, ◌<◌, ◌�
 use Rattle.formal_sums.specs.FormalSums.{Each}
 use Rattle.monomial_orders.specs.Laws.{key_comparison_order}
 use Rattle.module_vectors.specs.Rings.{ring_comparison, variables}
-use Rattle.row_matrix.specs.Hashes.{AreApart}
+use Rattle.row_matrix.specs.Hashes.{AreDistinctKeys}
 use Rattle.row_matrix.specs.Placed.{IsPlacedMatrix}
 use Rattle.row_matrix.specs.Rows.{AreKeys, Entry, RowShown}
 use Rattle.symbolic_prep.proofs.Matrices.{prepared, rows_known}
@@ -29,4 +29,4 @@ returns g c = λ rank.
     q.keys q.rows.items q.products.items q.led.items c.in_ok-matrix.matrix c.requires.members c.requires.monic c.requires.plan c.requires.closed
     c.requires.pairs c.requires.products
     (subst₂ (λ ks m. IsPlacedMatrix n ring.weights (ring_comparison ring n) ks m q.rows.items c.in_ok-matrix.matrix) (c.deref.ensures.value ∙ c.into_keys-columns.ensures.keys) count c.in_ok-matrix.ensures)
-    c.requires.traced (subst AreApart c.into_keys-columns.ensures.keys c.into_keys-columns.ensures.apart) c.requires.few rank
+    c.requires.traced (subst AreDistinctKeys c.into_keys-columns.ensures.keys c.into_keys-columns.ensures.apart) c.requires.few rank

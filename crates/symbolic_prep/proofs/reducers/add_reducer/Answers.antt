@@ -1,7 +1,7 @@
 use Rattle.std.proofs.Common.{[], arith, false, get_or, inl, length, subst, true, ◌++◌, ◌∙◌, ◌∷◌, ◌≡◌, ◌≤◌}
 use Rattle.std.proofs.lemmas.List.{get_or_past}
 use Rattle.module_vectors.specs.Rings.{variables}
-use Rattle.row_matrix.specs.Hashes.{AreApart}
+use Rattle.row_matrix.specs.Hashes.{AreDistinctKeys}
 use Rattle.row_matrix.specs.Rows.{first_column}
 use Rattle.symbolic_prep.proofs.Closing.{key_read, later_itself, lead_is, now_marked}
 use Rattle.symbolic_prep.proofs.Counting.{not_a_lead, sparse_push}
@@ -78,7 +78,7 @@ returns-in-Ok-clause-sparse g c = λ chosen others h.
           let none : get_or p.led.items c.args.cursor false ≡ false = get_or_past p.led.items c.args.cursor false le in
           cc
     ] in
-    let apart = subst AreApart c.keys-keys-in-Ok.ensures.keys c.keys-keys-in-Ok.ensures.apart in
+    let apart = subst AreDistinctKeys c.keys-keys-in-Ok.ensures.keys c.keys-keys-in-Ok.ensures.apart in
     let lead = lead_is n ring.weights list p.keys q.keys p.rows.items q.rows.items p.products.items q.products.items p.led.items q.led.items
     (c.in-Some.member, c.in-Some.t) c.args.cursor planned apart c.requires.within (d.lead ∙ r.1) in (
       chosen ++ length p.rows.items ∷ [],

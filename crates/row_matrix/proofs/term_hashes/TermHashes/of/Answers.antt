@@ -3,7 +3,7 @@ use Rattle.std.proofs.lemmas.List.{map-append}
 use Rattle.module_vectors.proofs.Scaling.{take_item}
 use Rattle.module_vectors.specs.declared.key.Key.{Key}
 use Rattle.row_matrix.specs.Hashes.{hash_of, term_hashes}
-use Rattle.row_matrix.specs.Told.{IsUpTo}
+use Rattle.row_matrix.specs.Told.{IsKeyUpTo}
 use Rattle.row_matrix.proofs.Telling.{up_to_more}
 use Rattle.row_matrix.proofs.term_hashes.TermHashes.of.Goals as goal
 
@@ -12,7 +12,7 @@ loop-term-preserved c =
     let u = c.term-item.result in
     let v = c.loop-term.invariant in
     let degree : c.degree.result ≡ u.0.monomial.degree = c.degree.ensures.value in
-    let one : IsUpTo c.max-position.result c.max-degree.result u.0 =
+    let one : IsKeyUpTo c.max-position.result c.max-degree.result u.0 =
     record {
       place = omega (arith, c.max-position.ensures);
       few = omega (arith, degree, c.max-degree.ensures);
