@@ -8,13 +8,13 @@ use Rattle.bases.specs.Leads.{leads}
 use Rattle.bases.specs.Representations.{key_lcm}
 use Rattle.buchberger_criterion.proofs.ChainCriterion.{HasLcmRepresentation_chain}
 use Rattle.buchberger_criterion.proofs.ProductCriterion.{HasLcmRepresentation_product}
-use Rattle.pair_criteria.specs.Sparing.{ProductApplies, SparesByChain, SparesByProduct}
+use Rattle.pair_criteria.specs.Sparing.{ProductCriterionApplies, SparesByChain, SparesByProduct}
 
 -- vectors of rank 1 are polynomials
 polynomial : {n : ℕ} (rank : ℕ) → rank ≡ 1 → (v : FormalSum n) → HasRank rank v → IsPolynomial v
 polynomial {n} rank e v h = Each_map (λ (t : Term n). t.0.0 < rank) (λ (t : Term n). t.0.0 ≡ 0) v (λ t lt. omega arith) h
 
-pub product_spares : {n : ℕ} (rank : ℕ) (k l : Key n) → ProductApplies rank k l → SparesByProduct rank k l
+pub product_spares : {n : ℕ} (rank : ℕ) (k l : Key n) → ProductCriterionApplies rank k l → SparesByProduct rank k l
 product_spares {n} rank k l h = λ S G i j m.
     let zi : k.0 ≡ 0 = let lt = m.monic.ranked i m.known_left in let e = ap (λ (z : Key n). z.0) m.lead_left in let r = m.rank_is in let one = h.0 in omega arith in
     let zj : l.0 ≡ 0 = let e = h.1 in omega arith in

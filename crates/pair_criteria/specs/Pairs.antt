@@ -18,7 +18,7 @@ abbrev pub variables_of : CodeKey → ℕ
 variables_of k = length k.monomial.exponents
 
 -- the pair of the leads i and j, at one position, with their least common multiple
-pub record IsPair (leads : List CodeKey) (i j : ℕ) (pair : Pair) : Type 0 where
+pub record IsPairOfLeads (leads : List CodeKey) (i j : ℕ) (pair : Pair) : Type 0 where
   pub left : pair.i ≡ i
   pub right : pair.j ≡ j
   pub together : (lead_at leads i).position ≡ (lead_at leads j).position
@@ -30,7 +30,7 @@ pub record IsPair (leads : List CodeKey) (i j : ℕ) (pair : Pair) : Type 0 wher
 -- the pair of the leads i and j, or none exactly where their positions differ
 abbrev pub IsPairOf : List CodeKey → ℕ → ℕ → Option Pair → Type 0
 IsPairOf leads i j None = (lead_at leads i).position ≡ (lead_at leads j).position → ⊥
-IsPairOf leads i j (Some pair) = IsPair leads i j pair
+IsPairOf leads i j (Some pair) = IsPairOfLeads leads i j pair
 
 -- k is the least common multiple of this pair of the list
 abbrev pub IsLcmOf : (n : ℕ) → List Pair → Key n → Pair → Type 0

@@ -7,8 +7,8 @@ use Rattle.bases.specs.Representations.{HasLcmRepresentation, key_lcm}
 use Rattle.bases.specs.Settings.{IsLawful, Setting}
 
 -- the product criterion applies: rank 1, one position, and the monomials have no variable in common
-abbrev pub ProductApplies : {n : ℕ} → ℕ → Key n → Key n → Type 0
-ProductApplies rank k l = (rank ≡ 1) × (k.0 ≡ l.0) × (times k.1 l.1 ≡ lcm k.1 l.1)
+abbrev pub ProductCriterionApplies : {n : ℕ} → ℕ → Key n → Key n → Type 0
+ProductCriterionApplies rank k l = (rank ≡ 1) × (k.0 ≡ l.0) × (times k.1 l.1 ≡ lcm k.1 l.1)
 
 -- members i and j of a monic list of this rank, whose leads are k and l
 pub record AreMembers {n : ℕ} (S : Setting n) (G : List (FormalSum n)) (rank i j : ℕ) (k l : Key n) : Type 0 where

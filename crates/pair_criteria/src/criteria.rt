@@ -3,7 +3,7 @@ ghost use Rattle.std.specs.Prelude.{◌≡◌, ◌↔◌, IsTrue};
 ghost use Rattle.orders.specs.KeyOrders.{KeyDivides};
 ghost use Rattle.module_vectors.specs.Vectors.{key_of};
 ghost use Rattle.pair_criteria.specs.Pairs.{variables_of};
-ghost use Rattle.pair_criteria.specs.Sparing.{ProductApplies, SparesByChain, SparesByProduct};
+ghost use Rattle.pair_criteria.specs.Sparing.{ProductCriterionApplies, SparesByChain, SparesByProduct};
 
 use module_vectors::Key;
 
@@ -11,7 +11,7 @@ use module_vectors::Key;
 /// where the leads have no variable in common (IVA chapter 2, section 9).
 pub fn product_applies(rank: u128, a: &Key, b: &Key) -> bool
     requires { variables_of a.now ≡ variables_of b.now }
-    ensures exact { let n = variables_of a.now in IsTrue result ↔ ProductApplies rank (key_of n a.now) (key_of n b.now) }
+    ensures exact { let n = variables_of a.now in IsTrue result ↔ ProductCriterionApplies rank (key_of n a.now) (key_of n b.now) }
     ensures spares { let n = variables_of a.now in IsTrue result → SparesByProduct rank (key_of n a.now) (key_of n b.now) }
 {
     if rank != 1 || a.position != b.position {

@@ -15,14 +15,15 @@ use Rattle.basis_steps.specs.Pairs.{Pair, count, pair_of}
 use Rattle.basis_steps.specs.Queues.{IsSorted, is_new_pair}
 use Rattle.basis_steps.specs.States.{pairs_out}
 use Rattle.pair_criteria.specs.declared.pair.Pair.{Pair as CodePair}
-use Rattle.pair_queue.proofs.Leading.{leads_front, leads_length}
-use Rattle.pair_queue.proofs.NewPairs.{old_is_not_new}
+use Rattle.pair_updates.proofs.Leading.{leads_front, leads_length}
+use Rattle.pair_updates.proofs.NewPairs.{old_is_not_new}
 use Rattle.pair_queue.proofs.Putting.{no_flag}
-use Rattle.pair_queue.proofs.SameLeads.{each_counted, lcm_same, sorted_same}
-use Rattle.pair_queue.specs.Leads.{LeadsShown, lead_sums, setting_of, sums_shown}
-use Rattle.pair_queue.specs.Pairs.{HasLcm, IsRealPair, pairs_of}
-use Rattle.pair_queue.specs.Skipping.{IsKnown, IsSpared, ProductSpares}
-use Rattle.pair_queue.specs.Tables.{AreIndices, IsTable, flagged}
+use Rattle.pair_updates.proofs.SameLeads.{each_counted, lcm_same, sorted_same}
+use Rattle.pair_updates.specs.Leads.{LeadsShown, lead_sums, setting_of_leads, sums_shown}
+use Rattle.pair_updates.specs.Pairs.{IsRealPair, AreIndices}
+use Rattle.pair_queue.specs.Skipping.{IsKnown, IsSpared}
+use Rattle.pair_updates.specs.LeadCriteria.{ProductSpares}
+use Rattle.pair_queue.specs.Tables.{IsFlagTable, flagged}
 
 and_left : (a b : Bool) → (a && b) ≡ true → a ≡ true
 and_left true b h = refl
@@ -58,7 +59,7 @@ module _ {n : ℕ} (G : List (FormalSum n)) (first : ℕ) where
       → ((x : Pair) → count x added ≡ cond (is_new_pair first G x) 1 0)
       → ((x : Pair) → w x ≡ cond (ltb 0 (count x added)) true (f x))
       → ((x : Pair) → count x after ≡ count x before + cond (is_new_pair first G x) 1 0)
-      → IsTable f before out → IsTable w after out
+      → IsFlagTable f before out → IsFlagTable w after out
   table_more f w before after added out within within_out new flags same t = record { flags = λ x. go x (is_new_pair first G x) refl }
     where
       absent : (xs : List Pair) (x : Pair) → Each (AreIndices first) xs → first ≤ x.1 → count x xs ≡ 0
@@ -103,7 +104,7 @@ module _ (m : LeadsShown) (first : ℕ) (few : first ≤ length m.keys) where
       ∙ ap (λ ks. leads (lead_sums n ks) i) (take-append-drop first m.keys)
 
   lcm_old : (x : Pair) → AreIndices first x → lcm_of H x ≡ lcm_of G x
-  lcm_old = lcm_same (setting_of n m) (setting_of n m) refl refl H G first leads_old
+  lcm_old = lcm_same (setting_of_leads n m) (setting_of_leads n m) refl refl H G first leads_old
 
   module _ (f w : Pair → Bool) (kept : (x : Pair) → x.1 < first → w x ≡ f x) (new : (x : Pair) → is_new_pair first G x ≡ true → w x ≡ true) where
     product_same : (y : Pair) → AreIndices first y → ProductSpares old y ≡ ProductSpares m y
@@ -275,12 +276,6 @@ module _ (m : LeadsShown) (first : ℕ) (few : first ≤ length m.keys) where
             (count_each (IsPair (sums_shown m)) x after reals l) (others x (none_of x q))
             (count_each (IsKnown (record m { keys = take first m.keys }) f d) x before known there)
 
--- pairs with their lcms
-pub reals_of : (m : LeadsShown) (xs : List CodePair) → Each (IsPair (sums_shown m)) (pairs_of xs) → Each (HasLcm m) xs
-    → Each (IsRealPair m) xs
-reals_of m [] h k = tt
-reals_of m (x ∷ xs) h k = (record { pair = h.0; lcm = k.0 }, reals_of m xs h.1 k.1)
-
 -- ---- leads that are added, and taken back
 front : (ks more : List CodeKey) → take (length ks) (ks ++ more) ≡ ks
 front [] more = none more
@@ -301,9 +296,9 @@ reals_added l more xs h =
 
 pub sorted_added :
     (l : LeadsShown) (more : List CodeKey) (xs : List Pair)
-    → Each (AreIndices (length l.keys)) xs → IsSorted (setting_of l.variables l) (sums_shown l) xs
-    → IsSorted (setting_of l.variables (record l { keys = l.keys ++ more })) (sums_shown (record l { keys = l.keys ++ more })) xs
+    → Each (AreIndices (length l.keys)) xs → IsSorted (setting_of_leads l.variables l) (sums_shown l) xs
+    → IsSorted (setting_of_leads l.variables (record l { keys = l.keys ++ more })) (sums_shown (record l { keys = l.keys ++ more })) xs
 sorted_added l more xs within h =
-    sorted_same (setting_of l.variables l) (setting_of l.variables (record l { keys = l.keys ++ more })) refl refl (sums_shown l)
+    sorted_same (setting_of_leads l.variables l) (setting_of_leads l.variables (record l { keys = l.keys ++ more })) refl refl (sums_shown l)
     (sums_shown (record l { keys = l.keys ++ more })) (length l.keys)
     (λ i lt. sym (leads_front l.variables l.keys more i lt)) xs within h

@@ -9,8 +9,8 @@ use Rattle.basis_steps.specs.States.{job_of, with_others}
 use Rattle.pair_queue.proofs.Tabling.{one_at_most}
 use Rattle.pair_queue.specs.declared.out.Out.{Out}
 use Rattle.pair_queue.specs.Giving.{HasCleared}
-use Rattle.pair_queue.specs.Pairs.{outs_of}
-use Rattle.pair_queue.specs.Tables.{IsTable, cleared, flagged}
+use Rattle.pair_queue.specs.Outs.{outs_of}
+use Rattle.pair_queue.specs.Tables.{IsFlagTable, cleared, flagged}
 
 -- one more pair
 pub more_cleared :
@@ -99,7 +99,7 @@ kept_out w (o ∷ out) = go (o.worker == w) (kept_out w out)
 -- the table without the job of a worker
 pub table_closed :
     (w : ℕ) (queue : List Pair) (out : List (Pair × ℕ)) (old new : Pair → Bool)
-    → HasCleared (job_of w out) old new → IsTable old queue out → IsTable new queue (with_others w out)
+    → HasCleared (job_of w out) old new → IsFlagTable old queue out → IsFlagTable new queue (with_others w out)
 table_closed w queue out old new h t = record { flags = λ x. go x (ltb 0 (count x (job_of w out))) refl (h x) }
   where
     go : (x : Pair) (b : Bool) → ltb 0 (count x (job_of w out)) ≡ b → new x ≡ cond (ltb 0 (count x (job_of w out))) false (old x)

@@ -9,10 +9,10 @@ use Rattle.basis_steps.specs.Criteria.{lcm_of}
 use Rattle.basis_steps.specs.Pairs.{pair_of}
 use Rattle.module_vectors.specs.Vectors.{key_of}
 use Rattle.module_vectors.specs.declared.key.Key.{Key as CodeKey}
-use Rattle.pair_queue.proofs.Dividing.{both_divided}
+use Rattle.pair_updates.proofs.Dividing.{both_divided}
 use Rattle.pair_queue.specs.Gaps.{IsBetween, IsGap}
-use Rattle.pair_queue.specs.Leads.{LeadsShown, sums_shown}
-use Rattle.pair_queue.specs.Skipping.{DividesLcm}
+use Rattle.pair_updates.specs.Leads.{LeadsShown, sums_shown}
+use Rattle.pair_updates.specs.LeadCriteria.{DividesLcm}
 use Rattle.pair_queue.specs.declared.closing.Gap.{Gap}
 
 pub gap_between :

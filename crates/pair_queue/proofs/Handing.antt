@@ -12,25 +12,26 @@ use Rattle.basis_steps.specs.Queues.{IsSorted}
 use Rattle.basis_steps.specs.States.{pairs_out, with_others}
 use Rattle.basis_steps.specs.Steps.{out_with}
 use Rattle.pair_queue.proofs.Knowing.{indices_queued}
-use Rattle.pair_queue.proofs.LeastDegree.{sorted_behind}
-use Rattle.pair_queue.proofs.Passing.{pairs_drop, pairs_take}
-use Rattle.pair_queue.proofs.SameLeads.{each_counted}
-use Rattle.pair_queue.specs.declared.dropped.Dropped.{Dropped}
+use Rattle.pair_updates.proofs.LeastDegree.{sorted_behind}
+use Rattle.pair_updates.proofs.PairLists.{pairs_drop, pairs_take}
+use Rattle.pair_updates.proofs.SameLeads.{each_counted}
+use Rattle.pair_updates.specs.declared.dropped.Dropped.{Dropped}
 use Rattle.pair_queue.specs.declared.out.Out.{Out}
 use Rattle.pair_queue.specs.declared.pairs.PairQueue.TheInside.{Inside}
 use Rattle.pair_queue.specs.Inside.{IsCoherent}
-use Rattle.pair_queue.specs.Leads.{LeadsShown, setting_of, sums_shown}
-use Rattle.pair_queue.specs.Pairs.{IsRealPair, outs_of, pairs_of}
+use Rattle.pair_updates.specs.Leads.{LeadsShown, setting_of_leads, sums_shown}
+use Rattle.pair_updates.specs.Pairs.{IsRealPair, pairs_of, AreIndices}
+use Rattle.pair_queue.specs.Outs.{outs_of}
 use Rattle.pair_queue.specs.Queues.{QueueShown}
 use Rattle.pair_queue.specs.Skipping.{AreSkipped, IsKnown}
-use Rattle.pair_queue.specs.Tables.{AreIndices, HasSameFlags, IsTable, TableShown, flag, size}
+use Rattle.pair_queue.specs.Tables.{HasSameFlags, IsFlagTable, TableShown, flag, size}
 
 pub others_within : (P : Pair → Type 0) (w : ℕ) (out : List (Pair × ℕ)) → Each P (pairs_out out) → Each P (pairs_out (with_others w out))
 others_within P w out h = each_counted P (pairs_out (with_others w out)) (λ x l. count_each P x (pairs_out out) h (omega (arith, l, count_workers x w out)))
 
 -- what goes out waits as before
-pub given_table : (f : Pair → Bool) (left : List Pair) (out : List (Pair × ℕ)) (w k : ℕ) → IsTable f left out
-    → IsTable f (drop k left) (out ++ out_with w (take k left))
+pub given_table : (f : Pair → Bool) (left : List Pair) (out : List (Pair × ℕ)) (w k : ℕ) → IsFlagTable f left out
+    → IsFlagTable f (drop k left) (out ++ out_with w (take k left))
 given_table f left out w k t = record { flags = λ x. t.flags x ∙ same x }
   where
     same : (x : Pair) → waiting left out x ≡ waiting (drop k left) (out ++ out_with w (take k left)) x
@@ -62,7 +63,7 @@ given_within P left out w k h g = each_counted P (pairs_out (out ++ out_with w (
 pub given_coherent :
     (i : Inside) (skipped : List Pair) (left : List CodePair) (k w : ℕ) (queue : QueueShown) (out : Vec Out Global) (waits due : TableShown)
     → IsCoherent i → (i.update ≡ Plain → AreSkipped i.leads (outs_of i.out.items) (pairs_of i.queue.items) skipped (pairs_of left) (flag waits))
-    → Each (IsRealPair i.leads) left → IsSorted (setting_of i.leads.variables i.leads) (sums_shown i.leads) (pairs_of left)
+    → Each (IsRealPair i.leads) left → IsSorted (setting_of_leads i.leads.variables i.leads) (sums_shown i.leads) (pairs_of left)
     → (i.update ≡ Plain → Each (IsKnown i.leads (flag waits) (flag due)) (pairs_of left))
     → (i.update ≡ Plain → size waits ≡ length i.leads.keys) → (i.update ≡ Plain → size due ≡ length i.leads.keys)
     → queue.items ≡ drop k left → outs_of out.items ≡ outs_of i.out.items ++ out_with w (pairs_of (take k left))
@@ -74,13 +75,13 @@ given_coherent i skipped left k w queue out waits due kept skips real sorted kno
     ∙ ap (λ p. outs_of i.out.items ++ out_with w p) (pairs_take k left) in
     record {
       real = subst (Each (IsRealPair m)) (sym queue_is) (Each_drop (IsRealPair m) k left real);
-      sorted = subst (IsSorted (setting_of m.variables m) (sums_shown m)) (sym pairs)
-          (sorted_behind (setting_of m.variables m) (sums_shown m) k (pairs_of left) sorted);
+      sorted = subst (IsSorted (setting_of_leads m.variables m) (sums_shown m)) (sym pairs)
+          (sorted_behind (setting_of_leads m.variables m) (sums_shown m) k (pairs_of left) sorted);
       within = subst (λ (l : List (Pair × ℕ)). Each (AreIndices (length m.keys)) (pairs_out l)) (sym outs)
           (given_within (AreIndices (length m.keys)) (pairs_of left) (outs_of i.out.items) w k (indices_queued m left real) kept.within);
       waits_size = waits_size;
       due_size = due_size;
-      table = λ e. subst (λ (z : List Pair × List (Pair × ℕ)). IsTable (flag waits) z.0 z.1) (λ t. (sym pairs t, sym outs t))
+      table = λ e. subst (λ (z : List Pair × List (Pair × ℕ)). IsFlagTable (flag waits) z.0 z.1) (λ t. (sym pairs t, sym outs t))
           (given_table (flag waits) (pairs_of left) (outs_of i.out.items) w k (skips e).table);
       known = λ e. subst (Each (IsKnown m (flag waits) (flag due))) (sym pairs) (Each_drop (IsKnown m (flag waits) (flag due)) k (pairs_of left) (known e));
     }

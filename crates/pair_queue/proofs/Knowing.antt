@@ -5,11 +5,10 @@ use Rattle.pair_criteria.specs.declared.pair.Pair.{Pair as CodePair}
 use Rattle.basis_steps.specs.Criteria.{IsPair}
 use Rattle.basis_steps.proofs.Counting.{is_same_pair-refl}
 use Rattle.basis_steps.specs.Pairs.{Pair, count, is_same_pair}
-use Rattle.pair_queue.proofs.Leading.{leads_length}
-use Rattle.pair_queue.specs.Leads.{LeadsShown, sums_shown}
-use Rattle.pair_queue.specs.Pairs.{IsRealPair, pair_of, pairs_of}
+use Rattle.pair_updates.proofs.Leading.{leads_length}
+use Rattle.pair_updates.specs.Leads.{LeadsShown, sums_shown}
+use Rattle.pair_updates.specs.Pairs.{IsRealPair, pair_of, pairs_of, AreIndices}
 use Rattle.pair_queue.specs.Skipping.{IsKnown, IsSpared, NoneIsSpared}
-use Rattle.pair_queue.specs.Tables.{AreIndices}
 
 pub indices_of : (m : LeadsShown) (xs : List CodePair) (k : ℕ) → k ≡ length m.keys → Each (IsRealPair m) xs → Each (λ x. AreIndices k (pair_of x)) xs
 indices_of m [] k e h = tt

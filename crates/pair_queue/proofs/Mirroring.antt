@@ -5,12 +5,12 @@ use Rattle.std.specs.Prelude.{ltb}
 use Rattle.std.proofs.lemmas.Bool.{cases_lt, cases_order, false≢true, le-ltb, lt-ltb, ltb-true}
 use Rattle.basis_steps.proofs.Counting.{pair_ordered, pair_swapped}
 use Rattle.basis_steps.specs.Pairs.{Pair, is_same_pair, pair_of}
-use Rattle.pair_queue.specs.Rows.{RowShown}
+use Rattle.pair_queue.specs.Rows.{FlagRowShown}
 use Rattle.pair_queue.specs.Tables.{AreMirrored, AreWide, HasSameFlags, TableShown, flag, flag_in, has_at}
 
-row_is : (rows : List RowShown) (a : ℕ) (r : RowShown) → a < length rows → r ≡ get_or rows a r → (c : ℕ) → get_or r.flags c false ≡ has_at rows a c
+row_is : (rows : List FlagRowShown) (a : ℕ) (r : FlagRowShown) → a < length rows → r ≡ get_or rows a r → (c : ℕ) → get_or r.flags c false ≡ has_at rows a c
 row_is [] a r l e c = absurd (omega arith)
-row_is (s ∷ rows) zero r l e c = ap (λ (z : RowShown). get_or z.flags c false) e
+row_is (s ∷ rows) zero r l e c = ap (λ (z : FlagRowShown). get_or z.flags c false) e
 row_is (s ∷ rows) (suc a) r l e c = row_is rows a r (omega arith) e c
 
 -- ---- the flags of a table
@@ -43,16 +43,16 @@ flag_is t m x = go (cases_lt x.1 t.members)
     go (inr l) = ap (λ b. b && flag_in t.rows x) (le-ltb x.1 t.members l) ∙ sym (ap (λ b. ltb x.0 x.1 && b) (m.clear x.1 x.0 l) ∙ and_none (ltb x.0 x.1))
 
 -- the flags of one row
-pub row_flag : (t : TableShown) → AreMirrored t → (a : ℕ) (r : RowShown) → a < length t.rows → r ≡ get_or t.rows a r → (c : ℕ)
+pub row_flag : (t : TableShown) → AreMirrored t → (a : ℕ) (r : FlagRowShown) → a < length t.rows → r ≡ get_or t.rows a r → (c : ℕ)
     → get_or r.flags c false ≡ flag t (pair_of a c)
 row_flag t m a r l is c = row_is t.rows a r l is c ∙ m.mirrored a c ∙ sym (flag_is t m (pair_of a c))
 
 -- with the same flags
-same_flags : (old new : List RowShown) → ((a c : ℕ) → has_at new a c ≡ has_at old a c) → (x : Pair) → flag_in new x ≡ flag_in old x
+same_flags : (old new : List FlagRowShown) → ((a c : ℕ) → has_at new a c ≡ has_at old a c) → (x : Pair) → flag_in new x ≡ flag_in old x
 same_flags old new h x = ap (λ b. ltb x.0 x.1 && b) (h x.1 x.0)
 
 -- rows that grew
-module _ (t : TableShown) (rows : List RowShown) (m : AreMirrored t) (more : length t.rows ≤ length rows) (wide : AreWide (length rows) rows)
+module _ (t : TableShown) (rows : List FlagRowShown) (m : AreMirrored t) (more : length t.rows ≤ length rows) (wide : AreWide (length rows) rows)
     (same : (a c : ℕ) → has_at rows a c ≡ has_at t.rows a c) where
   pub still_mirrored : AreMirrored (record { members = t.members; rows = rows })
   still_mirrored = record {
@@ -74,7 +74,7 @@ module _ (t : TableShown) (count : ℕ) (m : AreMirrored t) (more : t.members �
   grown_flags x = flag_is (record { members = count; rows = t.rows }) grown_mirrored x ∙ sym (flag_is t m x)
 
 -- one flag changed, in both rows
-module _ (old mid new : List RowShown) (i j : ℕ) (b : Bool) (lt : i < j)
+module _ (old mid new : List FlagRowShown) (i j : ℕ) (b : Bool) (lt : i < j)
     (first : (a c : ℕ) → has_at mid a c ≡ cond (nat_eq a j && nat_eq c i) b (has_at old a c))
     (second : (a c : ℕ) → has_at new a c ≡ cond (nat_eq a i && nat_eq c j) b (has_at mid a c)) where
   changed : (a c : ℕ) → has_at new a c ≡ cond (nat_eq a i && nat_eq c j) b (cond (nat_eq a j && nat_eq c i) b (has_at old a c))
@@ -182,7 +182,7 @@ module _ (old mid new : List RowShown) (i j : ℕ) (b : Bool) (lt : i < j)
           go false ep q eq false er s es = rw (ep, er) old_none
 
 -- a table of which one flag changed
-module _ (t : TableShown) (mid new : List RowShown) (i j : ℕ) (b : Bool) (lt : i < j) (within : j < t.members) (m : AreMirrored t)
+module _ (t : TableShown) (mid new : List FlagRowShown) (i j : ℕ) (b : Bool) (lt : i < j) (within : j < t.members) (m : AreMirrored t)
     (first : (a c : ℕ) → has_at mid a c ≡ cond (nat_eq a j && nat_eq c i) b (has_at t.rows a c))
     (second : (a c : ℕ) → has_at new a c ≡ cond (nat_eq a i && nat_eq c j) b (has_at mid a c))
     (len : length new ≡ length t.rows) (wide : AreWide (length new) new) where

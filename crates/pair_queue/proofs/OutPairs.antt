@@ -1,10 +1,13 @@
 -- Pairs that go out with a worker
 use Rattle.std.proofs.Common.{List, [], ap, append_assoc, arith, get_or, length, suc, sym, take, zero, ℕ, ◌++◌, ◌+◌, ◌<◌, ◌∙◌, ◌∷◌, ◌≡◌}
 use Rattle.std.proofs.lemmas.List.{map-append}
+use Rattle.formal_sums.specs.FormalSums.{Each}
 use Rattle.pair_criteria.specs.declared.pair.Pair.{Pair as CodePair}
 use Rattle.basis_steps.specs.Pairs.{Pair}
+use Rattle.basis_steps.specs.States.{pairs_out}
 use Rattle.basis_steps.specs.Steps.{out_with}
-use Rattle.pair_queue.specs.Pairs.{outs_of, pair_of, pairs_of}
+use Rattle.pair_queue.specs.Outs.{outs_of}
+use Rattle.pair_updates.specs.Pairs.{pair_of, pairs_of}
 use Rattle.pair_queue.specs.declared.out.Out.{Out}
 
 pub take_next : (xs : List CodePair) (k : ℕ) (x : CodePair) → k < length xs → x ≡ get_or xs k x
@@ -26,3 +29,7 @@ outs_next start out o ps e =
     ∙ ap (λ z. z ++ ((o.i, o.j), o.worker) ∷ []) e
     ∙ append_assoc (outs_of start) (out_with o.worker ps) (((o.i, o.j), o.worker) ∷ [])
     ∙ ap (λ z. outs_of start ++ z) (sym (map-append (λ (x : Pair). (x, o.worker)) ps ((o.i, o.j) ∷ [])))
+
+pub each_out : (P : Pair → Type 0) (xs : List Out) → Each P (pairs_out (outs_of xs)) → Each (λ o. P (o.i, o.j)) xs
+each_out P [] h = tt
+each_out P (x ∷ xs) h = (h.0, each_out P xs h.1)

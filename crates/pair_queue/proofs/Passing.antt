@@ -1,30 +1,18 @@
 -- Pairs that are kept and skipped, one after another
-use Rattle.std.proofs.Common.{Bool, List, [], ap, append_assoc, drop, length, refl, subst, suc, sym, take, ℕ, ◌++◌}
+use Rattle.std.proofs.Common.{Bool, List, [], ap, append_assoc, drop, refl, subst, sym, take, ℕ, ◌++◌}
 use Rattle.std.proofs.Common.{◌∙◌, ◌∷◌, ◌≡◌}
-use Rattle.std.proofs.lemmas.List.{drop-map, map-append, take-append-drop, take-map}
+use Rattle.std.proofs.lemmas.List.{take-append-drop}
 use Rattle.formal_sums.specs.FormalSums.{FormalSum}
 use Rattle.bases.specs.Settings.{Setting}
 use Rattle.pair_criteria.specs.declared.pair.Pair.{Pair as CodePair}
 use Rattle.basis_steps.specs.Criteria.{CriterionApplies, NoCriterionApplies, Skips, waiting}
 use Rattle.basis_steps.specs.Pairs.{Pair}
 use Rattle.pair_queue.proofs.Tabling.{table_is, table_less}
-use Rattle.pair_queue.specs.Pairs.{pair_of, pairs_of}
-use Rattle.pair_queue.specs.Leads.{LeadsShown, setting_of, sums_shown}
+use Rattle.pair_updates.proofs.PairLists.{pairs_append}
+use Rattle.pair_updates.specs.Pairs.{pair_of, pairs_of}
+use Rattle.pair_updates.specs.Leads.{LeadsShown, setting_of_leads, sums_shown}
 use Rattle.pair_queue.specs.Skipping.{AreSkipped, IsSpared, NoneIsSpared}
 use Rattle.pair_queue.specs.Tables.{cleared, flagged}
-
-pub pairs_length : (xs : List CodePair) → length (pairs_of xs) ≡ length xs
-pairs_length [] = refl
-pairs_length (x ∷ xs) = ap suc (pairs_length xs)
-
-pub pairs_append : (xs ys : List CodePair) → pairs_of (xs ++ ys) ≡ pairs_of xs ++ pairs_of ys
-pairs_append xs ys = map-append (λ x. pair_of x) xs ys
-
-pub pairs_take : (k : ℕ) (xs : List CodePair) → pairs_of (take k xs) ≡ take k (pairs_of xs)
-pairs_take k xs = sym (take-map (λ x. pair_of x) k xs)
-
-pub pairs_drop : (k : ℕ) (xs : List CodePair) → pairs_of (drop k xs) ≡ drop k (pairs_of xs)
-pairs_drop k xs = sym (drop-map (λ x. pair_of x) k xs)
 
 skips_more :
     {n : ℕ} (S : Setting n) (G : List (FormalSum n)) (out : List (Pair × ℕ)) (queue skipped front back : List Pair) (x : Pair)
@@ -42,7 +30,7 @@ pub pass_over :
     → AreSkipped m out queue skipped (front ++ x ∷ back) f
     → AreSkipped m out queue (skipped ++ x ∷ []) (front ++ back) (cleared f x)
 pass_over m out queue skipped front back x f none spared h =
-    let S = setting_of m.variables m in
+    let S = setting_of_leads m.variables m in
     let G = sums_shown m in
     let is : flagged f ≡ waiting (front ++ x ∷ back) out = table_is f (front ++ x ∷ back) out h.table in
     record {

@@ -20,12 +20,12 @@ use Rattle.bases.specs.Settings.{Setting}
 use Rattle.basis_steps.specs.Criteria.{CriterionApplies, IsPair, lcm_of}
 use Rattle.basis_steps.specs.Pairs.{Pair}
 use Rattle.basis_steps.specs.Queues.{IsSorted, compare_pairs, degree_of}
-use Rattle.pair_queue.proofs.LeastDegree.{no_less}
-use Rattle.pair_queue.proofs.Passing.{pairs_length}
+use Rattle.pair_updates.proofs.LeastDegree.{no_less}
+use Rattle.pair_updates.proofs.PairLists.{pairs_length}
 use Rattle.pair_queue.proofs.Sparing.{chain_by}
-use Rattle.pair_queue.proofs.Leading.{pairs_real}
-use Rattle.pair_queue.specs.Pairs.{IsRealPair, pair_of, pairs_of}
-use Rattle.pair_queue.specs.Leads.{LeadsShown, setting_of, sums_shown}
+use Rattle.pair_updates.proofs.Leading.{pairs_real}
+use Rattle.pair_updates.specs.Pairs.{IsRealPair, pair_of, pairs_of}
+use Rattle.pair_updates.specs.Leads.{LeadsShown, setting_of_leads, sums_shown}
 use Rattle.pair_queue.specs.Skipping.{NoneIsSpared}
 use Rattle.pair_queue.specs.Tables.{cleared, flagged}
 
@@ -181,14 +181,14 @@ one_there (x ∷ xs) (suc j) d l = one_there xs j d (omega (arith, l))
 pub none_kept :
     (m : LeadsShown) (q : List CodePair) (kept next count : ℕ) (x : CodePair) (pair : Pair) (f g : Pair → Bool)
     → Each (IsRealPair m) q → next < length q → x ≡ get_or q next x → pairs_of (drop next q) ≡ pair ∷ pairs_of (drop (next + 1) q)
-    → IsSorted (setting_of m.variables m) (sums_shown m) (pairs_of (take kept q) ++ pairs_of (drop next q))
+    → IsSorted (setting_of_leads m.variables m) (sums_shown m) (pairs_of (take kept q) ++ pairs_of (drop next q))
     → count ≤ length (take kept q)
     → ((z : CodePair) → 0 < count → z ≡ get_or (take kept q) (count - 1) z → x.lcm.monomial ≡ z.lcm.monomial → ⊥)
     → g ≡ cleared f pair
     → NoneIsSpared m f (pairs_of (take kept q)) → NoneIsSpared m g (take count (pairs_of (take kept q)))
 none_kept m q kept next count x pair f g real there is place sorted few other now none =
     let n = m.variables in
-    let S = setting_of n m in
+    let S = setting_of_leads n m in
     let G = sums_shown m in
     let K : List CodePair = take kept q in
     let order = key_comparison_order m.module_order m.order m.weights n 0 in

@@ -3,7 +3,7 @@ use Rattle.std.proofs.Common.{Bool, List, ap, arith, cond, false, refl, true, �
 use Rattle.basis_steps.proofs.Counting.{count-append}
 use Rattle.basis_steps.specs.Criteria.{waiting}
 use Rattle.basis_steps.specs.Pairs.{Pair, is_same_pair}
-use Rattle.pair_queue.specs.Tables.{IsTable, cleared, flagged}
+use Rattle.pair_queue.specs.Tables.{IsFlagTable, cleared, flagged}
 
 -- the other flags stay
 pub flagged_other : (f : Pair → Bool) (x y : Pair) → is_same_pair y x ≡ false → flagged (cleared f x) y ≡ flagged f y
@@ -23,7 +23,7 @@ one_at_most false = omega arith
 -- the table of the queue without the pair
 pub table_less :
     (f : Pair → Bool) (front back : List Pair) (x : Pair) (out : List (Pair × ℕ))
-    → IsTable f (front ++ x ∷ back) out → IsTable (cleared f x) (front ++ back) out
+    → IsFlagTable f (front ++ x ∷ back) out → IsFlagTable (cleared f x) (front ++ back) out
 table_less f front back x out t = record { flags = λ y. go y (is_same_pair y x) refl }
   where
     go : (y : Pair) (c : Bool) → is_same_pair y x ≡ c → flagged (cleared f x) y ≡ waiting (front ++ back) out y
@@ -37,5 +37,5 @@ table_less f front back x out t = record { flags = λ y. go y (is_same_pair y x)
         omega (arith, z, u, t.flags y, count-append y front (x ∷ back), count-append y front back)
 
 -- what the table says is what waits
-pub table_is : (f : Pair → Bool) (queue : List Pair) (out : List (Pair × ℕ)) → IsTable f queue out → flagged f ≡ waiting queue out
+pub table_is : (f : Pair → Bool) (queue : List Pair) (out : List (Pair × ℕ)) → IsFlagTable f queue out → flagged f ≡ waiting queue out
 table_is f queue out t = λ i x. t.flags x i

@@ -1,15 +1,16 @@
 -- Flags in words of 64 bits
-use Rattle.std.proofs.Common.{Bool, List, [], ap, arith, cond, eq-eqb, eqb-true, false, get_or, inl, inr, length, ne_eqb, refl, replicate, set, sym}
+use Rattle.std.proofs.Common.{Bool, List, [], ap, arith, cond, eq-eqb, false, get_or, inl, inr, length, ne_eqb, refl, replicate, set, sym}
 use Rattle.std.proofs.Common.{take, true, w64, zero, suc, ℕ, ◌%◌, ◌*◌, ◌++◌, ◌+◌, ◌-◌, ◌/◌, ◌<◌, ◌==◌, ◌^◌, ◌∙◌, ◌∷◌, ◌≡◌, ◌≤◌, ◌⊎◌, get_or-set_same}
 use Rattle.std.proofs.Common.{get_or-set_other, nat_eq}
-use Rattle.std.specs.Prelude.{bit_and, bit_or, min}
-use Rattle.std.specs.Int.{bit_at, bit_not, trailing_zeros}
+use Rattle.std.specs.Prelude.{bit_and, bit_or, min, not, ◌&&◌}
+use Rattle.std.specs.Int.{bit_at, bit_not}
 use Rattle.std.proofs.lemmas.Bool.{cases_eq, cases_lt, false≢true}
 use Rattle.std.proofs.lemmas.List.{get_or-replicate, get_or_past, length-replicate, take_all}
 use Rattle.std.proofs.lemmas.List.FromFn.{get_or-map-range_with_len, length-map-range_with_len}
-use Rattle.std.proofs.lemmas.Nat.Bits.{bit_at-lt, bit_at-trailing_zeros, bit_at-zero, bit_at_and, bit_at_mask_below, bit_at_clear_other}
-use Rattle.std.proofs.lemmas.Nat.Bits.{bit_at_clear_same, bit_at_mask_inside, bit_at_not, bit_at_set_other, bit_at_set_same, ones_shl}
-use Rattle.pair_queue.specs.Rows.{AreInBoth, IsFirstWithout, flag_of, flags_of}
+use Rattle.std.proofs.Math.Nat.{div-le_self}
+use Rattle.std.proofs.lemmas.Nat.{shr-shr}
+use Rattle.std.proofs.lemmas.Nat.Bits.{bit_at-lt, bit_at-zero, bit_at_and, bit_at_clear_other, bit_at_clear_same, bit_at_not, bit_at_set_other, bit_at_set_same}
+use Rattle.pair_queue.specs.Rows.{flag_of, flags_of}
 
 pub length-flags_of : (words : List ℕ) → length (flags_of words) ≡ 64 * length words
 unfolding flags_of
@@ -87,84 +88,6 @@ flag_put words n v b within h i = flag_is (set words (n / 64) v) i ∙ go (cases
         ap (λ w. bit_at w (i % 64) == 1) (get_or-set_other words (n / 64) (i / 64) v 0 d)
         ∙ sym (ap (λ p. cond p b (flag_of words i)) (ne_eqb i n (λ e. d (ap (λ k. k / 64) e))))
 
--- ---- the first flag that the other row has not
--- what is left of the words with this index
-pub record IsLeft (mine theirs : List ℕ) (index low left : ℕ) : Type 0 where
-  pub below : (r : ℕ) → r < low → bit_at left r ≡ 0
-  pub flags : (r : ℕ) → low ≤ r → r < 64 → bit_at left r ≡ min (bit_at (get_or mine index 0) r) (1 - bit_at (get_or theirs index 0) r)
-
-pub made_left :
-    (mine theirs : List ℕ) (index low left w v : ℕ) → w ≡ get_or mine index 0 → v ≡ get_or theirs index 0
-    → ((r : ℕ) → r < low → bit_at left r ≡ 0) → ((r : ℕ) → low ≤ r → r < 64 → bit_at left r ≡ min (bit_at w r) (1 - bit_at v r))
-    → IsLeft mine theirs index low left
-made_left mine theirs index low left w v one other below flags =
-    record { below = below; flags = λ r lo hi. flags r lo hi ∙ (λ t. min (bit_at (one t) r) (1 - bit_at (other t) r)) }
-
-module _ (m g : List Bool) (mine theirs : List ℕ) (mine_is : (i : ℕ) → get_or m i false ≡ flag_of mine i)
-    (theirs_is : (i : ℕ) → get_or g i false ≡ flag_of theirs i)
-    (first index low left : ℕ) (low_is : low ≡ first - 64 * index) (is : IsLeft mine theirs index low left) where
-  -- a flag that is not left stands in the other row too
-  in_both : (i : ℕ) → first ≤ i → i / 64 ≡ index → bit_at left (i % 64) ≡ 0 → get_or m i false ≡ true → get_or g i false ≡ true
-  in_both i lo e none h =
-      let one : bit_at (get_or mine index 0) (i % 64) ≡ 1 = ap (λ k. bit_at (get_or mine k 0) (i % 64)) (sym e)
-      ∙ eqb-true (bit_at (get_or mine (i / 64) 0) (i % 64)) 1 (sym (mine_is i) ∙ h) in
-      let all : bit_at left (i % 64) ≡ min (bit_at (get_or mine index 0) (i % 64)) (1 - bit_at (get_or theirs index 0) (i % 64)) =
-      is.flags (i % 64) (omega (arith, low_is, lo, e)) (omega arith) in
-      let other : bit_at (get_or theirs index 0) (i % 64) ≡ 1 = omega (arith, one, all, none, bit_at-lt (get_or theirs index 0) (i % 64)) in
-      theirs_is i ∙ eq-eqb (bit_at (get_or theirs (i / 64) 0) (i % 64)) 1 (ap (λ k. bit_at (get_or theirs k 0) (i % 64)) e ∙ other)
-
-  -- none is left
-  pub none_left : left ≡ 0 → AreInBoth m g first (64 * index) → AreInBoth m g first (64 * (index + 1))
-  none_left z before i lo hi h = go (cases_lt i (64 * index))
-    where
-      go : (i < 64 * index) ⊎ (64 * index ≤ i) → get_or g i false ≡ true
-      go (inl l) = before i lo l h
-      go (inr l) = in_both i lo (omega (arith, l, hi)) (ap (λ w. bit_at w (i % 64)) z ∙ bit_at-zero (i % 64)) h
-
-  -- the lowest that is left, at place k of the word
-  module _ (k : ℕ) (small : k < 64) (one : bit_at left k ≡ 1) (lower : (r : ℕ) → r < k → bit_at left r ≡ 0) where
-    high : low ≤ k
-    high = elim (cases_lt k low) [
-      | inl l ↦ (let z : bit_at left k ≡ 0 = is.below k l in absurd (omega (arith, z, one)))
-      | inr l ↦ l
-    ]
-
-    bit : bit_at left k ≡ min (bit_at (get_or mine index 0) k) (1 - bit_at (get_or theirs index 0) k)
-    bit = is.flags k high small
-
-    quotient : (64 * index + k) / 64 ≡ index
-    quotient = omega (arith, small)
-
-    rest : (64 * index + k) % 64 ≡ k
-    rest = omega (arith, small)
-
-    at : (words : List ℕ) → bit_at (get_or words ((64 * index + k) / 64) 0) ((64 * index + k) % 64) ≡ bit_at (get_or words index 0) k
-    at words = ap (λ q. bit_at (get_or words q 0) ((64 * index + k) % 64)) quotient ∙ ap (bit_at (get_or words index 0)) rest
-
-    lowest_left : AreInBoth m g first (64 * index) → IsFirstWithout m g first (64 * index + k)
-    lowest_left before = record {
-      later = omega (arith, low_is, high);
-      before = λ i lo hi h. go i lo hi h (cases_lt i (64 * index));
-      here = mine_is (64 * index + k) ∙ ap (λ b. b == 1) (at mine ∙ mine_one);
-      there = theirs_is (64 * index + k) ∙ ap (λ b. b == 1) (at theirs ∙ theirs_none);
-    }
-      where
-        mine_one : bit_at (get_or mine index 0) k ≡ 1
-        mine_one = omega (arith, bit, one, bit_at-lt (get_or mine index 0) k)
-
-        theirs_none : bit_at (get_or theirs index 0) k ≡ 0
-        theirs_none = omega (arith, bit, one, bit_at-lt (get_or mine index 0) k)
-
-        go : (i : ℕ) → first ≤ i → i < 64 * index + k → get_or m i false ≡ true → (i < 64 * index) ⊎ (64 * index ≤ i) → get_or g i false ≡ true
-        go i lo hi h (inl l) = before i lo l h
-        go i lo hi h (inr l) =
-            let e : i / 64 ≡ index = omega (arith, l, hi, small) in
-            in_both i lo e (lower (i % 64) (omega (arith, l, hi, small))) h
-
-  pub first_left : 0 < left → left < 2 ^ 64 → AreInBoth m g first (64 * index) → IsFirstWithout m g first (64 * index + trailing_zeros w64 left)
-  first_left some fits before = let lowest = bit_at-trailing_zeros w64 left some fits in
-      lowest_left (trailing_zeros w64 left) lowest.0 lowest.1 lowest.2 before
-
 -- ---- one word
 pub bit_set : (word place r : ℕ) → place < 64 → (bit_at (bit_or word (1 * 2 ^ place % 2 ^ 64)) r == 1) ≡ cond (nat_eq r place) true (bit_at word r == 1)
 bit_set word place r h = go (cases_eq r place)
@@ -187,29 +110,39 @@ bit_cleared word place r h l = go (cases_eq r place)
         ∙ sym (ap (λ s. cond s false (bit_at word r == 1)) (eq-eqb r place e))
     go (inr d) = ap (λ b. b == 1) (bit_at_clear_other w64 word place h r l d) ∙ sym (ap (λ s. cond s false (bit_at word r == 1)) (ne_eqb r place d))
 
--- the bits of the one word from place `low` on that the other has not
-module _ (mine theirs low : ℕ) (fits : theirs < 2 ^ 64) (few : low < 64) where
-  masked : (r : ℕ) → bit_at (bit_and (bit_and mine (bit_not w64 theirs)) ((2 ^ 64 - 1) * 2 ^ low % 2 ^ 64)) r ≡ min
-      (min (bit_at mine r) (bit_at (bit_not w64 theirs) r)) (bit_at (2 ^ 64 - 2 ^ low) r)
-  masked r =
-      ap (λ m. bit_at (bit_and (bit_and mine (bit_not w64 theirs)) m) r) (ones_shl 64 low (omega (arith, few)))
-      ∙ bit_at_and (bit_and mine (bit_not w64 theirs)) (2 ^ 64 - 2 ^ low) r
-      ∙ ap (λ b. min b (bit_at (2 ^ 64 - 2 ^ low) r)) (bit_at_and mine (bit_not w64 theirs) r)
+-- the bits of the one word that the other has not
+both : (j k : ℕ) → j < 2 → k < 2 → (min j (1 - k) == 1) ≡ ((j == 1) && not (k == 1))
+both zero k l m = ap (λ z. z == 1) (none k)
+  where
+    none : (k : ℕ) → min 0 (1 - k) ≡ 0
+    none k = omega arith
+both (suc zero) zero l m = refl
+both (suc zero) (suc zero) l m = refl
+both (suc zero) (suc (suc k)) l m = absurd (omega (arith, m))
+both (suc (suc j)) k l m = absurd (omega (arith, l))
 
-  pub bits_below : (r : ℕ) → r < low → bit_at (bit_and (bit_and mine (bit_not w64 theirs)) ((2 ^ 64 - 1) * 2 ^ low % 2 ^ 64)) r ≡ 0
-  bits_below r l = masked r ∙ ap (min (min (bit_at mine r) (bit_at (bit_not w64 theirs) r))) (bit_at_mask_below low 64 r l)
-      ∙ none (min (bit_at mine r) (bit_at (bit_not w64 theirs) r))
-    where
-      none : (k : ℕ) → min k 0 ≡ 0
-      none k = omega arith
+pub bits_without : (mine theirs : ℕ) → theirs < 2 ^ 64 → (r : ℕ) → r < 64
+    → (bit_at (bit_and mine (bit_not w64 theirs)) r == 1) ≡ ((bit_at mine r == 1) && not (bit_at theirs r == 1))
+bits_without mine theirs fits r l =
+    ap (λ b. b == 1) (bit_at_and mine (bit_not w64 theirs) r ∙ ap (min (bit_at mine r)) (bit_at_not w64 theirs r fits l))
+    ∙ both (bit_at mine r) (bit_at theirs r) (bit_at-lt mine r) (bit_at-lt theirs r)
 
-  pub bits_left : (r : ℕ) → low ≤ r → r < 64
-      → bit_at (bit_and (bit_and mine (bit_not w64 theirs)) ((2 ^ 64 - 1) * 2 ^ low % 2 ^ 64)) r ≡ min (bit_at mine r) (1 - bit_at theirs r)
-  bits_left r lo hi =
-      masked r
-      ∙ ap (min (min (bit_at mine r) (bit_at (bit_not w64 theirs) r))) (bit_at_mask_inside low 64 r lo hi)
-      ∙ one (bit_at mine r) (bit_at (bit_not w64 theirs) r) (bit_at-lt mine r)
-      ∙ ap (min (bit_at mine r)) (bit_at_not w64 theirs r fits hi)
-    where
-      one : (j k : ℕ) → j < 2 → min (min j k) 1 ≡ min j k
-      one j k l = omega (arith, l)
+-- a flag by its word and its place there
+pub flag_at : (words : List ℕ) (index r : ℕ) → r < 64 → get_or (flags_of words) (64 * index + r) false ≡ (bit_at (get_or words index 0) r == 1)
+flag_at words index r l =
+    let quotient : (64 * index + r) / 64 ≡ index = omega (arith, l) in
+    let rest : (64 * index + r) % 64 ≡ r = omega (arith, l) in
+    flag_is words (64 * index + r)
+    ∙ ap (λ q. bit_at (get_or words q 0) ((64 * index + r) % 64) == 1) quotient
+    ∙ ap (λ z. bit_at (get_or words index 0) z == 1) rest
+
+-- the bits behind a place
+pub bits_behind : (word place r : ℕ) → bit_at (word / 2 ^ place / 2 ^ 1) r ≡ bit_at word (place + 1 + r)
+bits_behind word place r = ap (λ z. z % 2) (shr-shr (word / 2 ^ place) 1 r ∙ shr-shr word place (1 + r)
+    ∙ ap (λ k. word / 2 ^ k) same)
+  where
+    same : place + (1 + r) ≡ place + 1 + r
+    same = omega arith
+
+pub less_behind : (word place : ℕ) → 0 < word → word / 2 ^ place / 2 ^ 1 < word
+less_behind word place some = omega (arith, some, div-le_self word (2 ^ place))

@@ -2,7 +2,7 @@
 use Rattle.std.specs.Prelude.{List, get_or, length, ℕ, ◌<◌, ◌≡◌, ◌≤◌, ◌⊎◌}
 use Rattle.monomials.specs.Exponents.{Divides, exponents_of, lcm}
 use Rattle.bases.specs.Leads.{leads}
-use Rattle.pair_queue.specs.Leads.{LeadsShown, sums_shown}
+use Rattle.pair_updates.specs.Leads.{LeadsShown, sums_shown}
 use Rattle.pair_queue.specs.declared.closing.Gap.{Gap}
 
 -- the lead of member k divides the lcm of that of member a and a monomial only where the monomial has this exponent of this variable

@@ -1,13 +1,8 @@
-pub mod Leads
-pub mod Pairs
+pub mod Outs
 pub mod Queues
-pub mod Queueing
 pub mod Rows
 pub mod Tables
 pub mod Skipping
-pub mod Dropping
-pub mod FirstYields
-pub mod Updating
 pub mod Gaps
 pub mod Giving
 pub mod Inside

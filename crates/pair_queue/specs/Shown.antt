@@ -10,8 +10,8 @@ use Rattle.basis_steps.specs.States.{Run}
 use Rattle.basis_steps.specs.Steps.{is_empty, out_with}
 use Rattle.pair_criteria.specs.declared.pair.Pair.{Pair as CodePair}
 use Rattle.pair_queue.specs.declared.given.Given.{Given}
-use Rattle.pair_queue.specs.Leads.{LeadsShown, setting_of, sums_shown}
-use Rattle.pair_queue.specs.Pairs.{IsRealPair, pairs_of}
+use Rattle.pair_updates.specs.Leads.{LeadsShown, setting_of_leads, sums_shown}
+use Rattle.pair_updates.specs.Pairs.{IsRealPair, pairs_of}
 
 -- the leads; the queued pairs, each with its lcm; those that are out, each with its worker; what is queued as members come; and the pairs that new members dropped
 pub record PairsShown : Type 0 where
@@ -22,10 +22,10 @@ pub record PairsShown : Type 0 where
   pub dropped : List Drop
 
 -- all pairs to which a criterion applies were skipped, each the first such pair, or none where new members drop pairs; and the worker has its share of the first of those left
-pub record IsGiven (q : PairsShown) (worker budget workers taken most : ℕ) (g : Given) (t : PairsShown) : Type 0 where
+pub record IsJobGiven (q : PairsShown) (worker budget workers taken most : ℕ) (g : Given) (t : PairsShown) : Type 0 where
   pub left : List CodePair
-  pub skips : Skips (setting_of q.leads.variables q.leads) (sums_shown q.leads) q.out (pairs_of q.queue) g.skipped.items (pairs_of left)
-  pub none : q.update ≡ Plain → NoCriterionApplies (setting_of q.leads.variables q.leads) (sums_shown q.leads) (waiting (pairs_of left) q.out) (pairs_of left)
+  pub skips : Skips (setting_of_leads q.leads.variables q.leads) (sums_shown q.leads) q.out (pairs_of q.queue) g.skipped.items (pairs_of left)
+  pub none : q.update ≡ Plain → NoCriterionApplies (setting_of_leads q.leads.variables q.leads) (sums_shown q.leads) (waiting (pairs_of left) q.out) (pairs_of left)
   pub skips_none : q.update ≡ Gebauer → g.skipped.items ≡ []
   pub real : Each (IsRealPair q.leads) left
   pub shared :

@@ -2,12 +2,12 @@
 use Rattle.std.specs.Prelude.{Bool, List, [], cond, false, get_or, length, ltb, ℕ, ◌&&◌, ◌<◌, ◌≡◌, ◌≤◌}
 use Rattle.basis_steps.specs.Criteria.{waiting}
 use Rattle.basis_steps.specs.Pairs.{Pair, is_same_pair, pair_of}
-use Rattle.pair_queue.specs.Rows.{RowShown}
+use Rattle.pair_queue.specs.Rows.{FlagRowShown}
 
 -- what contracts see of a table: for how many members it is; a row for each of them, with a flag for each of them; and what is there for more
 pub record TableShown : Type 0 where
   pub members : ℕ
-  pub rows : List RowShown
+  pub rows : List FlagRowShown
 
 -- for how many members it is
 abbrev pub size : TableShown → ℕ
@@ -18,11 +18,11 @@ abbrev pub room : TableShown → ℕ
 room t = length t.rows
 
 -- the flag of member c in the row of member a
-abbrev pub has_at : List RowShown → ℕ → ℕ → Bool
+abbrev pub has_at : List FlagRowShown → ℕ → ℕ → Bool
 has_at rows a c = get_or (get_or rows a (record { flags = [] })).flags c false
 
 -- the flag of a pair: in the row of the later member
-abbrev pub flag_in : List RowShown → Pair → Bool
+abbrev pub flag_in : List FlagRowShown → Pair → Bool
 flag_in rows x = ltb x.0 x.1 && has_at rows x.1 x.0
 
 -- the flag of a pair of members
@@ -43,19 +43,15 @@ abbrev pub cleared : (Pair → Bool) → Pair → Pair → Bool
 cleared f x y = cond (is_same_pair y x) false (f y)
 
 -- each pair that waits has its flag, and no other
-pub record IsTable (f : Pair → Bool) (queue : List Pair) (out : List (Pair × ℕ)) : Type 0 where
+pub record IsFlagTable (f : Pair → Bool) (queue : List Pair) (out : List (Pair × ℕ)) : Type 0 where
   pub flags : (x : Pair) → flagged f x ≡ waiting queue out x
 
--- two of so many members, the earlier first
-abbrev pub AreIndices : ℕ → Pair → Type 0
-AreIndices count x = (x.0 < x.1) × (x.1 < count)
-
 -- each of the first rows is for so many members at least
-abbrev pub AreWideTo : ℕ → ℕ → List RowShown → Type 0
-AreWideTo last count rows = (a : ℕ) (row : RowShown) → a < last → row ≡ get_or rows a row → count ≤ length row.flags
+abbrev pub AreWideTo : ℕ → ℕ → List FlagRowShown → Type 0
+AreWideTo last count rows = (a : ℕ) (row : FlagRowShown) → a < last → row ≡ get_or rows a row → count ≤ length row.flags
 
 -- each row is
-abbrev pub AreWide : ℕ → List RowShown → Type 0
+abbrev pub AreWide : ℕ → List FlagRowShown → Type 0
 AreWide count rows = AreWideTo (length rows) count rows
 
 -- the rows are square at least, each pair has its flag in the rows of both, and there is none behind the members

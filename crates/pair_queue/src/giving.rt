@@ -7,15 +7,16 @@ ghost use Rattle.basis_steps.specs.States.{job_of, with_others};
 ghost use Rattle.basis_steps.specs.Steps.{out_with};
 ghost use Rattle.queue_updates.specs.declared.Update.TheVariants as updates;
 ghost use Rattle.pair_queue.specs.Giving.{HasCleared};
-ghost use Rattle.pair_queue.specs.Pairs.{outs_of, pairs_of};
+ghost use Rattle.pair_queue.specs.Outs.{outs_of};
+ghost use Rattle.pair_updates.specs.Pairs.{pairs_of, AreIndices};
 ghost use Rattle.pair_queue.specs.Skipping.{IsKnown};
-ghost use Rattle.pair_queue.specs.Tables.{AreIndices, IsTable, flag, size};
+ghost use Rattle.pair_queue.specs.Tables.{IsFlagTable, flag, size};
 
 use crate::closing::pass;
-use crate::leads::Leads;
 use crate::out::Out;
 use crate::table::Table;
 use pair_criteria::Pair;
+use pair_updates::Leads;
 use queue_updates::Update;
 
 /// The pairs go out with the worker. There is room for them.
@@ -62,9 +63,9 @@ fn close_job(worker: u32, out: &mut Vec<Out>, leads: &Leads, waits: &mut Table, 
     ensures out { outs_of out.new.items ≡ with_others worker (outs_of out.old.items) }
     ensures waits_size { size waits.new ≡ size waits.old }
     ensures due_size { size due.new ≡ size due.old }
-    ensures table { (queue : List PlainPair) → IsTable (flag waits.old) queue (outs_of out.old.items)
-        → IsTable (flag waits.new) queue (outs_of out.new.items) }
-    ensures known { (queue : List PlainPair) → Each (AreIndices (length leads.now.keys)) queue → IsTable (flag waits.old) queue (outs_of out.old.items)
+    ensures table { (queue : List PlainPair) → IsFlagTable (flag waits.old) queue (outs_of out.old.items)
+        → IsFlagTable (flag waits.new) queue (outs_of out.new.items) }
+    ensures known { (queue : List PlainPair) → Each (AreIndices (length leads.now.keys)) queue → IsFlagTable (flag waits.old) queue (outs_of out.old.items)
         → Each (IsKnown leads.now (flag waits.old) (flag due.old)) queue → Each (IsKnown leads.now (flag waits.new) (flag due.new)) queue }
 {
     pass_all(worker, out, leads, waits, due);
@@ -86,10 +87,10 @@ pub(crate) fn close_by_update(
     ensures out { outs_of out.new.items ≡ with_others worker (outs_of out.old.items) }
     ensures waits_size { update ≡ updates.Plain → size waits.new ≡ size waits.old }
     ensures due_size { update ≡ updates.Plain → size due.new ≡ size due.old }
-    ensures table { update ≡ updates.Plain → (queue : List PlainPair) → IsTable (flag waits.old) queue (outs_of out.old.items)
-        → IsTable (flag waits.new) queue (outs_of out.new.items) }
+    ensures table { update ≡ updates.Plain → (queue : List PlainPair) → IsFlagTable (flag waits.old) queue (outs_of out.old.items)
+        → IsFlagTable (flag waits.new) queue (outs_of out.new.items) }
     ensures known { update ≡ updates.Plain → (queue : List PlainPair) → Each (AreIndices (length leads.now.keys)) queue
-        → IsTable (flag waits.old) queue (outs_of out.old.items)
+        → IsFlagTable (flag waits.old) queue (outs_of out.old.items)
         → Each (IsKnown leads.now (flag waits.old) (flag due.old)) queue → Each (IsKnown leads.now (flag waits.new) (flag due.new)) queue }
 {
     match update {

@@ -3,14 +3,9 @@
 #![tactic(auto)]
 
 mod closing;
-mod comparing;
-mod dropped;
-mod dropping;
 mod flags;
 mod given;
 mod giving;
-mod leads;
-mod merging;
 mod out;
 mod pairs;
 mod queue;
@@ -18,12 +13,9 @@ mod queueing;
 mod row;
 mod sharing;
 mod skipping;
-mod sorting;
 mod table;
-mod updating;
-mod yielding;
 
-pub use dropped::Dropped;
 pub use given::Given;
 pub use out::Out;
+pub use pair_updates::Dropped;
 pub use pairs::PairQueue;

@@ -4,15 +4,14 @@ ghost use Rattle.formal_sums.specs.FormalSums.{Each};
 ghost use Rattle.monomial_orders.specs.Kept.{IsWeighed};
 ghost use Rattle.basis_steps.specs.Updates.{QueuesPairs};
 ghost use Rattle.basis_steps.specs.States.{with_others};
-ghost use Rattle.pair_queue.specs.Dropping.{drops_of};
-ghost use Rattle.pair_queue.specs.Leads.{LeadsShown, setting_of, sums_shown};
-ghost use Rattle.pair_queue.specs.Pairs.{IsRealPair, outs_of, pairs_of};
-ghost use Rattle.pair_queue.specs.Shown.{IsGiven};
+ghost use Rattle.pair_updates.specs.Dropping.{drops_of};
+ghost use Rattle.pair_updates.specs.Leads.{LeadsShown, setting_of_leads, sums_shown};
+ghost use Rattle.pair_updates.specs.Pairs.{IsRealPair, pairs_of};
+ghost use Rattle.pair_queue.specs.Outs.{outs_of};
+ghost use Rattle.pair_queue.specs.Shown.{IsJobGiven};
 
-use crate::dropped::Dropped;
 use crate::given::Given;
 use crate::giving::{close_by_update, give};
-use crate::leads::Leads;
 use crate::out::Out;
 use crate::queue::{Queue, blank_pairs};
 use crate::queueing::queue_by;
@@ -22,6 +21,7 @@ use crate::table::Table;
 use module_vectors::{Key, NoMemory};
 use monomial_orders::{ModOrder, Order, Weights};
 use pair_criteria::Pair;
+use pair_updates::{Dropped, Leads};
 use queue_updates::Update;
 use std::alloc::Global;
 use std::marker::Model;
@@ -58,11 +58,11 @@ impl Drop for PairQueue {
 
 impl Model for PairQueue {
     ghost use Rattle.pair_queue.specs.Shown.{PairsShown};
-    ghost use Rattle.pair_queue.specs.Inside.{IsCoherent, shown};
+    ghost use Rattle.pair_queue.specs.Inside.{IsCoherent, queue_shown};
 
     ghost Value = { PairsShown };
 
-    ghost view = { shown };
+    ghost view = { queue_shown };
 
     ghost invariant = { IsCoherent };
 }
@@ -109,7 +109,7 @@ impl PairQueue {
     pub fn add(&mut self, alloc: Global, mut keys: Vec<Key>) -> Result<(), NoMemory>
         requires { Each (λ k. IsWeighed self.old.leads.variables self.old.leads.weights k.monomial) keys.items }
         ensures leads { OnOk result (self.new.leads ≡ record self.old.leads { keys = self.old.leads.keys ++ keys.items }) }
-        ensures queues { OnOk result (QueuesPairs self.old.update (setting_of self.new.leads.variables self.new.leads) (length self.old.leads.keys)
+        ensures queues { OnOk result (QueuesPairs self.old.update (setting_of_leads self.new.leads.variables self.new.leads) (length self.old.leads.keys)
             (sums_shown self.new.leads) (pairs_of self.old.queue) self.old.dropped (pairs_of self.new.queue) self.new.dropped) }
         ensures out { OnOk result (self.new.out ≡ self.old.out) }
         ensures update { OnOk result (self.new.update ≡ self.old.update) }
@@ -150,7 +150,7 @@ impl PairQueue {
     ) -> Result<Given, NoMemory>
         requires workers { 0 < workers }
         requires taken { taken ≤ budget }
-        ensures ok { IfOk result (λ g. IsGiven self.old worker budget workers taken most g self.new) }
+        ensures ok { IfOk result (λ g. IsJobGiven self.old worker budget workers taken most g self.new) }
         ensures budget { IfOk result (λ g. taken + length g.pairs.items ≤ budget) }
         ensures err { OnErr result (self.new ≡ self.old) }
     {

@@ -4,26 +4,51 @@ ghost use Rattle.formal_sums.specs.FormalSums.{Each};
 ghost use Rattle.basis_steps.specs.Pairs.{Pair as PlainPair};
 ghost use Rattle.basis_steps.specs.Queues.{IsSorted, QueuesNewPairs};
 ghost use Rattle.basis_steps.specs.States.{pairs_out};
-ghost use Rattle.basis_steps.specs.Updates.{QueuesPairs};
+ghost use Rattle.basis_steps.specs.Updates.{QueuesPairs, Updates};
 ghost use Rattle.queue_updates.specs.declared.Update.TheVariants as updates;
-ghost use Rattle.pair_queue.specs.Dropping.{drops_of};
-ghost use Rattle.pair_queue.specs.Leads.{lead_sums, setting_of, sums_shown};
-ghost use Rattle.pair_queue.specs.Pairs.{IsRealPair, pairs_of};
+ghost use Rattle.pair_updates.specs.Dropping.{drops_of};
+ghost use Rattle.pair_updates.specs.Leads.{lead_sums, setting_of_leads, sums_shown};
+ghost use Rattle.pair_updates.specs.Pairs.{IsRealPair, pairs_of, AreIndices};
 ghost use Rattle.pair_queue.specs.Skipping.{IsKnown};
-ghost use Rattle.pair_queue.specs.Tables.{AreIndices, HasSameFlags, IsTable, flag, size};
+ghost use Rattle.pair_queue.specs.Tables.{HasSameFlags, IsFlagTable, flag, size};
 
-use crate::dropped::Dropped;
-use crate::flags::{flag_pairs, new_pairs};
-use crate::leads::Leads;
-use crate::merging::merge;
+use crate::flags::flag_pairs;
 use crate::queue::Queue;
-use crate::sorting::sort_pairs;
 use crate::table::Table;
-use crate::updating::update_queue;
 use module_vectors::NoMemory;
+use pair_updates::{Dropped, Leads, merge, new_pairs, sort_pairs, updated};
 use queue_updates::Update;
 use std::alloc::Global;
 use std::mem::replace;
+
+// Does the update with each of the members from number `first` on, in their order: pairs leave the queue, and of the new ones
+// those join it, each in its place, that the rules leave; the others are dropped. After an error queue and dropped pairs are
+// as before.
+fn update_queue(
+    alloc: Global,
+    leads: &Leads,
+    first: usize,
+    queue: &mut Queue,
+    dropped: &mut Vec<Dropped>,
+) -> Result<(), NoMemory>
+    requires first { first ≤ length leads.now.keys }
+    requires real { Each (IsRealPair leads.now) queue.old.items }
+    requires earlier { Each (AreIndices first) (pairs_of queue.old.items) }
+    requires sorted { IsSorted (setting_of_leads leads.now.variables leads.now) (sums_shown leads.now) (pairs_of queue.old.items) }
+    ensures real { OnOk result (Each (IsRealPair leads.now) queue.new.items) }
+    ensures updates { OnOk result (Updates (setting_of_leads leads.now.variables leads.now) first (sums_shown leads.now)
+        (pairs_of queue.old.items) (drops_of dropped.old.items) (pairs_of queue.new.items) (drops_of dropped.new.items)) }
+    ensures queue_kept { OnErr result (queue.new.items ≡ queue.old.items) }
+    ensures dropped_kept { OnErr result (dropped.new.items ≡ dropped.old.items) }
+{
+    if first >= leads.len() {
+        return Ok(());
+    }
+    let (pairs, mut added) = updated(alloc, leads, first, queue.as_slice())?;
+    dropped.append(&mut added)?;
+    *queue = Queue::from_vec(pairs);
+    Ok(())
+}
 
 /// Queues the pairs of the members from number `first` on with every earlier one whose lead stands at the same position,
 /// each in its place, and flags them. After an error queue and flags are as before.
@@ -38,17 +63,17 @@ pub(crate) fn queue_new_pairs(
     requires first { first ≤ length leads.now.keys }
     requires real { Each (IsRealPair leads.now) queue.old.items }
     requires within { Each (AreIndices first) (pairs_of queue.old.items) }
-    requires sorted { IsSorted (setting_of leads.now.variables leads.now) (sums_shown leads.now) (pairs_of queue.old.items) }
+    requires sorted { IsSorted (setting_of_leads leads.now.variables leads.now) (sums_shown leads.now) (pairs_of queue.old.items) }
     requires waits { size waits.old ≡ first }
     requires due { size due.old ≡ first }
     ensures real { OnOk result (Each (IsRealPair leads.now) queue.new.items) }
-    ensures queues { OnOk result (QueuesNewPairs (setting_of leads.now.variables leads.now) first
+    ensures queues { OnOk result (QueuesNewPairs (setting_of_leads leads.now.variables leads.now) first
         (sums_shown leads.now) (pairs_of queue.old.items) (pairs_of queue.new.items)) }
     ensures waits { OnOk result (size waits.new ≡ length leads.now.keys) }
     ensures due { OnOk result (size due.new ≡ length leads.now.keys) }
     ensures table { OnOk result ((out : List (PlainPair × ℕ)) → Each (AreIndices first) (pairs_out out)
-        → IsTable (flag waits.old) (pairs_of queue.old.items) out → IsTable (flag waits.new) (pairs_of queue.new.items) out) }
-    ensures known { OnOk result ((out : List (PlainPair × ℕ)) → IsTable (flag waits.old) (pairs_of queue.old.items) out
+        → IsFlagTable (flag waits.old) (pairs_of queue.old.items) out → IsFlagTable (flag waits.new) (pairs_of queue.new.items) out) }
+    ensures known { OnOk result ((out : List (PlainPair × ℕ)) → IsFlagTable (flag waits.old) (pairs_of queue.old.items) out
         → Each (IsKnown (record leads.now { keys = take first leads.now.keys }) (flag waits.old) (flag due.old)) (pairs_of queue.old.items)
         → Each (IsKnown leads.now (flag waits.new) (flag due.new)) (pairs_of queue.new.items)) }
     ensures queue_kept { OnErr result (queue.new.items ≡ queue.old.items) }
@@ -83,18 +108,18 @@ pub(crate) fn queue_by(
     requires first { first ≤ length leads.now.keys }
     requires real { Each (IsRealPair leads.now) queue.old.items }
     requires within { Each (AreIndices first) (pairs_of queue.old.items) }
-    requires sorted { IsSorted (setting_of leads.now.variables leads.now) (sums_shown leads.now) (pairs_of queue.old.items) }
+    requires sorted { IsSorted (setting_of_leads leads.now.variables leads.now) (sums_shown leads.now) (pairs_of queue.old.items) }
     requires waits { update ≡ updates.Plain → size waits.old ≡ first }
     requires due { update ≡ updates.Plain → size due.old ≡ first }
     ensures real { OnOk result (Each (IsRealPair leads.now) queue.new.items) }
-    ensures queues { OnOk result (QueuesPairs update (setting_of leads.now.variables leads.now) first (sums_shown leads.now)
+    ensures queues { OnOk result (QueuesPairs update (setting_of_leads leads.now.variables leads.now) first (sums_shown leads.now)
         (pairs_of queue.old.items) (drops_of dropped.old.items) (pairs_of queue.new.items) (drops_of dropped.new.items)) }
-    ensures sorted { OnOk result (IsSorted (setting_of leads.now.variables leads.now) (sums_shown leads.now) (pairs_of queue.new.items)) }
+    ensures sorted { OnOk result (IsSorted (setting_of_leads leads.now.variables leads.now) (sums_shown leads.now) (pairs_of queue.new.items)) }
     ensures waits { OnOk result (update ≡ updates.Plain → size waits.new ≡ length leads.now.keys) }
     ensures due { OnOk result (update ≡ updates.Plain → size due.new ≡ length leads.now.keys) }
     ensures table { OnOk result (update ≡ updates.Plain → (out : List (PlainPair × ℕ)) → Each (AreIndices first) (pairs_out out)
-        → IsTable (flag waits.old) (pairs_of queue.old.items) out → IsTable (flag waits.new) (pairs_of queue.new.items) out) }
-    ensures known { OnOk result (update ≡ updates.Plain → (out : List (PlainPair × ℕ)) → IsTable (flag waits.old) (pairs_of queue.old.items) out
+        → IsFlagTable (flag waits.old) (pairs_of queue.old.items) out → IsFlagTable (flag waits.new) (pairs_of queue.new.items) out) }
+    ensures known { OnOk result (update ≡ updates.Plain → (out : List (PlainPair × ℕ)) → IsFlagTable (flag waits.old) (pairs_of queue.old.items) out
         → Each (IsKnown (record leads.now { keys = take first leads.now.keys }) (flag waits.old) (flag due.old)) (pairs_of queue.old.items)
         → Each (IsKnown leads.now (flag waits.new) (flag due.new)) (pairs_of queue.new.items)) }
     ensures queue_kept { OnErr result (queue.new.items ≡ queue.old.items) }

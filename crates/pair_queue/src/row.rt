@@ -1,7 +1,7 @@
 // One row of a table.
 ghost use Rattle.std.specs.Int.{bit_at};
-ghost use Rattle.std.specs.Prelude.{ℕ, [], ◌≡◌, ◌<◌, ◌≤◌, ◌-◌, ◌==◌, OnOk, MatchOption, cond, false, get_or, true, min, nat_eq, length};
-ghost use Rattle.pair_queue.specs.Rows.{IsFirstWithout};
+ghost use Rattle.std.specs.Prelude.{ℕ, [], ◌≡◌, ◌<◌, ◌≤◌, ◌&&◌, ◌==◌, OnOk, cond, false, get_or, nat_eq, not, length};
+ghost use Rattle.pair_queue.specs.Rows.{IsWithout};
 
 use module_vectors::NoMemory;
 use std::alloc::Global;
@@ -21,9 +21,9 @@ impl Drop for Row {
 
 impl Model for Row {
     ghost use Rattle.std.specs.Prelude.{length, ◌^◌, ◌≤◌};
-    ghost use Rattle.pair_queue.specs.Rows.{RowShown, flags_of};
+    ghost use Rattle.pair_queue.specs.Rows.{FlagRowShown, flags_of};
 
-    ghost Value = { RowShown };
+    ghost Value = { FlagRowShown };
 
     ghost view = { λ r. record { flags = flags_of r.words.items } };
 
@@ -46,13 +46,11 @@ fn with_flag(word: u64, place: usize, set: bool) -> u64
     if set { word | flag } else { word & !flag }
 }
 
-// The flags of a word, from the place `low` on, that the other has not.
-fn flags_without(mine: u64, theirs: u64, low: usize) -> u64
-    requires { low < 64 }
-    ensures below { (r : ℕ) → r < low → bit_at result r ≡ 0 }
-    ensures flags { (r : ℕ) → low ≤ r → r < 64 → bit_at result r ≡ min (bit_at mine r) (1 - bit_at theirs r) }
+// The flags of a word that the other has not.
+fn flags_without(mine: u64, theirs: u64) -> u64
+    ensures { (r : ℕ) → r < 64 → (bit_at result r == 1) ≡ (bit_at mine r == 1) && not (bit_at theirs r == 1) }
 {
-    mine & !theirs & (u64::MAX << low)
+    mine & !theirs
 }
 
 impl Row {
@@ -95,19 +93,10 @@ impl Row {
         self.words[index / 64] = with_flag(self.words[index / 64], index % 64, set);
     }
 
-    /// The first index from `first` on with a flag here and none in the other row.
-    pub(crate) fn first_without(&self, other: &Row, first: usize) -> Option<usize>
-        ensures { MatchOption result
-            ((i : ℕ) → first ≤ i → get_or self.now.flags i false ≡ true → get_or other.now.flags i false ≡ true)
-            (IsFirstWithout self.now.flags other.now.flags first) }
+    /// Which of the 64 flags from index 64·`index` on stand here and not in the other row: a bit for each.
+    pub(crate) fn word_without(&self, other: &Row, index: usize) -> u64
+        ensures { IsWithout self.now.flags other.now.flags index result }
     {
-        for index in first / 64..self.words.len() {
-            let low = first.saturating_sub(64 * index);
-            let left = flags_without(self.words[index], word_at(&other.words, index), low);
-            if left != 0 {
-                return Some(64 * index + left.trailing_zeros() as usize);
-            }
-        }
-        None
+        flags_without(word_at(&self.words, index), word_at(&other.words, index))
     }
 }

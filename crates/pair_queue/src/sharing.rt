@@ -3,15 +3,15 @@ ghost use Rattle.std.specs.Prelude.{◌≡◌, ◌<◌, ◌≤◌, ◌-◌, leng
 ghost use Rattle.formal_sums.specs.FormalSums.{Each};
 ghost use Rattle.basis_steps.specs.Queues.{IsSorted, number_of_least_degree, share};
 ghost use Rattle.basis_steps.specs.States.{Run};
-ghost use Rattle.pair_queue.specs.Pairs.{HasLcm, pairs_of};
-ghost use Rattle.pair_queue.specs.Leads.{LeadsShown, setting_of, sums_shown};
+ghost use Rattle.pair_updates.specs.Pairs.{HasLcm, pairs_of};
+ghost use Rattle.pair_updates.specs.Leads.{LeadsShown, setting_of_leads, sums_shown};
 
 use pair_criteria::Pair;
 
 // How many pairs of the queue have lcms of the degree of its first: in a sorted queue they stand before all others.
 fn count_least_degree(queue: &[Pair]) -> u64
-    ensures count { (m : LeadsShown) → Each (HasLcm m) queue.now → IsSorted (setting_of m.variables m) (sums_shown m) (pairs_of queue.now)
-        → result ≡ number_of_least_degree (setting_of m.variables m) (sums_shown m) (pairs_of queue.now) }
+    ensures count { (m : LeadsShown) → Each (HasLcm m) queue.now → IsSorted (setting_of_leads m.variables m) (sums_shown m) (pairs_of queue.now)
+        → result ≡ number_of_least_degree (setting_of_leads m.variables m) (sums_shown m) (pairs_of queue.now) }
     ensures few { result ≤ length queue.now }
 {
     if queue.is_empty() {
@@ -32,7 +32,7 @@ pub(crate) fn share_of(budget: u64, workers: u32, taken: u64, most: u64, queue: 
     requires workers { 0 < workers }
     requires taken { taken ≤ budget }
     ensures share { (m : LeadsShown) (r : Run m.variables) → r.budget ≡ budget → r.workers ≡ workers → r.setting.weights ≡ m.weights
-        → Each (HasLcm m) queue.now → IsSorted (setting_of m.variables m) (sums_shown m) (pairs_of queue.now)
+        → Each (HasLcm m) queue.now → IsSorted (setting_of_leads m.variables m) (sums_shown m) (pairs_of queue.now)
         → result ≡ share r (sums_shown m) taken most (pairs_of queue.now) }
     ensures few { result ≤ length queue.now }
     ensures budget { result ≤ budget - taken }

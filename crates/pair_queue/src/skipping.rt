@@ -3,20 +3,20 @@ ghost use Rattle.std.specs.Prelude.{◌≡◌, ◌<◌, ◌≤◌, ◌+◌, ◌-
 ghost use Rattle.std.specs.Vec.{vec_capacity};
 ghost use Rattle.formal_sums.specs.FormalSums.{Each};
 ghost use Rattle.pair_criteria.specs.declared.pair.Pair.{Pair as CodePair};
-ghost use Rattle.pair_queue.specs.Leads.{LeadsShown, setting_of, sums_shown};
-ghost use Rattle.pair_queue.specs.Pairs.{IsRealPair, pair_of, pairs_of};
+ghost use Rattle.pair_updates.specs.Leads.{LeadsShown, setting_of_leads, sums_shown};
+ghost use Rattle.pair_updates.specs.Pairs.{IsRealPair, pair_of, pairs_of, AreIndices};
 ghost use Rattle.pair_queue.specs.Skipping.{AreSkipped, IsKnown, IsSpared, NoneIsSpared};
-ghost use Rattle.pair_queue.specs.Tables.{AreIndices, IsTable, cleared, flag, size};
+ghost use Rattle.pair_queue.specs.Tables.{IsFlagTable, cleared, flag, size};
 ghost use Rattle.basis_steps.specs.Pairs.{Pair as PlainPair};
 ghost use Rattle.basis_steps.specs.Queues.{IsSorted};
 ghost use Rattle.queue_updates.specs.declared.Update.TheVariants as updates;
 
 use crate::closing::pass;
-use crate::leads::Leads;
 use crate::queue::Queue;
 use crate::table::Table;
 use monomial_orders::Mono;
 use pair_criteria::Pair;
+use pair_updates::Leads;
 use queue_updates::Update;
 
 // How many of the kept pairs stand before those at their end whose lcms have this monomial.
@@ -92,7 +92,7 @@ fn skip_pair(
     requires pair { AreIndices (length leads.now.keys) pair }
     requires spared { IsSpared leads.now (flag waits.old) pair }
     requires place { pairs_of (drop next queue.old.items) ≡ pair ∷ pairs_of (drop (next + 1) queue.old.items) }
-    requires sorted { IsSorted (setting_of leads.now.variables leads.now) (sums_shown leads.now)
+    requires sorted { IsSorted (setting_of_leads leads.now.variables leads.now) (sums_shown leads.now)
         (pairs_of (take kept queue.old.items) ++ pairs_of (drop next queue.old.items)) }
     requires none { NoneIsSpared leads.now (flag waits.old) (pairs_of (take kept queue.old.items)) }
     requires known { Each (IsKnown leads.now (flag waits.old) (flag due.old))
@@ -144,14 +144,14 @@ pub(crate) fn skip(
     requires waits { size waits.old ≡ length leads.now.keys }
     requires due { size due.old ≡ length leads.now.keys }
     requires real { Each (IsRealPair leads.now) queue.old.items }
-    requires sorted { IsSorted (setting_of leads.now.variables leads.now) (sums_shown leads.now) (pairs_of queue.old.items) }
+    requires sorted { IsSorted (setting_of_leads leads.now.variables leads.now) (sums_shown leads.now) (pairs_of queue.old.items) }
     requires skipped { (skipped.old.items ≡ []) × (length queue.old.items ≤ vec_capacity skipped.old) }
     requires known { Each (IsKnown leads.now (flag waits.old) (flag due.old)) (pairs_of queue.old.items) }
     ensures waits_size { size waits.new ≡ size waits.old }
     ensures due_size { size due.new ≡ size due.old }
     ensures few { length queue.new.items ≤ length queue.old.items }
     ensures real { Each (IsRealPair leads.now) queue.new.items }
-    ensures skips { (out : List (PlainPair × ℕ)) → IsTable (flag waits.old) (pairs_of queue.old.items) out
+    ensures skips { (out : List (PlainPair × ℕ)) → IsFlagTable (flag waits.old) (pairs_of queue.old.items) out
         → AreSkipped leads.now out (pairs_of queue.old.items) skipped.new.items (pairs_of queue.new.items) (flag waits.new) }
     ensures none { NoneIsSpared leads.now (flag waits.new) (pairs_of queue.new.items) }
     ensures known { Each (IsKnown leads.now (flag waits.new) (flag due.new)) (pairs_of queue.new.items) }
@@ -186,14 +186,14 @@ pub(crate) fn skip_by(
     requires waits { update ≡ updates.Plain → size waits.old ≡ length leads.now.keys }
     requires due { update ≡ updates.Plain → size due.old ≡ length leads.now.keys }
     requires real { Each (IsRealPair leads.now) queue.old.items }
-    requires sorted { IsSorted (setting_of leads.now.variables leads.now) (sums_shown leads.now) (pairs_of queue.old.items) }
+    requires sorted { IsSorted (setting_of_leads leads.now.variables leads.now) (sums_shown leads.now) (pairs_of queue.old.items) }
     requires skipped { (skipped.old.items ≡ []) × (length queue.old.items ≤ vec_capacity skipped.old) }
     requires known { update ≡ updates.Plain → Each (IsKnown leads.now (flag waits.old) (flag due.old)) (pairs_of queue.old.items) }
     ensures waits_size { update ≡ updates.Plain → size waits.new ≡ size waits.old }
     ensures due_size { update ≡ updates.Plain → size due.new ≡ size due.old }
     ensures few { length queue.new.items ≤ length queue.old.items }
     ensures real { Each (IsRealPair leads.now) queue.new.items }
-    ensures skips { update ≡ updates.Plain → (out : List (PlainPair × ℕ)) → IsTable (flag waits.old) (pairs_of queue.old.items) out
+    ensures skips { update ≡ updates.Plain → (out : List (PlainPair × ℕ)) → IsFlagTable (flag waits.old) (pairs_of queue.old.items) out
         → AreSkipped leads.now out (pairs_of queue.old.items) skipped.new.items (pairs_of queue.new.items) (flag waits.new) }
     ensures none { update ≡ updates.Plain → NoneIsSpared leads.now (flag waits.new) (pairs_of queue.new.items) }
     ensures known { update ≡ updates.Plain → Each (IsKnown leads.now (flag waits.new) (flag due.new)) (pairs_of queue.new.items) }

@@ -1,5 +1,6 @@
 // A flag for each pair.
-ghost use Rattle.std.specs.Prelude.{ℕ, ◌≡◌, ◌<◌, ◌≤◌, ◌+◌, ◌&&◌, OnErr, OnOk, cond, false, get_or, true, length, nat_eq};
+ghost use Rattle.std.specs.Int.{bit_at};
+ghost use Rattle.std.specs.Prelude.{ℕ, ◌≡◌, ◌<◌, ◌≤◌, ◌+◌, ◌*◌, ◌&&◌, ◌==◌, OnErr, OnOk, cond, false, length, nat_eq, not};
 ghost use Rattle.basis_steps.specs.Pairs.{Pair as PlainPair, is_same_pair, pair_of};
 ghost use Rattle.pair_queue.specs.Tables.{AreWide, AreWideTo, HasSameFlags, flag, has_at, room, size};
 
@@ -157,20 +158,15 @@ impl Table {
         put_at(&mut self.rows, i, j, set);
     }
 
-    /// The first member from `first` on whose pair with a has its flag here, and whose pair with b has none in the other
-    /// table; the number of members where there is none.
-    pub(crate) fn first_without(&self, a: usize, other: &Table, b: usize, first: usize) -> usize
+    /// Which of the 64 members from number 64·`index` on have their flag with a here, and none with b in the other table: a bit for
+    /// each.
+    pub(crate) fn word_without(&self, a: usize, other: &Table, b: usize, index: usize) -> u64
         requires a { a < size self.now }
         requires b { b < size self.now }
         requires sizes { size other.now ≡ size self.now }
-        ensures before { (c : ℕ) → first ≤ c → c < result → (flag self.now) (pair_of a c) ≡ true → (flag other.now) (pair_of b c) ≡ true }
-        ensures here { result < size self.now → (flag self.now) (pair_of a result) ≡ true }
-        ensures there { result < size self.now → (flag other.now) (pair_of b result) ≡ false }
-        ensures later { result < size self.now → first ≤ result }
+        ensures { (r : ℕ) → r < 64
+            → (bit_at result r == 1) ≡ (flag self.now (pair_of a (64 * index + r)) && not (flag other.now (pair_of b (64 * index + r)))) }
     {
-        match self.rows[a].first_without(&other.rows[b], first) {
-            Some(member) => member,
-            None => self.members,
-        }
+        self.rows[a].word_without(&other.rows[b], index)
     }
 }

@@ -2,7 +2,7 @@ use Rattle.std.proofs.Common.{arith, false, inl, inr, subst, sym, true, ℕ, ◌
 use Rattle.std.proofs.lemmas.Bool.{cases_lt}
 use Rattle.basis_steps.proofs.Counting.{pair_ordered, pair_swapped}
 use Rattle.basis_steps.specs.Pairs.{Pair, is_same_pair}
-use Rattle.pair_queue.specs.Skipping.{DividesLcm}
+use Rattle.pair_updates.specs.LeadCriteria.{DividesLcm}
 use Rattle.pair_queue.specs.Tables.{flag}
 use Rattle.pair_queue.proofs.closing.close_one.Goals as goal
 

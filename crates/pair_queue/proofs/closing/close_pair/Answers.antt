@@ -2,7 +2,7 @@ use Rattle.std.proofs.Common.{false, refl, sym, ◌∙◌}
 use Rattle.std.proofs.lemmas.Bool.{false≢true}
 use Rattle.basis_steps.specs.Pairs.{Pair}
 use Rattle.pair_queue.proofs.Putting.{put_fewer, put_here, put_other}
-use Rattle.pair_queue.proofs.Sparing.{not_true}
+use Rattle.pair_updates.proofs.CriterionTests.{not_true}
 use Rattle.pair_queue.specs.Tables.{flag}
 use Rattle.pair_queue.proofs.closing.close_pair.Goals as goal
 

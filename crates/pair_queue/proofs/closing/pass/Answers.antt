@@ -3,7 +3,7 @@ use Rattle.std.proofs.lemmas.Bool.{false≢true}
 use Rattle.basis_steps.proofs.Counting.{pair_ordered, pair_swapped}
 use Rattle.basis_steps.specs.Pairs.{pair_of}
 use Rattle.pair_queue.proofs.Putting.{either, put_fewer, put_here, still_free, still_shut}
-use Rattle.pair_queue.specs.Leads.{setting_of, sums_shown}
+use Rattle.pair_updates.specs.Leads.{setting_of_leads, sums_shown}
 use Rattle.pair_queue.specs.Tables.{cleared, flag}
 use Rattle.pair_queue.proofs.closing.pass.Goals as goal
 
@@ -35,7 +35,7 @@ returns-clause-waits c = λ t x. c.put.ensures.flags x t
 pub returns-clause-known : goal.returns-clause-known
 returns-clause-known c = λ x lt same known.
     let m = c.args.leads.now in
-    let S = setting_of m.variables m in
+    let S = setting_of_leads m.variables m in
     let G = sums_shown m in
     let now : flag c.put.new.self ≡ cleared (flag c.args.waits.now) (c.args.i, c.args.j) = λ t z. c.put.ensures.flags z t in
     record {

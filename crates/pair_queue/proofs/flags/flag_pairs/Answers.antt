@@ -5,12 +5,12 @@ use Rattle.pair_criteria.specs.declared.pair.Pair.{Pair as CodePair}
 use Rattle.basis_steps.proofs.Counting.{count-append}
 use Rattle.basis_steps.specs.Criteria.{IsPair}
 use Rattle.basis_steps.specs.Pairs.{Pair, count, is_same_pair}
-use Rattle.pair_queue.proofs.Leading.{leads_length}
+use Rattle.pair_updates.proofs.Leading.{leads_length}
 use Rattle.pair_queue.proofs.OutPairs.{take_next}
 use Rattle.pair_queue.proofs.Putting.{each_more, others_more, set_more}
-use Rattle.pair_queue.specs.Leads.{sums_shown}
-use Rattle.pair_queue.specs.Pairs.{pair_of, pairs_of}
-use Rattle.pair_queue.specs.Skipping.{ProductSpares}
+use Rattle.pair_updates.specs.Leads.{sums_shown}
+use Rattle.pair_updates.specs.Pairs.{pair_of, pairs_of}
+use Rattle.pair_updates.specs.LeadCriteria.{ProductSpares}
 use Rattle.pair_queue.specs.Tables.{flag}
 use Rattle.pair_queue.proofs.flags.flag_pairs.Goals as goal
 

@@ -1,7 +1,7 @@
 use Rattle.std.proofs.Common.{cond, false, length, ltb, take, true, ◌<◌, ◌≡◌}
 use Rattle.basis_steps.specs.Pairs.{Pair, count}
-use Rattle.pair_queue.specs.Pairs.{pairs_of}
-use Rattle.pair_queue.specs.Skipping.{ProductSpares}
+use Rattle.pair_updates.specs.Pairs.{pairs_of}
+use Rattle.pair_updates.specs.LeadCriteria.{ProductSpares}
 use Rattle.pair_queue.specs.Tables.{flag, size}
 use Rattle.pair_queue.proofs.flags.flag_pairs.Given as goal
 

@@ -2,7 +2,7 @@ use Rattle.std.proofs.Common.{ap, not, refl, rules, ◌==◌, ◌∙◌, ◌≡�
 use Rattle.std.proofs.lemmas.Fn.{filter_same}
 use Rattle.std.specs.List.{filter}
 use Rattle.pair_queue.specs.declared.out.Out.{Out}
-use Rattle.pair_queue.specs.Pairs.{outs_of}
+use Rattle.pair_queue.specs.Outs.{outs_of}
 use Rattle.pair_queue.proofs.Clearing.{kept_out}
 use Rattle.pair_queue.proofs.giving.close_by_update.Goals as goal
 

@@ -6,10 +6,10 @@ use Rattle.basis_steps.specs.Pairs.{Pair, count}
 use Rattle.basis_steps.specs.States.{job_of}
 use Rattle.pair_queue.specs.declared.out.Out.{Out}
 use Rattle.pair_queue.specs.Giving.{HasCleared}
-use Rattle.pair_queue.specs.Pairs.{outs_of}
-use Rattle.pair_queue.specs.Leads.{LeadsShown}
+use Rattle.pair_queue.specs.Outs.{outs_of}
+use Rattle.pair_updates.specs.Leads.{LeadsShown}
 use Rattle.pair_queue.specs.Skipping.{IsKnown}
-use Rattle.pair_queue.specs.Tables.{IsTable, flag}
+use Rattle.pair_queue.specs.Tables.{IsFlagTable, flag}
 use Rattle.pair_queue.proofs.Clearing.{kept_out, table_closed}
 use Rattle.pair_queue.proofs.Knowing.{known_apart}
 use Rattle.pair_queue.proofs.Tabling.{one_at_most}
@@ -29,7 +29,7 @@ returns-clause-table c = λ queue t.
     let new = flag c.pass_all.new.waits in
     let cleared : HasCleared (job_of w (outs_of c.args.out.now.items)) old new =
     subst (λ (l : List Out). HasCleared (job_of w (outs_of l)) old new) c.deref.ensures.value c.pass_all.ensures.flags in
-    subst (IsTable new queue) (sym (returns-clause-out c)) (table_closed w queue (outs_of c.args.out.now.items) old new cleared t)
+    subst (IsFlagTable new queue) (sym (returns-clause-out c)) (table_closed w queue (outs_of c.args.out.now.items) old new cleared t)
 
 pub returns-clause-known : goal.returns-clause-known
 returns-clause-known c = λ queue within t known.

@@ -2,7 +2,8 @@ use Rattle.std.proofs.Common.{List, [], ap, arith, sym, take, ◌++◌, ◌+◌,
 use Rattle.basis_steps.specs.Pairs.{Pair}
 use Rattle.basis_steps.specs.Steps.{out_with}
 use Rattle.pair_queue.proofs.OutPairs.{outs_next, take_next}
-use Rattle.pair_queue.specs.Pairs.{outs_of, pair_of, pairs_of}
+use Rattle.pair_queue.specs.Outs.{outs_of}
+use Rattle.pair_updates.specs.Pairs.{pair_of, pairs_of}
 use Rattle.pair_queue.proofs.giving.give.Goals as goal
 
 pub loop-k-preserved : goal.loop-k-preserved

@@ -1,7 +1,8 @@
 use Rattle.std.proofs.Common.{length, take, ◌++◌, ◌+◌, ◌-◌, ◌≡◌, ◌≤◌}
 use Rattle.std.specs.Vec.{vec_capacity}
 use Rattle.basis_steps.specs.Steps.{out_with}
-use Rattle.pair_queue.specs.Pairs.{outs_of, pairs_of}
+use Rattle.pair_queue.specs.Outs.{outs_of}
+use Rattle.pair_updates.specs.Pairs.{pairs_of}
 use Rattle.pair_queue.proofs.giving.give.Given as goal
 
 abbrev pub invariant-loop-k : goal.invariant-loop-k

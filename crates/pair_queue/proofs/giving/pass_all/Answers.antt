@@ -6,8 +6,8 @@ use Rattle.basis_steps.specs.States.{job_of}
 use Rattle.pair_queue.proofs.Clearing.{mine_taken, more_cleared, other_taken}
 use Rattle.pair_queue.specs.declared.out.Out.{Out}
 use Rattle.pair_queue.specs.Giving.{HasCleared}
-use Rattle.pair_queue.specs.Leads.{LeadsShown}
-use Rattle.pair_queue.specs.Pairs.{outs_of}
+use Rattle.pair_updates.specs.Leads.{LeadsShown}
+use Rattle.pair_queue.specs.Outs.{outs_of}
 use Rattle.pair_queue.specs.Skipping.{IsKnown}
 use Rattle.pair_queue.specs.Tables.{TableShown, flag, size}
 use Rattle.pair_queue.proofs.giving.pass_all.Goals as goal

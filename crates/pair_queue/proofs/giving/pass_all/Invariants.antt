@@ -2,7 +2,7 @@ use Rattle.std.proofs.Common.{length, take, ◌<◌, ◌≡◌}
 use Rattle.basis_steps.specs.Pairs.{Pair, count}
 use Rattle.basis_steps.specs.States.{job_of}
 use Rattle.pair_queue.specs.Giving.{HasCleared}
-use Rattle.pair_queue.specs.Pairs.{outs_of}
+use Rattle.pair_queue.specs.Outs.{outs_of}
 use Rattle.pair_queue.specs.Skipping.{IsKnown}
 use Rattle.pair_queue.specs.Tables.{flag, size}
 use Rattle.pair_queue.proofs.giving.pass_all.Given as goal

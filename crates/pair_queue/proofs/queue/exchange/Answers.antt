@@ -1,5 +1,5 @@
 use Rattle.std.proofs.Common.{arith, set, ◌+◌, ◌∙◌}
-use Rattle.pair_queue.proofs.Swapping.{exchanged_one, rest_one, set_length}
+use Rattle.pair_updates.proofs.Swapping.{exchanged_one, rest_one, set_length}
 use Rattle.pair_queue.proofs.queue.exchange.Goals as goal
 
 pub loop-k-preserved : goal.loop-k-preserved

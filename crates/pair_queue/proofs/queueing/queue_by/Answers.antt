@@ -1,8 +1,8 @@
 use Rattle.std.proofs.Common.{refl, subst, sym}
 use Rattle.basis_steps.specs.Updates.{QueuesPairs}
-use Rattle.pair_queue.specs.Dropping.{drops_of}
-use Rattle.pair_queue.specs.Leads.{setting_of, sums_shown}
-use Rattle.pair_queue.specs.Pairs.{pairs_of}
+use Rattle.pair_updates.specs.Dropping.{drops_of}
+use Rattle.pair_updates.specs.Leads.{setting_of_leads, sums_shown}
+use Rattle.pair_updates.specs.Pairs.{pairs_of}
 use Rattle.pair_queue.proofs.queueing.queue_by.Goals as goal
 
 pub queue_new_pairs-requires : goal.queue_new_pairs-requires
@@ -24,7 +24,7 @@ returns-in_ok-queue_new_pairs-in-Plain c =
     let h = c.in_ok-queue_new_pairs-in-Plain.ensures in
     record {
       real = h.real;
-      queues = subst (λ u. QueuesPairs u (setting_of m.variables m) c.args.first (sums_shown m) (pairs_of c.args.queue.now.items) (drops_of c.args.dropped.now.items)
+      queues = subst (λ u. QueuesPairs u (setting_of_leads m.variables m) c.args.first (sums_shown m) (pairs_of c.args.queue.now.items) (drops_of c.args.dropped.now.items)
           (pairs_of c.queue_new_pairs.new.queue.items) (drops_of c.args.dropped.now.items)) (sym c.in-Plain.is) (h.queues, refl);
       sorted = h.queues.sorted;
       waits = λ e. h.waits;
@@ -43,7 +43,7 @@ returns-in_ok-update_queue-in-Gebauer c =
     let h = c.in_ok-update_queue-in-Gebauer.ensures in
     record {
       real = h.real;
-      queues = subst (λ u. QueuesPairs u (setting_of m.variables m) c.args.first (sums_shown m) (pairs_of c.args.queue.now.items) (drops_of c.args.dropped.now.items)
+      queues = subst (λ u. QueuesPairs u (setting_of_leads m.variables m) c.args.first (sums_shown m) (pairs_of c.args.queue.now.items) (drops_of c.args.dropped.now.items)
           (pairs_of c.update_queue.new.queue.items) (drops_of c.update_queue.new.dropped.items)) (sym c.in-Gebauer.is) h.updates;
       sorted = h.updates.sorted;
       waits = λ e. absurd cc;

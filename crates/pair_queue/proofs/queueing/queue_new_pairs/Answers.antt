@@ -6,14 +6,15 @@ use Rattle.basis_steps.specs.Criteria.{IsPair}
 use Rattle.basis_steps.specs.Pairs.{Pair, count}
 use Rattle.basis_steps.specs.Queues.{IsSorted, is_new_pair}
 use Rattle.pair_criteria.specs.declared.pair.Pair.{Pair as CodePair}
-use Rattle.pair_queue.proofs.Adding.{known_more, merged_reals, new_reals, reals_of, table_more}
-use Rattle.pair_queue.proofs.Leading.{lcms_of, pairs_real}
-use Rattle.pair_queue.proofs.NewPairs.{old_is_not_new}
-use Rattle.pair_queue.proofs.SameLeads.{each_queued}
-use Rattle.pair_queue.specs.Leads.{LeadsShown, setting_of, sums_shown}
-use Rattle.pair_queue.specs.Pairs.{HasLcm, pair_of, pairs_of}
+use Rattle.pair_queue.proofs.Adding.{known_more, merged_reals, new_reals, table_more}
+use Rattle.pair_updates.proofs.PairLists.{reals_of}
+use Rattle.pair_updates.proofs.Leading.{lcms_of, pairs_real}
+use Rattle.pair_updates.proofs.NewPairs.{old_is_not_new}
+use Rattle.pair_updates.proofs.SameLeads.{each_queued}
+use Rattle.pair_updates.specs.Leads.{LeadsShown, setting_of_leads, sums_shown}
+use Rattle.pair_updates.specs.Pairs.{HasLcm, pair_of, pairs_of, AreIndices}
 use Rattle.pair_queue.specs.Queues.{QueueShown}
-use Rattle.pair_queue.specs.Tables.{AreIndices, flag}
+use Rattle.pair_queue.specs.Tables.{flag}
 use Rattle.pair_queue.proofs.queueing.queue_new_pairs.Goals as goal
 
 pub flag_pairs-requires-clause-real : goal.flag_pairs-requires-clause-real
@@ -60,7 +61,7 @@ pub returns-clause-queues : goal.returns-clause-queues
 returns-clause-queues c =
     let m : LeadsShown = c.args.leads.now in
     record {
-      sorted = subst (λ (l : List CodePair). IsSorted (setting_of m.variables m) (sums_shown m) (pairs_of l)) (sym c.from_vec.ensures) c.merge.ensures.sorted;
+      sorted = subst (λ (l : List CodePair). IsSorted (setting_of_leads m.variables m) (sums_shown m) (pairs_of l)) (sym c.from_vec.ensures) c.merge.ensures.sorted;
       same = all_counted c;
     }
 

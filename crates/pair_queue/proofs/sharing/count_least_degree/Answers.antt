@@ -3,12 +3,12 @@ use Rattle.std.proofs.lemmas.List.{take_all}
 use Rattle.module_vectors.proofs.Scaling.{Each_at}
 use Rattle.pair_criteria.specs.declared.pair.Pair.{Pair as CodePair}
 use Rattle.basis_steps.specs.Queues.{degree_of, number_of_degree}
-use Rattle.pair_queue.proofs.Degrees.{least_is, number_more, same_degree}
-use Rattle.pair_queue.proofs.LeastDegree.{least_before}
-use Rattle.pair_queue.proofs.PairOrder.{degree_is}
-use Rattle.pair_queue.proofs.Passing.{pairs_length}
-use Rattle.pair_queue.specs.Pairs.{HasLcm, pair_of, pairs_of}
-use Rattle.pair_queue.specs.Leads.{setting_of, sums_shown}
+use Rattle.pair_updates.proofs.Degrees.{least_is, number_more, same_degree}
+use Rattle.pair_updates.proofs.LeastDegree.{least_before}
+use Rattle.pair_updates.proofs.PairOrder.{degree_is}
+use Rattle.pair_updates.proofs.PairLists.{pairs_length}
+use Rattle.pair_updates.specs.Pairs.{HasLcm, pair_of, pairs_of}
+use Rattle.pair_updates.specs.Leads.{setting_of_leads, sums_shown}
 use Rattle.pair_queue.proofs.sharing.count_least_degree.Goals as goal
 
 pub loop-k-init : goal.loop-k-init
@@ -26,7 +26,7 @@ returns-then-degree-least-clause-count c = λ m h sorted.
 
 pub loop-k-preserved : goal.loop-k-preserved
 loop-k-preserved c = λ m h.
-    let S = setting_of m.variables m in
+    let S = setting_of_leads m.variables m in
     let G = sums_shown m in
     let x = c.index-queue-k.result in
     let least = c.degree-least.result in
@@ -48,6 +48,6 @@ returns-clause-count c = λ m h sorted.
     let end : k ≡ length queue = omega (arith, c.loop-k-test.false, c.loop-k.auto.k-end) in
     let whole : length (pairs_of queue) ≤ k = omega (arith, pairs_length queue, c.loop-k-test.false) in
     sym end ∙ sym (c.loop-k.invariant m h)
-    ∙ ap (number_of_degree (setting_of m.variables m) (sums_shown m) least) (take_all k (pairs_of queue) whole)
+    ∙ ap (number_of_degree (setting_of_leads m.variables m) (sums_shown m) least) (take_all k (pairs_of queue) whole)
     ∙ least_is m queue c.index-queue-0.result least some c.index-queue-0.is h
     (c.degree-least.ensures.value ∙ ap (λ (z : CodePair). z.lcm.monomial.degree) (sym c.index-queue-0.is))

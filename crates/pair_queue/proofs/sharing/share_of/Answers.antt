@@ -1,15 +1,15 @@
 use Rattle.std.proofs.Common.{ap, arith, min, sym, ◌+◌, ◌-◌, ◌/◌, ◌∙◌, ◌≡◌}
 use Rattle.basis_steps.specs.Queues.{number_of_least_degree}
-use Rattle.pair_queue.proofs.Degrees.{least_same, rounded_few, rounded_up}
-use Rattle.pair_queue.specs.Pairs.{pairs_of}
-use Rattle.pair_queue.specs.Leads.{setting_of, sums_shown}
+use Rattle.pair_updates.proofs.Degrees.{least_same, rounded_few, rounded_up}
+use Rattle.pair_updates.specs.Pairs.{pairs_of}
+use Rattle.pair_updates.specs.Leads.{setting_of_leads, sums_shown}
 use Rattle.pair_queue.proofs.sharing.share_of.Goals as goal
 
 pub returns-clause-share : goal.returns-clause-share
 returns-clause-share c = λ m r budget workers weights h sorted.
     let least = number_of_least_degree r.setting (sums_shown m) (pairs_of c.args.queue.now) in
     let counted : c.count_least_degree-least.result ≡ least = c.count_least_degree-least.ensures.count m h sorted
-    ∙ sym (least_same r.setting (setting_of m.variables m) weights (sums_shown m) (pairs_of c.args.queue.now)) in
+    ∙ sym (least_same r.setting (setting_of_leads m.variables m) weights (sums_shown m) (pairs_of c.args.queue.now)) in
     let by : c.from.result ≡ r.workers = c.from.ensures ∙ sym workers in
     let up : c.div_ceil.result ≡ (least + r.workers - 1) / r.workers =
     c.div_ceil.ensures ∙ rounded_up c.count_least_degree-least.result c.from.result (omega (arith, c.from.ensures, c.requires.workers))

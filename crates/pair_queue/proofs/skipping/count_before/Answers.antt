@@ -1,7 +1,7 @@
 use Rattle.std.proofs.Common.{arith, ap, ◌-◌, ◌∙◌, ◌≡◌}
 use Rattle.pair_criteria.specs.declared.pair.Pair.{Pair as CodePair}
 use Rattle.pair_queue.proofs.SameLcm.{same_place}
-use Rattle.pair_queue.proofs.Sparing.{not_true}
+use Rattle.pair_updates.proofs.CriterionTests.{not_true}
 use Rattle.pair_queue.proofs.skipping.count_before.Goals as goal
 
 pub returns-then-not-equal-clause-other : goal.returns-then-not-equal-clause-other

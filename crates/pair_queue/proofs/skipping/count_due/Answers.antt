@@ -2,7 +2,7 @@ use Rattle.std.proofs.Common.{ap, arith, get_or, inl, inr, sym, ◌∙◌, ◌�
 use Rattle.std.proofs.lemmas.Bool.{cases_lt}
 use Rattle.pair_criteria.specs.declared.pair.Pair.{Pair as CodePair}
 use Rattle.pair_queue.proofs.SameLcm.{same_place}
-use Rattle.pair_queue.specs.Pairs.{pair_of}
+use Rattle.pair_updates.specs.Pairs.{pair_of}
 use Rattle.pair_queue.specs.Tables.{flag}
 use Rattle.pair_queue.proofs.skipping.count_due.Goals as goal
 

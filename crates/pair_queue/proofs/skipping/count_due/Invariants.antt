@@ -1,6 +1,6 @@
 use Rattle.std.proofs.Common.{get_or, true, ◌<◌, ◌≡◌, ◌≤◌, ℕ}
 use Rattle.pair_criteria.specs.declared.pair.Pair.{Pair as CodePair}
-use Rattle.pair_queue.specs.Pairs.{pair_of}
+use Rattle.pair_updates.specs.Pairs.{pair_of}
 use Rattle.pair_queue.specs.Tables.{flag}
 use Rattle.pair_queue.proofs.skipping.count_due.Given as goal
 

@@ -1,8 +1,8 @@
 use Rattle.std.proofs.Common.{ap, arith, drop, length, subst, sym, take, ◌-◌, ◌∙◌}
 use Rattle.std.proofs.lemmas.List.Edits.{length-swap}
 use Rattle.formal_sums.specs.FormalSums.{Each}
-use Rattle.pair_queue.proofs.Swapping.{each_swap, put_back_one}
-use Rattle.pair_queue.specs.Pairs.{IsRealPair}
+use Rattle.pair_updates.proofs.Swapping.{each_swap, put_back_one}
+use Rattle.pair_updates.specs.Pairs.{IsRealPair}
 use Rattle.pair_queue.proofs.skipping.put_back.Goals as goal
 
 pub loop-last-preserved : goal.loop-last-preserved

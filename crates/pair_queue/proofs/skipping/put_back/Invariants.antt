@@ -1,7 +1,7 @@
 use Rattle.std.proofs.Common.{drop, length, take, ◌++◌, ◌+◌, ◌≡◌, ◌≤◌}
 use Rattle.formal_sums.specs.FormalSums.{Each}
-use Rattle.pair_queue.specs.Leads.{LeadsShown}
-use Rattle.pair_queue.specs.Pairs.{IsRealPair}
+use Rattle.pair_updates.specs.Leads.{LeadsShown}
+use Rattle.pair_updates.specs.Pairs.{IsRealPair}
 use Rattle.pair_queue.proofs.skipping.put_back.Given as goal
 
 -- the kept pairs from `last` on are put back

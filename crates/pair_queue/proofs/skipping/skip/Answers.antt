@@ -7,11 +7,12 @@ use Rattle.pair_criteria.specs.declared.pair.Pair.{Pair as CodePair}
 use Rattle.basis_steps.specs.Pairs.{Pair}
 use Rattle.basis_steps.specs.Queues.{IsSorted}
 use Rattle.pair_queue.proofs.Knowing.{each_here, each_without}
-use Rattle.pair_queue.proofs.Leading.{leads_length}
-use Rattle.pair_queue.proofs.LeastDegree.{sorted_without}
-use Rattle.pair_queue.proofs.Passing.{left_back, left_kept, pairs_append, pass_over}
-use Rattle.pair_queue.specs.Leads.{setting_of, sums_shown}
-use Rattle.pair_queue.specs.Pairs.{IsRealPair, pair_of, pairs_of}
+use Rattle.pair_updates.proofs.Leading.{leads_length}
+use Rattle.pair_updates.proofs.LeastDegree.{sorted_without}
+use Rattle.pair_queue.proofs.Passing.{left_back, left_kept, pass_over}
+use Rattle.pair_updates.proofs.PairLists.{pairs_append}
+use Rattle.pair_updates.specs.Leads.{setting_of_leads, sums_shown}
+use Rattle.pair_updates.specs.Pairs.{IsRealPair, pair_of, pairs_of}
 use Rattle.pair_queue.specs.Skipping.{AreSkipped, IsKnown, IsSpared, NoneIsSpared}
 use Rattle.pair_queue.specs.Tables.{cleared, flag}
 use Rattle.pair_queue.proofs.skipping.skip.Goals as goal
@@ -103,9 +104,9 @@ loop-next-preserved-then-not-has c =
       real = h.real;
       order = omega (arith, h.place, h.fewer, inv.order);
       within = omega (arith, h.place, h.fewer, h.len, there);
-      sorted = subst (IsSorted (setting_of m.variables m) (sums_shown m)) (left_back count kept rest fewer more h.first h.rest)
-          (sorted_without (setting_of m.variables m) (sums_shown m) (pairs_of kept) (pairs_of rest) (pair_of x)
-          (subst (λ (l : List CodePair). IsSorted (setting_of m.variables m) (sums_shown m) (pairs_of kept ++ pairs_of l)) first inv.sorted));
+      sorted = subst (IsSorted (setting_of_leads m.variables m) (sums_shown m)) (left_back count kept rest fewer more h.first h.rest)
+          (sorted_without (setting_of_leads m.variables m) (sums_shown m) (pairs_of kept) (pairs_of rest) (pair_of x)
+          (subst (λ (l : List CodePair). IsSorted (setting_of_leads m.variables m) (sums_shown m) (pairs_of kept ++ pairs_of l)) first inv.sorted));
       none = h.none;
       known = h.known;
       skips = λ out table.
@@ -167,7 +168,7 @@ loop-next-preserved c =
       real = c.keep.ensures.real m inv.real;
       order = omega (arith, inv.order);
       within = omega (arith, there, c.keep.ensures.len);
-      sorted = subst (IsSorted (setting_of m.variables m) (sums_shown m)) same inv.sorted;
+      sorted = subst (IsSorted (setting_of_leads m.variables m) (sums_shown m)) same inv.sorted;
       none = subst (λ (l : List CodePair). NoneIsSpared m f (pairs_of l)) (sym more)
           (subst (NoneIsSpared m f) (sym (pairs_append kept (x ∷ [])))
           (Each_append (λ y. IsSpared m f y → ⊥) (pairs_of kept) (pair_of x ∷ []) inv.none (not, tt)));

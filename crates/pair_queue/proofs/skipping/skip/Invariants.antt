@@ -3,10 +3,10 @@ use Rattle.std.specs.Vec.{vec_capacity}
 use Rattle.formal_sums.specs.FormalSums.{Each}
 use Rattle.basis_steps.specs.Pairs.{Pair}
 use Rattle.basis_steps.specs.Queues.{IsSorted}
-use Rattle.pair_queue.specs.Leads.{setting_of, sums_shown}
-use Rattle.pair_queue.specs.Pairs.{IsRealPair, pairs_of}
+use Rattle.pair_updates.specs.Leads.{setting_of_leads, sums_shown}
+use Rattle.pair_updates.specs.Pairs.{IsRealPair, pairs_of}
 use Rattle.pair_queue.specs.Skipping.{AreSkipped, IsKnown, NoneIsSpared}
-use Rattle.pair_queue.specs.Tables.{IsTable, flag, size}
+use Rattle.pair_queue.specs.Tables.{IsFlagTable, flag, size}
 use Rattle.pair_queue.proofs.skipping.skip.Given as goal
 
 -- the pairs before `kept` are kept, and those from `next` on are left
@@ -17,10 +17,10 @@ invariant-loop-next l = record {
   real : Each (IsRealPair l.leads) l.queue.items;
   order : l.kept ≤ l.next;
   within : l.next ≤ length l.queue.items;
-  sorted : IsSorted (setting_of l.leads.variables l.leads) (sums_shown l.leads) (pairs_of (take l.kept l.queue.items) ++ pairs_of (drop l.next l.queue.items));
+  sorted : IsSorted (setting_of_leads l.leads.variables l.leads) (sums_shown l.leads) (pairs_of (take l.kept l.queue.items) ++ pairs_of (drop l.next l.queue.items));
   none : NoneIsSpared l.leads (flag l.waits) (pairs_of (take l.kept l.queue.items));
   known : Each (IsKnown l.leads (flag l.waits) (flag l.due)) (pairs_of (take l.kept l.queue.items) ++ pairs_of (drop l.next l.queue.items));
-  skips : (out : List (Pair × ℕ)) → IsTable (flag l.fn.waits) (pairs_of l.fn.queue.items) out
+  skips : (out : List (Pair × ℕ)) → IsFlagTable (flag l.fn.waits) (pairs_of l.fn.queue.items) out
       → AreSkipped l.leads out (pairs_of l.fn.queue.items) l.skipped.items
       (pairs_of (take l.kept l.queue.items) ++ pairs_of (drop l.next l.queue.items)) (flag l.waits);
   len : length l.queue.items ≡ length l.fn.queue.items;

@@ -9,11 +9,12 @@ use Rattle.basis_steps.specs.Pairs.{Pair}
 use Rattle.basis_steps.specs.Queues.{IsSorted}
 use Rattle.basis_steps.proofs.Counting.{is_same_pair-true}
 use Rattle.pair_queue.proofs.Knowing.{each_left, indices_of, known_passed, none_due}
-use Rattle.pair_queue.proofs.Leading.{pairs_real}
-use Rattle.pair_queue.proofs.Passing.{left_back, pairs_take}
+use Rattle.pair_updates.proofs.Leading.{pairs_real}
+use Rattle.pair_queue.proofs.Passing.{left_back}
+use Rattle.pair_updates.proofs.PairLists.{pairs_take}
 use Rattle.pair_queue.proofs.SameLcm.{none_kept}
-use Rattle.pair_queue.specs.Leads.{setting_of, sums_shown}
-use Rattle.pair_queue.specs.Pairs.{IsRealPair, pairs_of}
+use Rattle.pair_updates.specs.Leads.{setting_of_leads, sums_shown}
+use Rattle.pair_updates.specs.Pairs.{IsRealPair, pairs_of}
 use Rattle.pair_queue.specs.Skipping.{IsKnown, IsSpared, NoneIsSpared}
 use Rattle.pair_queue.specs.Tables.{flag, size}
 use Rattle.pair_queue.proofs.skipping.skip_pair.Goals as goal
@@ -49,7 +50,7 @@ returns-clause-none c =
     none_kept m pairs kept c.args.next before x pair f w
     real (omega (arith, c.requires.next, ap length is)) (ap (λ (z : CodePair). get_or pairs c.args.next z) c.index-pairs-next.is)
     (subst (λ (q : List CodePair). pairs_of (drop c.args.next q) ≡ pair ∷ pairs_of (drop (c.args.next + 1) q)) (sym is) c.requires.place)
-    (subst (λ (q : List CodePair). IsSorted (setting_of m.variables m) (sums_shown m) (pairs_of (take kept q) ++ pairs_of (drop c.args.next q)))
+    (subst (λ (q : List CodePair). IsSorted (setting_of_leads m.variables m) (sums_shown m) (pairs_of (take kept q) ++ pairs_of (drop c.args.next q)))
     (sym is) c.requires.sorted)
     c.count_before-before.ensures.within c.count_before-before.ensures.other c.pass.ensures.waits none in
     let known : Each (IsKnown m f (flag c.args.due.now)) (pairs_of (take kept pairs)) =

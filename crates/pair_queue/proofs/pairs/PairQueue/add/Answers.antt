@@ -6,11 +6,12 @@ use Rattle.pair_queue.proofs.Adding.{leads_back, reals_added, sorted_added}
 use Rattle.pair_queue.proofs.Handing.{same_coherent}
 use Rattle.pair_queue.proofs.Knowing.{indices_queued}
 use Rattle.pair_queue.proofs.Mirroring.{no_change}
-use Rattle.pair_queue.proofs.SameLeads.{each_within}
-use Rattle.pair_queue.specs.Leads.{LeadsShown, setting_of, sums_shown}
-use Rattle.pair_queue.specs.Pairs.{IsRealPair, outs_of, pairs_of}
+use Rattle.pair_updates.proofs.SameLeads.{each_within}
+use Rattle.pair_updates.specs.Leads.{LeadsShown, setting_of_leads, sums_shown}
+use Rattle.pair_updates.specs.Pairs.{IsRealPair, pairs_of, AreIndices}
+use Rattle.pair_queue.specs.Outs.{outs_of}
 use Rattle.pair_queue.specs.Skipping.{IsKnown}
-use Rattle.pair_queue.specs.Tables.{AreIndices, flag}
+use Rattle.pair_queue.specs.Tables.{flag}
 use Rattle.pair_queue.proofs.pairs.PairQueue.add.Goals as goal
 
 pub queue_by-requires-clause-real : goal.queue_by-requires-clause-real
@@ -25,7 +26,7 @@ queue_by-requires-clause-within c =
 
 pub queue_by-requires-clause-sorted : goal.queue_by-requires-clause-sorted
 queue_by-requires-clause-sorted c =
-    subst (λ (z : LeadsShown). IsSorted (setting_of z.variables z) (sums_shown z) (pairs_of c.self.inside.queue.items)) (sym c.in_ok-append.ensures.ok)
+    subst (λ (z : LeadsShown). IsSorted (setting_of_leads z.variables z) (sums_shown z) (pairs_of c.self.inside.queue.items)) (sym c.in_ok-append.ensures.ok)
     (sorted_added c.self.inside.leads c.args.keys.items (pairs_of c.self.inside.queue.items)
     (indices_queued c.self.inside.leads c.self.inside.queue.items c.self.invariant.real) c.self.invariant.sorted)
 

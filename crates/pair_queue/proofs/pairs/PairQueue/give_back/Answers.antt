@@ -4,9 +4,9 @@ use Rattle.basis_steps.specs.Pairs.{Pair}
 use Rattle.basis_steps.specs.States.{pairs_out}
 use Rattle.pair_queue.proofs.Handing.{others_within}
 use Rattle.pair_queue.proofs.Knowing.{indices_queued}
-use Rattle.pair_queue.proofs.SameLeads.{each_out}
-use Rattle.pair_queue.specs.Pairs.{outs_of, pairs_of}
-use Rattle.pair_queue.specs.Tables.{AreIndices}
+use Rattle.pair_queue.proofs.OutPairs.{each_out}
+use Rattle.pair_queue.specs.Outs.{outs_of}
+use Rattle.pair_updates.specs.Pairs.{pairs_of, AreIndices}
 use Rattle.pair_queue.proofs.pairs.PairQueue.give_back.Goals as goal
 
 pub close_by_update-requires-clause-within : goal.close_by_update-requires-clause-within

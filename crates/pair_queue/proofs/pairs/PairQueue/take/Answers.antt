@@ -9,12 +9,13 @@ use Rattle.basis_steps.specs.Steps.{is_empty, out_with}
 use Rattle.pair_criteria.specs.declared.pair.Pair.{Pair as CodePair}
 use Rattle.pair_queue.proofs.Handing.{given_coherent}
 use Rattle.pair_queue.proofs.SkippedPairs.{left_skips, left_sorted}
-use Rattle.pair_queue.proofs.Leading.{lcms_of}
+use Rattle.pair_updates.proofs.Leading.{lcms_of}
 use Rattle.pair_queue.proofs.Tabling.{table_is}
-use Rattle.pair_queue.specs.Inside.{shown}
-use Rattle.pair_queue.specs.Leads.{LeadsShown, setting_of, sums_shown}
-use Rattle.pair_queue.specs.Pairs.{HasLcm, outs_of, pairs_of}
-use Rattle.pair_queue.specs.Shown.{IsGiven, PairsShown}
+use Rattle.pair_queue.specs.Inside.{queue_shown}
+use Rattle.pair_updates.specs.Leads.{LeadsShown, setting_of_leads, sums_shown}
+use Rattle.pair_updates.specs.Pairs.{HasLcm, pairs_of}
+use Rattle.pair_queue.specs.Outs.{outs_of}
+use Rattle.pair_queue.specs.Shown.{IsJobGiven, PairsShown}
 use Rattle.pair_queue.specs.Skipping.{AreSkipped}
 use Rattle.pair_queue.specs.Tables.{flag}
 use Rattle.pair_queue.proofs.pairs.PairQueue.take.Goals as goal
@@ -75,12 +76,12 @@ returns-clause-ok c =
     let skips : i.update ≡ Plain → AreSkipped m outs (pairs_of i.queue.items) c.skip_by.new.skipped.items (pairs_of left) (flag c.skip_by.new.waits) =
     λ e. c.skip_by.ensures.skips e outs (c.self.invariant.table e) in
     let nothing : i.update ≡ Gebauer → pairs_of left ≡ pairs_of i.queue.items = λ e. ap pairs_of (c.skip_by.ensures.nothing e).1 in
-    let sorted : IsSorted (setting_of m.variables m) (sums_shown m) (pairs_of left) =
+    let sorted : IsSorted (setting_of_leads m.variables m) (sums_shown m) (pairs_of left) =
     left_sorted i.update m outs (pairs_of i.queue.items) c.skip_by.new.skipped.items left (flag c.skip_by.new.waits) c.self.invariant.sorted skips nothing in
     let is : c.as_slice-left.result.now ≡ left = c.as_slice-left.ensures in
     let all : c.shrink_to_fit-3.new.self.items ≡ take (length c.shrink_to_fit-3.new.self.items) left = first_given c
     ∙ ap (λ k. take k left) (sym (length_given c)) in
-    subst (λ (z : PairsShown). IsGiven z c.args.worker c.args.budget c.args.workers c.args.taken c.args.most
+    subst (λ (z : PairsShown). IsJobGiven z c.args.worker c.args.budget c.args.workers c.args.taken c.args.most
     (record {
       skipped = c.shrink_to_fit.new.self;
       given = c.shrink_to_fit-2.new.self;
@@ -88,13 +89,13 @@ returns-clause-ok c =
       none_left =
           c.is_empty-none_left.result;
     })
-    (shown (record i { queue = c.take_front.new.self; out = c.give.new.out; waits = c.skip_by.new.waits; due = c.skip_by.new.due }))) c.self.view_is (record {
+    (queue_shown (record i { queue = c.take_front.new.self; out = c.give.new.out; waits = c.skip_by.new.waits; due = c.skip_by.new.due }))) c.self.view_is (record {
       left = left;
-      skips = subst (λ (s : List Pair). Skips (setting_of m.variables m) (sums_shown m) outs (pairs_of i.queue.items) s (pairs_of left))
+      skips = subst (λ (s : List Pair). Skips (setting_of_leads m.variables m) (sums_shown m) outs (pairs_of i.queue.items) s (pairs_of left))
           (sym c.shrink_to_fit.ensures.items)
           (left_skips i.update m outs (pairs_of i.queue.items) c.skip_by.new.skipped.items left (flag c.skip_by.new.waits) skips
           (λ e. (c.skip_by.ensures.nothing e).0) nothing);
-      none = λ e. subst (λ h. NoCriterionApplies (setting_of m.variables m) (sums_shown m) h (pairs_of left))
+      none = λ e. subst (λ h. NoCriterionApplies (setting_of_leads m.variables m) (sums_shown m) h (pairs_of left))
           (table_is (flag c.skip_by.new.waits) (pairs_of left) outs (skips e).table) (c.skip_by.ensures.none e);
       skips_none = λ e. c.shrink_to_fit.ensures.items ∙ (c.skip_by.ensures.nothing e).0;
       real = c.skip_by.ensures.real;
@@ -103,7 +104,7 @@ returns-clause-ok c =
           ∙ subst (λ (l : List CodePair). c.share_of-share.result ≡ share r (sums_shown m) c.args.taken c.args.most (pairs_of l)) is
           (c.share_of-share.ensures.share m r budget workers weights
           (subst (Each (HasLcm m)) (sym is) (lcms_of m left c.skip_by.ensures.real))
-          (subst (λ (l : List CodePair). IsSorted (setting_of m.variables m) (sums_shown m) (pairs_of l)) (sym is) sorted));
+          (subst (λ (l : List CodePair). IsSorted (setting_of_leads m.variables m) (sums_shown m) (pairs_of l)) (sym is) sorted));
       first = all;
       given = c.shrink_to_fit-2.ensures.items ∙ c.give.ensures.given
           ∙ ap (λ (l : List CodePair). pairs_of l) (c.deref.ensures.value ∙ sym c.shrink_to_fit-3.ensures.items);

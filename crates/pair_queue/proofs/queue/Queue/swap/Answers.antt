@@ -1,7 +1,7 @@
 use Rattle.std.proofs.Common.{ap, arith, drop, length, ◌∙◌}
 use Rattle.std.specs.List.{swap as swapped}
 use Rattle.std.proofs.lemmas.List.{length-drop}
-use Rattle.pair_queue.proofs.Swapping.{drop_both}
+use Rattle.pair_updates.proofs.Swapping.{drop_both}
 use Rattle.pair_queue.specs.Queues.{QueueShown}
 use Rattle.pair_queue.proofs.queue.Queue.swap.Goals as goal
 

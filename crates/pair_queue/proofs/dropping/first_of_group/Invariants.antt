@@ -1,8 +1,0 @@
-use Rattle.std.proofs.Common.{get_or, ℕ, ◌<◌}
-use Rattle.basis_steps.specs.Updates.{IsOfGroup}
-use Rattle.pair_queue.specs.Dropping.{IsNewIn}
-use Rattle.pair_queue.specs.Leads.{LeadsShown, sums_shown}
-use Rattle.pair_queue.proofs.dropping.first_of_group.Given as goal
-
-abbrev pub invariant-loop-k : goal.invariant-loop-k
-invariant-loop-k l = (m : LeadsShown) → IsNewIn m l.news l.pair → (x : ℕ) → x < l.k → IsOfGroup (sums_shown m) l.pair.j l.pair.i (get_or l.left x 0) → ⊥

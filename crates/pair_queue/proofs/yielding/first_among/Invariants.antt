@@ -1,8 +1,0 @@
-use Rattle.std.proofs.Common.{get_or, ℕ, ◌<◌, ◌≤◌}
-use Rattle.basis_steps.specs.Drops.{YieldsTo}
-use Rattle.pair_queue.specs.Dropping.{IsNewIn}
-use Rattle.pair_queue.specs.Leads.{LeadsShown, sums_shown}
-use Rattle.pair_queue.proofs.yielding.first_among.Given as goal
-
-abbrev pub invariant-loop-k : goal.invariant-loop-k
-invariant-loop-k l = (m : LeadsShown) → IsNewIn m l.news l.pair → (x : ℕ) → l.from ≤ x → x < l.k → YieldsTo (sums_shown m) l.pair.j l.pair.i (get_or l.active x 0) → ⊥

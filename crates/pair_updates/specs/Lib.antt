@@ -1,0 +1,7 @@
+pub mod Leads
+pub mod Pairs
+pub mod LeadCriteria
+pub mod Queueing
+pub mod Dropping
+pub mod FirstYields
+pub mod Updating

@@ -1,0 +1,203 @@
+// Which pairs a new member drops (Gebauer and Möller 1988).
+ghost use Rattle.std.specs.Prelude.{ℕ, List, ◌≡◌, ◌<◌, ◌↔◌, IsTrue, MatchOption, length};
+ghost use Rattle.monomials.specs.Exponents.{Divides, exponents_of};
+ghost use Rattle.monomial_orders.specs.Kept.{IsWeighed};
+ghost use Rattle.basis_steps.specs.Criteria.{IsPair};
+ghost use Rattle.basis_steps.specs.Drops.{LeavesFor, YieldsTo};
+ghost use Rattle.basis_steps.specs.Updates.{IsFirstSpared, IsOfGroup, Remains, YieldsFirstTo};
+ghost use Rattle.formal_sums.specs.FormalSums.{Each};
+ghost use Rattle.pair_updates.specs.Dropping.{AreNewPairs, IsFate, IsNewIn};
+ghost use Rattle.pair_updates.specs.FirstYields.{AreFirstYields, HasGroup};
+ghost use Rattle.pair_updates.specs.Leads.{LeadsShown, setting_of_leads, sums_shown};
+ghost use Rattle.pair_updates.specs.LeadCriteria.{ProductSpares};
+ghost use Rattle.pair_updates.specs.declared.dropping.Fate.TheVariants as fates;
+
+use crate::criteria::{divides_lcm, product_spares};
+use crate::leads::Leads;
+use monomial_orders::Mono;
+use pair_criteria::Pair;
+
+/// What becomes of the pair of an earlier member and a new one.
+#[derive(Clone, Copy)]
+pub(crate) enum Fate {
+    /// Their leads stand at two positions: there is none.
+    Apart,
+    /// It is queued.
+    Queued,
+    /// The product criterion spares it, and it stands for those of its lcm.
+    Spared,
+    /// It is dropped for this member.
+    Dropped(usize),
+}
+
+/// Does the queued pair of i and j leave for the new member h?
+pub(crate) fn leaves_for(leads: &Leads, h: usize, i: usize, j: usize) -> bool
+    requires pair { IsPair (sums_shown leads.now) (i, j) }
+    requires later { j < h }
+    requires within { h < length leads.now.keys }
+    ensures { IsTrue result ↔ LeavesFor (sums_shown leads.now) h (i, j) }
+{
+    if !divides_lcm(leads, i, j, h) {
+        return false;
+    }
+    if divides_lcm(leads, i, h, j) {
+        return false;
+    }
+    !divides_lcm(leads, j, h, i)
+}
+
+// Does the monomial divide the other one, and is it another? Most that do not divide it have a greater degree, or fail the test
+// by one exponent.
+fn divides_properly(divisor: &Mono, m: &Mono) -> bool
+    requires { length divisor.now.exponents ≡ length m.now.exponents }
+    ensures { (ws : List ℕ) → let n = length m.now.exponents in IsWeighed n ws divisor.now → IsWeighed n ws m.now
+        → (IsTrue result ↔ (Divides (exponents_of n divisor.now.exponents) (exponents_of n m.now.exponents)
+        × (exponents_of n divisor.now.exponents ≡ exponents_of n m.now.exponents → ⊥))) }
+{
+    if divisor.degree() > m.degree() {
+        return false;
+    }
+    if !divisor.divides(m) {
+        return false;
+    }
+    !divisor.equal(m)
+}
+
+/// Does the pair yield to that of j and the same new member?
+pub(crate) fn yields_to(news: &[Option<Pair>], pair: &Pair, j: usize) -> bool
+    requires known { j < length news.now }
+    requires over { (m : LeadsShown) × IsNewIn m news.now pair.now }
+    ensures { (m : LeadsShown) → IsNewIn m news.now pair.now → (IsTrue result ↔ YieldsTo (sums_shown m) pair.now.j pair.now.i j) }
+{
+    match &news[j] {
+        Some(other) => divides_properly(&other.lcm.monomial, &pair.lcm.monomial),
+        None => false,
+    }
+}
+
+// Are the pair and that of j with the same new member of one group?
+fn is_of_group(news: &[Option<Pair>], pair: &Pair, j: usize) -> bool
+    requires { j < length news.now }
+    ensures { (m : LeadsShown) → IsNewIn m news.now pair.now → (IsTrue result ↔ IsOfGroup (sums_shown m) pair.now.j pair.now.i j) }
+{
+    match &news[j] {
+        Some(other) => other.lcm.monomial.equal(&pair.lcm.monomial),
+        None => false,
+    }
+}
+
+// Is the pair of j and the new member of the group of the pair, and does the product criterion spare it?
+fn is_spared(leads: &Leads, news: &[Option<Pair>], pair: &Pair, j: usize) -> bool
+    requires new { IsNewIn leads.now news.now pair.now }
+    requires known { j < length news.now }
+    ensures both { IsTrue result → IsOfGroup (sums_shown leads.now) pair.now.j pair.now.i j }
+    ensures applies { IsTrue result → ProductSpares leads.now (j, pair.now.j) }
+    ensures none { IsOfGroup (sums_shown leads.now) pair.now.j pair.now.i j → ProductSpares leads.now (j, pair.now.j) → IsTrue result }
+{
+    if !is_of_group(news, pair, j) {
+        return false;
+    }
+    product_spares(leads, j, pair.j as usize)
+}
+
+// The first member of the group of the pair whose pair with the new member the product criterion spares, where these members have
+// the whole group.
+fn first_spared(leads: &Leads, news: &[Option<Pair>], left: &[usize], pair: &Pair) -> Option<usize>
+    requires new { IsNewIn leads.now news.now pair.now }
+    requires within { Each (λ c. c < length news.now) left.now }
+    requires group { HasGroup (sums_shown leads.now) pair.now.j pair.now.i left.now }
+    ensures { MatchOption result
+        ((l : ℕ) → IsOfGroup (sums_shown leads.now) pair.now.j pair.now.i l → ProductSpares leads.now (l, pair.now.j) → ⊥)
+        (λ c. IsFirstSpared (setting_of_leads leads.now.variables leads.now) (sums_shown leads.now) pair.now.j pair.now.i c) }
+{
+    for k in 0..left.len() {
+        if is_spared(leads, news, pair, left[k]) {
+            return Some(left[k]);
+        }
+    }
+    None
+}
+
+// The first member of the group of the pair, where these members have the whole group.
+fn first_of_group(news: &[Option<Pair>], left: &[usize], pair: &Pair) -> usize
+    requires new { (m : LeadsShown) × IsNewIn m news.now pair.now }
+    requires within { Each (λ c. c < length news.now) left.now }
+    ensures member { (m : LeadsShown) → IsNewIn m news.now pair.now → IsOfGroup (sums_shown m) pair.now.j pair.now.i result }
+    ensures first { (m : LeadsShown) → IsNewIn m news.now pair.now → HasGroup (sums_shown m) pair.now.j pair.now.i left.now
+        → (l : ℕ) → l < result → IsOfGroup (sums_shown m) pair.now.j pair.now.i l → ⊥ }
+{
+    for k in 0..left.len() {
+        if is_of_group(news, pair, left[k]) {
+            return left[k];
+        }
+    }
+    pair.i as usize
+}
+
+// The fate of the pair of i where that of c stands for its group: this one where it is that pair itself, or it is dropped for c.
+fn fate_behind(c: usize, i: usize, itself: Fate) -> Fate
+    ensures same { c ≡ i → result ≡ itself }
+    ensures other { (c ≡ i → ⊥) → result ≡ fates.Dropped c }
+{
+    if c == i { itself } else { Fate::Dropped(c) }
+}
+
+// What becomes of the pair, which yields to none, where these members have its whole group.
+fn fate_in_group(leads: &Leads, news: &[Option<Pair>], left: &[usize], pair: &Pair) -> Fate
+    requires new { IsNewIn leads.now news.now pair.now }
+    requires within { Each (λ c. c < length news.now) left.now }
+    requires group { HasGroup (sums_shown leads.now) pair.now.j pair.now.i left.now }
+    requires remains { Remains (sums_shown leads.now) pair.now.j pair.now.i }
+    ensures { IsFate (setting_of_leads leads.now.variables leads.now) (sums_shown leads.now) pair.now.j pair.now.i result }
+{
+    match first_spared(leads, news, left, pair) {
+        Some(c) => fate_behind(c, pair.i as usize, Fate::Spared),
+        None => fate_behind(
+            first_of_group(news, left, pair),
+            pair.i as usize,
+            Fate::Queued,
+        ),
+    }
+}
+
+// What becomes of the pair, which yields first to that of this member, where there is one. Else these members have its whole group.
+fn fate_by(
+    leads: &Leads,
+    news: &[Option<Pair>],
+    left: &[usize],
+    pair: &Pair,
+    first: Option<usize>,
+) -> Fate
+    requires new { IsNewIn leads.now news.now pair.now }
+    requires within { Each (λ c. c < length news.now) left.now }
+    requires group { Remains (sums_shown leads.now) pair.now.j pair.now.i → HasGroup (sums_shown leads.now) pair.now.j pair.now.i left.now }
+    requires first { MatchOption first (Remains (sums_shown leads.now) pair.now.j pair.now.i)
+        (λ j. YieldsFirstTo (sums_shown leads.now) pair.now.j pair.now.i j) }
+    ensures { IsFate (setting_of_leads leads.now.variables leads.now) (sums_shown leads.now) pair.now.j pair.now.i result }
+{
+    match first {
+        Some(j) => Fate::Dropped(j),
+        None => fate_in_group(leads, news, left, pair),
+    }
+}
+
+/// What becomes of the pair of i and the new member h, whose pairs with each earlier member are these, and yield first to those; `left`
+/// has the members whose pairs yield to none.
+pub(crate) fn fate_of(
+    leads: &Leads,
+    news: &[Option<Pair>],
+    firsts: &[Option<usize>],
+    left: &[usize],
+    h: usize,
+    i: usize,
+) -> Fate
+    requires news { AreNewPairs leads.now h news.now }
+    requires firsts { AreFirstYields leads.now h firsts.now left.now }
+    requires known { i < h }
+    ensures { IsFate (setting_of_leads leads.now.variables leads.now) (sums_shown leads.now) h i result }
+{
+    match &news[i] {
+        None => Fate::Apart,
+        Some(pair) => fate_by(leads, news, left, pair, firsts[i]),
+    }
+}
