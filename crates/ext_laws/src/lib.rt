@@ -5,4 +5,7 @@ mod presentations;
 mod transposes;
 
 pub use presentations::{presented_vectors, whole_modules, zero_presentations};
-pub use transposes::{consecutive_transposes, images_in_kernels, transposed_kernels};
+pub use transposes::{
+    consecutive_transposes, first_maps_reach, images_along_starts, images_in_kernels,
+    transposed_kernels,
+};

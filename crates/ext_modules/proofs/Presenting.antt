@@ -25,7 +25,7 @@ use Rattle.syzygy_engine.proofs.Generated.{lawful_at}
 use Rattle.syzygy_engine.proofs.Standing.{ranks_of_positions, stand_module}
 use Rattle.ideal_ops.specs.Answers.{IsBasisOfThose}
 use Rattle.ideal_ops.specs.Runs.{AreVectorsFor}
-use Rattle.schreyer_resolution.specs.Inducing.{Columns}
+use Rattle.resolution_maps.specs.Inducing.{Columns}
 use Rattle.ext_modules.specs.Ext.{AreExtRelations, image_of}
 use Rattle.ext_modules.specs.Units.{AreUnits}
 use Rattle.ext_modules.proofs.Putting.{Terms}

@@ -12,8 +12,8 @@ use Rattle.module_vectors.specs.Rings.{ring_comparison, setting, variables}
 use Rattle.module_vectors.specs.Vectors.{AreTermsOver, HasPositions}
 use Rattle.module_vectors.specs.declared.ring.Ring.{Ring}
 use Rattle.groebner_iface.specs.Runs.{IsReducedBasisOf}
-use Rattle.schreyer_resolution.specs.Inducing.{Columns}
-use Rattle.schreyer_resolution.specs.declared.maps.Map.{Map}
+use Rattle.resolution_maps.specs.Inducing.{Columns}
+use Rattle.resolution_maps.specs.declared.maps.Map.{Map}
 use Rattle.ext_modules.specs.Ext.{AreLinked, IsExtKernel, columns_at, image_of}
 use Rattle.ext_modules.proofs.Putting.{Terms}
 

@@ -14,7 +14,7 @@ use Rattle.ideal_ops.specs.Modulo.{AreModuloRuns}
 use Rattle.ideal_ops.specs.Runs.{AreVectorsFor, OfRuns}
 use Rattle.syzygy_engine.specs.Kernels.{IsSyzygyRun}
 use Rattle.syzygy_engine.specs.Marking.{position_ring}
-use Rattle.schreyer_resolution.specs.Inducing.{Columns}
+use Rattle.resolution_maps.specs.Inducing.{Columns}
 use Rattle.ext_modules.specs.declared.presentation.Ext.{Ext}
 
 -- the columns of each map stand at the positions of its rows, of which the first map has so many, and each later one as many as

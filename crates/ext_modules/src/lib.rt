@@ -11,5 +11,5 @@ mod units;
 
 pub use groebner_iface::OpStop;
 pub use homology::ext;
-pub use laws::{images_inside, resolutions_linked};
+pub use laws::{first_maps_enough, images_inside, images_inside_starts, resolutions_linked};
 pub use presentation::Ext;

@@ -26,18 +26,16 @@ use Rattle.module_vectors.specs.Vectors.{sum_of, sums_of}
 use Rattle.module_vectors.specs.declared.key.Key.{Key as CodeKey}
 use Rattle.module_vectors.specs.declared.ring.Ring.{Ring}
 use Rattle.vector_division.proofs.Members.{sums_at}
+use Rattle.column_passes.specs.Passing.{AreFirstSteps, IsFirstStep, Pivot, applied, left_by, left_by_all}
+use Rattle.column_passes.specs.Placing.{AreWithout, all_removed, place_after, without_all}
+use Rattle.column_passes.proofs.Applying.{applied_same, cleared_by, linear_applied}
+use Rattle.column_passes.proofs.Clearings.{cleared_other}
+use Rattle.column_passes.proofs.Lists.{all_map, map_same}
+use Rattle.column_passes.proofs.Lowering.{low, without_sum, without_terms}
+use Rattle.column_passes.proofs.Places.{place_at}
+use Rattle.column_passes.proofs.Turning.{is_there}
 use Rattle.minimal_betti.specs.Complementing.{AreComplemented, AreGone, IsApart}
-use Rattle.minimal_betti.specs.Passing.{AreFirstSteps, IsFirstStep, Pivot, applied, left_by, left_by_all}
-use Rattle.minimal_betti.specs.Placing.{place_after}
-use Rattle.minimal_betti.specs.Splitting.{AreWithout, all_removed, without_all}
-use Rattle.minimal_betti.proofs.Applying.{applied_same, cleared_by, linear_applied}
-use Rattle.minimal_betti.proofs.Clearings.{cleared_other}
-use Rattle.minimal_betti.proofs.Columns.{map_same}
-use Rattle.minimal_betti.proofs.Growing.{all_map}
-use Rattle.minimal_betti.proofs.Lowering.{low, without_sum, without_terms}
-use Rattle.minimal_betti.proofs.Places.{place_at}
 use Rattle.minimal_betti.proofs.Stepping.{map-all_removed, map_map}
-use Rattle.minimal_betti.proofs.Turning.{is_there}
 
 abbrev Terms : Type 0
 Terms = List (CodeKey × ℕ)

@@ -6,12 +6,12 @@ use Rattle.betti_laws.specs.Tables.{occurrences, step_count}
 use Rattle.minimal_laws.specs.Gradings.{graded_by_leads}
 use Rattle.module_vectors.specs.Rings.{variables}
 use Rattle.module_vectors.specs.declared.ring.Ring.{Ring}
-use Rattle.schreyer_resolution.specs.Inducing.{maps_of}
-use Rattle.schreyer_resolution.specs.Resolved.{AreJoined, degrees_of}
-use Rattle.schreyer_resolution.specs.declared.maps.Map.{Map}
-use Rattle.minimal_betti.specs.Tables.{IsCounted, IsTable}
-use Rattle.minimal_betti.specs.declared.tables.Entry.{Entry}
-use Rattle.minimal_betti.proofs.Growing.{all_map}
+use Rattle.resolution_maps.specs.Inducing.{maps_of}
+use Rattle.resolution_maps.specs.Resolved.{AreJoined, degrees_of}
+use Rattle.resolution_maps.specs.declared.maps.Map.{Map}
+use Rattle.column_passes.proofs.Lists.{all_map}
+use Rattle.minimal_betti.specs.Tables.{IsCountedEntry, IsBettiTable}
+use Rattle.minimal_betti.specs.declared.tables.BettiEntry.{BettiEntry}
 
 abbrev steps_of : Ring → List ℕ → List Map → ℕ → ℕ → ℕ
 steps_of ring rows maps = step_count rows (graded_by_leads ring.weights rows (maps_of (variables ring) (map (λ m. m.columns) maps)))
@@ -38,10 +38,10 @@ columns_at P f (y ∷ xs) zero x h lt is = subst (λ z. P (f z)) (sym is) h.0
 columns_at P f (y ∷ xs) (suc k) x h lt is = columns_at P f xs k x h.1 (omega (arith, lt)) is
 
 -- a table of the same counts
-pub table_same : (counts others : ℕ → ℕ → ℕ) (es : List Entry) → ((k d : ℕ) → counts k d ≡ others k d) → IsTable counts es → IsTable others es
+pub table_same : (counts others : ℕ → ℕ → ℕ) (es : List BettiEntry) → ((k d : ℕ) → counts k d ≡ others k d) → IsBettiTable counts es → IsBettiTable others es
 table_same counts others es same t = record {
   ascends = t.ascends;
-  counted = all_map (IsCounted counts) (IsCounted others) es (λ e c. (c.0, c.1 ∙ same e.step e.degree)) t.counted;
+  counted = all_map (IsCountedEntry counts) (IsCountedEntry others) es (λ e c. (c.0, c.1 ∙ same e.step e.degree)) t.counted;
   complete = λ k d some.
       subst (λ z. Contains es (record { step = k; degree = d; count = z })) (same k d) (t.complete k d (subst (λ z. 0 < z) (sym (same k d)) some));
 }

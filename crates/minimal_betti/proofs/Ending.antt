@@ -1,6 +1,6 @@
 -- What is left when no constant is
-use Rattle.std.proofs.Common.{List, [], ap, ap₂, arith, eqb-true, false, get_or, length, map, refl, subst, suc, sym, take, true, true≢false, zero, ℕ, ◌++◌}
-use Rattle.std.proofs.Common.{◌+◌, ◌-◌, ◌<◌, ◌==◌, ◌∙◌, ◌∷◌, ◌≡◌, ◌≤◌}
+use Rattle.std.proofs.Common.{List, [], ap, ap₂, arith, eqb-true, false, get_or, length, map, refl, subst, suc, sym, take, true, true≢false, zero, ℕ}
+use Rattle.std.proofs.Common.{◌++◌, ◌+◌, ◌-◌, ◌<◌, ◌==◌, ◌∙◌, ◌∷◌, ◌≡◌, ◌≤◌}
 use Rattle.std.proofs.lemmas.List.{take_more}
 use Rattle.residues.proofs.Congruences.{IsCongruent_minus, IsCongruent_of, IsCongruent_trans}
 use Rattle.monomials.specs.Exponents.{unit}
@@ -10,8 +10,8 @@ use Rattle.formal_sums.proofs.Sameness.{IsSame_append, IsSame_refl, IsSame_scale
 use Rattle.formal_sums.specs.Combinations.{IsMember, combination}
 use Rattle.formal_sums.specs.FormalSums.{Each, FormalSum, IsOfRank, IsSame, coefficient, indicator}
 use Rattle.bases.specs.Settings.{IsLawful}
-use Rattle.minimal_laws.proofs.CanonicalPresenting.{combination_units, get_or-units, length-units, unit_homogeneous, units_from}
 use Rattle.minimal_laws.proofs.Cancelling.{cancelled}
+use Rattle.minimal_laws.proofs.CanonicalPresenting.{combination_units, get_or-units, length-units, unit_homogeneous, units_from}
 use Rattle.minimal_laws.proofs.OneCancellation.{one_cancellation, same_maps_sym, same_maps_trans}
 use Rattle.minimal_laws.proofs.Presenting.{presents_same}
 use Rattle.minimal_laws.proofs.SameMaps.{same_exact, same_first, same_graded, same_member, turned}
@@ -23,23 +23,20 @@ use Rattle.module_vectors.specs.Rings.{ring_comparison, setting, variables}
 use Rattle.module_vectors.specs.Vectors.{AreVectorsOver, sums_of}
 use Rattle.module_vectors.specs.declared.key.Key.{Key as CodeKey}
 use Rattle.module_vectors.specs.declared.ring.Ring.{Ring}
-use Rattle.schreyer_resolution.specs.Inducing.{maps_of}
-use Rattle.schreyer_resolution.specs.Resolved.{AreJoined, columns_of, degrees_of}
-use Rattle.schreyer_resolution.specs.declared.maps.Map.{Map}
-use Rattle.schreyer_resolution.specs.declared.maps.Resolution.{Resolution}
-use Rattle.minimal_betti.specs.Carried.{AreCarried, AreCarriedBy, AreOrdered, HasNone, LeadsTo, graded_map, graded_maps}
+use Rattle.resolution_maps.specs.Inducing.{maps_of}
+use Rattle.resolution_maps.specs.Resolved.{AreJoined, columns_of, degrees_of}
+use Rattle.resolution_maps.specs.declared.maps.Map.{Map}
+use Rattle.resolution_maps.specs.declared.maps.Resolution.{Resolution}
+use Rattle.column_passes.proofs.Lists.{map_same}
+use Rattle.column_passes.specs.Constants.{HasNoConstants}
+use Rattle.minimal_betti.specs.Carried.{AreCarried, AreCarriedBy, AreOrdered, LeadsTo, graded_map, graded_maps}
 use Rattle.minimal_betti.specs.Complementing.{ComesTo}
 use Rattle.minimal_betti.specs.Graded.{AreMapsOver, IsGradedResolution, graded_of}
 use Rattle.minimal_betti.specs.Minimising.{IsCancellationOf}
-use Rattle.minimal_betti.specs.Splitting.{IsUnderway}
+use Rattle.minimal_betti.specs.Splitting.{IsCancellationUnderway}
 use Rattle.minimal_betti.specs.declared.carried.Carried.{Carried}
-use Rattle.minimal_betti.proofs.Columns.{map_same}
 use Rattle.minimal_betti.proofs.NoZeroColumns.{leads_are}
 use Rattle.minimal_betti.proofs.Reaching.{has_there}
-
-pub each_unmapped : {X Y : Type 0} (P : Y → Type 0) (f : X → Y) (xs : List X) → Each P (map f xs) → Each (λ x. P (f x)) xs
-each_unmapped P f [] h = tt
-each_unmapped P f (x ∷ xs) h = (h.0, each_unmapped P f xs h.1)
 
 -- ---- graded maps present the cokernel of the first one
 module _ {n p : ℕ} (pos : 0 < p) (ws rows : List ℕ) (maps : List (GradedMap n)) (graded : AreGraded ws p rows maps) where
@@ -168,7 +165,7 @@ module _ (ring : Ring) where
         0 < ring.modulus.value → (r : Resolution) (start : List Carried) (rows : List ℕ) → IsGradedResolution ring r
         → AreCarriedBy ring f r.maps.items start
         → AreGraded ring.weights ring.modulus.value r.positions.items (map image_map (graded_of ring r).maps) → rows ≡ r.positions.items
-        → IsUnderway ring rows [] start
+        → IsCancellationUnderway ring rows [] start
     images_underway pos r start rows given c graded e = record {
       ordered = images_ordered r.maps.items start c;
       graded = subst (λ z. AreGraded ring.weights ring.modulus.value z (map (graded_map (variables ring)) start)) (sym e)
@@ -193,13 +190,13 @@ module _ (ring : Ring) where
   pub start_underway :
       0 < ring.modulus.value → (r : Resolution) (start : List Carried) (rows : List ℕ) → IsGradedResolution ring r → AreCarried ring r.maps.items start
       → rows ≡ r.positions.items
-      → IsUnderway ring rows [] start
+      → IsCancellationUnderway ring rows [] start
   start_underway pos r start rows given c e =
       images_underway (λ v. v) pos r start rows given c
       (subst (AreGraded ring.weights ring.modulus.value r.positions.items) (sym (own_maps (graded_of ring r).maps)) given.graded) e
 
   pub none_at_all :
-      (ms : List Carried) → Each (λ m. HasNone ring.modulus.value (sums_of (variables ring) m.columns)) ms
+      (ms : List Carried) → Each (λ m. HasNoConstants ring.modulus.value (sums_of (variables ring) m.columns)) ms
       → (k c r : ℕ) → HasConstant ring.modulus.value (map (graded_map (variables ring)) ms) k c r → ⊥
   none_at_all [] none k c r h = elim h [ ]
   none_at_all (m ∷ ms) none zero c r h = none.0 c r h.1
@@ -208,7 +205,7 @@ module _ (ring : Ring) where
 -- maps without constants come to themselves
 pub comes_itself :
     (ring : Ring) (C : GradedMaps (variables ring)) (rows : List ℕ) (left : List Carried) → LeadsTo ring.modulus.value C (graded_maps ring rows left)
-    → IsUnderway ring rows left left → ComesTo ring C rows left
+    → IsCancellationUnderway ring rows left left → ComesTo ring C rows left
 comes_itself ring C rows left leads under = record {
   maps = map (graded_map (variables ring)) left;
   leads = leads;

@@ -24,11 +24,12 @@ use Rattle.module_vectors.specs.declared.trail.KeptTrail.{KeptTrail}
 use Rattle.module_vectors.specs.declared.trail.TrailStart.{TrailStart}
 use Rattle.module_vectors.specs.declared.trail.TrailStart.TheVariants.{Product}
 use Rattle.module_vectors.specs.declared.key.Key.{Key as CodeKey}
-use Rattle.minimal_betti.specs.Clearing.{IsKeptInRow, IsMonomialAt, at_zero}
+use Rattle.column_passes.specs.Clearing.{IsMonomialAt}
+use Rattle.column_passes.specs.declared.constants.Constant.{Constant}
+use Rattle.column_passes.proofs.Clearings.{nat_eq-other}
+use Rattle.column_passes.proofs.Lists.{each_in}
+use Rattle.minimal_betti.specs.Stopping.{IsKeptInRow, at_zero}
 use Rattle.minimal_betti.specs.Minimising.{IsClearingTrail}
-use Rattle.minimal_betti.specs.declared.constants.Constant.{Constant}
-use Rattle.minimal_betti.proofs.Clearings.{nat_eq-other}
-use Rattle.minimal_betti.proofs.Growing.{each_in}
 
 abbrev Terms : Type 0
 Terms = List (CodeKey × ℕ)

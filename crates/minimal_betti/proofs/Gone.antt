@@ -7,11 +7,10 @@ use Rattle.module_vectors.specs.Rings.{ring_comparison}
 use Rattle.module_vectors.specs.Vectors.{AreVectorsOver, IsVectorOver}
 use Rattle.module_vectors.specs.declared.key.Key.{Key as CodeKey}
 use Rattle.module_vectors.specs.declared.ring.Ring.{Ring}
+use Rattle.column_passes.specs.Placing.{ArePlacesAfter, all_removed, place_told}
+use Rattle.column_passes.specs.declared.placing.Leaving.{Leaving}
+use Rattle.column_passes.proofs.Lists.{all_append, all_map}
 use Rattle.minimal_betti.specs.Complementing.{AreGone, IsApart}
-use Rattle.minimal_betti.specs.Placing.{ArePlacesAfter, place_told}
-use Rattle.minimal_betti.specs.Splitting.{all_removed}
-use Rattle.minimal_betti.specs.declared.placing.Leaving.{Leaving}
-use Rattle.minimal_betti.proofs.Growing.{all_append, all_map}
 use Rattle.minimal_betti.proofs.Stepping.{each_all_removed}
 
 abbrev Terms : Type 0

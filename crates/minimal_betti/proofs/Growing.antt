@@ -1,38 +1,15 @@
 -- Counts, and tables that grow
-use Rattle.std.proofs.Common.{Bool, List, [], ap, arith, cond, eq-eqb, eqb-true, false, get_or, inl, inr, length, map, refl, subst, subst₂, suc, sym, take}
-use Rattle.std.proofs.Common.{true, zero, ℕ, ◌++◌, ◌+◌, ◌<◌, ◌∙◌, ◌∷◌, ◌≡◌, ◌≤◌, ◌⊎◌}
+use Rattle.std.specs.Prelude.{Contains, nat_eq}
+use Rattle.std.proofs.Common.{Bool, List, [], ap, arith, cond, eq-eqb, eqb-true, false, get_or, inl, inr, length, map, refl, subst, subst₂, suc, sym}
+use Rattle.std.proofs.Common.{take, true, zero, ℕ, ◌++◌, ◌+◌, ◌<◌, ◌∙◌, ◌∷◌, ◌≡◌, ◌≤◌, ◌⊎◌}
 use Rattle.std.proofs.lemmas.Bool.{cases_lt}
 use Rattle.std.proofs.lemmas.List.{take_more}
-use Rattle.std.specs.Prelude.{Contains, nat_eq}
 use Rattle.formal_sums.specs.FormalSums.{Each}
 use Rattle.betti_laws.specs.Tables.{occurrences}
-use Rattle.minimal_betti.specs.Growing.{IsDone, IsLeast, IsOutside, IsTableTo}
-use Rattle.minimal_betti.specs.Tables.{Ascends, ComesBefore, IsTable, entry_at}
-use Rattle.minimal_betti.specs.declared.tables.Entry.{Entry}
-
--- ---- lists
-pub all_append : {X : Type 0} (P : X → Type 0) (xs ys : List X) → Each P xs → Each P ys → Each P (xs ++ ys)
-all_append P [] ys h g = g
-all_append P (x ∷ xs) ys h g = (h.0, all_append P xs ys h.1 g)
-
-pub all_map : {X : Type 0} (P Q : X → Type 0) (xs : List X) → ((x : X) → P x → Q x) → Each P xs → Each Q xs
-all_map P Q [] f h = tt
-all_map P Q (x ∷ xs) f h = (f x h.0, all_map P Q xs f h.1)
-
-pub contains_left : {X : Type 0} (xs ys : List X) (x : X) → Contains xs x → Contains (xs ++ ys) x
-contains_left [] ys x (i, lt, e) = absurd (omega arith)
-contains_left (y ∷ xs) ys x (zero, lt, e) = (0, omega arith, e)
-contains_left (y ∷ xs) ys x (suc i, lt, e) = let r = contains_left xs ys x (i, omega arith, e) in (suc r.0, (let l = r.1 in omega (arith, l)), r.2)
-
-pub contains_end : {X : Type 0} (xs : List X) (x : X) → Contains (xs ++ x ∷ []) x
-contains_end [] x = (0, omega arith, refl)
-contains_end (y ∷ xs) x = let r = contains_end xs x in (suc r.0, (let l = r.1 in omega (arith, l)), r.2)
-
--- what holds of each item
-pub each_in : {X : Type 0} (P : X → Type 0) (xs : List X) (x : X) → Each P xs → Contains xs x → P x
-each_in P [] x h (i, lt, e) = absurd (omega (arith, lt))
-each_in P (y ∷ xs) x h (zero, lt, e) = subst P e h.0
-each_in P (y ∷ xs) x h (suc i, lt, e) = each_in P xs x h.1 (i, omega (arith, lt), e)
+use Rattle.column_passes.proofs.Lists.{all_append, all_map, contains_end, contains_left}
+use Rattle.minimal_betti.specs.Growing.{IsDone, IsLeastDegree, IsOutsideDegrees, IsTableTo}
+use Rattle.minimal_betti.specs.Tables.{Ascends, ComesBefore, IsBettiTable, entry_at}
+use Rattle.minimal_betti.specs.declared.tables.BettiEntry.{BettiEntry}
 
 -- ---- counts
 abbrev pub unit_if : ℕ → ℕ → ℕ
@@ -75,18 +52,18 @@ occurrences-outside d P (x ∷ xs) h never = let e = occurrences-outside d P xs 
 pub all_more : (P : ℕ → Type 0) (xs : List ℕ) (i x : ℕ) → Each P (take i xs) → i < length xs → x ≡ get_or xs i x → P x → Each P (take (i + 1) xs)
 all_more P xs i x h lt e q = subst (Each P) (sym (take_more xs i x lt)) (all_append P (take i xs) (get_or xs i x ∷ []) h (subst P e q, tt))
 
-pub least_start : (from : ℕ) → IsLeast from 4294967296 []
+pub least_start : (from : ℕ) → IsLeastDegree from 4294967296 []
 least_start from = record { outside = tt; found = inl refl }
 
 same_counts : (x : ℕ) → unit_if x x ≡ 1
 same_counts x = ap (λ (c : Bool). cond {A = ℕ} c 1 0) (eq-eqb x x refl)
 
 pub least_more :
-    (from least new : ℕ) (xs : List ℕ) (i x : ℕ) → IsLeast from least (take i xs) → i < length xs → x ≡ get_or xs i x → x < 4294967296
+    (from least new : ℕ) (xs : List ℕ) (i x : ℕ) → IsLeastDegree from least (take i xs) → i < length xs → x ≡ get_or xs i x → x < 4294967296
     → ((from ≤ x) × (x < least) × (new ≡ x)) ⊎ (((x < from) ⊎ (least ≤ x)) × (new ≡ least))
-    → IsLeast from new (take (i + 1) xs)
+    → IsLeastDegree from new (take (i + 1) xs)
 least_more from least new xs i x h lt e small (inl c) = record {
-  outside = all_more (IsOutside from new) xs i x (all_map (IsOutside from least) (IsOutside from new) (take i xs) (λ y o. lower y o) h.outside) lt e
+  outside = all_more (IsOutsideDegrees from new) xs i x (all_map (IsOutsideDegrees from least) (IsOutsideDegrees from new) (take i xs) (λ y o. lower y o) h.outside) lt e
       (inr (omega (arith, eq), small));
   found = inr (
     (let a = c.0 in omega (arith, a, eq)),
@@ -98,15 +75,15 @@ least_more from least new xs i x h lt e small (inl c) = record {
     eq : new ≡ x
     eq = c.2
 
-    lower : (y : ℕ) → IsOutside from least y → IsOutside from new y
+    lower : (y : ℕ) → IsOutsideDegrees from least y → IsOutsideDegrees from new y
     lower y (inl a) = inl a
     lower y (inr a) = inr ((let p = a.0 in let q = c.1 in let r = c.2 in omega (arith, p, q, r)), a.1)
 least_more from least new xs i x h lt e small (inr c) = record {
-  outside = all_more (IsOutside from new) xs i x (subst (λ z. Each (IsOutside from z) (take i xs)) (sym c.1) h.outside) lt e (here c.0);
+  outside = all_more (IsOutsideDegrees from new) xs i x (subst (λ z. Each (IsOutsideDegrees from z) (take i xs)) (sym c.1) h.outside) lt e (here c.0);
   found = kept h.found;
 }
   where
-    here : (x < from) ⊎ (least ≤ x) → IsOutside from new x
+    here : (x < from) ⊎ (least ≤ x) → IsOutsideDegrees from new x
     here (inl a) = inl a
     here (inr a) = inr ((let q = c.1 in omega (arith, a, q)), small)
 
@@ -128,17 +105,17 @@ table_start counts = record { ascends = tt; before = tt; counted = tt; complete 
     none k d (inl a) = omega arith
     none k d (inr a) = let q = a.1 in omega (arith, q)
 
-ascends_end : (es : List Entry) (f : Entry) → Ascends es → Each (λ e. ComesBefore e f) es → Ascends (es ++ f ∷ [])
+ascends_end : (es : List BettiEntry) (f : BettiEntry) → Ascends es → Each (λ e. ComesBefore e f) es → Ascends (es ++ f ∷ [])
 ascends_end [] f a b = (tt, tt)
 ascends_end (e ∷ es) f a b = (all_append (ComesBefore e) es (f ∷ []) a.0 (b.0, tt), ascends_end es f a.1 b.1)
 
-before_is : (k d x : ℕ) (e : Entry) (f : Entry) → f.step ≡ k → f.degree ≡ x → d ≤ x → IsDone k d e.step e.degree → ComesBefore e f
+before_is : (k d x : ℕ) (e : BettiEntry) (f : BettiEntry) → f.step ≡ k → f.degree ≡ x → d ≤ x → IsDone k d e.step e.degree → ComesBefore e f
 before_is k d x e f fs fd le (inl a) = inl (omega (arith, a, fs))
 before_is k d x e f fs fd le (inr a) = inr (a.0 ∙ sym fs, (let q = a.1 in omega (arith, q, fd, le)))
 
-module _ (counts : ℕ → ℕ → ℕ) (es : List Entry) (step from : ℕ) (h : IsTableTo counts es step from) where
+module _ (counts : ℕ → ℕ → ℕ) (es : List BettiEntry) (step from : ℕ) (h : IsTableTo counts es step from) where
   pub table_next :
-      (least : ℕ) (degrees : List ℕ) → ((d : ℕ) → counts step d ≡ occurrences d degrees) → IsLeast from least degrees → (least ≡ 4294967296 → ⊥)
+      (least : ℕ) (degrees : List ℕ) → ((d : ℕ) → counts step d ≡ occurrences d degrees) → IsLeastDegree from least degrees → (least ≡ 4294967296 → ⊥)
       → IsTableTo counts (es ++ record { step = step; degree = least; count = occurrences least degrees } ∷ []) step (least + 1)
   table_next least degrees is l some = record {
     ascends = ascends_end es new h.ascends (all_map _ _ es (λ e b. before_is step from least e new refl refl found.0 b) h.before);
@@ -147,7 +124,7 @@ module _ (counts : ℕ → ℕ → ℕ) (es : List Entry) (step from : ℕ) (h :
     complete = λ k d done pos. go k d done pos;
   }
     where
-      new : Entry
+      new : BettiEntry
       new = record { step = step; degree = least; count = occurrences least degrees }
 
       pick : (least ≡ 4294967296) ⊎ ((from ≤ least) × (least < 4294967296) × (0 < occurrences least degrees))
@@ -166,9 +143,9 @@ module _ (counts : ℕ → ℕ → ℕ) (es : List Entry) (step from : ℕ) (h :
           → Contains (es ++ new ∷ []) (entry_at counts step d)
       here d lt pos (inl a) b = contains_left es (new ∷ []) _ (h.complete step d (inr (refl, a)) pos)
       here d lt pos (inr a) (inl b) =
-          absurd (let z : counts step d ≡ 0 = is d ∙ occurrences-outside d (IsOutside from least) degrees l.outside (λ o. out o) in omega (arith, z, pos))
+          absurd (let z : counts step d ≡ 0 = is d ∙ occurrences-outside d (IsOutsideDegrees from least) degrees l.outside (λ o. out o) in omega (arith, z, pos))
         where
-          out : IsOutside from least d → ⊥
+          out : IsOutsideDegrees from least d → ⊥
           out (inl q) = omega (arith, q, a)
           out (inr q) = let r = q.0 in omega (arith, r, b)
       here d lt pos (inr a) (inr b) = subst (λ z. Contains (es ++ new ∷ []) z) (same d (omega (arith, lt, b))) (contains_end es new)
@@ -182,7 +159,7 @@ module _ (counts : ℕ → ℕ → ℕ) (es : List Entry) (step from : ℕ) (h :
       go k d (inr a) pos = subst (λ z. Contains (es ++ new ∷ []) (entry_at counts z d)) (sym a.0)
           (here d a.1 (subst (λ z. 0 < counts z d) a.0 pos) (cases_lt d from) (cases_lt d least))
 
-  pub table_step : (least : ℕ) (degrees : List ℕ) → ((d : ℕ) → counts step d ≡ occurrences d degrees) → IsLeast from least degrees → least ≡ 4294967296
+  pub table_step : (least : ℕ) (degrees : List ℕ) → ((d : ℕ) → counts step d ≡ occurrences d degrees) → IsLeastDegree from least degrees → least ≡ 4294967296
       → IsTableTo counts es (step + 1) 0
   table_step least degrees is l none = record {
     ascends = h.ascends;
@@ -198,9 +175,9 @@ module _ (counts : ℕ → ℕ → ℕ) (es : List Entry) (step from : ℕ) (h :
       here : (d : ℕ) → 0 < counts step d → (d < from) ⊎ (from ≤ d) → Contains es (entry_at counts step d)
       here d pos (inl a) = h.complete step d (inr (refl, a)) pos
       here d pos (inr a) =
-          absurd (let z : counts step d ≡ 0 = is d ∙ occurrences-outside d (IsOutside from least) degrees l.outside (λ o. out o) in omega (arith, z, pos))
+          absurd (let z : counts step d ≡ 0 = is d ∙ occurrences-outside d (IsOutsideDegrees from least) degrees l.outside (λ o. out o) in omega (arith, z, pos))
         where
-          out : IsOutside from least d → ⊥
+          out : IsOutsideDegrees from least d → ⊥
           out (inl q) = omega (arith, q, a)
           out (inr q) = let r = q.0 in let s = q.1 in omega (arith, r, s, none)
 
@@ -213,7 +190,7 @@ module _ (counts : ℕ → ℕ → ℕ) (es : List Entry) (step from : ℕ) (h :
       go k d (inl a) pos = split k d pos a (cases_lt k step)
       go k d (inr a) pos = absurd (let q = a.1 in omega (arith, q))
 
-pub below_none : (from least : ℕ) (degrees : List ℕ) → IsLeast from least degrees → (least ≡ 4294967296 → ⊥) → least + 1 ≤ 4294967296
+pub below_none : (from least : ℕ) (degrees : List ℕ) → IsLeastDegree from least degrees → (least ≡ 4294967296 → ⊥) → least + 1 ≤ 4294967296
 below_none from least degrees l some = go l.found
   where
     go : (least ≡ 4294967296) ⊎ ((from ≤ least) × (least < 4294967296) × (0 < occurrences least degrees)) → least + 1 ≤ 4294967296
@@ -222,15 +199,15 @@ below_none from least degrees l some = go l.found
 
 -- the entry by what the calls answer
 pub new_entry :
-    (counts : ℕ → ℕ → ℕ) (es : List Entry) (step from : ℕ) → IsTableTo counts es step from → (least : ℕ) (degrees : List ℕ)
-    → ((d : ℕ) → counts step d ≡ occurrences d degrees) → IsLeast from least degrees → (least ≡ 4294967296 → ⊥)
+    (counts : ℕ → ℕ → ℕ) (es : List BettiEntry) (step from : ℕ) → IsTableTo counts es step from → (least : ℕ) (degrees : List ℕ)
+    → ((d : ℕ) → counts step d ≡ occurrences d degrees) → IsLeastDegree from least degrees → (least ≡ 4294967296 → ⊥)
     → (degree count : ℕ) → degree ≡ least → count ≡ occurrences degree degrees
     → IsTableTo counts (es ++ record { step = step; degree = degree; count = count } ∷ []) step (least + 1)
 new_entry counts es step from h least degrees is l some degree count e ce =
     subst₂ (λ d k. IsTableTo counts (es ++ record { step = step; degree = d; count = k } ∷ []) step (least + 1)) (sym e)
     (sym (ce ∙ ap (λ z. occurrences z degrees) e)) (table_next counts es step from h least degrees is l some)
 
-pub table_done : (counts : ℕ → ℕ → ℕ) (es : List Entry) (step : ℕ) → IsTableTo counts es step 0 → ((k d : ℕ) → step ≤ k → counts k d ≡ 0) → IsTable counts es
+pub table_done : (counts : ℕ → ℕ → ℕ) (es : List BettiEntry) (step : ℕ) → IsTableTo counts es step 0 → ((k d : ℕ) → step ≤ k → counts k d ≡ 0) → IsBettiTable counts es
 table_done counts es step h none = record { ascends = h.ascends; counted = h.counted; complete = λ k d pos. go k d pos (cases_lt k step) }
   where
     go : (k d : ℕ) → 0 < counts k d → (k < step) ⊎ (step ≤ k) → Contains es (entry_at counts k d)

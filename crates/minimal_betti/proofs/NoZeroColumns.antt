@@ -21,7 +21,7 @@ use Rattle.module_vectors.specs.Rings.{ring_comparison, setting, variables}
 use Rattle.module_vectors.specs.Vectors.{AreVectorsOver, HasPositions, IsVectorOver, key_of, sum_of, sums_of}
 use Rattle.module_vectors.specs.declared.key.Key.{Key as CodeKey}
 use Rattle.module_vectors.specs.declared.ring.Ring.{Ring}
-use Rattle.schreyer_resolution.specs.Progress.{HavePositions}
+use Rattle.resolution_maps.specs.Resolved.{HavePositions}
 use Rattle.minimal_betti.specs.Carried.{AreOrdered, graded_map}
 use Rattle.minimal_betti.specs.declared.carried.Carried.{Carried}
 

@@ -13,16 +13,19 @@ use Rattle.minimal_laws.specs.Gradings.{AreGraded, GradedMap, GradedMaps}
 use Rattle.module_vectors.specs.Rings.{ring_comparison, variables}
 use Rattle.module_vectors.specs.Vectors.{AreVectorsOver, sums_of}
 use Rattle.module_vectors.specs.declared.ring.Ring.{Ring}
-use Rattle.minimal_betti.specs.Carried.{AreOrdered, HasNone, LeadsTo, graded_map, graded_maps}
-use Rattle.minimal_betti.specs.Complementing.{ComesTo, IsChosen, IsComplemented, IsLowered}
-use Rattle.minimal_betti.specs.Passing.{AreGradedColumns, Pivot, left_by_all}
-use Rattle.minimal_betti.specs.Splitting.{IsUnderway, all_removed}
+use Rattle.column_passes.specs.Constants.{HasNoConstants}
+use Rattle.column_passes.specs.Passing.{AreGradedColumns, IsChosen, Pivot, left_by_all}
+use Rattle.column_passes.specs.Placing.{all_removed}
+use Rattle.column_passes.specs.declared.one_pass.Passed.{Passed}
+use Rattle.column_passes.proofs.Lists.{all_append, each_left, each_right}
+use Rattle.column_passes.proofs.Applying.{constant_there}
+use Rattle.minimal_betti.specs.Carried.{AreOrdered, LeadsTo, graded_map, graded_maps}
+use Rattle.minimal_betti.specs.Complementing.{ComesTo, IsComplemented, IsMapLowered}
+use Rattle.minimal_betti.specs.Splitting.{IsCancellationUnderway}
 use Rattle.minimal_betti.specs.declared.carried.Carried.{Carried}
-use Rattle.minimal_betti.specs.declared.one_pass.Passed.{Passed}
-use Rattle.minimal_betti.proofs.Growing.{all_append}
-use Rattle.minimal_betti.proofs.Reaching.{constant_there, leads_itself, leads_on}
+use Rattle.minimal_betti.proofs.Reaching.{leads_itself, leads_on}
 use Rattle.minimal_betti.proofs.Splittings.{all_reverse}
-use Rattle.minimal_betti.proofs.Stepping.{any_steps, each_left, each_right, lose_all_end, lose_all_none, lower_all, lower_all_next, lower_all_none, none_fewer}
+use Rattle.minimal_betti.proofs.Stepping.{any_steps, lose_all_end, lose_all_none, lower_all, lower_all_next, lower_all_none, none_fewer}
 
 -- a map by its columns after the steps
 abbrev pub left_map : (ring : Ring) → Carried → List (Pivot (variables ring)) → GradedMap (variables ring)
@@ -43,7 +46,7 @@ pub record IsPending (ring : Ring) (C : GradedMaps (variables ring)) (rows : Lis
   pub maps : List (GradedMap (variables ring))
   pub leads : LeadsTo ring.modulus.value C (record { positions = rows; maps = maps ++ left_map ring m choice.pivots ∷ maps_to_come ring choice.pivots rest })
   pub graded : AreGraded ring.weights ring.modulus.value rows (maps ++ left_map ring m choice.pivots ∷ maps_to_come ring choice.pivots rest)
-  pub none : Each (λ (D : GradedMap (variables ring)). HasNone ring.modulus.value D.columns) maps
+  pub none : Each (λ (D : GradedMap (variables ring)). HasNoConstants ring.modulus.value D.columns) maps
   pub same : AreSameMaps ring.modulus.value maps (map (graded_map (variables ring)) done)
   pub ordered : AreOrdered ring done
   pub vectors : AreVectorsOver ring (ring_comparison ring) m.columns
@@ -57,7 +60,7 @@ same_end p [] (y ∷ ys) A B h d c = elim h [ ]
 same_end p (x ∷ xs) [] A B h d c = elim h [ ]
 same_end p (x ∷ xs) (y ∷ ys) A B h d c = (h.0, h.1, same_end p xs ys A B h.2 d c)
 
-none_removed : {n : ℕ} (p : ℕ) (rs : List ℕ) (M : GradedMap n) → HasNone p M.columns → HasNone p (all_removed rs M.columns)
+none_removed : {n : ℕ} (p : ℕ) (rs : List ℕ) (M : GradedMap n) → HasNoConstants p M.columns → HasNoConstants p (all_removed rs M.columns)
 none_removed p [] M h = h
 none_removed p (r ∷ rs) M h =
     none_removed p rs (record { columns = remove_at r M.columns; degrees = M.degrees }) (none_fewer p r M h)
@@ -65,8 +68,8 @@ none_removed p (r ∷ rs) M h =
 -- none in the same maps
 none_there : (ring : Ring) (maps : List (GradedMap (variables ring))) (done : List Carried)
     → AreSameMaps ring.modulus.value maps (map (graded_map (variables ring)) done)
-    → Each (λ (D : GradedMap (variables ring)). HasNone ring.modulus.value D.columns) maps
-    → Each (λ (m : Carried). HasNone ring.modulus.value (sums_of (variables ring) m.columns)) done
+    → Each (λ (D : GradedMap (variables ring)). HasNoConstants ring.modulus.value D.columns) maps
+    → Each (λ (m : Carried). HasNoConstants ring.modulus.value (sums_of (variables ring) m.columns)) done
 none_there ring [] [] h none = tt
 none_there ring [] (m ∷ done) h none = elim h [ ]
 none_there ring (M ∷ maps) [] h none = elim h [ ]
@@ -77,7 +80,7 @@ none_there ring (M ∷ maps) (m ∷ done) h none = (
 
 -- no maps come to themselves
 pub pending_none :
-    (ring : Ring) (rows : List ℕ) (maps left : List Carried) → maps ≡ [] → left ≡ [] → IsUnderway ring rows [] (reverse maps)
+    (ring : Ring) (rows : List ℕ) (maps left : List Carried) → maps ≡ [] → left ≡ [] → IsCancellationUnderway ring rows [] (reverse maps)
     → ComesTo ring (graded_maps ring rows (reverse maps)) rows left
 pending_none ring rows maps left e el u =
     let n = variables ring in
@@ -87,12 +90,12 @@ pending_none ring rows maps left e el u =
       leads = leads_itself ring.modulus.value (graded_maps ring rows (reverse maps));
       same = subst (λ (z : List Carried). AreSameMaps ring.modulus.value (map (graded_map n) (reverse maps)) (map (graded_map n) z)) none
           (same_maps_itself ring.modulus.value (map (graded_map n) (reverse maps)));
-      underway = subst₂ (λ (x : List Carried) (y : List Carried). IsUnderway ring rows x y) (sym el) none u;
+      underway = subst₂ (λ (x : List Carried) (y : List Carried). IsCancellationUnderway ring rows x y) (sym el) none u;
     }
 
 -- the first of maps that are underway
 module _ (ring : Ring) (rows : List ℕ) (maps rest : List Carried) (first : Carried) (popped : maps ≡ rest ++ first ∷ [])
-    (u : IsUnderway ring rows [] (reverse maps)) where
+    (u : IsCancellationUnderway ring rows [] (reverse maps)) where
   turn : reverse maps ≡ first ∷ reverse rest
   turn = ap reverse popped ∙ reverse-append rest (first ∷ [])
 
@@ -111,7 +114,7 @@ module _ (ring : Ring) (pos : 0 < ring.modulus.value) (C : GradedMaps (variables
   -- ---- the start
   pub pending_first :
       (rows rows' : List ℕ) (maps rest : List Carried) (first : Carried) (passed : Passed) (choice : IsChosen ring first.columns passed)
-      → maps ≡ rest ++ first ∷ [] → C ≡ graded_maps ring rows (reverse maps) → IsUnderway ring rows [] (reverse maps)
+      → maps ≡ rest ++ first ∷ [] → C ≡ graded_maps ring rows (reverse maps) → IsCancellationUnderway ring rows [] (reverse maps)
       → rows' ≡ all_removed (map (λ (s : Pivot (variables ring)). s.row) choice.pivots) rows
       → IsPending ring C rows' [] first passed rest
   pending_first rows rows' maps rest first passed choice popped start under left =
@@ -146,7 +149,7 @@ module _ (ring : Ring) (pos : 0 < ring.modulus.value) (C : GradedMaps (variables
   -- ---- the next map
   module _ (rows : List ℕ) (done : List Carried) (m : Carried) (passed : Passed) (rest before : List Carried) (popped next : Carried)
       (h : IsPending ring C rows done m passed rest) (is_popped : rest ≡ before ++ popped ∷ [])
-      (lowered : IsLowered ring (map (λ (s : Pivot (variables ring)). s.index) h.choice.pivots) popped next) where
+      (lowered : IsMapLowered ring (map (λ (s : Pivot (variables ring)). s.index) h.choice.pivots) popped next) where
     to_come : maps_to_come ring h.choice.pivots rest ≡ graded_map (variables ring) next ∷ map (graded_map (variables ring)) (reverse before)
     to_come =
         let p = ring.modulus.value in
@@ -192,7 +195,7 @@ module _ (ring : Ring) (pos : 0 < ring.modulus.value) (C : GradedMaps (variables
         let A = left_map ring m h.choice.pivots in
         let A' : GradedMap n = record { columns = all_removed rs A.columns; degrees = all_removed rs A.degrees } in
         let tail = map (graded_map n) (reverse before) in
-        let none : Each (λ (D : GradedMap n). HasNone p D.columns) (h.maps ++ A ∷ []) = all_append _ h.maps (A ∷ []) h.none (h.choice.none, tt) in
+        let none : Each (λ (D : GradedMap n). HasNoConstants p D.columns) (h.maps ++ A ∷ []) = all_append _ h.maps (A ∷ []) h.none (h.choice.none, tt) in
         let b = any_steps ring pos choice.pivots rows (h.maps ++ A ∷ []) (graded_map n next) tail none choice.firsts in
         let lost = lose_all_end {n = n} p rs rows h.maps A in
         let places = ap (λ (z : List ℕ × List (GradedMap n)). z.0) lost in

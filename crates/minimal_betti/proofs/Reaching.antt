@@ -1,22 +1,22 @@
 -- What a cancellation comes to
-use Rattle.std.proofs.Common.{List, [], inl, inr, refl, subst, suc, sym, zero, ℕ, ◌<◌, ◌∙◌, ◌∷◌, ◌≡◌}
 use Rattle.std.specs.Prelude.{drop}
-use Rattle.residues.proofs.Congruences.{IsCongruent_multiply, IsCongruent_refl, IsCongruent_sym, IsCongruent_trans}
+use Rattle.std.proofs.Common.{List, [], inl, inr, refl, subst, suc, sym, zero, ℕ, ◌<◌, ◌∙◌, ◌∷◌, ◌≡◌}
+use Rattle.residues.proofs.Congruences.{IsCongruent_multiply, IsCongruent_refl, IsCongruent_trans}
 use Rattle.residues.specs.Residues.{IsDomain}
 use Rattle.monomials.specs.Exponents.{unit}
 use Rattle.formal_sums.proofs.Sameness.{IsSame_refl, IsSame_trans}
-use Rattle.formal_sums.specs.FormalSums.{FormalSum, IsSame}
 use Rattle.minimal_laws.proofs.OneCancellation.{same_maps_sym, same_maps_trans, split_same}
 use Rattle.minimal_laws.proofs.Searching.{cancellation_exists, same_maps_itself}
 use Rattle.minimal_laws.specs.Cancellation.{AreSameColumns, AreSameMaps, IsCancelled, IsFirstConstant, done, split, step}
 use Rattle.minimal_laws.specs.Gradings.{GradedMap, GradedMaps, first_columns}
-use Rattle.minimal_laws.specs.Minimal.{HasConstant, IsConstantAt}
+use Rattle.minimal_laws.specs.Minimal.{HasConstant}
 use Rattle.module_vectors.specs.Rings.{variables}
 use Rattle.module_vectors.specs.declared.ring.Ring.{Ring}
 use Rattle.module_vectors.specs.declared.trail.WorkStop.{WorkStop}
 use Rattle.module_vectors.specs.declared.trail.WorkStop.TheVariants.{Degree, Memory}
+use Rattle.column_passes.proofs.Applying.{constant_there}
 use Rattle.minimal_betti.specs.Carried.{LeadsTo}
-use Rattle.minimal_betti.specs.Minimising.{CancellationStops, GoesThrough, IsReached}
+use Rattle.minimal_betti.specs.Minimising.{CancellationStops, GoesThrough, IsCancellationReached}
 
 module _ {n : ℕ} (p : ℕ) where
   starts : (C D : GradedMaps n) (c : IsCancelled p C D) → GoesThrough c C
@@ -24,7 +24,7 @@ module _ {n : ℕ} (p : ℕ) where
   starts _ _ (step rows maps others D k c r s first inverse same more) = inl refl
 
   -- each list of maps is reached from itself
-  pub reached_itself : IsDomain p → (C : GradedMaps n) → IsReached p C C
+  pub reached_itself : IsDomain p → (C : GradedMaps n) → IsCancellationReached p C C
   reached_itself domain C = let e = cancellation_exists p domain C in (e.0, e.1, starts C e.0 e.1)
 
   pub leads_itself : (C : GradedMaps n) → LeadsTo p C C
@@ -34,16 +34,10 @@ module _ {n : ℕ} (p : ℕ) where
   leads_on B C E a b = record { cancelled = λ D c. a.cancelled D (b.cancelled D c); reached = λ maps r. a.reached maps (b.reached maps r) }
 
   -- ---- from the same maps
-  pub constant_there : (v w : FormalSum n) (r : ℕ) → IsSame p v w → IsConstantAt p v r → IsConstantAt p w r
-  constant_there v w r e h = record {
-    nonzero = λ z. h.nonzero (IsCongruent_trans (e.by_key (r, unit n)) z);
-    alone = λ m ne. IsCongruent_trans (IsCongruent_sym (e.by_key (r, m))) (h.alone m ne);
-  }
-
   pub has_there : (maps others : List (GradedMap n)) (k c r : ℕ) → AreSameMaps p maps others → HasConstant p maps k c r → HasConstant p others k c r
   has_there [] others k c r e h = elim h [ ]
   has_there (M ∷ maps) [] k c r e h = elim e [ ]
-  has_there (M ∷ maps) (N ∷ others) zero c r e h = (subst (λ m. c < m) e.1.count h.0, constant_there _ _ r (e.1.each c) h.1)
+  has_there (M ∷ maps) (N ∷ others) zero c r e h = (subst (λ m. c < m) e.1.count h.0, constant_there p _ _ r (e.1.each c) h.1)
   has_there (M ∷ maps) (N ∷ others) (suc k) c r e h = has_there maps others k c r e.2 h
 
   first_there : (maps others : List (GradedMap n)) (k c r : ℕ) → AreSameMaps p maps others → IsFirstConstant p maps k c r → IsFirstConstant p others k c r
@@ -69,15 +63,15 @@ module _ {n : ℕ} (p : ℕ) where
     -- what the same maps come to, these do, up to the form of the vectors
     reached_there :
         (C S D : GradedMaps n) (c : IsCancelled p S D) → C.positions ≡ S.positions → AreSameMaps p C.maps S.maps
-        → (X : GradedMaps n) → GoesThrough c X → (Y : GradedMaps n) × IsReached p C Y × AreSameMaps p Y.maps X.maps
+        → (X : GradedMaps n) → GoesThrough c X → (Y : GradedMaps n) × IsCancellationReached p C Y × AreSameMaps p Y.maps X.maps
     reached_there C _ _ (done rows maps none) e same X g = (C, reached_itself domain C, subst (λ (Z : GradedMaps n). AreSameMaps p C.maps Z.maps) (sym g) same)
     reached_there C _ _ (step rows maps others D k c r s first inverse split_is more) e same X (inl g) =
         (C, reached_itself domain C, subst (λ (Z : GradedMaps n). AreSameMaps p C.maps Z.maps) (sym g) same)
     reached_there C _ _ (step rows maps others D k c r s first inverse split_is more) e same X (inr g) =
         let both = split_same p pos k r c s s (IsCongruent_refl p s) C.positions rows C.maps maps e same in
-        let on : IsReached p (record { positions = (split p k r c s rows maps).0; maps = others }) X = (D, more, g) in
-        let moved : IsReached p (record { positions = (split p k r c s C.positions C.maps).0; maps = others }) X =
-        subst (λ z. IsReached p (record { positions = z; maps = others }) X) (sym both.0) on
+        let on : IsCancellationReached p (record { positions = (split p k r c s rows maps).0; maps = others }) X = (D, more, g) in
+        let moved : IsCancellationReached p (record { positions = (split p k r c s C.positions C.maps).0; maps = others }) X =
+        subst (λ z. IsCancellationReached p (record { positions = z; maps = others }) X) (sym both.0) on
         in (
           X,
           (

@@ -17,14 +17,15 @@ use Rattle.module_vectors.specs.declared.trail.WorkStop.{WorkStop}
 use Rattle.module_vectors.specs.declared.trail.WorkStop.TheVariants.{Degree, Memory}
 use Rattle.vector_division.proofs.Members.{sums_at}
 use Rattle.vector_division.specs.Progress.{AreWeighed}
-use Rattle.minimal_betti.specs.Carried.{AreOrdered, HasNone, IsFirst, IsGraded, LeadsTo, graded_map, graded_maps}
+use Rattle.column_passes.specs.Constants.{HasNoConstants, IsFirst}
+use Rattle.column_passes.specs.Passing.{AreFirstSteps, AreGradedColumns, IsGraded, Pivot, left_by_all}
+use Rattle.column_passes.specs.declared.constants.Constant.{Constant}
+use Rattle.column_passes.proofs.Lists.{all_append, all_map, each_left, each_mapped, each_right}
+use Rattle.minimal_betti.specs.Carried.{AreOrdered, LeadsTo, graded_map, graded_maps}
 use Rattle.minimal_betti.specs.Minimising.{CancellationStops}
-use Rattle.minimal_betti.specs.Passing.{AreFirstSteps, AreGradedColumns, Pivot, left_by_all}
-use Rattle.minimal_betti.specs.Splitting.{IsFormerLeft, IsNextLeft, IsSplit, IsUnderway, SplittingStops, in_turn, split_of}
+use Rattle.minimal_betti.specs.Splitting.{IsFormerLeft, IsNextLeft, IsMapSplit, IsCancellationUnderway, SplittingStops, in_turn, split_of}
 use Rattle.minimal_betti.specs.declared.carried.Carried.{Carried}
-use Rattle.minimal_betti.specs.declared.constants.Constant.{Constant}
-use Rattle.minimal_betti.proofs.Growing.{all_append, all_map}
-use Rattle.minimal_betti.proofs.Stepping.{columns_in, each_left, each_mapped, each_right, first_in, steps_lead, steps_underway}
+use Rattle.minimal_betti.proofs.Stepping.{columns_in, first_in, steps_lead, steps_underway}
 use Rattle.minimal_betti.proofs.Reaching.{reached_itself}
 
 abbrev Terms : Type 0
@@ -59,12 +60,12 @@ module _ (ring : Ring) (at : Constant) where
     here done = map-append G done (cur ∷ tail)
 
     first_constant :
-        (done : List Carried) → Each (λ m. HasNone ring.modulus.value (sums_of (variables ring) m.columns)) done
+        (done : List Carried) → Each (λ m. HasNoConstants ring.modulus.value (sums_of (variables ring) m.columns)) done
         → IsFirstConstant ring.modulus.value (map G (done ++ cur ∷ tail)) (length done) at.column at.row
     first_constant done none =
         subst₂ (λ ms k. IsFirstConstant ring.modulus.value ms k at.column at.row) (sym (here done)) (length-map done G)
         (first_in ring.modulus.value (map G done) (G cur) (map G tail) at.column at.row
-        (each_mapped (λ (D : GradedMap (variables ring)). HasNone ring.modulus.value D.columns) G done none)
+        (each_mapped (λ (D : GradedMap (variables ring)). HasNoConstants ring.modulus.value D.columns) G done none)
         (let l = first.inside in omega (arith, l, length-map cur.columns (λ v. sum_of (variables ring) v))) first.constant first.first_column first.first_row)
 
     columns_here : (done : List Carried) → first_columns (drop (length done) (map G (done ++ cur ∷ tail))) ≡ sums_of (variables ring) cur.columns
@@ -74,7 +75,7 @@ module _ (ring : Ring) (at : Constant) where
     -- where it stops, the cancellation came to these maps
     pub stops_here :
         IsDomain ring.modulus.value → (rows : List ℕ) (done : List Carried)
-        → Each (λ m. HasNone ring.modulus.value (sums_of (variables ring) m.columns)) done
+        → Each (λ m. HasNoConstants ring.modulus.value (sums_of (variables ring) m.columns)) done
         → (stop : WorkStop) → SplittingStops ring cur.columns at stop → CancellationStops ring (graded_maps ring rows (done ++ cur ∷ tail)) stop
     stops_here domain rows done none Memory h = tt
     stops_here domain rows done none (Degree t) h = record {
@@ -88,7 +89,7 @@ module _ (ring : Ring) (at : Constant) where
       clearing = h.0;
     }
 
-  module _ (cur cur' : Carried) (first : IsFirst ring cur.columns at) (here : IsSplit ring at cur cur') where
+  module _ (cur cur' : Carried) (first : IsFirst ring cur.columns at) (here : IsMapSplit ring at cur cur') where
     -- the split as a step
     abbrev the_step : Pivot (variables ring)
     the_step = record { row = at.row; index = at.column; inverse = here.inverse; column = sum_of (variables ring) (get_or cur.columns at.column []) }
@@ -117,11 +118,11 @@ module _ (ring : Ring) (at : Constant) where
 
     module _ (pos : 0 < ring.modulus.value) (rows rows' : List ℕ) (done done' rest rest' : List Carried)
         (former : IsFormerLeft (at.row ∷ []) rows rows' done done')
-        (next : IsNextLeft ring (at.column ∷ []) rest rest') (u : IsUnderway ring rows done (in_turn done cur rest)) where
+        (next : IsNextLeft ring (at.column ∷ []) rest rest') (u : IsCancellationUnderway ring rows done (in_turn done cur rest)) where
       pub step_leads : LeadsTo ring.modulus.value (graded_maps ring rows (in_turn done cur rest)) (graded_maps ring rows' (in_turn done' cur' rest'))
       step_leads = steps_lead ring pos cur cur' the_step [] is_first leaves here.columns.vectors here.degrees rows rows' done done' rest rest' former next u
 
-      pub step_underway : IsUnderway ring rows' done' (in_turn done' cur' rest')
+      pub step_underway : IsCancellationUnderway ring rows' done' (in_turn done' cur' rest')
       step_underway = steps_underway ring pos cur cur' the_step [] is_first leaves here.columns.vectors here.degrees rows rows' done done' rest rest' former
           next u
 
@@ -171,8 +172,8 @@ module _ (ring : Ring) where
 
   -- the map is done
   pub done_more :
-      (rows : List ℕ) (done : List Carried) (cur : Carried) (tail : List Carried) → IsUnderway ring rows done (done ++ cur ∷ tail)
-      → HasNone ring.modulus.value (sums_of (variables ring) cur.columns) → IsUnderway ring rows (done ++ cur ∷ []) ((done ++ cur ∷ []) ++ tail)
+      (rows : List ℕ) (done : List Carried) (cur : Carried) (tail : List Carried) → IsCancellationUnderway ring rows done (done ++ cur ∷ tail)
+      → HasNoConstants ring.modulus.value (sums_of (variables ring) cur.columns) → IsCancellationUnderway ring rows (done ++ cur ∷ []) ((done ++ cur ∷ []) ++ tail)
   done_more rows done cur tail u none = record {
     ordered = subst (AreOrdered ring) (sym (append_assoc done (cur ∷ []) tail)) u.ordered;
     graded = subst (λ ms. AreGraded ring.weights ring.modulus.value rows (map (graded_map (variables ring)) ms))

@@ -12,24 +12,24 @@ use Rattle.minimal_laws.proofs.OneCancellation.{same_maps_trans}
 use Rattle.minimal_laws.proofs.Rows.{skip}
 use Rattle.minimal_laws.proofs.SameMaps.{same_graded}
 use Rattle.minimal_laws.proofs.Searching.{same_maps_itself}
-use Rattle.minimal_laws.specs.Cancellation.{AreSameColumns, AreSameMaps, IsCancelled, IsFirstConstant, remove_at, split, split_map, step, without_row}
-use Rattle.minimal_laws.specs.Cancellation.{without_rows}
+use Rattle.minimal_laws.specs.Cancellation.{AreSameColumns, AreSameMaps, IsCancelled, IsFirstConstant, remove_at, split, split_map, step}
+use Rattle.minimal_laws.specs.Cancellation.{without_row, without_rows}
 use Rattle.minimal_laws.specs.Gradings.{AreGraded, GradedMap, GradedMaps, first_columns}
 use Rattle.minimal_laws.specs.Minimal.{HasConstant, IsConstantAt}
 use Rattle.module_vectors.specs.Rings.{ring_comparison, variables}
 use Rattle.module_vectors.specs.Vectors.{AreVectorsOver, sum_of, sums_of}
 use Rattle.module_vectors.specs.declared.key.Key.{Key as CodeKey}
 use Rattle.module_vectors.specs.declared.ring.Ring.{Ring}
-use Rattle.minimal_betti.specs.Carried.{AreOrdered, HasNone, LeadsTo, graded_map, graded_maps}
-use Rattle.minimal_betti.specs.Minimising.{IsReached}
-use Rattle.minimal_betti.specs.Passing.{AreFirstSteps, IsFirstStep, Pivot, left_by, left_by_all}
-use Rattle.minimal_betti.specs.Splitting.{IsFormerLeft, IsNextLeft, IsUnderway, all_removed, in_turn, without_all}
+use Rattle.column_passes.proofs.Applying.{constant_there, split_columns_same}
+use Rattle.column_passes.proofs.Lists.{all_append, each_left, each_mapped, each_right, each_unmapped, map_same}
+use Rattle.column_passes.specs.Constants.{HasNoConstants}
+use Rattle.column_passes.specs.Passing.{AreFirstSteps, IsFirstStep, Pivot, left_by, left_by_all}
+use Rattle.column_passes.specs.Placing.{all_removed, without_all}
+use Rattle.minimal_betti.specs.Carried.{AreOrdered, LeadsTo, graded_map, graded_maps}
+use Rattle.minimal_betti.specs.Minimising.{IsCancellationReached}
+use Rattle.minimal_betti.specs.Splitting.{IsCancellationUnderway, IsFormerLeft, IsNextLeft, in_turn}
 use Rattle.minimal_betti.specs.declared.carried.Carried.{Carried}
-use Rattle.minimal_betti.proofs.Applying.{split_columns_same}
-use Rattle.minimal_betti.proofs.Columns.{map_same}
-use Rattle.minimal_betti.proofs.Ending.{each_unmapped}
-use Rattle.minimal_betti.proofs.Growing.{all_append}
-use Rattle.minimal_betti.proofs.Reaching.{constant_there, leads_itself, leads_on}
+use Rattle.minimal_betti.proofs.Reaching.{leads_itself, leads_on}
 
 -- ---- lists
 pub map_map : {X Y Z : Type 0} (g : Y → Z) (f : X → Y) (xs : List X) → map g (map f xs) ≡ map (λ x. g (f x)) xs
@@ -53,18 +53,6 @@ each_removed P (suc c) (x ∷ xs) h = (h.0, each_removed P c xs h.1)
 pub each_all_removed : {X : Type 0} (P : X → Type 0) (places : List ℕ) (xs : List X) → Each P xs → Each P (all_removed places xs)
 each_all_removed P [] xs h = h
 each_all_removed P (c ∷ places) xs h = each_all_removed P places (remove_at c xs) (each_removed P c xs h)
-
-pub each_left : {X : Type 0} (P : X → Type 0) (xs ys : List X) → Each P (xs ++ ys) → Each P xs
-each_left P [] ys h = tt
-each_left P (x ∷ xs) ys h = (h.0, each_left P xs ys h.1)
-
-pub each_right : {X : Type 0} (P : X → Type 0) (xs ys : List X) → Each P (xs ++ ys) → Each P ys
-each_right P [] ys h = h
-each_right P (x ∷ xs) ys h = each_right P xs ys h.1
-
-pub each_mapped : {X Y : Type 0} (P : Y → Type 0) (f : X → Y) (xs : List X) → Each (λ x. P (f x)) xs → Each P (map f xs)
-each_mapped P f [] h = tt
-each_mapped P f (x ∷ xs) h = (h.0, each_mapped P f xs h.1)
 
 -- ---- graded maps
 module _ {n : ℕ} (p : ℕ) where
@@ -120,14 +108,14 @@ module _ {n : ℕ} (p : ℕ) where
   from_here (D ∷ done) M tail c r lt h = from_here done M tail c r lt h
 
   none_before :
-      (done : List (GradedMap n)) (M : GradedMap n) (tail : List (GradedMap n)) → Each (λ D. HasNone p D.columns) done
+      (done : List (GradedMap n)) (M : GradedMap n) (tail : List (GradedMap n)) → Each (λ D. HasNoConstants p D.columns) done
       → (l b q : ℕ) → l < length done → HasConstant p (done ++ M ∷ tail) l b q → ⊥
   none_before [] M tail none l b q lt h = omega (arith, lt)
   none_before (D ∷ done) M tail none zero b q lt h = none.0 b q h.1
   none_before (D ∷ done) M tail none (suc l) b q lt h = none_before done M tail none.1 l b q (omega (arith, lt)) h
 
   pub first_in :
-      (done : List (GradedMap n)) (M : GradedMap n) (tail : List (GradedMap n)) (c r : ℕ) → Each (λ D. HasNone p D.columns) done
+      (done : List (GradedMap n)) (M : GradedMap n) (tail : List (GradedMap n)) (c r : ℕ) → Each (λ D. HasNoConstants p D.columns) done
       → c < length M.columns → IsConstantAt p (get_or M.columns c []) r
       → ((b q : ℕ) → b < c → IsConstantAt p (get_or M.columns b []) q → ⊥) → ((q : ℕ) → q < r → IsConstantAt p (get_or M.columns c []) q → ⊥)
       → IsFirstConstant p (done ++ M ∷ tail) (length done) c r
@@ -143,20 +131,20 @@ module _ {n : ℕ} (p : ℕ) where
   columns_in [] M tail = refl
   columns_in (D ∷ done) M tail = columns_in done M tail
 
-  pub none_fewer : (r : ℕ) (M : GradedMap n) → HasNone p M.columns → HasNone p (remove_at r M.columns)
+  pub none_fewer : (r : ℕ) (M : GradedMap n) → HasNoConstants p M.columns → HasNoConstants p (remove_at r M.columns)
   none_fewer r M h c q k = h (skip r c) q (subst (λ v. IsConstantAt p v q) (get_or-remove_at r M.columns c []) k)
 
-  none_last : (r : ℕ) (M : GradedMap n) (done : List (GradedMap n)) → HasNone p M.columns → Each (λ D. HasNone p D.columns) done
-      → Each (λ D. HasNone p D.columns) (lose_last r M done)
+  none_last : (r : ℕ) (M : GradedMap n) (done : List (GradedMap n)) → HasNoConstants p M.columns → Each (λ D. HasNoConstants p D.columns) done
+      → Each (λ D. HasNoConstants p D.columns) (lose_last r M done)
   none_last r M [] h none = (none_fewer r M h, tt)
   none_last r M (L ∷ done) h none = (h, none_last r L done none.0 none.1)
 
-  none_lost : (r : ℕ) (rows : List ℕ) (done : List (GradedMap n)) → Each (λ D. HasNone p D.columns) done → Each (λ D. HasNone p D.columns) (lose r rows done).1
+  none_lost : (r : ℕ) (rows : List ℕ) (done : List (GradedMap n)) → Each (λ D. HasNoConstants p D.columns) done → Each (λ D. HasNoConstants p D.columns) (lose r rows done).1
   none_lost r rows [] none = tt
   none_lost r rows (M ∷ done) none = none_last r M done none.0 none.1
 
-  pub none_all_lost : (rs rows : List ℕ) (done : List (GradedMap n)) → Each (λ D. HasNone p D.columns) done
-      → Each (λ D. HasNone p D.columns) (lose_all rs rows done).1
+  pub none_all_lost : (rs rows : List ℕ) (done : List (GradedMap n)) → Each (λ D. HasNoConstants p D.columns) done
+      → Each (λ D. HasNoConstants p D.columns) (lose_all rs rows done).1
   none_all_lost [] rows done none = none
   none_all_lost (r ∷ rs) rows done none = none_all_lost rs (lose r rows done).0 (lose r rows done).1 (none_lost r rows done none)
 
@@ -202,7 +190,7 @@ module _ (ring : Ring) where
       0 < ring.modulus.value
       → (rows : List ℕ) (done : List (GradedMap (variables ring))) (M : GradedMap (variables ring)) (tail others : List (GradedMap (variables ring)))
       (s : Pivot (variables ring))
-      → Each (λ D. HasNone ring.modulus.value D.columns) done → IsFirstStep ring M.columns s
+      → Each (λ D. HasNoConstants ring.modulus.value D.columns) done → IsFirstStep ring M.columns s
       → AreSameMaps ring.modulus.value
       ((lose ring.modulus.value s.row rows done).1 ++ record { columns = left_by ring s M.columns; degrees = remove_at s.index M.degrees } ∷ without_rows
       s.index tail) others
@@ -229,8 +217,8 @@ module _ (ring : Ring) where
               step rows maps others D (length done) s.index s.row s.inverse first inverse through
               (subst (λ z. IsCancelled p (record { positions = z; maps = others }) D) (sym places) more);
           reached = λ E r.
-              let on : IsReached p (record { positions = (split p (length done) s.row s.index s.inverse rows maps).0; maps = others }) E =
-              subst (λ z. IsReached p (record { positions = z; maps = others }) E) (sym places) r in
+              let on : IsCancellationReached p (record { positions = (split p (length done) s.row s.index s.inverse rows maps).0; maps = others }) E =
+              subst (λ z. IsCancellationReached p (record { positions = z; maps = others }) E) (sym places) r in
               (on.0, step rows maps others on.0 (length done) s.index s.row s.inverse first inverse through on.1, inr on.2);
         },
         λ graded.
@@ -243,7 +231,7 @@ module _ (ring : Ring) where
       0 < ring.modulus.value
       → (s : Pivot (variables ring)) (steps : List (Pivot (variables ring))) (rows : List ℕ) (done : List (GradedMap (variables ring)))
       (M : GradedMap (variables ring)) (tail others : List (GradedMap (variables ring)))
-      → Each (λ D. HasNone ring.modulus.value D.columns) done → AreFirstSteps ring M.columns (s ∷ steps)
+      → Each (λ D. HasNoConstants ring.modulus.value D.columns) done → AreFirstSteps ring M.columns (s ∷ steps)
       → AreSameMaps ring.modulus.value
       ((lose_all ring.modulus.value (map (λ (t : Pivot (variables ring)). t.row) (s ∷ steps)) rows done).1
       ++ record {
@@ -269,7 +257,7 @@ module _ (ring : Ring) where
       0 < ring.modulus.value
       → (steps : List (Pivot (variables ring))) (rows : List ℕ) (done : List (GradedMap (variables ring))) (M : GradedMap (variables ring))
       (tail : List (GradedMap (variables ring)))
-      → Each (λ D. HasNone ring.modulus.value D.columns) done → AreFirstSteps ring M.columns steps
+      → Each (λ D. HasNoConstants ring.modulus.value D.columns) done → AreFirstSteps ring M.columns steps
       → Becomes (record { positions = rows; maps = done ++ M ∷ tail })
       (record {
         positions = (lose_all ring.modulus.value (map (λ (t : Pivot (variables ring)). t.row) steps) rows done).0;
@@ -345,7 +333,7 @@ module _ (ring : Ring) where
       (rows rows' : List ℕ) (done done' rest rest' : List Carried)
       (former : IsFormerLeft (map (λ (t : Pivot (variables ring)). t.row) (s ∷ steps)) rows rows' done done')
       (next : IsNextLeft ring (map (λ (t : Pivot (variables ring)). t.index) (s ∷ steps)) rest rest')
-      (u : IsUnderway ring rows done (in_turn done cur rest)) where
+      (u : IsCancellationUnderway ring rows done (in_turn done cur rest)) where
     in_maps : (ds : List Carried) (c : Carried) (rs : List Carried)
         → map (graded_map (variables ring)) (in_turn ds c rs) ≡ map (graded_map (variables ring)) ds ++ graded_map (variables ring) c ∷ map
         (graded_map (variables ring)) (reverse rs)
@@ -355,8 +343,8 @@ module _ (ring : Ring) where
         (rows', map (graded_map (variables ring)) done')
     lost = former_lost (map (λ (t : Pivot (variables ring)). t.row) (s ∷ steps)) rows rows' done done' former
 
-    none_graded : Each (λ (D : GradedMap (variables ring)). HasNone ring.modulus.value D.columns) (map (graded_map (variables ring)) done)
-    none_graded = each_mapped (λ (D : GradedMap (variables ring)). HasNone ring.modulus.value D.columns) G done u.none
+    none_graded : Each (λ (D : GradedMap (variables ring)). HasNoConstants ring.modulus.value D.columns) (map (graded_map (variables ring)) done)
+    none_graded = each_mapped (λ (D : GradedMap (variables ring)). HasNoConstants ring.modulus.value D.columns) G done u.none
 
     all_same :
         AreSameMaps ring.modulus.value
@@ -393,7 +381,7 @@ module _ (ring : Ring) where
     pub steps_lead : LeadsTo ring.modulus.value (graded_maps ring rows (in_turn done cur rest)) (graded_maps ring rows' (in_turn done' m rest'))
     steps_lead = become.0
 
-    pub steps_underway : IsUnderway ring rows' done' (in_turn done' m rest')
+    pub steps_underway : IsCancellationUnderway ring rows' done' (in_turn done' m rest')
     steps_underway = record {
       ordered = all_append HasVectors done' (m ∷ reverse rest')
           (former_ordered (map (λ (t : Pivot (variables ring)). t.row) (s ∷ steps)) rows rows' done done' former
@@ -403,8 +391,8 @@ module _ (ring : Ring) where
                 (each_right HasVectors done (cur ∷ reverse rest) u.ordered).1,
           );
       graded = become.1 u.graded;
-      none = each_unmapped (λ (D : GradedMap (variables ring)). HasNone ring.modulus.value D.columns) G done'
-          (subst (λ (z : List ℕ × List (GradedMap (variables ring))). Each (λ (D : GradedMap (variables ring)). HasNone ring.modulus.value D.columns) z.1) lost
+      none = each_unmapped (λ (D : GradedMap (variables ring)). HasNoConstants ring.modulus.value D.columns) G done'
+          (subst (λ (z : List ℕ × List (GradedMap (variables ring))). Each (λ (D : GradedMap (variables ring)). HasNoConstants ring.modulus.value D.columns) z.1) lost
           (none_all_lost ring.modulus.value (map (λ (t : Pivot (variables ring)). t.row) (s ∷ steps)) rows (map G done) none_graded));
     }
 
@@ -416,9 +404,9 @@ module _ (ring : Ring) where
       → AreVectorsOver ring (ring_comparison ring) m.columns
       → m.degrees.items ≡ all_removed (map (λ (t : Pivot (variables ring)). t.index) steps) cur.degrees.items
       → (rows rows' : List ℕ) (done done' rest rest' : List Carried) → IsFormerLeft (map (λ (t : Pivot (variables ring)). t.row) steps) rows rows' done done'
-      → IsNextLeft ring (map (λ (t : Pivot (variables ring)). t.index) steps) rest rest' → IsUnderway ring rows done (in_turn done cur rest)
+      → IsNextLeft ring (map (λ (t : Pivot (variables ring)). t.index) steps) rest rest' → IsCancellationUnderway ring rows done (in_turn done cur rest)
       → LeadsTo ring.modulus.value (graded_maps ring rows (in_turn done cur rest)) (graded_maps ring rows' (in_turn done' m rest'))
-      × IsUnderway ring rows' done' (in_turn done' m rest')
+      × IsCancellationUnderway ring rows' done' (in_turn done' m rest')
   passed_leads pos cur m [] lt firsts same vectors degrees rows rows' done done' rest rest' former next u = absurd (omega (arith, lt))
   passed_leads pos cur m (s ∷ steps) lt firsts same vectors degrees rows rows' done done' rest rest' former next u = (
     steps_lead pos cur m s steps firsts same vectors degrees rows rows' done done' rest rest' former next u,
@@ -429,7 +417,7 @@ module _ (ring : Ring) where
   pub no_step_none :
       (cur columns : List (List (CodeKey × ℕ))) (steps : List (Pivot (variables ring))) → steps ≡ []
       → AreSameColumns ring.modulus.value (left_by_all ring steps (sums_of (variables ring) cur)) (sums_of (variables ring) columns)
-      → HasNone ring.modulus.value (sums_of (variables ring) columns) → HasNone ring.modulus.value (sums_of (variables ring) cur)
+      → HasNoConstants ring.modulus.value (sums_of (variables ring) columns) → HasNoConstants ring.modulus.value (sums_of (variables ring) cur)
   no_step_none cur columns steps e same none =
       let n = variables ring in
       let q = subst (λ z. AreSameColumns ring.modulus.value (left_by_all ring z (sums_of n cur)) (sums_of n columns)) e same in

@@ -7,12 +7,11 @@ use Rattle.module_vectors.specs.Rings.{ring_comparison, variables}
 use Rattle.module_vectors.specs.Vectors.{AreVectorsOver, sums_of}
 use Rattle.module_vectors.specs.declared.key.Key.{Key as CodeKey}
 use Rattle.module_vectors.specs.declared.ring.Ring.{Ring}
-use Rattle.minimal_betti.specs.Carried.{HasNone, LeadsTo, graded_map}
-use Rattle.minimal_betti.specs.Passing.{AreFirstSteps, Pivot, left_by_all}
-use Rattle.minimal_betti.specs.Placing.{ArePlacesAfter, place_after}
-use Rattle.minimal_betti.specs.Splitting.{AreWithout, IsUnderway, all_removed}
+use Rattle.column_passes.specs.Passing.{Pivot, left_by_all}
+use Rattle.column_passes.specs.Placing.{AreWithout, all_removed, place_after}
+use Rattle.minimal_betti.specs.Carried.{LeadsTo, graded_map}
+use Rattle.minimal_betti.specs.Splitting.{IsCancellationUnderway}
 use Rattle.minimal_betti.specs.declared.carried.Carried.{Carried}
-use Rattle.minimal_betti.specs.declared.one_pass.Passed.{Passed}
 
 -- each of these is one of the columns that leave
 abbrev pub AreGone : List ℕ → List (List (CodeKey × ℕ)) → List (List (CodeKey × ℕ)) → Type 0
@@ -21,14 +20,6 @@ AreGone indices columns gone = Each (λ w. (i : ℕ) × (i < length columns) × 
 -- no term stands in a row that leaves
 abbrev pub IsApart : List ℕ → List (CodeKey × ℕ) → Type 0
 IsApart rows v = Each (λ t. place_after rows t.0.position ≡ None → ⊥) v
-
--- the steps by which the constants of these columns leave, each time the first one, with their rows and columns
-pub record IsChosen (ring : Ring) (columns : List (List (CodeKey × ℕ))) (passed : Passed) : Type 0 where
-  pub pivots : List (Pivot (variables ring))
-  pub firsts : AreFirstSteps ring (sums_of (variables ring) columns) pivots
-  pub none : HasNone ring.modulus.value (left_by_all ring pivots (sums_of (variables ring) columns))
-  pub rows : ArePlacesAfter (map (λ s. s.row) pivots) passed.rows
-  pub indices : ArePlacesAfter (map (λ s. s.index) pivots) passed.indices
 
 -- what the steps leave of the columns, without these
 pub record AreComplemented (ring : Ring) (pivots : List (Pivot (variables ring))) (out : List ℕ) (old new : List (List (CodeKey × ℕ))) : Type 0 where
@@ -43,12 +34,12 @@ pub record IsComplemented (ring : Ring) (pivots : List (Pivot (variables ring)))
   pub degrees : new.degrees.items ≡ all_removed out (all_removed (map (λ s. s.index) pivots) old.degrees.items)
 
 -- the map without rows, with its degrees
-abbrev pub IsLowered : Ring → List ℕ → Carried → Carried → Type 0
-IsLowered ring rows m m' = AreWithout ring rows m.columns m'.columns × (m'.degrees ≡ m.degrees)
+abbrev pub IsMapLowered : Ring → List ℕ → Carried → Carried → Type 0
+IsMapLowered ring rows m m' = AreWithout ring rows m.columns m'.columns × (m'.degrees ≡ m.degrees)
 
 -- the maps that C comes to are these, up to the form of the vectors, and have no constant
 pub record ComesTo (ring : Ring) (C : GradedMaps (variables ring)) (rows : List ℕ) (left : List Carried) : Type 0 where
   pub maps : List (GradedMap (variables ring))
   pub leads : LeadsTo ring.modulus.value C (record { positions = rows; maps = maps })
   pub same : AreSameMaps ring.modulus.value maps (map (graded_map (variables ring)) left)
-  pub underway : IsUnderway ring rows left left
+  pub underway : IsCancellationUnderway ring rows left left

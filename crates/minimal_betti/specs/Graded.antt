@@ -5,9 +5,9 @@ use Rattle.minimal_laws.specs.Gradings.{AreExact, AreGraded, GradedMaps, graded_
 use Rattle.module_vectors.specs.Rings.{ring_comparison, variables}
 use Rattle.module_vectors.specs.Vectors.{AreTermsOver, AreVectorsOver}
 use Rattle.module_vectors.specs.declared.ring.Ring.{Ring}
-use Rattle.schreyer_resolution.specs.Inducing.{maps_of}
-use Rattle.schreyer_resolution.specs.Resolved.{AreJoined, columns_of}
-use Rattle.schreyer_resolution.specs.declared.maps.Resolution.{Resolution}
+use Rattle.resolution_maps.specs.Inducing.{maps_of}
+use Rattle.resolution_maps.specs.Resolved.{AreJoined, columns_of}
+use Rattle.resolution_maps.specs.declared.maps.Resolution.{Resolution}
 
 -- the positions and the maps, each column with the degree of its lead
 abbrev pub graded_of : (ring : Ring) → Resolution → GradedMaps (variables ring)

@@ -5,11 +5,7 @@ pub mod Tables
 -- what holds while constants leave, and invariants of loops
 pub mod Carried
 pub mod Complementing
-pub mod Clearing
-pub mod Constants
-pub mod Growing
-pub mod Passing
-pub mod Placing
-pub mod Sorting
-pub mod Splitting
 pub mod ConstantMaps
+pub mod Growing
+pub mod Splitting
+pub mod Stopping

@@ -10,7 +10,7 @@ use Rattle.module_vectors.specs.declared.trail.KeptTrail.{KeptTrail}
 use Rattle.module_vectors.specs.declared.trail.TrailStart.TheVariants.{Product}
 use Rattle.module_vectors.specs.declared.trail.WorkStop.{WorkStop}
 use Rattle.module_vectors.specs.declared.trail.WorkStop.TheVariants.{Degree, Memory}
-use Rattle.schreyer_resolution.specs.declared.maps.Resolution.{Resolution}
+use Rattle.resolution_maps.specs.declared.maps.Resolution.{Resolution}
 use Rattle.minimal_betti.specs.Graded.{graded_of}
 
 -- s is the cancellation of r, in whatever form its vectors are: each time the first constant leaves, in the least map, in it in
@@ -27,8 +27,8 @@ GoesThrough (done rows maps none) E = E ≡ record { positions = rows; maps = ma
 GoesThrough (step rows maps others D k c r s first inverse same more) E = (E ≡ record { positions = rows; maps = maps }) ⊎ GoesThrough more E
 
 -- a cancellation of C comes to the maps E
-abbrev pub IsReached : {n : ℕ} → ℕ → GradedMaps n → GradedMaps n → Type 0
-IsReached {n} p C E = (D : GradedMaps n) × (c : IsCancelled p C D) × GoesThrough c E
+abbrev pub IsCancellationReached : {n : ℕ} → ℕ → GradedMaps n → GradedMaps n → Type 0
+IsCancellationReached {n} p C E = (D : GradedMaps n) × (c : IsCancelled p C D) × GoesThrough c E
 
 -- the trail is one product, over this ring and of no run: its members are the columns of a map, its vector is the entry of another
 -- column in row r, as a polynomial, and the product is of column c and a monomial of that entry
@@ -50,7 +50,7 @@ pub record IsClearingTrail (ring : Ring) (c r : ℕ) (t : KeptTrail) : Type 0 wh
 -- the map of the trail is one that the cancellation of C comes to, with the first constant of the maps there at this column and row
 pub record IsCancellationTrail (ring : Ring) (C : GradedMaps (variables ring)) (t : KeptTrail) : Type 0 where
   pub maps : GradedMaps (variables ring)
-  pub reached : IsReached ring.modulus.value C maps
+  pub reached : IsCancellationReached ring.modulus.value C maps
   pub place : ℕ
   pub column : ℕ
   pub row : ℕ

@@ -1,5 +1,5 @@
 -- A constant, its row and its column leave the maps in the code
-use Rattle.std.specs.Prelude.{List, [], get_or, map, reverse, ⊤, ℕ, ◌*◌, ◌++◌, ◌∷◌, ◌≡◌, ◌⊎◌}
+use Rattle.std.specs.Prelude.{List, [], get_or, map, reverse, ℕ, ⊤, ◌*◌, ◌++◌, ◌∷◌, ◌≡◌, ◌⊎◌}
 use Rattle.residues.specs.Residues.{IsCongruent}
 use Rattle.monomials.specs.Exponents.{unit}
 use Rattle.formal_sums.specs.FormalSums.{Each, FormalSum, coefficient}
@@ -11,10 +11,12 @@ use Rattle.module_vectors.specs.declared.key.Key.{Key as CodeKey}
 use Rattle.module_vectors.specs.declared.ring.Ring.{Ring}
 use Rattle.module_vectors.specs.declared.trail.WorkStop.{WorkStop}
 use Rattle.module_vectors.specs.declared.trail.WorkStop.TheVariants.{Degree, Memory}
-use Rattle.minimal_betti.specs.Carried.{AreOrdered, HasNone, graded_map}
+use Rattle.column_passes.specs.Constants.{HasNoConstants}
+use Rattle.column_passes.specs.Placing.{AreWithout, all_removed}
+use Rattle.column_passes.specs.declared.constants.Constant.{Constant}
+use Rattle.minimal_betti.specs.Carried.{AreOrdered, graded_map}
 use Rattle.minimal_betti.specs.Minimising.{IsClearingTrail}
 use Rattle.minimal_betti.specs.declared.carried.Carried.{Carried}
-use Rattle.minimal_betti.specs.declared.constants.Constant.{Constant}
 
 -- v cleared by the constant's column, without its row; s is the inverse of the constant
 abbrev pub split_of : (ring : Ring) → ℕ → Constant → List (List (CodeKey × ℕ)) → FormalSum (variables ring) → FormalSum (variables ring)
@@ -40,23 +42,8 @@ pub record AreSplit (ring : Ring) (s : ℕ) (at : Constant) (old new : List (Lis
       AreSameColumns ring.modulus.value (map (split_of ring s at old) (remove_at at.column (sums_of n old))) (sums_of n new)
   pub vectors : AreVectorsOver ring (ring_comparison ring) new
 
--- items of a list leave in turn
-abbrev pub all_removed : {X : Type 0} → List ℕ → List X → List X
-all_removed [] xs = xs
-all_removed (i ∷ places) xs = all_removed places (remove_at i xs)
-
--- rows leave in turn
-abbrev pub without_all : {n : ℕ} → List ℕ → FormalSum n → FormalSum n
-without_all [] v = v
-without_all (r ∷ rows) v = without_all rows (without_row r v)
-
--- the columns without the rows in turn
-pub record AreWithout (ring : Ring) (rows : List ℕ) (old new : List (List (CodeKey × ℕ))) : Type 0 where
-  pub same : sums_of (variables ring) new ≡ map (λ v. without_all rows v) (sums_of (variables ring) old)
-  pub vectors : AreVectorsOver ring (ring_comparison ring) new
-
 -- the map is split at the constant
-pub record IsSplit (ring : Ring) (at : Constant) (old new : Carried) : Type 0 where
+pub record IsMapSplit (ring : Ring) (at : Constant) (old new : Carried) : Type 0 where
   pub inverse : ℕ
   pub is_inverse :
       let n = variables ring in
@@ -88,7 +75,7 @@ abbrev pub in_turn : List Carried → Carried → List Carried → List Carried
 in_turn done current rest = done ++ current ∷ reverse rest
 
 -- graded maps of vectors, where those that are done have no constant
-pub record IsUnderway (ring : Ring) (rows : List ℕ) (done maps : List Carried) : Type 0 where
+pub record IsCancellationUnderway (ring : Ring) (rows : List ℕ) (done maps : List Carried) : Type 0 where
   pub ordered : AreOrdered ring maps
   pub graded : AreGraded ring.weights ring.modulus.value rows (map (graded_map (variables ring)) maps)
-  pub none : Each (λ m. HasNone ring.modulus.value (sums_of (variables ring) m.columns)) done
+  pub none : Each (λ m. HasNoConstants ring.modulus.value (sums_of (variables ring) m.columns)) done

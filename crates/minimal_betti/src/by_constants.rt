@@ -7,19 +7,23 @@ ghost use Rattle.minimal_laws.specs.Minimal.{IsMinimal, Presents};
 ghost use Rattle.module_vectors.specs.Rings.{variables};
 ghost use Rattle.minimal_betti.specs.Carried.{graded_map};
 ghost use Rattle.minimal_betti.specs.Graded.{IsGradedResolution, graded_of};
-ghost use Rattle.minimal_betti.specs.Tables.{IsTable};
+ghost use Rattle.minimal_betti.specs.Tables.{IsBettiTable};
 
 use crate::cancelling::cancelled_maps;
 use crate::carried::Carried;
 use crate::constant_maps::constant_maps;
-use crate::tables::{Entry, push_step, step_above};
+use crate::tables::{BettiEntry, push_step, step_above};
 use module_vectors::{NoMemory, Ring, lawful_setting};
-use schreyer_resolution::Resolution;
+use resolution_maps::Resolution;
 use std::alloc::Global;
 
 // The counts of the positions and of the maps' columns.
-fn carried_table(alloc: Global, positions: &[u32], maps: &[Carried]) -> Result<Vec<Entry>, NoMemory>
-    ensures { IfOk result (λ entries. (n : ℕ) → IsTable (step_count positions.now (map (graded_map n) maps.now)) entries.items) }
+fn carried_table(
+    alloc: Global,
+    positions: &[u32],
+    maps: &[Carried],
+) -> Result<Vec<BettiEntry>, NoMemory>
+    ensures { IfOk result (λ entries. (n : ℕ) → IsBettiTable (step_count positions.now (map (graded_map n) maps.now)) entries.items) }
 {
     let mut entries = Vec::new(alloc);
     push_step(0, positions, &mut entries)?;
@@ -39,12 +43,12 @@ pub fn betti_table(
     alloc: Global,
     ring: &Ring,
     resolution: &Resolution,
-) -> Result<Vec<Entry>, NoMemory>
+) -> Result<Vec<BettiEntry>, NoMemory>
     requires { IsGradedResolution ring.now resolution.now }
     ensures { let ws = ring.now.weights in let p = ring.now.modulus.value in
         (places : List ℕ) (A : List (FormalSum (variables ring.now))) (D : GradedMaps (variables ring.now))
         → Presents ws p (graded_of ring.now resolution.now) places A → IsMinimal ws p D → Presents ws p D places A
-        → IfOk result (λ entries. IsTable (step_count D.positions D.maps) entries.items) }
+        → IfOk result (λ entries. IsBettiTable (step_count D.positions D.maps) entries.items) }
 {
     lawful_setting(ring);
     let mut positions = Vec::from_slice(alloc, &resolution.positions)?;

@@ -2,13 +2,14 @@
 ghost use Rattle.std.specs.Prelude.{◌≡◌, IfErr, IfOk, OnOk, length};
 ghost use Rattle.module_vectors.specs.Rings.{variables};
 ghost use Rattle.module_vectors.specs.Vectors.{sums_of};
-ghost use Rattle.minimal_betti.specs.Carried.{HasNone, LeadsTo, graded_maps};
+ghost use Rattle.column_passes.specs.Constants.{HasNoConstants};
+ghost use Rattle.minimal_betti.specs.Carried.{LeadsTo, graded_maps};
 ghost use Rattle.minimal_betti.specs.Minimising.{CancellationStops};
-ghost use Rattle.minimal_betti.specs.Splitting.{IsUnderway, in_turn};
+ghost use Rattle.minimal_betti.specs.Splitting.{IsCancellationUnderway, in_turn};
 
 use crate::carried::Carried;
-use crate::constants::first_constant;
 use crate::splitting::cancel;
+use column_passes::first_constant;
 use module_vectors::{Ring, WorkStop};
 use std::alloc::Global;
 
@@ -22,9 +23,9 @@ pub(crate) fn cancelled_by_steps(
     current: Carried,
     rest: &mut Vec<Carried>,
 ) -> Result<Carried, WorkStop>
-    requires underway { IsUnderway ring.now positions.old.items done.old.items (in_turn done.old.items current rest.old.items) }
-    ensures underway { IfOk result (λ m. IsUnderway ring.now positions.new.items done.new.items (in_turn done.new.items m rest.new.items)) }
-    ensures none { IfOk result (λ m. HasNone ring.now.modulus.value (sums_of (variables ring.now) m.columns)) }
+    requires underway { IsCancellationUnderway ring.now positions.old.items done.old.items (in_turn done.old.items current rest.old.items) }
+    ensures underway { IfOk result (λ m. IsCancellationUnderway ring.now positions.new.items done.new.items (in_turn done.new.items m rest.new.items)) }
+    ensures none { IfOk result (λ m. HasNoConstants ring.now.modulus.value (sums_of (variables ring.now) m.columns)) }
     ensures leads { IfOk result (λ m. LeadsTo ring.now.modulus.value
         (graded_maps ring.now positions.old.items (in_turn done.old.items current rest.old.items))
         (graded_maps ring.now positions.new.items (in_turn done.new.items m rest.new.items))) }

@@ -5,24 +5,23 @@ ghost use Rattle.minimal_laws.specs.Cancellation.{trimmed};
 ghost use Rattle.minimal_laws.specs.Minimal.{IsMinimal, Presents};
 ghost use Rattle.module_vectors.specs.Rings.{variables};
 ghost use Rattle.module_vectors.specs.Vectors.{AreTermsOver, sums_of};
-ghost use Rattle.schreyer_resolution.specs.Resolved.{AreJoined, columns_of, degrees_of};
-ghost use Rattle.minimal_betti.specs.Carried.{AreCarried, AreOrdered, AreOwn, HasNone, LeadsTo, graded_map, graded_maps};
+ghost use Rattle.resolution_maps.specs.Resolved.{AreJoined, columns_of, degrees_of};
+ghost use Rattle.column_passes.specs.Constants.{HasNoConstants};
+ghost use Rattle.column_passes.specs.Passing.{IsPassed};
+ghost use Rattle.column_passes.specs.Placing.{ArePlacesAfter, all_removed};
+ghost use Rattle.minimal_betti.specs.Carried.{AreCarried, AreOrdered, AreOwn, LeadsTo, graded_map, graded_maps};
 ghost use Rattle.minimal_betti.specs.Graded.{AreMapsOver, IsGradedResolution, graded_of};
 ghost use Rattle.minimal_betti.specs.Minimising.{CancellationStops, IsCancellationOf};
-ghost use Rattle.minimal_betti.specs.Passing.{IsPassed};
-ghost use Rattle.minimal_betti.specs.Placing.{ArePlacesAfter};
-ghost use Rattle.minimal_betti.specs.Splitting.{IsFormerLeft, IsNextLeft, IsUnderway, all_removed, in_turn};
+ghost use Rattle.minimal_betti.specs.Splitting.{IsFormerLeft, IsNextLeft, IsCancellationUnderway, in_turn};
 ghost use Rattle.minimal_betti.specs.declared.carried.Carried.{Carried as CarriedMap};
 
 use crate::by_steps::cancelled_by_steps;
 use crate::carried::Carried;
-use crate::clearing::in_own_order;
 use crate::complementing::complemented_maps;
 use crate::leaving::{leave_former, leave_next};
-use crate::one_pass::{Passed, pass};
-use crate::placing::kept_items;
+use column_passes::{Passed, in_own_order, kept_items, pass};
 use module_vectors::{NoMemory, Ring, VectList, VectStop, WorkStop, lawful_setting};
-use schreyer_resolution::{Map, Resolution, column_degrees, joined_maps};
+use resolution_maps::{Map, Resolution, column_degrees, joined_maps};
 use std::alloc::Global;
 use std::collections::VecDeque;
 
@@ -104,9 +103,9 @@ fn leave_passed(
     rest: &mut Vec<Carried>,
 ) -> Result<Carried, NoMemory>
     requires passed { IsPassed ring.now current.columns passed }
-    requires underway { IsUnderway ring.now positions.old.items done.old.items (in_turn done.old.items current rest.old.items) }
-    ensures underway { IfOk result (λ m. IsUnderway ring.now positions.new.items done.new.items (in_turn done.new.items m rest.new.items)) }
-    ensures none { IfOk result (λ m. HasNone ring.now.modulus.value (sums_of (variables ring.now) m.columns)) }
+    requires underway { IsCancellationUnderway ring.now positions.old.items done.old.items (in_turn done.old.items current rest.old.items) }
+    ensures underway { IfOk result (λ m. IsCancellationUnderway ring.now positions.new.items done.new.items (in_turn done.new.items m rest.new.items)) }
+    ensures none { IfOk result (λ m. HasNoConstants ring.now.modulus.value (sums_of (variables ring.now) m.columns)) }
     ensures leads { IfOk result (λ m. LeadsTo ring.now.modulus.value
         (graded_maps ring.now positions.old.items (in_turn done.old.items current rest.old.items))
         (graded_maps ring.now positions.new.items (in_turn done.new.items m rest.new.items))) }
@@ -129,9 +128,9 @@ fn cancelled_map(
     current: Carried,
     rest: &mut Vec<Carried>,
 ) -> Result<Carried, WorkStop>
-    requires underway { IsUnderway ring.now positions.old.items done.old.items (in_turn done.old.items current rest.old.items) }
-    ensures underway { IfOk result (λ m. IsUnderway ring.now positions.new.items done.new.items (in_turn done.new.items m rest.new.items)) }
-    ensures none { IfOk result (λ m. HasNone ring.now.modulus.value (sums_of (variables ring.now) m.columns)) }
+    requires underway { IsCancellationUnderway ring.now positions.old.items done.old.items (in_turn done.old.items current rest.old.items) }
+    ensures underway { IfOk result (λ m. IsCancellationUnderway ring.now positions.new.items done.new.items (in_turn done.new.items m rest.new.items)) }
+    ensures none { IfOk result (λ m. HasNoConstants ring.now.modulus.value (sums_of (variables ring.now) m.columns)) }
     ensures leads { IfOk result (λ m. LeadsTo ring.now.modulus.value
         (graded_maps ring.now positions.old.items (in_turn done.old.items current rest.old.items))
         (graded_maps ring.now positions.new.items (in_turn done.new.items m rest.new.items))) }
@@ -159,8 +158,8 @@ pub(crate) fn cancelled_maps(
     positions: &mut Vec<u32>,
     maps: Vec<Carried>,
 ) -> Result<Vec<Carried>, WorkStop>
-    requires underway { IsUnderway ring.now positions.old.items [] (reverse maps.items) }
-    ensures underway { IfOk result (λ done. IsUnderway ring.now positions.new.items done.items done.items) }
+    requires underway { IsCancellationUnderway ring.now positions.old.items [] (reverse maps.items) }
+    ensures underway { IfOk result (λ done. IsCancellationUnderway ring.now positions.new.items done.items done.items) }
     ensures leads { IfOk result (λ done. LeadsTo ring.now.modulus.value
         (graded_maps ring.now positions.old.items (reverse maps.items)) (graded_maps ring.now positions.new.items done.items)) }
     ensures stop { IfErr result (CancellationStops ring.now (graded_maps ring.now positions.old.items (reverse maps.items))) }
@@ -209,7 +208,7 @@ fn resolution_of(
     positions: Vec<u32>,
     maps: Vec<Carried>,
 ) -> Result<Resolution, NoMemory>
-    requires { IsUnderway ring.now positions.items maps.items maps.items }
+    requires { IsCancellationUnderway ring.now positions.items maps.items maps.items }
     ensures positions { IfOk result (λ s. s.positions.items ≡ positions.items) }
     ensures columns { IfOk result (λ s. (kept : List CarriedMap) × (columns_of s ≡ map (λ m. m.columns) kept)
         × AreOrdered ring.now kept

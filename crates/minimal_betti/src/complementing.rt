@@ -3,17 +3,14 @@ ghost use Rattle.std.specs.Prelude.{◌≡◌, ◌<◌, [], List, ℕ, IfOk, IfS
 ghost use Rattle.formal_sums.specs.FormalSums.{Each};
 ghost use Rattle.module_vectors.specs.Rings.{ring_comparison, variables};
 ghost use Rattle.module_vectors.specs.Vectors.{AreVectorsOver, sums_of};
+ghost use Rattle.column_passes.specs.Passing.{AreFirstSteps, IsChosen, Pivot};
+ghost use Rattle.column_passes.specs.Placing.{ArePlacesAfter, all_removed};
 ghost use Rattle.minimal_betti.specs.Carried.{graded_maps};
-ghost use Rattle.minimal_betti.specs.Complementing.{AreComplemented, AreGone, ComesTo, IsApart, IsChosen, IsComplemented, IsLowered};
-ghost use Rattle.minimal_betti.specs.Passing.{AreFirstSteps, Pivot};
-ghost use Rattle.minimal_betti.specs.Placing.{ArePlacesAfter};
-ghost use Rattle.minimal_betti.specs.Splitting.{IsUnderway, all_removed};
+ghost use Rattle.minimal_betti.specs.Complementing.{AreComplemented, AreGone, ComesTo, IsApart, IsComplemented, IsMapLowered};
+ghost use Rattle.minimal_betti.specs.Splitting.{IsCancellationUnderway};
 
 use crate::carried::Carried;
-use crate::choosing::chosen;
-use crate::leaving::columns_without;
-use crate::one_pass::Passed;
-use crate::placing::{Leaving, kept_items, leaves, none_leaving};
+use column_passes::{Leaving, Passed, chosen, columns_without, kept_items, leaves, none_leaving};
 use complements::complements;
 use module_vectors::{NoMemory, Ring, Vect, VectList, VectStop, lawful_setting};
 use std::alloc::Global;
@@ -173,7 +170,7 @@ fn lowered_map(
 ) -> Result<Carried, NoMemory>
     requires leaving { (rows : List ℕ) × ArePlacesAfter rows leaving.now }
     requires vectors { AreVectorsOver ring.now (ring_comparison ring.now) map.columns }
-    ensures { (rows : List ℕ) → ArePlacesAfter rows leaving.now → IfOk result (IsLowered ring.now rows map) }
+    ensures { (rows : List ℕ) → ArePlacesAfter rows leaving.now → IfOk result (IsMapLowered ring.now rows map) }
 {
     let Carried { columns, degrees } = map;
     Ok(Carried {
@@ -207,7 +204,7 @@ pub(crate) fn complemented_maps(
     positions: &mut Vec<u32>,
     maps: Vec<Carried>,
 ) -> Result<Option<Vec<Carried>>, NoMemory>
-    requires { IsUnderway ring.now positions.old.items [] (reverse maps.items) }
+    requires { IsCancellationUnderway ring.now positions.old.items [] (reverse maps.items) }
     ensures { IfOk result (λ found. IfSome found (λ left.
         ComesTo ring.now (graded_maps ring.now positions.old.items (reverse maps.items)) positions.new.items left.items)) }
 {

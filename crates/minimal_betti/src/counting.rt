@@ -1,7 +1,7 @@
 // How often a degree stands in a list, and the least one.
 ghost use Rattle.std.specs.Prelude.{◌≡◌, ◌<◌, ◌≤◌, ◌⊎◌, cond, nat_eq};
 ghost use Rattle.betti_laws.specs.Tables.{occurrences};
-ghost use Rattle.minimal_betti.specs.Growing.{IsLeast};
+ghost use Rattle.minimal_betti.specs.Growing.{IsLeastDegree};
 
 /// What `least_from` answers where there is none.
 pub(crate) const NONE: u64 = 4294967296;
@@ -34,7 +34,7 @@ fn lower(least: u64, d: u32, from: u64) -> u64
 
 /// The least degree of the list from this one on, or `NONE`.
 pub(crate) fn least_from(degrees: &[u32], from: u64) -> u64
-    ensures { IsLeast from result degrees.now }
+    ensures { IsLeastDegree from result degrees.now }
 {
     let mut least = NONE;
     for d in degrees {

@@ -1,17 +1,14 @@
 // Rows and columns leave the maps before and after the one at hand.
 ghost use Rattle.std.specs.Prelude.{◌≡◌, List, ℕ, IfOk, OnOk};
 ghost use Rattle.minimal_laws.specs.Cancellation.{remove_at};
-ghost use Rattle.module_vectors.specs.Rings.{ring_comparison};
-ghost use Rattle.module_vectors.specs.Vectors.{AreVectorsOver};
+ghost use Rattle.column_passes.specs.Placing.{ArePlacesAfter};
 ghost use Rattle.minimal_betti.specs.Carried.{AreOrdered};
-ghost use Rattle.minimal_betti.specs.Placing.{ArePlacesAfter};
-ghost use Rattle.minimal_betti.specs.Splitting.{AreWithout, IsFewer, IsFormerLeft, IsNextLeft};
+ghost use Rattle.minimal_betti.specs.Splitting.{IsFewer, IsFormerLeft, IsNextLeft};
 
 use crate::carried::Carried;
-use crate::placing::{Leaving, kept_items, placed_vector};
-use module_vectors::{NoMemory, Ring, Vect, VectList};
+use column_passes::{Leaving, columns_without, kept_items};
+use module_vectors::{NoMemory, Ring, VectList};
 use std::alloc::Global;
-use std::collections::VecDeque;
 use std::mem::replace;
 
 /// The degree leaves, where there is one.
@@ -21,25 +18,6 @@ pub(crate) fn drop_degree(degrees: &mut Vec<u32>, at: u64)
     if at < degrees.len() as u64 {
         degrees.remove(at as usize);
     }
-}
-
-/// The columns without the rows that leave.
-pub(crate) fn columns_without(
-    alloc: Global,
-    ring: &Ring,
-    leaving: &Leaving,
-    columns: VectList,
-) -> Result<VectList, NoMemory>
-    requires leaving { (rows : List ℕ) × ArePlacesAfter rows leaving.now }
-    requires vectors { AreVectorsOver ring.now (ring_comparison ring.now) columns }
-    ensures { (rows : List ℕ) → ArePlacesAfter rows leaving.now → IfOk result (AreWithout ring.now rows columns) }
-{
-    let mut without = Vec::with_capacity(alloc, columns.len())?;
-    let mut rest = VecDeque::from_vec(columns.into_vec());
-    while let Some(v) = rest.pop_front() {
-        without.push(placed_vector(alloc, ring, leaving, v)?)?;
-    }
-    Ok(VectList::from_vec(without))
 }
 
 // The map without the columns that leave.

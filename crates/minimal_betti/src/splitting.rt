@@ -3,16 +3,15 @@ ghost use Rattle.std.specs.Prelude.{◌≡◌, ◌<◌, ◌+◌, ◌∷◌, [], 
 ghost use Rattle.minimal_laws.specs.Cancellation.{cleared, without_row};
 ghost use Rattle.module_vectors.specs.Rings.{ring_comparison, variables};
 ghost use Rattle.module_vectors.specs.Vectors.{AreVectorsOver, IsVectorOver, StandsFor, sum_of, sums_of};
-ghost use Rattle.minimal_betti.specs.Carried.{AreOrdered, IsFirst, LeadsTo, graded_maps};
+ghost use Rattle.column_passes.specs.Constants.{IsFirst};
+ghost use Rattle.minimal_betti.specs.Carried.{AreOrdered, LeadsTo, graded_maps};
 ghost use Rattle.minimal_betti.specs.Minimising.{CancellationStops};
-ghost use Rattle.minimal_betti.specs.Splitting.{AreSplit, IsFormerLeft, IsNextLeft, IsOtherPut, IsSplit, IsUnderway, SplittingStops, in_turn};
+ghost use Rattle.minimal_betti.specs.Splitting.{AreSplit, IsFormerLeft, IsNextLeft, IsOtherPut, IsMapSplit, IsCancellationUnderway, SplittingStops, in_turn};
 
 use crate::carried::Carried;
-use crate::clearing::{cleared_vector, vector_without};
-use crate::constants::Constant;
 use crate::leaving::{drop_degree, leave_former, leave_next};
-use crate::placing::one_leaving;
 use crate::stopping::splitting_stop;
+use column_passes::{Constant, cleared_vector, one_leaving, vector_without};
 use module_vectors::{NoMemory, Ring, Vect, VectList, WorkStop, lawful_setting};
 use std::alloc::Global;
 
@@ -103,7 +102,7 @@ fn split_columns(
 fn split_map(alloc: Global, ring: &Ring, map: Carried, at: Constant) -> Result<Carried, WorkStop>
     requires columns { AreVectorsOver ring.now (ring_comparison ring.now) map.columns }
     requires first { IsFirst ring.now map.columns at }
-    ensures split { IfOk result (IsSplit ring.now at map) }
+    ensures split { IfOk result (IsMapSplit ring.now at map) }
     ensures stop { IfErr result (SplittingStops ring.now map.columns at) }
 {
     let inverse = match ring.modulus.invert(at.residue) {
@@ -148,9 +147,9 @@ pub(crate) fn cancel(
     rest: &mut Vec<Carried>,
     at: Constant,
 ) -> Result<Carried, WorkStop>
-    requires underway { IsUnderway ring.now positions.old.items done.old.items (in_turn done.old.items current rest.old.items) }
+    requires underway { IsCancellationUnderway ring.now positions.old.items done.old.items (in_turn done.old.items current rest.old.items) }
     requires first { IsFirst ring.now current.columns at }
-    ensures underway { IfOk result (λ m. IsUnderway ring.now positions.new.items done.new.items (in_turn done.new.items m rest.new.items)) }
+    ensures underway { IfOk result (λ m. IsCancellationUnderway ring.now positions.new.items done.new.items (in_turn done.new.items m rest.new.items)) }
     ensures leads { IfOk result (λ m. LeadsTo ring.now.modulus.value
         (graded_maps ring.now positions.old.items (in_turn done.old.items current rest.old.items))
         (graded_maps ring.now positions.new.items (in_turn done.new.items m rest.new.items))) }

@@ -5,11 +5,12 @@ ghost use Rattle.monomial_orders.specs.Kept.{Monomial};
 ghost use Rattle.module_vectors.specs.Rings.{ring_comparison, variables};
 ghost use Rattle.module_vectors.specs.Stops.{HasMonomial, IsTooGreat};
 ghost use Rattle.module_vectors.specs.Vectors.{AreVectorsOver, IsVectorOver, sum_of};
-ghost use Rattle.minimal_betti.specs.Clearing.{ClearingStops, IsKeptInRow, IsMonomialAt, at_zero};
+ghost use Rattle.column_passes.specs.Clearing.{ClearingStops, IsMonomialAt};
+ghost use Rattle.minimal_betti.specs.Stopping.{IsKeptInRow, at_zero};
 ghost use Rattle.minimal_betti.specs.Minimising.{IsClearingTrail};
 ghost use Rattle.minimal_betti.specs.Splitting.{SplittingStops};
 
-use crate::constants::Constant;
+use column_passes::Constant;
 use module_vectors::{
     KeptTrail, Key, NoMemory, Ring, TrailStart, Vect, VectList, VectStop, WorkStop, lawful_setting,
 };

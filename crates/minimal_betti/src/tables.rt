@@ -5,20 +5,20 @@ ghost use Rattle.betti_laws.specs.Tables.{occurrences, step_count};
 ghost use Rattle.minimal_laws.specs.Gradings.{GradedMaps};
 ghost use Rattle.minimal_laws.specs.Minimal.{IsMinimal, Presents};
 ghost use Rattle.module_vectors.specs.Rings.{variables};
-ghost use Rattle.schreyer_resolution.specs.Resolved.{AreJoined, columns_of};
 ghost use Rattle.vector_division.specs.Progress.{AreWeighed};
+ghost use Rattle.resolution_maps.specs.Resolved.{AreJoined, columns_of};
 ghost use Rattle.minimal_betti.specs.Graded.{graded_of};
 ghost use Rattle.minimal_betti.specs.Growing.{IsTableTo};
-ghost use Rattle.minimal_betti.specs.Tables.{IsLastStep, IsNone, IsRegularity, IsTable};
+ghost use Rattle.minimal_betti.specs.Tables.{IsLastStep, IsNone, IsRegularity, IsBettiTable};
 
 use crate::counting::{NONE, count_of, least_from};
 use module_vectors::{NoMemory, Ring, lawful_setting};
-use schreyer_resolution::{Resolution, column_degrees};
+use resolution_maps::{Resolution, column_degrees};
 use std::alloc::Global;
 
 /// How many positions of this degree stand at this step; step 0 has the positions, step k the columns of map k.
 #[derive(Clone, Copy)]
-pub struct Entry {
+pub struct BettiEntry {
     pub step: u32,
     pub degree: u32,
     pub count: u64,
@@ -37,7 +37,7 @@ pub struct TableInvariants {
 pub(crate) fn push_step(
     step: u32,
     degrees: &[u32],
-    entries: &mut Vec<Entry>,
+    entries: &mut Vec<BettiEntry>,
 ) -> Result<(), NoMemory>
     ensures { (counts : ℕ → ℕ → ℕ) → ((d : ℕ) → counts step d ≡ occurrences d degrees.now)
         → IsTableTo counts entries.old.items step 0 → OnOk result (IsTableTo counts entries.new.items (step + 1) 0) }
@@ -50,7 +50,7 @@ pub(crate) fn push_step(
         }
         let degree = least as u32;
         let count = count_of(degrees, degree);
-        entries.push(Entry {
+        entries.push(BettiEntry {
             step,
             degree,
             count,
@@ -72,15 +72,19 @@ pub(crate) fn step_above(k: usize) -> Result<u32, NoMemory>
 /// How many positions of each degree stand at each step, by step and then degree; what is 0 is not listed. Where the resolution
 /// is minimal, they are the counts of every minimal resolution of its module: the Betti numbers (UAG chapter 6, section 3).
 /// `NoMemory` where there is none, and where the degree of a column or the number of maps is 2^32 or more.
-pub fn table(alloc: Global, ring: &Ring, resolution: &Resolution) -> Result<Vec<Entry>, NoMemory>
+pub fn table(
+    alloc: Global,
+    ring: &Ring,
+    resolution: &Resolution,
+) -> Result<Vec<BettiEntry>, NoMemory>
     requires joined { AreJoined ring.now resolution.now.positions.items resolution.now.maps.items }
     requires weighed { Each (AreWeighed (variables ring.now) ring.now.weights) (columns_of resolution.now) }
     ensures counts { let C = graded_of ring.now resolution.now in
-        IfOk result (λ entries. IsTable (step_count C.positions C.maps) entries.items) }
+        IfOk result (λ entries. IsBettiTable (step_count C.positions C.maps) entries.items) }
     ensures every { let ws = ring.now.weights in let p = ring.now.modulus.value in let C = graded_of ring.now resolution.now in
         (places : List ℕ) (A : List (FormalSum (variables ring.now))) (D : GradedMaps (variables ring.now))
         → IsMinimal ws p C → Presents ws p C places A → IsMinimal ws p D → Presents ws p D places A
-        → IfOk result (λ entries. IsTable (step_count D.positions D.maps) entries.items) }
+        → IfOk result (λ entries. IsBettiTable (step_count D.positions D.maps) entries.items) }
 {
     lawful_setting(ring);
     let mut entries = Vec::new(alloc);
@@ -94,14 +98,14 @@ pub fn table(alloc: Global, ring: &Ring, resolution: &Resolution) -> Result<Vec<
 }
 
 // The degree of an entry less its step.
-fn excess(entry: &Entry) -> i64
+fn excess(entry: &BettiEntry) -> i64
     ensures { result ≡ pos entry.now.degree -ℤ pos entry.now.step }
 {
     i64::from(entry.degree) - i64::from(entry.step)
 }
 
 // What is read off one entry more.
-fn with_entry(found: TableInvariants, entry: &Entry) -> TableInvariants
+fn with_entry(found: TableInvariants, entry: &BettiEntry) -> TableInvariants
     ensures last_step { (result.last_step ≡ found.last_step) × (entry.now.step ≤ found.last_step)
         ⊎ (result.last_step ≡ entry.now.step) × (found.last_step ≤ entry.now.step) }
     ensures regularity { let e = pos entry.now.degree -ℤ pos entry.now.step in
@@ -114,10 +118,10 @@ fn with_entry(found: TableInvariants, entry: &Entry) -> TableInvariants
 }
 
 /// The last step and the regularity of a table, or none where it has no entry.
-pub fn invariants(entries: &[Entry]) -> Option<TableInvariants>
-    ensures none { (counts : ℕ → ℕ → ℕ) → IsTable counts entries.now → result ≡ None → IsNone counts }
-    ensures last_step { (counts : ℕ → ℕ → ℕ) → IsTable counts entries.now → IfSome result (λ i. IsLastStep counts i.last_step) }
-    ensures regularity { (counts : ℕ → ℕ → ℕ) → IsTable counts entries.now → IfSome result (λ i. IsRegularity counts i.regularity) }
+pub fn invariants(entries: &[BettiEntry]) -> Option<TableInvariants>
+    ensures none { (counts : ℕ → ℕ → ℕ) → IsBettiTable counts entries.now → result ≡ None → IsNone counts }
+    ensures last_step { (counts : ℕ → ℕ → ℕ) → IsBettiTable counts entries.now → IfSome result (λ i. IsLastStep counts i.last_step) }
+    ensures regularity { (counts : ℕ → ℕ → ℕ) → IsBettiTable counts entries.now → IfSome result (λ i. IsRegularity counts i.regularity) }
 {
     let (first, rest) = entries.split_first()?;
     let mut found = TableInvariants {

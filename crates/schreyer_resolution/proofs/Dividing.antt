@@ -41,7 +41,7 @@ use Rattle.vector_division.specs.Runs as divisions
 use Rattle.vector_division.specs.Runs.{AreBelow, IsNextTaken, IsOver, IsSplit, StandsWith, Supports, total, with_next}
 use Rattle.vector_division.specs.declared.reduction.ScaledProduct.{ScaledProduct}
 use Rattle.schreyer_resolution.specs.Chains.{IsFailing}
-use Rattle.schreyer_resolution.specs.Columns.{IsDivided, IsFoundLast, IsProductOf, IsUnderway}
+use Rattle.schreyer_resolution.specs.Columns.{IsProductDivided, IsFoundLast, IsProductOf, IsColumnUnderway}
 use Rattle.schreyer_resolution.specs.Sifting.{IsSifting}
 use Rattle.schreyer_resolution.specs.Steps.{IsLastDivisor, IsPairKey}
 use Rattle.schreyer_resolution.proofs.Making.{v_member}
@@ -211,7 +211,7 @@ module _ (ring : Ring) (compare : (n : ℕ) → Key n → Key n → Ordering) (r
     -- the start
     pub underway_start :
         (v kept : Terms) (runs : List Terms) → IsProductOf ring compare cols key v → IsSifting ring compare cols v kept [] → runs ≡ kept ∷ []
-        → IsUnderway ring compare cols key [] runs (total (variables ring) runs)
+        → IsColumnUnderway ring compare cols key [] runs (total (variables ring) runs)
     underway_start v kept runs h s is =
         let e : kept ++ [] ≡ kept = append-nil kept in
         let K = sum_of (variables ring) kept in
@@ -234,8 +234,8 @@ module _ (ring : Ring) (compare : (n : ℕ) → Key n → Key n → Ordering) (r
     -- other lists with the same sum
     pub underway_same :
         (qs : List ScaledProduct) (old new : List Terms) (x y : FormalSum (variables ring))
-        → IsUnderway ring compare cols key qs old x → AreVectorsOver ring compare new → IsSame ring.modulus.value x y
-        → IsUnderway ring compare cols key qs new y
+        → IsColumnUnderway ring compare cols key qs old x → AreVectorsOver ring compare new → IsSame ring.modulus.value x y
+        → IsColumnUnderway ring compare cols key qs new y
     underway_same qs old new x y u lists e = record {
       product = u.product;
       of_column = u.of_column;
@@ -248,16 +248,16 @@ module _ (ring : Ring) (compare : (n : ℕ) → Key n → Key n → Ordering) (r
     -- the next term is taken
     pub underway_taken :
         (qs : List ScaledProduct) (old new : List Terms) (next : Option (CodeKey × ℕ))
-        → IsUnderway ring compare cols key qs old (total (variables ring) old) → AreVectorsOver ring compare new
+        → IsColumnUnderway ring compare cols key qs old (total (variables ring) old) → AreVectorsOver ring compare new
         → IsNextTaken (variables ring) ring.weights ring.modulus.value (compare (variables ring)) old new next
-        → IsUnderway ring compare cols key qs new (with_next (variables ring) next (total (variables ring) new))
+        → IsColumnUnderway ring compare cols key qs new (with_next (variables ring) next (total (variables ring) new))
     underway_taken qs old new next u lists t = underway_same qs old new (total (variables ring) old) (with_next (variables ring) next (total (variables ring) new)) u lists t.sum
 
     -- its residue is 0
     pub underway_zero :
         (qs : List ScaledProduct) (runs : List Terms) (k : Key (variables ring)) (r : ℕ) → r ≡ 0
-        → IsUnderway ring compare cols key qs runs ((k, r) ∷ total (variables ring) runs)
-        → IsUnderway ring compare cols key qs runs (total (variables ring) runs)
+        → IsColumnUnderway ring compare cols key qs runs ((k, r) ∷ total (variables ring) runs)
+        → IsColumnUnderway ring compare cols key qs runs (total (variables ring) runs)
     underway_zero qs runs k r none u =
         underway_same qs runs runs ((k, r) ∷ total (variables ring) runs) (total (variables ring) runs) u u.progress.lists
         (subst (λ z. IsSame ring.modulus.value ((k, z) ∷ total (variables ring) runs) (total (variables ring) runs)) (sym none)
@@ -266,7 +266,7 @@ module _ (ring : Ring) (compare : (n : ℕ) → Key n → Key n → Ordering) (r
     -- the end: what was dropped is a member without a covered key, so that it is 0
     pub underway_end :
         (qs : List ScaledProduct) (runs : List Terms) → total (variables ring) runs ≡ []
-        → IsUnderway ring compare cols key qs runs (total (variables ring) runs) → IsDivided ring compare cols key qs
+        → IsColumnUnderway ring compare cols key qs runs (total (variables ring) runs) → IsProductDivided ring compare cols key qs
     underway_end qs runs none u = record {
       product = u.product;
       of_column = u.of_column;
@@ -316,7 +316,7 @@ module _ (ring : Ring) (compare : (n : ℕ) → Key n → Key n → Ordering) (r
     module _
         (qs : List ScaledProduct) (t : CodeKey × ℕ) (runs : List Terms) (weighed : IsMonomialOver ring t.0.monomial) (pos : 0 < t.1)
         (lt : t.1 < ring.modulus.value) (below : AreBelow (variables ring) (compare (variables ring)) (key_of (variables ring) t.0) runs)
-        (u : IsUnderway ring compare cols key qs runs ((key_of (variables ring) t.0, t.1) ∷ total (variables ring) runs))
+        (u : IsColumnUnderway ring compare cols key qs runs ((key_of (variables ring) t.0, t.1) ∷ total (variables ring) runs))
       where
         abbrev K : Key (variables ring)
         K = key_of (variables ring) t.0
@@ -389,7 +389,7 @@ module _ (ring : Ring) (compare : (n : ℕ) → Key n → Key n → Ordering) (r
                 go (inl h) = at_key (λ l. IsUncovered F l → ⊥) (sum_of (variables ring) kept) k sifted.covered h
                 go (inr z) = u.covered k (with_key (variables ring) ring.modulus.value (compare (variables ring)) order K t.1 runs below k (λ q. nz (IsCongruent_trans (IsCongruent_trans (added.by_key k) (IsCongruent_of ring.modulus.value _ _ (coefficient-append (total (variables ring) runs) (sum_of (variables ring) kept) k ∙ ap (λ y. coefficient (total (variables ring) runs) k + y) z ∙ omega arith))) q)))
 
-            pub underway_next : IsUnderway ring compare cols key (qs ++ (record { index = s.0; residue = t.1; monomial = s.1 }) ∷ []) new (total (variables ring) new)
+            pub underway_next : IsColumnUnderway ring compare cols key (qs ++ (record { index = s.0; residue = t.1; monomial = s.1 }) ∷ []) new (total (variables ring) new)
             unfolding all
             underway_next = record {
               product = u.product;

@@ -15,7 +15,7 @@ use Rattle.module_vectors.specs.declared.key.Key.{Key as CodeKey}
 use Rattle.vector_division.proofs.Members.{sums_at, uncovered}
 use Rattle.vector_division.specs.Divisions.{IsUncovered}
 use Rattle.schreyer_resolution.specs.Columns.{AreTriedFrom, IsFoundLast}
-use Rattle.schreyer_resolution.specs.Spans.{ArePast, IsIndexOf, IsSpanned, IsWidened}
+use Rattle.schreyer_resolution.specs.Spans.{ArePast, IsIndexOf, IsSpannedAt, IsWidened}
 use Rattle.schreyer_resolution.specs.declared.divisors.LeadIndex.{LeadIndex}
 use Rattle.schreyer_resolution.specs.declared.divisors.Span.{Span}
 
@@ -23,12 +23,12 @@ use Rattle.schreyer_resolution.specs.declared.divisors.Span.{Span}
 module _ (cols : List (List (CodeKey × ℕ))) (position : ℕ) (index : LeadIndex) (h : IsIndexOf cols index) where
   pub past_none : length index.spans.items ≤ position → ArePast cols position 0
   past_none le n j from lt some at =
-      let s = (subst (λ p. IsSpanned index.spans.items p j) at (h.spans n j lt some)).known in
+      let s = (subst (λ p. IsSpannedAt index.spans.items p j) at (h.spans n j lt some)).known in
       omega (arith, le, s)
 
   pub past_span : (span : Span) (end : ℕ) → span ≡ get_or index.spans.items position span → end ≡ min span.to (length cols) → ArePast cols position end
   past_span span end is e n j from lt some at =
-      let s = subst (λ p. IsSpanned index.spans.items p j) at (h.spans n j lt some) in
+      let s = subst (λ p. IsSpannedAt index.spans.items p j) at (h.spans n j lt some) in
       let same : s.span ≡ span = s.is ∙ get_or_default index.spans.items position s.span span s.known ∙ sym is in
       let t = subst (λ z. j < z.to) same s.to in
       omega (arith, e, from, lt, t)
@@ -37,14 +37,14 @@ module _ (cols : List (List (CodeKey × ℕ))) (position : ℕ) (index : LeadInd
 module _ (n : ℕ) (cols : List (List (CodeKey × ℕ))) (k : Key n) (index : LeadIndex) (h : IsIndexOf cols index) where
   stands :
       (j : ℕ) → j < length cols → 0 < length (get_or cols j []) → KeyDivides (lead_at n cols j) k
-      → IsSpanned index.spans.items k.0 j
-  stands j lt some d = subst (λ p. IsSpanned index.spans.items p j) (ap (λ z. z.0) d.1) (h.spans n j lt some)
+      → IsSpannedAt index.spans.items k.0 j
+  stands j lt some d = subst (λ p. IsSpannedAt index.spans.items p j) (ap (λ z. z.0) d.1) (h.spans n j lt some)
 
   pub no_span : length index.spans.items ≤ k.0 → (j : ℕ) → j < length cols → 0 < length (get_or cols j []) → KeyDivides (lead_at n cols j) k → ⊥
   no_span le j lt some d = let s = (stands j lt some d).known in omega (arith, le, s)
 
   module _ (span : Span) (is : span ≡ get_or index.spans.items k.0 span) where
-    here : (j : ℕ) (s : IsSpanned index.spans.items k.0 j) → s.span ≡ span
+    here : (j : ℕ) (s : IsSpannedAt index.spans.items k.0 j) → s.span ≡ span
     here j s = s.is ∙ get_or_default index.spans.items k.0 s.span span s.known ∙ sym is
 
     pub from_span : (j : ℕ) → j < length cols → 0 < length (get_or cols j []) → KeyDivides (lead_at n cols j) k → span.from ≤ j
@@ -70,7 +70,7 @@ module _ (n : ℕ) (cols : List (List (CodeKey × ℕ))) (k : Key n) (index : Le
 
 -- ---- a span grows
 spanned_other :
-    (xs : List Span) (at p j : ℕ) (y : Span) → (p ≡ at → ⊥) → IsSpanned xs p j → IsSpanned (set xs at y) p j
+    (xs : List Span) (at p j : ℕ) (y : Span) → (p ≡ at → ⊥) → IsSpannedAt xs p j → IsSpannedAt (set xs at y) p j
 spanned_other xs at p j y ne s = record {
   span = s.span;
   known = subst (λ z. p < z) (sym (length-set xs at y)) s.known;
@@ -80,7 +80,7 @@ spanned_other xs at p j y ne s = record {
 }
 
 spanned_here :
-    (xs : List Span) (at j : ℕ) (y : Span) → at < length xs → y.from ≤ j → j < y.to → IsSpanned (set xs at y) at j
+    (xs : List Span) (at j : ℕ) (y : Span) → at < length xs → y.from ≤ j → j < y.to → IsSpannedAt (set xs at y) at j
 spanned_here xs at j y lt f t = record {
   span = y;
   known = subst (λ z. at < z) (sym (length-set xs at y)) lt;
@@ -89,7 +89,7 @@ spanned_here xs at j y lt f t = record {
   to = t;
 }
 
-pub spanned_pushed : (xs : List Span) (y : Span) (p j : ℕ) → IsSpanned xs p j → IsSpanned (xs ++ y ∷ []) p j
+pub spanned_pushed : (xs : List Span) (y : Span) (p j : ℕ) → IsSpannedAt xs p j → IsSpannedAt (xs ++ y ∷ []) p j
 spanned_pushed xs y p j s = record {
   span = s.span;
   known = let k = s.known in let e = length-append xs (y ∷ []) in omega (arith, k, e);
@@ -99,7 +99,7 @@ spanned_pushed xs y p j s = record {
 }
 
 pub widened :
-    (old xs : List Span) (at : ℕ) (span more y : Span) → ((p j : ℕ) → IsSpanned old p j → IsSpanned xs p j)
+    (old xs : List Span) (at : ℕ) (span more y : Span) → ((p j : ℕ) → IsSpannedAt old p j → IsSpannedAt xs p j)
     → at < length xs → span ≡ get_or xs at span → y.from ≡ min span.from more.from → y.to ≡ max span.to more.to
     → IsWidened at more old (set xs at y)
 widened old xs at span more y kept lt is from to = record {
@@ -115,13 +115,13 @@ widened old xs at span more y kept lt is from to = record {
         go (inr a) (inl b) = inr (λ e. omega (arith, b, e))
         go (inr a) (inr b) = inl (omega (arith, a, b))
 
-    go : (p j : ℕ) → IsSpanned xs p j → (p ≡ at) ⊎ (p ≡ at → ⊥) → IsSpanned (set xs at y) p j
+    go : (p j : ℕ) → IsSpannedAt xs p j → (p ≡ at) ⊎ (p ≡ at → ⊥) → IsSpannedAt (set xs at y) p j
     go p j s (inr ne) = spanned_other xs at p j y ne s
     go p j s (inl e) =
         let same : s.span ≡ span = s.is ∙ ap (λ z. get_or xs z s.span) e ∙ get_or_default xs at s.span span lt ∙ sym is in
         let f = subst (λ z. z.from ≤ j) same s.from in
         let t = subst (λ z. j < z.to) same s.to in
-        subst (λ z. IsSpanned (set xs at y) z j) (sym e) (spanned_here xs at j y lt (omega (arith, from, f)) (omega (arith, to, t)))
+        subst (λ z. IsSpannedAt (set xs at y) z j) (sym e) (spanned_here xs at j y lt (omega (arith, from, f)) (omega (arith, to, t)))
 
 -- ---- one column more
 pub marks_more :
@@ -138,31 +138,31 @@ marks_more P xs y i count h last j x lt is = go (cases_lt j i)
         subst₂ P (sym (at ∙ count)) same last
 
 module _ (cols : List (List (CodeKey × ℕ))) (old new : List Span) (i : ℕ) (v : List (CodeKey × ℕ)) (is : v ≡ get_or cols i v) (inside : i < length cols)
-    (before : (n j : ℕ) → j < i → 0 < length (get_or cols j []) → IsSpanned old (lead_at n cols j).0 j) where
+    (before : (n j : ℕ) → j < i → 0 < length (get_or cols j []) → IsSpannedAt old (lead_at n cols j).0 j) where
   column : get_or cols i [] ≡ v
   column = get_or_default cols i [] v inside ∙ sym is
 
   -- it has a lead
   pub spans_more :
       (k : CodeKey × ℕ) (rest : List (CodeKey × ℕ)) (place : Span) → v ≡ k ∷ rest → place.from ≤ i → i < place.to → IsWidened k.0.position place old new
-      → (n j : ℕ) → j < i + 1 → 0 < length (get_or cols j []) → IsSpanned new (lead_at n cols j).0 j
+      → (n j : ℕ) → j < i + 1 → 0 < length (get_or cols j []) → IsSpannedAt new (lead_at n cols j).0 j
   spans_more k rest place e from to w n j lt some = go (cases_lt j i)
     where
       lead : (lead_at n cols i).0 ≡ k.0.position
       lead = ap (λ z. (head_key (sum_of n z)).0) (column ∙ e)
 
-      go : (j < i) ⊎ (i ≤ j) → IsSpanned new (lead_at n cols j).0 j
+      go : (j < i) ⊎ (i ≤ j) → IsSpannedAt new (lead_at n cols j).0 j
       go (inl l) = w.kept (lead_at n cols j).0 j (before n j l some)
       go (inr g) =
           let at : i ≡ j = omega (arith, lt, g) in
-          subst (λ z. IsSpanned new (lead_at n cols z).0 z) at (subst (λ z. IsSpanned new z i) (sym lead) (w.added i from to))
+          subst (λ z. IsSpannedAt new (lead_at n cols z).0 z) at (subst (λ z. IsSpannedAt new z i) (sym lead) (w.added i from to))
 
   -- it is zero
-  pub spans_same : v ≡ [] → new ≡ old → (n j : ℕ) → j < i + 1 → 0 < length (get_or cols j []) → IsSpanned new (lead_at n cols j).0 j
+  pub spans_same : v ≡ [] → new ≡ old → (n j : ℕ) → j < i + 1 → 0 < length (get_or cols j []) → IsSpannedAt new (lead_at n cols j).0 j
   spans_same e same n j lt some = go (cases_lt j i)
     where
-      go : (j < i) ⊎ (i ≤ j) → IsSpanned new (lead_at n cols j).0 j
-      go (inl l) = subst (λ z. IsSpanned z (lead_at n cols j).0 j) (sym same) (before n j l some)
+      go : (j < i) ⊎ (i ≤ j) → IsSpannedAt new (lead_at n cols j).0 j
+      go (inl l) = subst (λ z. IsSpannedAt z (lead_at n cols j).0 j) (sym same) (before n j l some)
       go (inr g) =
           let at : j ≡ i = omega (arith, lt, g) in
           let none : length (get_or cols j []) ≡ 0 = ap (λ z. length (get_or cols z [])) at ∙ ap length (column ∙ e) in

@@ -1,6 +1,6 @@
 -- The first maps of a canonical resolution, and one more
 use Rattle.std.specs.Prelude.{Err, IfOk, Ok, Result}
-use Rattle.std.proofs.Common.{List, Ordering, [], ap, ap₂, arith, eqb-true, false, get_or, length, map, refl, subst, subst₂, suc, sym, true, true≢false, ℕ, ◌++◌, ◌+◌, ◌<◌, ◌==◌, ◌∙◌, ◌∷◌, ◌≡◌}
+use Rattle.std.proofs.Common.{List, Ordering, [], ap, ap₂, arith, eqb-true, false, get_or, length, map, refl, subst, subst₂, suc, sym, true, true≢false, ℕ, ◌++◌, ◌+◌, ◌<◌, ◌==◌, ◌∙◌, ◌∷◌, ◌≡◌, ◌≤◌}
 use Rattle.std.proofs.lemmas.List.{append-nil, append_assoc, get_or_default, length-map}
 use Rattle.formal_sums.proofs.WeightedSums.{Each_append}
 use Rattle.formal_sums.specs.FormalSums.{Each, FormalSum, Key}
@@ -9,18 +9,19 @@ use Rattle.bases.specs.Bases.{IsGroebnerBasis}
 use Rattle.bases.specs.Leads.{IsMonicList, leads}
 use Rattle.bases.specs.Settings.{IsLawful, Setting}
 use Rattle.syzygy_laws.specs.Syzygies.{induced_setting}
-use Rattle.resolution_laws.specs.Resolutions.{IsCanonical, IsCanonicalFrom, IsCanonicalMap, IsExact}
+use Rattle.resolution_laws.proofs.Starts.{start_whole}
+use Rattle.resolution_laws.specs.Resolutions.{IsCanonical, IsCanonicalFrom, IsCanonicalMap, IsCanonicalStart, IsCanonicalStartFrom, IsExact}
 use Rattle.module_vectors.specs.Rings.{ring_comparison, setting, variables}
 use Rattle.module_vectors.specs.Vectors.{AreVectorsOver, HasPositions, IsVectorOver, key_of, sum_of, sums_of}
 use Rattle.module_vectors.specs.declared.key.Key.{Key as CodeKey}
 use Rattle.module_vectors.specs.declared.ring.Ring.{Ring}
-use Rattle.vector_division.proofs.Members.{sums_at}
 use Rattle.module_vectors.specs.declared.trail.WorkStop.{WorkStop}
 use Rattle.module_vectors.specs.declared.trail.WorkStop.TheVariants.{Degree, Memory}
+use Rattle.vector_division.proofs.Members.{sums_at}
+use Rattle.resolution_maps.specs.Inducing.{Columns, Tower, induced_through, maps_of, over, tower_comparison}
+use Rattle.resolution_maps.specs.Resolved.{AreFirstMaps, AreVectorsThrough, HavePositions, ResolutionStops}
 use Rattle.schreyer_resolution.specs.Columns.{AreColumnsTo, ColumnStops, IsColumnOf}
-use Rattle.schreyer_resolution.specs.Inducing.{Columns, Tower, induced_through, maps_of, over, tower_comparison}
-use Rattle.schreyer_resolution.specs.Progress.{AreResolvedTo, HavePositions, IsNext, IsTopMap}
-use Rattle.schreyer_resolution.specs.Resolved.{AreCanonicalTo, AreFirstMaps, AreVectorsThrough, ResolutionStops}
+use Rattle.schreyer_resolution.specs.Progress.{AreResolvedTo, IsNextMap, IsTopMap}
 use Rattle.schreyer_resolution.specs.Steps.{ArePairLeads, IsColumn, IsPairKey, key_at}
 use Rattle.schreyer_resolution.proofs.Canonical.{columns_canonical, columns_exact, columns_monic, columns_reduced}
 use Rattle.schreyer_resolution.proofs.Heading.{maps_of-more}
@@ -62,15 +63,16 @@ top_weights S F (G ∷ maps) = top_weights (induced_setting S F) G maps
 
 to_more :
     {n : ℕ} (maps : List (List (FormalSum n))) (S : Setting n) (F H : List (FormalSum n))
-    → AreCanonicalTo S F maps → IsExact S.modulus (top_columns F maps) H
-    → IsCanonicalMap (induced_setting (top_setting S F maps) (top_columns F maps)) H H → AreCanonicalTo S F (maps ++ H ∷ [])
+    → IsCanonicalStartFrom S F (length maps) maps → IsExact S.modulus (top_columns F maps) H
+    → IsCanonicalMap (induced_setting (top_setting S F maps) (top_columns F maps)) H H
+    → IsCanonicalStartFrom S F (length (maps ++ H ∷ [])) (maps ++ H ∷ [])
 unfolding top_columns top_setting
-to_more [] S F H h e c = (e, c, tt)
+to_more [] S F H h e c = (e, c, refl)
 to_more (G ∷ maps) S F H h e c = (h.0, h.1, to_more maps (induced_setting S F) G H h.2 e c)
 
 to_done :
     {n : ℕ} (maps : List (List (FormalSum n))) (S : Setting n) (F : List (FormalSum n))
-    → AreCanonicalTo S F maps → IsExact S.modulus (top_columns F maps) [] → IsCanonicalFrom S F maps
+    → IsCanonicalStartFrom S F (length maps) maps → IsExact S.modulus (top_columns F maps) [] → IsCanonicalFrom S F maps
 unfolding top_columns
 to_done [] S F h e = e
 to_done (G ∷ maps) S F h e = (h.0, h.1, to_done maps (induced_setting S F) G h.2 e)
@@ -137,7 +139,7 @@ module _ (ring : Ring) (rank : ℕ) (reduced : List Terms) (maps : Columns) (r :
   sums_split = ap (maps_of (variables ring)) r.split ∙ maps_of-more (variables ring) r.below r.last
 
   -- the next map goes behind the others
-  pub resolved_more : (H : List Terms) → IsNext ring r.below r.last H → 0 < length H → AreResolvedTo ring rank reduced (maps ++ H ∷ [])
+  pub resolved_more : (H : List Terms) → IsNextMap ring r.below r.last H → 0 < length H → AreResolvedTo ring rank reduced (maps ++ H ∷ [])
   resolved_more H next some = record {
     below = maps;
     last = H;
@@ -173,6 +175,19 @@ module _ (ring : Ring) (rank : ℕ) (reduced : List Terms) (maps : Columns) (r :
           → IsCanonical S (sums_of (variables ring) reduced) ms
       go [] h e = absurd (none_more (maps_of (variables ring) r.below) (sums_of (variables ring) r.last) e)
       go (G ∷ ms) h e = (h.0, to_done ms S G h.1 (subst (λ L. IsExact S.modulus L []) (sym (top_split (maps_of (variables ring) r.below) (sums_of (variables ring) r.last) G ms S e).0) exact))
+
+  abbrev IsStart : ℕ → Type 0
+  IsStart count = IsCanonicalStart S (sums_of (variables ring) reduced) count (maps_of (variables ring) maps)
+
+  -- a start of more maps where the kernel is zero
+  pub start_ended : (count : ℕ) → IsExact ring.modulus.value (sums_of (variables ring) r.last) [] → length maps ≤ count → IsStart count
+  start_ended count exact few =
+      start_whole S (sums_of (variables ring) reduced) count (maps_of (variables ring) maps) (resolved_done exact)
+      (omega (arith, few, length-map maps (sums_of (variables ring))))
+
+  -- and one of so many anyhow
+  pub start_full : (count : ℕ) → length maps ≡ count → IsStart count
+  start_full count e = subst IsStart (length-map maps (sums_of (variables ring)) ∙ e) r.first
 
 -- ---- a stop
 pub resolution_stop :
@@ -227,7 +242,7 @@ module _ (ring : Ring) (below : Columns) (cols next : List Terms) (t : Tower) (k
   order : tower_comparison (over ring (below ++ cols ∷ [])) (variables ring) ≡ induced (tower_comparison (over ring below) (variables ring)) (leads Cols)
   order = tower_more ring below cols (variables ring)
 
-  pub next_of_columns : IsNext ring below cols next
+  pub next_of_columns : IsNextMap ring below cols next
   next_of_columns = record {
     top = record {
       vectors = subst (λ (x : Tower). AreVectorsOver ring (tower_comparison x) next) is done.vectors;
@@ -256,11 +271,6 @@ columns_next ring compare cols t keys k next u key h lt is hu hp hc = record {
       (λ y e'. subst (λ z. IsColumnOf ring compare cols z u) (is ∙ get_or_default keys k key y lt ∙ sym e') hc) c l x e;
 }
 
--- an answer that is more
-pub if_more : {X E : Type 0} (P Q : X → Type 0) (r : Result X E) → ((x : X) → P x → Q x) → IfOk r P → IfOk r Q
-if_more P Q (Ok x) f p = f x p
-if_more P Q (Err e) f p = tt
-
 -- a tower by its parts
 pub tower_is : (t : Tower) (ring : Ring) (maps : Columns) → t.ring ≡ ring → t.maps ≡ maps → t ≡ over ring maps
 tower_is t ring maps r m = ap₂ over r m
@@ -272,7 +282,7 @@ pub next_by :
     → ((r : ℕ) → IsLawful (setting f.ring (variables f.ring) (tower_comparison f (variables f.ring)) r))
     → ArePairLeads (sums_of (variables f.ring) cols) (map (key_of (variables f.ring)) keys)
     → (next : List Terms) → AreColumnsTo f.ring (tower_comparison f) cols t items (length items) next
-    → IsNext ring below cols next
+    → IsNextMap ring below cols next
 next_by ring below cols f t keys items ef et ei top lawful pairs next done =
     next_of_columns ring below cols next t keys top et
     (subst (λ (x : Tower). (r : ℕ) → IsLawful (setting x.ring (variables x.ring) (tower_comparison x (variables x.ring)) r)) ef lawful)

@@ -10,8 +10,9 @@ use Rattle.bases.specs.Leads.{head_key, leads}
 use Rattle.module_vectors.specs.Vectors.{sum_of, sums_of}
 use Rattle.module_vectors.specs.declared.key.Key.{Key as CodeKey}
 use Rattle.vector_division.proofs.Members.{sums_at}
-use Rattle.schreyer_resolution.specs.Heads.{AreSums, IsHead, IsLeadOf, IsLow}
-use Rattle.schreyer_resolution.specs.Inducing.{Columns, bottom, maps_of, way}
+use Rattle.resolution_maps.specs.Inducing.{Columns, maps_of}
+use Rattle.schreyer_resolution.specs.Heads.{AreExponentSums, IsHead, IsLeadOf, IsLow}
+use Rattle.schreyer_resolution.specs.Ways.{bottom, way}
 use Rattle.schreyer_resolution.specs.declared.head.Head.{Head}
 use Rattle.schreyer_resolution.proofs.Summing.{exponents-none, places_times}
 
@@ -48,7 +49,7 @@ maps_of-more n (G ∷ maps) F = ap (λ z. sums_of n G ∷ z) (maps_of-more n map
 -- the head of a position above, by its lead and the head of the lead's position
 pub head_more :
     (maps : Columns) (F : List (List (CodeKey × ℕ))) (i p : ℕ) (m : List ℕ) (h : Head) (gs : List ℕ) (n : ℕ)
-    → (ws : List ℕ) → IsHead n ws maps p h → IsLeadOf n F i p m → AreSums n m h.exponents.items gs
+    → (ws : List ℕ) → IsHead n ws maps p h → IsLeadOf n F i p m → AreExponentSums n m h.exponents.items gs
     → (bottom (maps_of n (maps ++ F ∷ [])) (i, unit n) ≡ (h.position, exponents_of n gs))
     × (way (maps_of n (maps ++ F ∷ [])) i ≡ (h.way.items ++ p ∷ []) ++ i ∷ [])
 head_more maps F i p m h gs n ws head lead sums = (
@@ -67,7 +68,7 @@ head_more maps F i p m h gs n ws head lead sums = (
 -- the head of a position above one map
 pub head_first :
     (F : List (List (CodeKey × ℕ))) (i p : ℕ) (m gs : List ℕ) (n : ℕ)
-    → IsLeadOf n F i p m → AreSums n m [] gs → bottom (maps_of n (F ∷ [])) (i, unit n) ≡ (p, exponents_of n gs)
+    → IsLeadOf n F i p m → AreExponentSums n m [] gs → bottom (maps_of n (F ∷ [])) (i, unit n) ≡ (p, exponents_of n gs)
 head_first F i p m gs n lead sums =
     shift-unit (leads (sums_of n F) i) ∙ lead
     ∙ ap (λ x. (p, x)) (sym (unit_right (exponents_of n m)) ∙ ap (times (exponents_of n m)) (sym (none n)) ∙ sym (places_times n m [] gs sums.each))
@@ -97,7 +98,7 @@ lead_past n F i le = ap head_key (sums_at n F i) ∙ ap (λ v. head_key (sum_of 
 -- the head above one map, and that above one more
 pub first_is :
     (n : ℕ) (ws : List ℕ) (F : List (List (CodeKey × ℕ))) (i p : ℕ) (m : List ℕ) (h : Head)
-    → IsLeadOf n F i p m → AreSums n m [] h.exponents.items → h.position ≡ p → h.way.items ≡ []
+    → IsLeadOf n F i p m → AreExponentSums n m [] h.exponents.items → h.position ≡ p → h.way.items ≡ []
     → h.degree ≡ weighted_degree ws (exponents_of n h.exponents.items) → IsLow h.exponents.items h.degree
     → IsHead n ws (F ∷ []) i h
 first_is n ws F i p m h lead sums position way degree low = record {
@@ -108,7 +109,7 @@ first_is n ws F i p m h lead sums position way degree low = record {
 
 pub next_is :
     (n : ℕ) (ws : List ℕ) (maps : Columns) (F : List (List (CodeKey × ℕ))) (i p : ℕ) (m : List ℕ) (below h : Head)
-    → IsHead n ws maps p below → IsLeadOf n F i p m → AreSums n m below.exponents.items h.exponents.items → h.position ≡ below.position
+    → IsHead n ws maps p below → IsLeadOf n F i p m → AreExponentSums n m below.exponents.items h.exponents.items → h.position ≡ below.position
     → h.way.items ≡ below.way.items ++ p ∷ [] → h.degree ≡ weighted_degree ws (exponents_of n h.exponents.items) → IsLow h.exponents.items h.degree
     → IsHead n ws (maps ++ F ∷ []) i h
 next_is n ws maps F i p m below h head lead sums position way degree low =

@@ -16,8 +16,9 @@ use Rattle.monomial_orders.specs.declared.order.Order.{Order}
 use Rattle.module_vectors.specs.Rings.{ring_comparison, variables}
 use Rattle.module_vectors.specs.Vectors.{IsMonomialOver, key_of}
 use Rattle.module_vectors.specs.declared.key.Key.{Key as CodeKey}
+use Rattle.resolution_maps.specs.Inducing.{Tower, induced_through, maps_of, tower_comparison}
 use Rattle.schreyer_resolution.specs.Heads.{IsHead, summed}
-use Rattle.schreyer_resolution.specs.Inducing.{Tower, bottom, by_way, induced_through, maps_of, tower_comparison, way}
+use Rattle.schreyer_resolution.specs.Ways.{bottom, by_way, way}
 use Rattle.schreyer_resolution.specs.declared.head.Head.{Head}
 use Rattle.schreyer_resolution.proofs.Heading.{bottom_key}
 use Rattle.schreyer_resolution.proofs.Summing.{exponents-summed}

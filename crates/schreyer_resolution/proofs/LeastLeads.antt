@@ -23,7 +23,7 @@ use Rattle.module_vectors.specs.Trails.{lead_at}
 use Rattle.module_vectors.specs.Vectors.{key_of, sum_of, sums_of}
 use Rattle.module_vectors.specs.declared.key.Key.{Key as CodeKey}
 use Rattle.vector_division.proofs.Members.{sums_at}
-use Rattle.schreyer_resolution.specs.Pairs.{AreApart, AreLeastSoFar, ArePairLeadsTo, ArePairMonomials, KeysFall, IsBefore, RisesLex}
+use Rattle.schreyer_resolution.specs.Pairs.{AreMinimalMonomials, AreLeastSoFar, ArePairLeadsTo, ArePairMonomials, KeysFall, IsBefore, RisesLex}
 use Rattle.schreyer_resolution.specs.Steps.{ArePairLeads, IsPairKey, key_at}
 use Rattle.schreyer_resolution.proofs.Pushing.{get_or-map}
 
@@ -110,8 +110,8 @@ module _ (n : ℕ) where
       go m (inr q) = (k, c, subst (λ z. Divides (E k) (E z)) (contains_only x m q) d)
 
   apart_push :
-      (kept : List Monomial) (x : Monomial) → AreApart n kept
-      → Each (λ k. (lex (E k) (E x) ≡ Less) × (Divides (E k) (E x) → ⊥)) kept → AreApart n (kept ++ x ∷ [])
+      (kept : List Monomial) (x : Monomial) → AreMinimalMonomials n kept
+      → Each (λ k. (lex (E k) (E x) ≡ Less) × (Divides (E k) (E x) → ⊥)) kept → AreMinimalMonomials n (kept ++ x ∷ [])
   apart_push [] x h e = (tt, tt)
   apart_push (k ∷ kept) x h e = (Each_append _ kept (x ∷ []) h.0 (e.0, tt), apart_push kept x h.1 e.1)
 
@@ -187,7 +187,7 @@ module _ (n : ℕ) where
   map_append f [] ys = refl
   map_append f (x ∷ xs) ys = ap (λ z. f x ∷ z) (map_append f xs ys)
 
-  falls_reversed : (i : ℕ) (kept : List Monomial) → AreApart n kept → KeysFall n (map (key_of_monomial i) (reverse kept))
+  falls_reversed : (i : ℕ) (kept : List Monomial) → AreMinimalMonomials n kept → KeysFall n (map (key_of_monomial i) (reverse kept))
   falls_reversed i [] h = tt
   falls_reversed i (k ∷ ks) h =
       subst (KeysFall n) (sym (ap (map (key_of_monomial i)) (reverse-cons k ks) ∙ map_append (key_of_monomial i) (reverse ks) (k ∷ [])))

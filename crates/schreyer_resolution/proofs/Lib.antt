@@ -12,7 +12,6 @@ pub mod PairSteps
 pub mod FirstMaps
 pub mod Starting
 pub mod Places
-pub mod Joining
 pub mod Lengths
 pub mod Finding
 pub mod Pairing

@@ -29,9 +29,9 @@ use Rattle.module_vectors.specs.declared.ring.Ring.{Ring}
 use Rattle.vector_division.proofs.Members.{sums_at}
 use Rattle.vector_division.specs.Reductions.{HaveLeadsUpTo, IsScaledProduct, cofactors_of, unscaled}
 use Rattle.vector_division.specs.declared.reduction.ScaledProduct.{ScaledProduct}
+use Rattle.resolution_maps.specs.Inducing.{Tower, tower_comparison}
 use Rattle.schreyer_resolution.proofs.Canonical.{column_of}
-use Rattle.schreyer_resolution.specs.Columns.{IsColumnOf, IsDivided, IsProductOf, negated_term}
-use Rattle.schreyer_resolution.specs.Inducing.{Tower, tower_comparison}
+use Rattle.schreyer_resolution.specs.Columns.{IsColumnOf, IsProductDivided, IsProductOf, negated_term}
 use Rattle.schreyer_resolution.specs.Steps.{IsLastDivisor, IsPairKey}
 
 abbrev Terms : Type 0
@@ -195,7 +195,7 @@ module _ (ring : Ring) (compare : (n : ℕ) → Key n → Key n → Ordering) (r
   cof_reduced (q ∷ xs) h = (h.0.reduced, cof_reduced xs h.1)
 
   -- nothing is left
-  module _ (qs : List ScaledProduct) (u : IsDivided ring compare cols key qs) where
+  module _ (qs : List ScaledProduct) (u : IsProductDivided ring compare cols key qs) where
     abbrev v : Terms
     v = u.product
 

@@ -12,7 +12,7 @@ use Rattle.formal_sums.proofs.WeightedSums.{coefficient-append}
 use Rattle.formal_sums.specs.FormalSums.{Each, IsSame, Key, coefficient, indicator, scale, weighted_sum}
 use Rattle.module_vectors.proofs.Scaling.{Each_at, take_item}
 use Rattle.row_matrix.specs.Rows.{Entry, row_sum}
-use Rattle.schreyer_resolution.specs.Sharing.{AddsMultiple, AreSmall, AreTouched, AreWithin, IsIdle, numbered_sum}
+use Rattle.schreyer_resolution.specs.Sharing.{AddsProduct, AreSmall, AreTouched, AreEntriesWithin, AreZeroSums, numbered_sum}
 
 -- a number is written over another one
 weighted_sum-set :
@@ -56,7 +56,7 @@ Each_set P (x ∷ xs) zero y h q = (q, h.1)
 Each_set P (x ∷ xs) (suc i) y h q = (h.0, Each_set P xs i y h.1 q)
 
 -- nothing is added yet
-pub adds_nothing : (p factor : ℕ) (sums : List ℕ) → AddsMultiple p factor [] sums sums
+pub adds_nothing : (p factor : ℕ) (sums : List ℕ) → AddsProduct p factor [] sums sums
 adds_nothing p factor sums = record {
   count = refl;
   sum = λ n key. IsSame_of p _ _ (sym (append-nil (numbered_sum key 0 sums)));
@@ -65,9 +65,9 @@ adds_nothing p factor sums = record {
 -- one entry more
 adds_more :
     (p factor : ℕ) (done : List Entry) (e : Entry) (start sums : List ℕ) (b : ℕ)
-    → 0 < p → AddsMultiple p factor done start sums → e.0 < length start
+    → 0 < p → AddsProduct p factor done start sums → e.0 < length start
     → IsCongruent p b (get_or sums e.0 0 + factor * e.1)
-    → AddsMultiple p factor (done ++ e ∷ []) start (set sums e.0 b)
+    → AddsProduct p factor (done ++ e ∷ []) start (set sums e.0 b)
 adds_more p factor done e start sums b pos h lt c = record {
   count = length-set sums e.0 b ∙ h.count;
   sum = λ n key.
@@ -82,15 +82,15 @@ adds_more p factor done e start sums b pos h lt c = record {
 -- the step of the loop
 pub adds_step :
     (p factor : ℕ) (entries : List Entry) (i : ℕ) (e : Entry) (start sums : List ℕ) (b : ℕ)
-    → 0 < p → AddsMultiple p factor (take i entries) start sums → i < length entries → e ≡ get_or entries i e
-    → AreWithin p (length start) entries → IsCongruent p b (get_or sums e.0 0 + factor * e.1)
-    → AddsMultiple p factor (take (i + 1) entries) start (set sums e.0 b)
+    → 0 < p → AddsProduct p factor (take i entries) start sums → i < length entries → e ≡ get_or entries i e
+    → AreEntriesWithin p (length start) entries → IsCongruent p b (get_or sums e.0 0 + factor * e.1)
+    → AddsProduct p factor (take (i + 1) entries) start (set sums e.0 b)
 adds_step p factor entries i e start sums b pos h lt at within c =
-    subst (λ xs. AddsMultiple p factor xs start (set sums e.0 b)) (sym (take_item entries i e lt at))
+    subst (λ xs. AddsProduct p factor xs start (set sums e.0 b)) (sym (take_item entries i e lt at))
     (adds_more p factor (take i entries) e start sums b pos h (Each_at _ entries i e within lt at).0 c)
 
 -- sums that are all 0
-pub idle_sums : {n : ℕ} (p : ℕ) (key : ℕ → Key n) (i : ℕ) (sums : List ℕ) → IsIdle sums → IsSame p (numbered_sum key i sums) []
+pub idle_sums : {n : ℕ} (p : ℕ) (key : ℕ → Key n) (i : ℕ) (sums : List ℕ) → AreZeroSums sums → IsSame p (numbered_sum key i sums) []
 idle_sums p key i [] h = IsSame_refl p []
 idle_sums {n} p key i (a ∷ sums) h = record {
   by_key = λ k. IsCongruent_trans
@@ -98,11 +98,11 @@ idle_sums {n} p key i (a ∷ sums) h = record {
       (IsCongruent_of p (0 * indicator k (key i) + 0) 0 (omega arith));
 }
 
-pub idle_small : (sums : List ℕ) → IsIdle sums → AreSmall sums
+pub idle_small : (sums : List ℕ) → AreZeroSums sums → AreSmall sums
 idle_small [] h = tt
 idle_small (a ∷ sums) h = (let z = h.0 in omega (arith, z), idle_small sums h.1)
 
-pub idle_untouched : (sums : List ℕ) → IsIdle sums → AreTouched [] sums
+pub idle_untouched : (sums : List ℕ) → AreZeroSums sums → AreTouched [] sums
 idle_untouched [] h i lt = absurd (omega arith)
 idle_untouched (a ∷ sums) h zero lt = inl h.0
 idle_untouched (a ∷ sums) h (suc i) lt = go (idle_untouched sums h.1 i (omega arith))
@@ -111,7 +111,7 @@ idle_untouched (a ∷ sums) h (suc i) lt = go (idle_untouched sums h.1 i (omega 
     go (inl e) = inl e
     go (inr (i', lt', e)) = absurd (omega (arith, lt'))
 
-pub idle_zeros : (count : ℕ) → IsIdle (replicate count 0)
+pub idle_zeros : (count : ℕ) → AreZeroSums (replicate count 0)
 idle_zeros zero = tt
 idle_zeros (suc count) = (refl, idle_zeros count)
 
@@ -172,14 +172,14 @@ zeroed_rest touched i sums h lt there j l = go (cases_eq j (get_or touched i 0))
     go (inr ne) = other ne (rest j (omega (arith, l, length-set sums (get_or touched i 0) 0)))
 
 -- all sums are 0 where no touched number is left
-pub idle_rest : (touched : List ℕ) (i : ℕ) (sums : List ℕ) → AreTouched (drop i touched) sums → length touched ≤ i → IsIdle sums
+pub idle_rest : (touched : List ℕ) (i : ℕ) (sums : List ℕ) → AreTouched (drop i touched) sums → length touched ≤ i → AreZeroSums sums
 idle_rest touched i sums h le = all sums (λ j lt. none j (subst (λ xs. AreTouched xs sums) (drop_all i touched le) h j lt))
   where
     none : (j : ℕ) → (get_or sums j 0 ≡ 0) ⊎ Contains {X = ℕ} [] j → get_or sums j 0 ≡ 0
     none j (inl z) = z
     none j (inr (i', lt', e)) = absurd (omega (arith, lt'))
 
-    all : (xs : List ℕ) → ((j : ℕ) → j < length xs → get_or xs j 0 ≡ 0) → IsIdle xs
+    all : (xs : List ℕ) → ((j : ℕ) → j < length xs → get_or xs j 0 ≡ 0) → AreZeroSums xs
     all [] g = tt
     all (x ∷ xs) g = (g 0 (omega arith), all xs (λ j lt. g (suc j) (omega arith)))
 

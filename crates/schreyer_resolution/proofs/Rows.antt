@@ -18,7 +18,7 @@ use Rattle.row_matrix.specs.Naming.{AreNamed, IsGrown}
 use Rattle.row_matrix.specs.Rows.{Entry, column_key, row_sum}
 use Rattle.schreyer_resolution.specs.Columns.{IsFoundLast}
 use Rattle.schreyer_resolution.specs.Pairs.{AreNonzero}
-use Rattle.schreyer_resolution.specs.Sharing.{AreReduced, AreWithin, IsLastProduct, IsProductRow, product_of}
+use Rattle.schreyer_resolution.specs.Sharing.{AreReduced, AreEntriesWithin, IsLastProduct, IsProductEntries, product_of}
 use Rattle.schreyer_resolution.specs.Steps.{IsLastDivisor}
 use Rattle.schreyer_resolution.specs.declared.numbered.Product.{Product}
 
@@ -38,7 +38,7 @@ last_found n ws cols k s some found j after inside d =
 -- the residues of a product are those of the vector
 within_row :
     (n p count : ℕ) (keys : ℕ → Key n) (m : Exponents n) (entries : List Entry) (v : Terms) → Each (λ e. e.0 < count) entries → Each (λ t. t.1 < p) v
-    → row_sum keys entries ≡ scale 1 m (sum_of n v) → AreWithin p count entries
+    → row_sum keys entries ≡ scale 1 m (sum_of n v) → AreEntriesWithin p count entries
 within_row n p count keys m [] v known low is = tt
 within_row n p count keys m (e ∷ es) [] known low is = absurd (cc)
 within_row n p count keys m (e ∷ es) (t ∷ v) known low is =
@@ -59,7 +59,7 @@ pub product_named :
     (ring : Ring) (cols : List Terms) (keys : List CodeKey) (index : ℕ) (m : Monomial) (entries : List Entry) (v : Terms) → IsMonomialOver ring m
     → index < length cols → AreReduced ring.modulus.value cols → v ≡ get_or cols index []
     → AreNamed (length m.exponents) keys entries (scale 1 (exponents_of (length m.exponents) m.exponents) (sum_of (length m.exponents) v))
-    → IsProductRow ring cols keys index m entries
+    → IsProductEntries ring cols keys index m entries
 product_named ring cols keys index m entries v w lt low is named =
     let n = variables ring in
     let here : AreNamed n keys entries (product_of ring cols index m) =
@@ -72,15 +72,15 @@ product_named ring cols keys index m entries v w lt low is named =
 
 module _ (ring : Ring) (cols : List Terms) (keys added : List CodeKey) where
   -- more keys keep the rows
-  wider : (entries : List Entry) → AreWithin ring.modulus.value (length keys) entries → AreWithin ring.modulus.value (length (keys ++ added)) entries
+  wider : (entries : List Entry) → AreEntriesWithin ring.modulus.value (length keys) entries → AreEntriesWithin ring.modulus.value (length (keys ++ added)) entries
   wider [] h = tt
   wider (e ∷ es) h = ((omega (arith, h.0.0, length-append keys added), h.0.1), wider es h.1)
 
-  known : (entries : List Entry) → AreWithin ring.modulus.value (length keys) entries → Each (λ e. e.0 < length keys) entries
+  known : (entries : List Entry) → AreEntriesWithin ring.modulus.value (length keys) entries → Each (λ e. e.0 < length keys) entries
   known [] h = tt
   known (e ∷ es) h = (h.0.0, known es h.1)
 
-  row_more : (index : ℕ) (m : Monomial) (entries : List Entry) → IsProductRow ring cols keys index m entries → IsProductRow ring cols (keys ++ added) index m entries
+  row_more : (index : ℕ) (m : Monomial) (entries : List Entry) → IsProductEntries ring cols keys index m entries → IsProductEntries ring cols (keys ++ added) index m entries
   row_more index m entries h = record {
     within = wider entries h.within;
     sum = (named_more (variables ring) keys added entries (product_of ring cols index m) (record { known = known entries h.within; sum = h.sum })).sum;

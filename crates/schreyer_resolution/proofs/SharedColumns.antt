@@ -21,13 +21,13 @@ use Rattle.module_vectors.specs.declared.ring.Ring.{Ring}
 use Rattle.vector_division.proofs.Members.{sums_at}
 use Rattle.vector_division.specs.Reductions.{cofactors_of}
 use Rattle.vector_division.specs.declared.reduction.ScaledProduct.{ScaledProduct}
+use Rattle.resolution_maps.specs.Inducing.{Tower, tower_comparison}
 use Rattle.schreyer_resolution.proofs.Making.{negated, terms_negated, whole_syzygy}
 use Rattle.schreyer_resolution.proofs.FirstMaps.{pair_at}
 use Rattle.schreyer_resolution.proofs.Pushing.{length-pushed, pushed_default}
 use Rattle.schreyer_resolution.proofs.Trailing.{key_inside}
 use Rattle.schreyer_resolution.specs.Columns.{AreColumnsTo, IsColumnOf, negated_term}
-use Rattle.schreyer_resolution.specs.Inducing.{Tower, tower_comparison}
-use Rattle.schreyer_resolution.specs.Sharing.{AreLastQuotients, AreMade, AreReduced, IsLastQuotient, IsMade}
+use Rattle.schreyer_resolution.specs.Sharing.{AreLastQuotients, AreColumnsMade, AreReduced, IsLastQuotient, IsColumnMade}
 use Rattle.schreyer_resolution.specs.Steps.{ArePairLeads, IsLastDivisor, IsPairKey}
 
 abbrev Terms : Type 0
@@ -138,7 +138,7 @@ if_some P (Some x) f = f x
 pub made_of :
     (ring : Ring) (cols : List Terms) (t : Tower) (key : CodeKey) (qs : List ScaledProduct) (items : Terms) (o : Option Terms)
     → AreLastQuotients ring cols key qs → t.ring ≡ ring → items ≡ (key, 1) ∷ map (negated_term ring.modulus.value) qs
-    → IfSome o (λ v. v ≡ items) → IfSome o (λ _. IsVectorOver t.ring (tower_comparison t) items) → IfSome o (IsMade ring cols t key)
+    → IfSome o (λ v. v ≡ items) → IfSome o (λ _. IsVectorOver t.ring (tower_comparison t) items) → IfSome o (IsColumnMade ring cols t key)
 made_of ring cols t key qs items None h over is a b = tt
 made_of ring cols t key qs items (Some v) h over is a b = record {
   quotients = qs;
@@ -147,17 +147,17 @@ made_of ring cols t key qs items (Some v) h over is a b = record {
   vector = subst (λ r. IsVectorOver r (tower_comparison t) v) over (subst (IsVectorOver t.ring (tower_comparison t)) (sym a) b);
 }
 
-pub made_none : (ring : Ring) (cols : List Terms) (t : Tower) (keys : List CodeKey) → AreMade ring cols t keys 0 []
+pub made_none : (ring : Ring) (cols : List Terms) (t : Tower) (keys : List CodeKey) → AreColumnsMade ring cols t keys 0 []
 made_none ring cols t keys = record { sized = refl; each = λ c k lt. absurd (omega (arith, lt)) }
 
 pub made_next :
     (ring : Ring) (cols : List Terms) (t : Tower) (keys : List CodeKey) (k : ℕ) (next : List Terms) (v : Terms) (key : CodeKey)
-    → AreMade ring cols t keys k next → k < length keys → key ≡ get_or keys k key → IsMade ring cols t key v
-    → AreMade ring cols t keys (k + 1) (next ++ v ∷ [])
+    → AreColumnsMade ring cols t keys k next → k < length keys → key ≡ get_or keys k key → IsColumnMade ring cols t key v
+    → AreColumnsMade ring cols t keys (k + 1) (next ++ v ∷ [])
 made_next ring cols t keys k next v key h lt is m = record {
   sized = length-pushed next v ∙ ap (λ z. z + 1) h.sized;
-  each = λ c x l e. pushed_default (λ i w. (y : CodeKey) → y ≡ get_or keys i y → IsMade ring cols t y w) [] next v k h.sized (λ i l' y e'. h.each i y l' e')
-      (λ y e'. subst (λ z. IsMade ring cols t z v) (is ∙ get_or_default keys k key y lt ∙ sym e') m) c l x e;
+  each = λ c x l e. pushed_default (λ i w. (y : CodeKey) → y ≡ get_or keys i y → IsColumnMade ring cols t y w) [] next v k h.sized (λ i l' y e'. h.each i y l' e')
+      (λ y e'. subst (λ z. IsColumnMade ring cols t z v) (is ∙ get_or_default keys k key y lt ∙ sym e') m) c l x e;
 }
 
 -- they are the columns to their keys
@@ -167,7 +167,7 @@ pub columns_of_made :
     → IsMonicList (setting ring (variables ring) (compare (variables ring)) rank) (sums_of (variables ring) cols)
     → tower_comparison t (variables ring) ≡ induced (compare (variables ring)) (leads (sums_of (variables ring) cols))
     → ArePairLeads (sums_of (variables ring) cols) (map (key_of (variables ring)) keys)
-    → (k : ℕ) (next : List Terms) → k ≤ length keys → AreMade ring cols t keys k next → AreColumnsTo ring compare cols t keys k next
+    → (k : ℕ) (next : List Terms) → k ≤ length keys → AreColumnsMade ring cols t keys k next → AreColumnsTo ring compare cols t keys k next
 columns_of_made ring compare cols t keys rank lawful monic above pairs k next le h = record {
   count = h.sized;
   vectors = all (IsVectorOver ring (tower_comparison t)) next (λ c lt. (made c lt).vector);
@@ -189,7 +189,7 @@ columns_of_made ring compare cols t keys rank lawful monic above pairs k next le
     at : (c : ℕ) → c < length keys → get_or keys c none ≡ get_or keys c (get_or keys c none)
     at c lt = get_or_default keys c none (get_or keys c none) lt
 
-    made : (c : ℕ) → c < length next → IsMade ring cols t (get_or keys c none) (get_or next c [])
+    made : (c : ℕ) → c < length next → IsColumnMade ring cols t (get_or keys c none) (get_or next c [])
     made c lt = h.each c (get_or keys c none) (omega (arith, lt, h.sized)) (at c (inside c lt))
 
     pair : (c : ℕ) → c < length keys → IsPairKey (sums_of (variables ring) cols) (key_of (variables ring) (get_or keys c none))

@@ -1,13 +1,13 @@
 -- The first map of a resolution, and maps that are split at the last one
-use Rattle.std.proofs.Common.{List, Ordering, [], arith, refl, subst, sym, ℕ, ◌<◌, ◌∷◌, ◌≡◌}
+use Rattle.std.proofs.Common.{List, Ordering, [], arith, refl, subst, suc, sym, zero, ℕ, ◌<◌, ◌∷◌, ◌≡◌}
 use Rattle.formal_sums.specs.FormalSums.{Each, Key}
-use Rattle.resolution_laws.specs.Resolutions.{IsCanonical, IsCanonicalMap}
+use Rattle.resolution_laws.specs.Resolutions.{IsCanonicalMap, IsCanonicalStart}
 use Rattle.module_vectors.specs.Rings.{ring_comparison, setting, variables}
 use Rattle.module_vectors.specs.Vectors.{AreVectorsOver, HasPositions, sums_of}
 use Rattle.module_vectors.specs.declared.key.Key.{Key as CodeKey}
 use Rattle.module_vectors.specs.declared.ring.Ring.{Ring}
+use Rattle.resolution_maps.specs.Inducing.{Columns, Tower, over, tower_comparison}
 use Rattle.schreyer_resolution.specs.Columns.{AreColumnsTo, IsBase}
-use Rattle.schreyer_resolution.specs.Inducing.{Columns, Tower, over, tower_comparison}
 use Rattle.schreyer_resolution.specs.Progress.{AreResolvedTo, IsTopMap}
 
 abbrev Terms : Type 0
@@ -25,11 +25,12 @@ columns_none ring compare cols t keys = record {
 }
 
 -- the zero module has no map
-pub canonical_none :
-    (ring : Ring) (rank : ℕ) (reduced : List Terms) → reduced ≡ []
-    → IsCanonical (setting ring (variables ring) (ring_comparison ring (variables ring)) rank) (sums_of (variables ring) reduced) []
-canonical_none ring rank reduced e =
-    subst (λ z. IsCanonical (setting ring (variables ring) (ring_comparison ring (variables ring)) rank) (sums_of (variables ring) z) []) (sym e)
+pub start_none :
+    (ring : Ring) (rank : ℕ) (reduced : List Terms) (count : ℕ) → reduced ≡ []
+    → IsCanonicalStart (setting ring (variables ring) (ring_comparison ring (variables ring)) rank) (sums_of (variables ring) reduced) count []
+start_none ring rank reduced zero e = refl
+start_none ring rank reduced (suc count) e =
+    subst (λ z. IsCanonicalStart (setting ring (variables ring) (ring_comparison ring (variables ring)) rank) (sums_of (variables ring) z) (suc count) []) (sym e)
     (λ i lt. let none : i < 0 = lt in absurd (omega (arith, none)))
 
 -- the first map
@@ -44,7 +45,7 @@ resolved_start ring rank reduced F top positions canonical = record {
   top = top;
   vectors = (top.vectors, tt);
   positions = (positions, tt);
-  first = (canonical, tt);
+  first = (canonical, refl);
 }
 
 -- the last map over the order that the ones below it induce

@@ -18,7 +18,7 @@ use Rattle.vector_division.specs.Reductions.{cofactors_of}
 use Rattle.vector_division.specs.declared.reduction.ScaledProduct.{ScaledProduct}
 use Rattle.row_matrix.specs.Rows.{Entry, column_key, row_sum}
 use Rattle.schreyer_resolution.proofs.NumberedSums.{idle_sums}
-use Rattle.schreyer_resolution.specs.Sharing.{AddsMultiple, AreLastQuotients, AreSmall, AreTaken, AreTouched, IsIdle, IsLastProduct, IsProductRow, numbered_sum, product_of}
+use Rattle.schreyer_resolution.specs.Sharing.{AddsProduct, AreLastQuotients, AreSmall, AreTakenQuotients, AreTouched, AreZeroSums, IsLastProduct, IsProductEntries, numbered_sum, product_of}
 use Rattle.schreyer_resolution.specs.declared.numbered.Product.{Product}
 
 -- a residue and the one with the other sign
@@ -70,9 +70,9 @@ module _ (ring : Ring) (columns : List (List (CodeKey × ℕ))) (keys : List Cod
 
   -- nothing is taken yet
   pub taken_start :
-      (row : List Entry) (old sums touched : List ℕ) → length old ≡ length keys → IsIdle old
-      → IsProductRow ring columns keys key.position key.monomial row → AddsMultiple ring.modulus.value 1 row old sums
-      → AreSmall sums → AreTouched touched sums → AreTaken ring columns keys key [] sums touched
+      (row : List Entry) (old sums touched : List ℕ) → length old ≡ length keys → AreZeroSums old
+      → IsProductEntries ring columns keys key.position key.monomial row → AddsProduct ring.modulus.value 1 row old sums
+      → AreSmall sums → AreTouched touched sums → AreTakenQuotients ring columns keys key [] sums touched
   taken_start row old sums touched is idle h adds small marked =
       let K = column_key (variables ring) keys in
       let R = row_sum K row in
@@ -88,9 +88,9 @@ module _ (ring : Ring) (columns : List (List (CodeKey × ℕ))) (keys : List Cod
 
   -- one product is taken away
   pub taken_more :
-      (qs : List ScaledProduct) (r f : ℕ) (old new before touched : List ℕ) (s : Product) → AreTaken ring columns keys key qs old before → IsLastProduct ring columns keys s
-      → 0 < r → r < ring.modulus.value → IsCongruent ring.modulus.value (f + r) 0 → AddsMultiple ring.modulus.value f s.entries.items old new → AreSmall new → AreTouched touched new
-      → AreTaken ring columns keys key (qs ++ (record { index = s.index; residue = r; monomial = s.monomial }) ∷ []) new touched
+      (qs : List ScaledProduct) (r f : ℕ) (old new before touched : List ℕ) (s : Product) → AreTakenQuotients ring columns keys key qs old before → IsLastProduct ring columns keys s
+      → 0 < r → r < ring.modulus.value → IsCongruent ring.modulus.value (f + r) 0 → AddsProduct ring.modulus.value f s.entries.items old new → AreSmall new → AreTouched touched new
+      → AreTakenQuotients ring columns keys key (qs ++ (record { index = s.index; residue = r; monomial = s.monomial }) ∷ []) new touched
   taken_more qs r f old new before touched s t h pos lt z adds small marked =
       let q : ScaledProduct = record { index = s.index; residue = r; monomial = s.monomial } in
       let K = column_key (variables ring) keys in
@@ -106,7 +106,7 @@ module _ (ring : Ring) (columns : List (List (CodeKey × ℕ))) (keys : List Cod
 
   -- nothing is left
   pub taken_all :
-      (qs : List ScaledProduct) (sums touched : List ℕ) → AreTaken ring columns keys key qs sums touched
+      (qs : List ScaledProduct) (sums touched : List ℕ) → AreTakenQuotients ring columns keys key qs sums touched
       → IsSame ring.modulus.value (numbered_sum (column_key (variables ring) keys) 0 sums) []
       → AreLastQuotients ring columns key qs
   taken_all qs sums touched t none =

@@ -26,9 +26,9 @@ use Rattle.vector_division.proofs.Members.{sums_at}
 use Rattle.vector_division.proofs.Occurring.{Contains_here, Contains_later, at_key, occurring, scaled_key}
 use Rattle.vector_division.specs.Reductions.{AreMetFrom, unscaled}
 use Rattle.vector_division.specs.declared.reduction.ScaledProduct.{ScaledProduct}
+use Rattle.resolution_maps.specs.Inducing.{Columns}
 use Rattle.schreyer_resolution.specs.Chains.{IsColumnChain, IsFailing}
 use Rattle.schreyer_resolution.specs.Columns.{IsColumnTrail, IsPartner, IsProductOf, IsWhetherPair}
-use Rattle.schreyer_resolution.specs.Inducing.{Columns}
 use Rattle.schreyer_resolution.specs.Steps.{IsPairKey}
 
 abbrev Terms : Type 0

@@ -20,7 +20,7 @@ use Rattle.vector_division.specs.Divisions.{IsUncovered}
 use Rattle.vector_division.specs.Progress.{IsDivisor}
 use Rattle.vector_division.specs.Runs.{IsSplit, Supports}
 use Rattle.vector_division.specs.declared.reduction.ScaledProduct.{ScaledProduct}
-use Rattle.schreyer_resolution.specs.Inducing.{Columns, Tower, tower_comparison}
+use Rattle.resolution_maps.specs.Inducing.{Columns, Tower, tower_comparison}
 use Rattle.schreyer_resolution.specs.Steps.{IsColumn, IsLastDivisor}
 
 -- the tower's order is the one that the columns' leads induce above this order
@@ -56,7 +56,7 @@ pub record IsProductOf (ring : Ring) (compare : (n : ℕ) → Key n → Key n �
 
 -- quotients of this product were taken away, each of the last column that could be; this is left of it in these lists, and
 -- terms were dropped that no lead divides, while what is left has none
-pub record IsUnderway (ring : Ring) (compare : (n : ℕ) → Key n → Key n → Ordering) (columns : List (List (CodeKey × ℕ))) (k : CodeKey)
+pub record IsColumnUnderway (ring : Ring) (compare : (n : ℕ) → Key n → Key n → Ordering) (columns : List (List (CodeKey × ℕ))) (k : CodeKey)
     (qs : List ScaledProduct) (runs : List (List (CodeKey × ℕ))) (left : FormalSum (variables ring)) : Type 0 where
   pub product : List (CodeKey × ℕ)
   pub of_column : IsProductOf ring compare columns k product
@@ -72,7 +72,7 @@ pub record IsUnderway (ring : Ring) (compare : (n : ℕ) → Key n → Key n →
       Each (λ q. IsLastDivisor (sums_of n columns) (q.index, exponents_of n q.monomial.exponents)) qs
 
 -- these quotients of the key's product, each of the last column that could be taken, leave nothing
-pub record IsDivided (ring : Ring) (compare : (n : ℕ) → Key n → Key n → Ordering) (columns : List (List (CodeKey × ℕ))) (k : CodeKey)
+pub record IsProductDivided (ring : Ring) (compare : (n : ℕ) → Key n → Key n → Ordering) (columns : List (List (CodeKey × ℕ))) (k : CodeKey)
     (qs : List ScaledProduct) : Type 0 where
   pub product : List (CodeKey × ℕ)
   pub of_column : IsProductOf ring compare columns k product

@@ -5,7 +5,8 @@ use Rattle.monomials.specs.Weights.{weighted_degree}
 use Rattle.bases.specs.Leads.{leads}
 use Rattle.module_vectors.specs.Vectors.{sums_of}
 use Rattle.module_vectors.specs.declared.key.Key.{Key as CodeKey}
-use Rattle.schreyer_resolution.specs.Inducing.{Columns, bottom, maps_of, way}
+use Rattle.resolution_maps.specs.Inducing.{Columns, maps_of}
+use Rattle.schreyer_resolution.specs.Ways.{bottom, way}
 use Rattle.schreyer_resolution.specs.declared.head.Head.{Head}
 use Rattle.schreyer_resolution.specs.declared.head.Heads.{Heads}
 
@@ -44,7 +45,7 @@ pub record AreHeads (n : ℕ) (ws : List ℕ) (maps : Columns) (hs : Heads) : Ty
   pub others : (i : ℕ) → length hs.each.items ≤ i → IsHead n ws maps i hs.past
 
 -- n exponents that are sums, each of those of xs and es at its place
-pub record AreSums (n : ℕ) (xs es gs : List ℕ) : Type 0 where
+pub record AreExponentSums (n : ℕ) (xs es gs : List ℕ) : Type 0 where
   pub count : length gs ≡ n
   pub each : (k : ℕ) → k < n → slice_index gs k ≡ slice_index xs k + slice_index es k
 

@@ -5,7 +5,7 @@ use Rattle.orders.proofs.InducedOrder.{induced_any}
 use Rattle.orders.specs.KeyOrders.{IsKeyOrder, induced}
 use Rattle.bases.specs.Leads.{leads}
 use Rattle.monomial_orders.specs.Laws.{key_comparison_order}
-use Rattle.schreyer_resolution.specs.Inducing.{Tower, induced_through, maps_of, tower_comparison}
+use Rattle.resolution_maps.specs.Inducing.{Tower, induced_through, maps_of, tower_comparison}
 
 -- above an order of keys each map's leads induce one
 pub through_order :

@@ -1,7 +1,6 @@
 -- what public clauses cite
-pub mod Inducing
 pub mod Laws
-pub mod Resolved
+pub mod Ways
 -- invariants of loops
 pub mod Steps
 pub mod Covered
@@ -11,7 +10,6 @@ pub mod Chains
 pub mod Pairs
 pub mod Sorting
 pub mod Progress
-pub mod Joining
 pub mod Spans
 pub mod Sharing
 pub mod Sifting

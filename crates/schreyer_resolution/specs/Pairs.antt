@@ -31,18 +31,18 @@ RisesLex n [] = ⊤
 RisesLex n (m ∷ ms) = Each (λ l. lex (exponents_of n m.exponents) (exponents_of n l.exponents) ≡ Greater → ⊥) ms × RisesLex n ms
 
 -- they strictly ascend, and none divides a later one
-abbrev pub AreApart : ℕ → List Monomial → Type 0
-AreApart n [] = ⊤
-AreApart n (m ∷ ms) =
+abbrev pub AreMinimalMonomials : ℕ → List Monomial → Type 0
+AreMinimalMonomials n [] = ⊤
+AreMinimalMonomials n (m ∷ ms) =
     Each (λ l. (lex (exponents_of n m.exponents) (exponents_of n l.exponents) ≡ Less)
     × (Divides (exponents_of n m.exponents) (exponents_of n l.exponents) → ⊥)) ms
-    × AreApart n ms
+    × AreMinimalMonomials n ms
 
 -- of those that are done the choice has a divisor of each; the others, which are still to come, are not below it
 pub record AreLeastSoFar (n : ℕ) (done rest kept : List Monomial) : Type 0 where
   pub inside : (m : Monomial) → Contains kept m → Contains done m
   pub covers : (m : Monomial) → Contains done m → (k : Monomial) × Contains kept k × Divides (exponents_of n k.exponents) (exponents_of n m.exponents)
-  pub apart : AreApart n kept
+  pub apart : AreMinimalMonomials n kept
   pub up_to : Each (λ k. Each (λ m. lex (exponents_of n k.exponents) (exponents_of n m.exponents) ≡ Greater → ⊥) rest) kept
   pub rises : RisesLex n rest
 

@@ -7,9 +7,9 @@ use Rattle.module_vectors.specs.Rings.{ring_comparison, setting, variables}
 use Rattle.module_vectors.specs.Vectors.{AreVectorsOver, HasPositions, sums_of}
 use Rattle.module_vectors.specs.declared.key.Key.{Key as CodeKey}
 use Rattle.module_vectors.specs.declared.ring.Ring.{Ring}
+use Rattle.resolution_maps.specs.Inducing.{Columns, maps_of, over, tower_comparison}
+use Rattle.resolution_maps.specs.Resolved.{AreFirstMaps, AreVectorsThrough, HavePositions}
 use Rattle.schreyer_resolution.specs.Columns.{IsBase}
-use Rattle.schreyer_resolution.specs.Inducing.{Columns, maps_of, over, tower_comparison}
-use Rattle.schreyer_resolution.specs.Resolved.{AreFirstMaps, AreVectorsThrough}
 
 -- the columns F of a map above others: vectors in the order that those induce, monic, and a Gröbner basis
 pub record IsTopMap (ring : Ring) (below : Columns) (F : List (List (CodeKey × ℕ))) : Type 0 where
@@ -18,18 +18,13 @@ pub record IsTopMap (ring : Ring) (below : Columns) (F : List (List (CodeKey × 
 
 -- H are the columns of the next map: it has the kernel of the map with the columns F as its image, and is canonical where
 -- it has a column
-pub record IsNext (ring : Ring) (below : Columns) (F H : List (List (CodeKey × ℕ))) : Type 0 where
+pub record IsNextMap (ring : Ring) (below : Columns) (F H : List (List (CodeKey × ℕ))) : Type 0 where
   pub top : IsTopMap ring (below ++ F ∷ []) H
   pub positions : Each (HasPositions (length F)) H
   pub exact : IsExact ring.modulus.value (sums_of (variables ring) F) (sums_of (variables ring) H)
   pub canonical :
       let n = variables ring in
       0 < length H → IsCanonicalMap (induced_setting (setting ring n (tower_comparison (over ring below) n) 0) (sums_of n F)) (sums_of n H) (sums_of n H)
-
--- each map's columns have the positions of the columns before, those of the first one the positions below the rank
-abbrev pub HavePositions : ℕ → Columns → Type 0
-HavePositions rank [] = Unit {0}
-HavePositions rank (F ∷ maps) = Each (HasPositions rank) F × HavePositions (length F) maps
 
 -- the maps, one at least, are the first ones of the canonical resolution of the module of `reduced`, and the last one is a
 -- top over the others

@@ -12,8 +12,8 @@ use Rattle.vector_division.specs.Reductions.{cofactors_of}
 use Rattle.vector_division.specs.declared.reduction.ScaledProduct.{ScaledProduct}
 use Rattle.row_matrix.specs.Rows.{Entry, column_key, row_sum}
 use Rattle.row_matrix.specs.Told.{AreHashesOf, HashesShown}
+use Rattle.resolution_maps.specs.Inducing.{Tower, tower_comparison}
 use Rattle.schreyer_resolution.specs.Columns.{negated_term}
-use Rattle.schreyer_resolution.specs.Inducing.{Tower, tower_comparison}
 use Rattle.schreyer_resolution.specs.Steps.{IsLastDivisor}
 use Rattle.schreyer_resolution.specs.declared.numbered.Product.{Product}
 
@@ -27,11 +27,11 @@ abbrev pub AreSmall : List ℕ → Type 0
 AreSmall sums = Each (λ a. a < 2 ^ 63) sums
 
 -- entries of so many numbers, in any order
-abbrev pub AreWithin : ℕ → ℕ → List Entry → Type 0
-AreWithin p count entries = Each (λ e. (e.0 < count) × (e.1 < p)) entries
+abbrev pub AreEntriesWithin : ℕ → ℕ → List Entry → Type 0
+AreEntriesWithin p count entries = Each (λ e. (e.0 < count) × (e.1 < p)) entries
 
 -- new is old and `factor` times the entries
-pub record AddsMultiple (p factor : ℕ) (entries : List Entry) (old new : List ℕ) : Type 0 where
+pub record AddsProduct (p factor : ℕ) (entries : List Entry) (old new : List ℕ) : Type 0 where
   pub count : length new ≡ length old
   pub sum :
       (n : ℕ) (key : ℕ → Key n)
@@ -42,9 +42,9 @@ abbrev pub product_of : (ring : Ring) → List (List (CodeKey × ℕ)) → ℕ �
 product_of ring columns index m = let n = variables ring in scale 1 (exponents_of n m.exponents) (sum_of n (get_or columns index []))
 
 -- the entries, by numbers of these keys, are those of this product
-pub record IsProductRow (ring : Ring) (columns : List (List (CodeKey × ℕ))) (keys : List CodeKey) (index : ℕ) (m : Monomial)
+pub record IsProductEntries (ring : Ring) (columns : List (List (CodeKey × ℕ))) (keys : List CodeKey) (index : ℕ) (m : Monomial)
     (entries : List Entry) : Type 0 where
-  pub within : AreWithin ring.modulus.value (length keys) entries
+  pub within : AreEntriesWithin ring.modulus.value (length keys) entries
   pub sum : row_sum (column_key (variables ring) keys) entries ≡ product_of ring columns index m
 
 -- a product of the last column that divides its lead, by numbers of these keys
@@ -54,7 +54,7 @@ pub record IsLastProduct (ring : Ring) (columns : List (List (CodeKey × ℕ))) 
   pub last :
       let n = variables ring in
       IsLastDivisor (sums_of n columns) (s.index, exponents_of n s.monomial.exponents)
-  pub row : IsProductRow ring columns keys s.index s.monomial s.entries.items
+  pub row : IsProductEntries ring columns keys s.index s.monomial s.entries.items
 
 -- a quotient of the last column that divides its product's lead
 pub record IsLastQuotient (ring : Ring) (columns : List (List (CodeKey × ℕ))) (q : ScaledProduct) : Type 0 where
@@ -67,15 +67,15 @@ pub record IsLastQuotient (ring : Ring) (columns : List (List (CodeKey × ℕ)))
       IsLastDivisor (sums_of n columns) (q.index, exponents_of n q.monomial.exponents)
 
 -- all sums are 0
-abbrev pub IsIdle : List ℕ → Type 0
-IsIdle sums = Each (λ a. a ≡ 0) sums
+abbrev pub AreZeroSums : List ℕ → Type 0
+AreZeroSums sums = Each (λ a. a ≡ 0) sums
 
 -- all sums that are not 0 were touched
 abbrev pub AreTouched : List ℕ → List ℕ → Type 0
 AreTouched touched sums = (i : ℕ) → i < length sums → (get_or sums i 0 ≡ 0) ⊎ Contains touched i
 
 -- such quotients were taken away of the key's product, and the sums are left, with the numbers that were touched
-pub record AreTaken (ring : Ring) (columns : List (List (CodeKey × ℕ))) (keys : List CodeKey) (k : CodeKey) (qs : List ScaledProduct)
+pub record AreTakenQuotients (ring : Ring) (columns : List (List (CodeKey × ℕ))) (keys : List CodeKey) (k : CodeKey) (qs : List ScaledProduct)
     (sums touched : List ℕ) : Type 0 where
   pub quotients : Each (IsLastQuotient ring columns) qs
   pub count : length sums ≡ length keys
@@ -103,14 +103,14 @@ abbrev pub AreReduced : ℕ → List (List (CodeKey × ℕ)) → Type 0
 AreReduced p columns = Each (λ v. Each (λ t. t.1 < p) v) columns
 
 -- the vector has 1 at the key and behind it such quotients of the key's product with the other sign, in the order above
-pub record IsMade (ring : Ring) (columns : List (List (CodeKey × ℕ))) (t : Tower) (k : CodeKey) (v : List (CodeKey × ℕ)) : Type 0 where
+pub record IsColumnMade (ring : Ring) (columns : List (List (CodeKey × ℕ))) (t : Tower) (k : CodeKey) (v : List (CodeKey × ℕ)) : Type 0 where
   pub quotients : List ScaledProduct
   pub of_product : AreLastQuotients ring columns k quotients
   pub is : v ≡ (k, 1) ∷ map (negated_term ring.modulus.value) quotients
   pub vector : IsVectorOver ring (tower_comparison t) v
 
 -- so many vectors, made so for the first keys
-pub record AreMade (ring : Ring) (columns : List (List (CodeKey × ℕ))) (t : Tower) (keys : List CodeKey) (count : ℕ)
+pub record AreColumnsMade (ring : Ring) (columns : List (List (CodeKey × ℕ))) (t : Tower) (keys : List CodeKey) (count : ℕ)
     (next : List (List (CodeKey × ℕ))) : Type 0 where
   pub sized : length next ≡ count
-  pub each : (c : ℕ) (k : CodeKey) → c < count → k ≡ get_or keys c k → IsMade ring columns t k (get_or next c [])
+  pub each : (c : ℕ) (k : CodeKey) → c < count → k ≡ get_or keys c k → IsColumnMade ring columns t k (get_or next c [])

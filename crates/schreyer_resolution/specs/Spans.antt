@@ -8,7 +8,7 @@ use Rattle.schreyer_resolution.specs.declared.divisors.LeadIndex.{LeadIndex}
 use Rattle.schreyer_resolution.specs.declared.divisors.Span.{Span}
 
 -- j stands in the span of this position
-pub record IsSpanned (spans : List Span) (position j : ℕ) : Type 0 where
+pub record IsSpannedAt (spans : List Span) (position j : ℕ) : Type 0 where
   pub span : Span
   pub known : position < length spans
   pub is : span ≡ get_or spans position span
@@ -17,8 +17,8 @@ pub record IsSpanned (spans : List Span) (position j : ℕ) : Type 0 where
 
 -- what stood in a span still does, and all of this one stands in that of the position
 pub record IsWidened (position : ℕ) (more : Span) (old new : List Span) : Type 0 where
-  pub kept : (p j : ℕ) → IsSpanned old p j → IsSpanned new p j
-  pub added : (j : ℕ) → more.from ≤ j → j < more.to → IsSpanned new position j
+  pub kept : (p j : ℕ) → IsSpannedAt old p j → IsSpannedAt new p j
+  pub added : (j : ℕ) → more.from ≤ j → j < more.to → IsSpannedAt new position j
 
 -- a mark for each column
 pub record AreMarks (columns : List (List (CodeKey × ℕ))) (marks : List Mark) : Type 0 where
@@ -28,7 +28,7 @@ pub record AreMarks (columns : List (List (CodeKey × ℕ))) (marks : List Mark)
 -- the marks are those of the columns, and each column stands in the span of its lead's position
 pub record IsIndexOf (columns : List (List (CodeKey × ℕ))) (index : LeadIndex) : Type 0 where
   pub marks : AreMarks columns index.marks.items
-  pub spans : (n j : ℕ) → j < length columns → 0 < length (get_or columns j []) → IsSpanned index.spans.items (lead_at n columns j).0 j
+  pub spans : (n j : ℕ) → j < length columns → 0 < length (get_or columns j []) → IsSpannedAt index.spans.items (lead_at n columns j).0 j
 
 -- none of the columns from `end` on has its lead at this position
 abbrev pub ArePast : List (List (CodeKey × ℕ)) → ℕ → ℕ → Type 0

@@ -8,9 +8,9 @@ ghost use Rattle.module_vectors.specs.Rings.{variables};
 ghost use Rattle.module_vectors.specs.Vectors.{AreVectorsOver, HasPositions, IsMonomialOver, IsVectorOver, key_of, sum_of, sums_of};
 ghost use Rattle.vector_division.specs.Progress.{HasBoundedHead, IsSubtraction, SubtractionStops, last_position};
 ghost use Rattle.vector_division.specs.Runs.{AreBelow, total};
-ghost use Rattle.schreyer_resolution.specs.Columns.{ColumnStops, IsAbove, IsBase, IsColumnOf, IsDivided, IsFoundLast, IsProductOf, IsUnderway, negated_term};
+ghost use Rattle.resolution_maps.specs.Inducing.{tower_comparison};
+ghost use Rattle.schreyer_resolution.specs.Columns.{ColumnStops, IsAbove, IsBase, IsColumnOf, IsProductDivided, IsFoundLast, IsProductOf, IsColumnUnderway, negated_term};
 ghost use Rattle.schreyer_resolution.specs.Covered.{AreCoveredPut};
-ghost use Rattle.schreyer_resolution.specs.Inducing.{tower_comparison};
 ghost use Rattle.schreyer_resolution.specs.Spans.{IsIndexOf};
 ghost use Rattle.schreyer_resolution.specs.Steps.{IsPairKey};
 
@@ -90,7 +90,7 @@ fn next_divisor<F: Frame>(
     requires reduced { term.now.1 < (F.over frame.now).modulus.value }
     requires below { let n = variables (F.over frame.now) in AreBelow n (F.compare frame.now n) (key_of n term.now.0) buckets.now }
     requires underway { let n = variables (F.over frame.now) in
-        IsUnderway (F.over frame.now) (F.compare frame.now) columns.now key.now quotients.now buckets.now
+        IsColumnUnderway (F.over frame.now) (F.compare frame.now) columns.now key.now quotients.now buckets.now
         ((key_of n term.now.0, term.now.1) ∷ total n buckets.now) }
     ensures { let n = variables (F.over frame.now) in
         IfOk result (λ s. IsFoundLast n (F.over frame.now).weights columns.now (key_of n term.now.0) (Some s)) }
@@ -191,11 +191,11 @@ fn take_last<F: Frame>(
     requires reduced { term.1 < (F.over frame.now).modulus.value }
     requires below { let n = variables (F.over frame.now) in AreBelow n (F.compare frame.now n) (key_of n term.0) buckets.old }
     requires underway { let n = variables (F.over frame.now) in
-        IsUnderway (F.over frame.now) (F.compare frame.now) columns.now key.now quotients.old.items buckets.old
+        IsColumnUnderway (F.over frame.now) (F.compare frame.now) columns.now key.now quotients.old.items buckets.old
         ((key_of n term.0, term.1) ∷ total n buckets.old) }
     ensures below { let n = variables (F.over frame.now) in OnOk result (AreBelow n (F.compare frame.now n) (key_of n term.0) buckets.new) }
     ensures underway { let n = variables (F.over frame.now) in
-        OnOk result (IsUnderway (F.over frame.now) (F.compare frame.now) columns.now key.now quotients.new.items buckets.new (total n buckets.new)) }
+        OnOk result (IsColumnUnderway (F.over frame.now) (F.compare frame.now) columns.now key.now quotients.new.items buckets.new (total n buckets.new)) }
     ensures stop { IfErr result (ColumnStops (F.over frame.now) below.now columns.now) }
 {
     lawful_setting(frame);
@@ -276,11 +276,11 @@ fn advance<F: Frame>(
     requires reduced { term.1 < (F.over frame.now).modulus.value }
     requires below { let n = variables (F.over frame.now) in AreBelow n (F.compare frame.now n) (key_of n term.0) buckets.old }
     requires underway { let n = variables (F.over frame.now) in
-        IsUnderway (F.over frame.now) (F.compare frame.now) columns.now key.now quotients.old.items buckets.old
+        IsColumnUnderway (F.over frame.now) (F.compare frame.now) columns.now key.now quotients.old.items buckets.old
         ((key_of n term.0, term.1) ∷ total n buckets.old) }
     ensures below { let n = variables (F.over frame.now) in OnOk result (AreBelow n (F.compare frame.now n) (key_of n term.0) buckets.new) }
     ensures underway { let n = variables (F.over frame.now) in
-        OnOk result (IsUnderway (F.over frame.now) (F.compare frame.now) columns.now key.now quotients.new.items buckets.new (total n buckets.new)) }
+        OnOk result (IsColumnUnderway (F.over frame.now) (F.compare frame.now) columns.now key.now quotients.new.items buckets.new (total n buckets.new)) }
     ensures stop { IfErr result (ColumnStops (F.over frame.now) below.now columns.now) }
 {
     lawful_setting(frame);
@@ -306,7 +306,7 @@ fn divided<F: Frame>(
     requires index { IsIndexOf columns.now index.now }
     requires monomial { IsMonomialOver (F.over frame.now) key.now.monomial }
     requires pair { let n = variables (F.over frame.now) in IsPairKey (sums_of n columns.now) (key_of n key.now) }
-    ensures done { IfOk result (λ quotients. IsDivided (F.over frame.now) (F.compare frame.now) columns.now key.now quotients.items) }
+    ensures done { IfOk result (λ quotients. IsProductDivided (F.over frame.now) (F.compare frame.now) columns.now key.now quotients.items) }
     ensures stop { IfErr result (ColumnStops (F.over frame.now) below.now columns.now) }
 {
     lawful_setting(frame);

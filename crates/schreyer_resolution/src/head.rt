@@ -7,8 +7,8 @@ ghost use Rattle.monomial_orders.specs.Kept.{AreWeights};
 ghost use Rattle.module_vectors.specs.Rings.{variables};
 ghost use Rattle.module_vectors.specs.Vectors.{sum_of};
 ghost use Rattle.module_vectors.specs.declared.key.Key.{Key as KeyValue};
-ghost use Rattle.schreyer_resolution.specs.Heads.{AreHeads, AreSums, IsHead, IsLeadOf, IsLow};
-ghost use Rattle.schreyer_resolution.specs.Inducing.{Columns};
+ghost use Rattle.resolution_maps.specs.Inducing.{Columns};
+ghost use Rattle.schreyer_resolution.specs.Heads.{AreHeads, AreExponentSums, IsHead, IsLeadOf, IsLow};
 
 use module_vectors::{NoMemory, Ring, Vect, VectList};
 use std::alloc::Global;
@@ -83,7 +83,7 @@ fn large_at(e: &[u64], k: usize) -> u64
 // The sums of the first n exponents, place by place.
 fn add_exponents(alloc: Global, n: usize, a: &[u16], e: &[u64]) -> Result<Vec<u64>, NoMemory>
     requires { (k : ℕ) → slice_index e.now k < 2 ^ 48 }
-    ensures sums { IfOk result (λ r. AreSums n a.now e.now r.items) }
+    ensures sums { IfOk result (λ r. AreExponentSums n a.now e.now r.items) }
     ensures low { IfOk result (λ r. (k : ℕ) → slice_index r.items k < 2 ^ 48) }
 {
     let mut exponents = Vec::with_capacity(alloc, n)?;
@@ -119,7 +119,7 @@ fn lift_exponents(
     e: &[u64],
 ) -> Result<(Vec<u64>, u128), NoMemory>
     requires { (k : ℕ) → slice_index e.now k < 2 ^ 48 }
-    ensures sums { IfOk result (λ r. AreSums (variables ring.now) a.now e.now r.0.items) }
+    ensures sums { IfOk result (λ r. AreExponentSums (variables ring.now) a.now e.now r.0.items) }
     ensures low { IfOk result (λ r. IsLow r.0.items r.1) }
     ensures degree { let n = variables ring.now in IfOk result (λ r. r.1 ≡ weighted_degree ring.now.weights (exponents_of n r.0.items)) }
 {

@@ -4,7 +4,7 @@ ghost use Rattle.monomials.specs.Exponents.{exponents_of};
 ghost use Rattle.module_vectors.specs.Rings.{ring_comparison, variables};
 ghost use Rattle.module_vectors.specs.Vectors.{IsMonomialOver};
 ghost use Rattle.schreyer_resolution.specs.Heads.{IsHeadOver, summed};
-ghost use Rattle.schreyer_resolution.specs.Inducing.{by_way};
+ghost use Rattle.schreyer_resolution.specs.Ways.{by_way};
 
 use crate::comparing::compare_products;
 use crate::head::{Head, Heads, first_heads, next_heads};
@@ -27,7 +27,7 @@ pub struct Induced<'a> {
 impl<'a> Model for Induced<'a> {
     ghost use Rattle.module_vectors.specs.Rings.{variables};
     ghost use Rattle.schreyer_resolution.specs.Heads.{AreHeads};
-    ghost use Rattle.schreyer_resolution.specs.Inducing.{Tower};
+    ghost use Rattle.resolution_maps.specs.Inducing.{Tower};
 
     ghost Value = { Tower };
 
@@ -109,7 +109,7 @@ impl<'a> Induced<'a> {
 }
 
 impl<'a> Frame for Induced<'a> {
-    ghost use Rattle.schreyer_resolution.specs.Inducing.{tower_comparison};
+    ghost use Rattle.resolution_maps.specs.Inducing.{tower_comparison};
     ghost use Rattle.schreyer_resolution.specs.Laws.{tower_order};
 
     ghost over = { λ f. f.ring };
@@ -118,6 +118,11 @@ impl<'a> Frame for Induced<'a> {
 
     fn ring(&self) -> &Ring {
         self.ring
+    }
+
+    // No number is made: keys are told apart by the leads below them.
+    fn hint(&self, _key: &Key) -> u64 {
+        0
     }
 
     fn cmp(&self, a: &Key, b: &Key) -> Ordering {

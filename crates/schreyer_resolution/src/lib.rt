@@ -12,7 +12,6 @@ mod comparing;
 mod divisors;
 mod head;
 mod induced;
-mod maps;
 mod numbered;
 mod pair_leads;
 mod resolving;
@@ -23,5 +22,4 @@ mod substituting;
 mod trails;
 
 pub use induced::Induced;
-pub use maps::{Map, Resolution, column_degrees, joined_maps};
-pub use resolving::resolve;
+pub use resolving::{resolve, resolve_to};

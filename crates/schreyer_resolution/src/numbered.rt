@@ -7,7 +7,7 @@ ghost use Rattle.vector_division.specs.Progress.{AreWeighed};
 ghost use Rattle.row_matrix.specs.Naming.{IsGrown};
 ghost use Rattle.row_matrix.specs.Rows.{AreKeys};
 ghost use Rattle.schreyer_resolution.specs.Pairs.{AreNonzero};
-ghost use Rattle.schreyer_resolution.specs.Sharing.{AreColumnHashes, AreReduced, IsLastProduct, IsProductRow};
+ghost use Rattle.schreyer_resolution.specs.Sharing.{AreColumnHashes, AreReduced, IsLastProduct, IsProductEntries};
 ghost use Rattle.schreyer_resolution.specs.Spans.{IsIndexOf};
 
 use crate::divisors::{LeadIndex, last_divisor};
@@ -67,7 +67,7 @@ pub(crate) fn column_product(
     requires reduced { AreReduced ring.now.modulus.value columns.now }
     requires hashes { AreColumnHashes columns.now hashes.now }
     requires keys { AreKeys (variables ring.now) ring.now.weights numbers.old }
-    ensures row { IfOk result (λ row. IsProductRow ring.now columns.now numbers.new index monomial.now row.items) }
+    ensures row { IfOk result (λ row. IsProductEntries ring.now columns.now numbers.new index monomial.now row.items) }
     ensures keys { OnOk result (AreKeys (variables ring.now) ring.now.weights numbers.new) }
     ensures grown { IfOk result (λ row. IsGrown numbers.old numbers.new row.items) }
 {

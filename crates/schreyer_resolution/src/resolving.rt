@@ -2,25 +2,25 @@
 ghost use Rattle.std.specs.Prelude.{◌≡◌, ◌<◌, ◌≤◌, ◌++◌, ◌∷◌, [], ℕ, List, IfErr, IfOk, length, map, replicate};
 ghost use Rattle.formal_sums.specs.FormalSums.{Each};
 ghost use Rattle.bases.specs.Bases.{IsReducedBasis};
-ghost use Rattle.resolution_laws.specs.Resolutions.{IsCanonical};
+ghost use Rattle.resolution_laws.specs.Resolutions.{IsCanonical, IsCanonicalStart};
 ghost use Rattle.module_vectors.specs.Rings.{ring_comparison, setting, variables};
 ghost use Rattle.module_vectors.specs.Vectors.{AreVectorsOver, HasPositions, IsMonomialOver, key_of, sums_of};
 ghost use Rattle.module_vectors.specs.declared.key.Key.{Key as KeyValue};
+ghost use Rattle.resolution_maps.specs.Inducing.{Columns, maps_of};
+ghost use Rattle.resolution_maps.specs.Resolved.{AreJoined, AreVectorsThrough, HavePositions, ResolutionStops, columns_of};
 ghost use Rattle.schreyer_resolution.specs.Columns.{AreColumnsTo, ColumnStops, IsAbove, IsBase};
-ghost use Rattle.schreyer_resolution.specs.Inducing.{Columns, maps_of};
-ghost use Rattle.schreyer_resolution.specs.Progress.{AreResolvedTo, HavePositions, IsNext, IsTopMap};
-ghost use Rattle.schreyer_resolution.specs.Resolved.{AreJoined, AreVectorsThrough, ResolutionStops, columns_of};
+ghost use Rattle.schreyer_resolution.specs.Progress.{AreResolvedTo, IsNextMap, IsTopMap};
 ghost use Rattle.schreyer_resolution.specs.Spans.{IsIndexOf};
 ghost use Rattle.schreyer_resolution.specs.Steps.{ArePairLeads};
 
+use crate::Induced;
 use crate::column::column;
 use crate::divisors::{LeadIndex, index_leads};
-use crate::maps::{joined_maps, positions_of_zero};
 use crate::pair_leads::pair_leads;
 use crate::shared::shared_columns;
 use crate::sorting::sorted_columns;
-use crate::{Induced, Resolution};
 use module_vectors::{Frame, Key, NoMemory, Ring, VectList, WorkStop, lawful_setting};
+use resolution_maps::{Resolution, joined_maps, positions_of_zero};
 use std::alloc::Global;
 
 // The columns with these leads, each by a division of its own, which has the trail where a product is too great.
@@ -88,7 +88,7 @@ fn second_map(
 ) -> Result<VectList, WorkStop>
     requires maps { maps.now ≡ columns.now ∷ [] }
     requires top { IsTopMap ring.now [] columns.now }
-    ensures next { IfOk result (IsNext ring.now [] columns.now) }
+    ensures next { IfOk result (IsNextMap ring.now [] columns.now) }
     ensures stop { IfErr result (ColumnStops ring.now [] columns.now) }
 {
     lawful_setting(ring);
@@ -108,7 +108,7 @@ fn later_map(
     requires maps { maps.now ≡ below.now ++ columns.now ∷ [] }
     requires some { 0 < length below.now }
     requires top { IsTopMap ring.now below.now columns.now }
-    ensures next { IfOk result (IsNext ring.now below.now columns.now) }
+    ensures next { IfOk result (IsNextMap ring.now below.now columns.now) }
     ensures stop { IfErr result (ColumnStops ring.now below.now columns.now) }
 {
     let frame = Induced::through(alloc, ring, below)?;
@@ -128,7 +128,7 @@ fn map_above(
 ) -> Result<VectList, WorkStop>
     requires maps { maps.now ≡ below.now ++ columns.now ∷ [] }
     requires top { IsTopMap ring.now below.now columns.now }
-    ensures next { IfOk result (IsNext ring.now below.now columns.now) }
+    ensures next { IfOk result (IsNextMap ring.now below.now columns.now) }
     ensures stop { IfErr result (ColumnStops ring.now below.now columns.now) }
 {
     if below.is_empty() {
@@ -143,7 +143,7 @@ fn next_map(alloc: Global, ring: &Ring, maps: &[VectList]) -> Result<VectList, W
     requires some { 0 < length maps.now }
     requires top { (below : Columns) (last : List (List (KeyValue × ℕ))) → maps.now ≡ below ++ last ∷ [] → IsTopMap ring.now below last }
     ensures next { (below : Columns) (last : List (List (KeyValue × ℕ))) → maps.now ≡ below ++ last ∷ []
-        → IfOk result (IsNext ring.now below last) }
+        → IfOk result (IsNextMap ring.now below last) }
     ensures stop { (below : Columns) (last : List (List (KeyValue × ℕ))) → maps.now ≡ below ++ last ∷ []
         → IfErr result (ColumnStops ring.now below last) }
 {
@@ -165,7 +165,8 @@ fn first_maps(
     requires basis { let n = variables ring.now in
         IsReducedBasis (setting ring.now n (ring_comparison ring.now n) rank) (sums_of n reduced.now) (sums_of n reduced.now) }
     requires some { 0 < length reduced.now }
-    ensures { IfOk result (λ maps. AreResolvedTo ring.now rank reduced.now maps.items) }
+    ensures resolved { IfOk result (λ maps. AreResolvedTo ring.now rank reduced.now maps.items) }
+    ensures one { IfOk result (λ maps. length maps.items ≡ 1) }
 {
     let first = sorted_columns(alloc, ring, rank, reduced)?;
     let mut maps = Vec::new(alloc);
@@ -173,28 +174,29 @@ fn first_maps(
     Ok(maps)
 }
 
-// These maps and all that come behind them.
-fn complete_maps(
+// The first map and those that come behind it, as far as there are `count` maps.
+fn start_behind(
     alloc: Global,
     ring: &Ring,
     rank: u128,
     reduced: &VectList,
+    count: u128,
     first: Vec<VectList>,
 ) -> Result<Vec<VectList>, WorkStop>
     requires positions { Each (HasPositions rank) reduced.now }
     requires resolved { AreResolvedTo ring.now rank reduced.now first.items }
-    ensures canonical { let n = variables ring.now in
-        IfOk result (λ maps. IsCanonical (setting ring.now n (ring_comparison ring.now n) rank) (sums_of n reduced.now) (maps_of n maps.items)) }
-    ensures length { 0 < variables ring.now → IfOk result (λ maps. length maps.items ≤ variables ring.now) }
+    requires one { length first.items ≡ 1 }
+    requires some { 0 < count }
+    ensures start { let n = variables ring.now in
+        IfOk result (λ maps. IsCanonicalStart (setting ring.now n (ring_comparison ring.now n) rank) (sums_of n reduced.now) count (maps_of n maps.items)) }
     ensures vectors { IfOk result (λ maps. AreVectorsThrough ring.now [] maps.items) }
     ensures positions { IfOk result (λ maps. HavePositions rank maps.items) }
     ensures stop { IfErr result (ResolutionStops ring.now rank reduced.now) }
 {
-    lawful_setting(ring);
     let _rank = rank;
     let _reduced = reduced;
     let mut maps = first;
-    loop {
+    for _ in 1..count {
         let next = match next_map(alloc, ring, &maps) {
             Ok(next) => next,
             Err(stop) => return Err(stop),
@@ -204,31 +206,68 @@ fn complete_maps(
         }
         maps.push(next)?;
     }
+    Ok(maps)
 }
 
-// The columns of the maps.
-fn resolved_maps(
+// The columns of the first `count` maps.
+fn start_maps(
     alloc: Global,
     ring: &Ring,
     rank: u128,
     reduced: &VectList,
+    count: u128,
 ) -> Result<Vec<VectList>, WorkStop>
     requires vectors { AreVectorsOver ring.now (ring_comparison ring.now) reduced.now }
     requires positions { Each (HasPositions rank) reduced.now }
     requires basis { let n = variables ring.now in
         IsReducedBasis (setting ring.now n (ring_comparison ring.now n) rank) (sums_of n reduced.now) (sums_of n reduced.now) }
-    ensures canonical { let n = variables ring.now in
-        IfOk result (λ maps. IsCanonical (setting ring.now n (ring_comparison ring.now n) rank) (sums_of n reduced.now) (maps_of n maps.items)) }
-    ensures length { 0 < variables ring.now → IfOk result (λ maps. length maps.items ≤ variables ring.now) }
+    ensures start { let n = variables ring.now in
+        IfOk result (λ maps. IsCanonicalStart (setting ring.now n (ring_comparison ring.now n) rank) (sums_of n reduced.now) count (maps_of n maps.items)) }
     ensures vectors { IfOk result (λ maps. AreVectorsThrough ring.now [] maps.items) }
     ensures positions { IfOk result (λ maps. HavePositions rank maps.items) }
     ensures stop { IfErr result (ResolutionStops ring.now rank reduced.now) }
 {
+    if count == 0 {
+        return Ok(Vec::new(alloc));
+    }
     if reduced.is_empty() {
         return Ok(Vec::new(alloc));
     }
     let first = first_maps(alloc, ring, rank, reduced)?;
-    complete_maps(alloc, ring, rank, reduced, first)
+    start_behind(alloc, ring, rank, reduced, count, first)
+}
+
+/// The first `count` maps of the canonical resolution that `resolve` answers, or all of them where it has fewer. No map behind
+/// these is computed (Eisenbud, section 15.5).
+///
+/// `Degree` and `Memory` as there.
+pub fn resolve_to(
+    alloc: Global,
+    ring: &Ring,
+    rank: u128,
+    reduced: &VectList,
+    count: u128,
+) -> Result<Resolution, WorkStop>
+    requires vectors { AreVectorsOver ring.now (ring_comparison ring.now) reduced.now }
+    requires positions { Each (HasPositions rank) reduced.now }
+    requires basis { let n = variables ring.now in
+        IsReducedBasis (setting ring.now n (ring_comparison ring.now n) rank) (sums_of n reduced.now) (sums_of n reduced.now) }
+    ensures start { let n = variables ring.now in
+        IfOk result (λ r. IsCanonicalStart (setting ring.now n (ring_comparison ring.now n) rank) (sums_of n reduced.now) count (maps_of n (columns_of r))) }
+    ensures length { 0 < variables ring.now → IfOk result (λ r. length r.maps.items ≤ variables ring.now) }
+    ensures vectors { IfOk result (λ r. AreVectorsThrough ring.now [] (columns_of r)) }
+    ensures places { IfOk result (λ r. r.positions.items ≡ replicate rank 0) }
+    ensures joined { IfOk result (λ r. AreJoined ring.now r.positions.items r.maps.items) }
+    ensures stop { IfErr result (ResolutionStops ring.now rank reduced.now) }
+{
+    lawful_setting(ring);
+    let columns = match start_maps(alloc, ring, rank, reduced, count) {
+        Ok(columns) => columns,
+        Err(stop) => return Err(stop),
+    };
+    let positions = positions_of_zero(alloc, rank)?;
+    let maps = joined_maps(alloc, ring, &positions, columns)?;
+    Ok(Resolution { positions, maps })
 }
 
 /// The canonical resolution of the free module of this rank modulo the module of `reduced`, a reduced Gröbner basis: its
@@ -256,11 +295,7 @@ pub fn resolve(
     ensures joined { IfOk result (λ r. AreJoined ring.now r.positions.items r.maps.items) }
     ensures stop { IfErr result (ResolutionStops ring.now rank reduced.now) }
 {
-    let columns = match resolved_maps(alloc, ring, rank, reduced) {
-        Ok(columns) => columns,
-        Err(stop) => return Err(stop),
-    };
-    let positions = positions_of_zero(alloc, rank)?;
-    let maps = joined_maps(alloc, ring, &positions, columns)?;
-    Ok(Resolution { positions, maps })
+    lawful_setting(ring);
+    let count = ring.vars.len() as u128 + 2;
+    resolve_to(alloc, ring, rank, reduced, count)
 }

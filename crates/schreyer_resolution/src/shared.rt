@@ -7,10 +7,10 @@ ghost use Rattle.module_vectors.specs.Rings.{variables};
 ghost use Rattle.module_vectors.specs.Vectors.{AreVectorsOver, IsMonomialOver, IsTerm, IsVectorOver, key_of, sum_of, sums_of};
 ghost use Rattle.vector_division.specs.Progress.{AreWeighed};
 ghost use Rattle.row_matrix.specs.Rows.{AreKeys};
+ghost use Rattle.resolution_maps.specs.Inducing.{tower_comparison};
 ghost use Rattle.schreyer_resolution.specs.Columns.{AreColumnsTo, IsAbove, IsBase};
-ghost use Rattle.schreyer_resolution.specs.Inducing.{tower_comparison};
 ghost use Rattle.schreyer_resolution.specs.Pairs.{AreNonzero};
-ghost use Rattle.schreyer_resolution.specs.Sharing.{AreColumnHashes, AreMade, AreReduced, IsIdle, IsLastProduct, IsMade, IsProductRow};
+ghost use Rattle.schreyer_resolution.specs.Sharing.{AreColumnHashes, AreColumnsMade, AreReduced, AreZeroSums, IsLastProduct, IsColumnMade, IsProductEntries};
 ghost use Rattle.schreyer_resolution.specs.Spans.{IsIndexOf};
 ghost use Rattle.schreyer_resolution.specs.Steps.{ArePairLeads};
 
@@ -130,11 +130,11 @@ fn shared_column(
     requires over { induced.now.ring ≡ ring.now }
     requires monomial { IsMonomialOver ring.now key.now.monomial }
     requires products { Each (IsLastProduct ring.now columns.now numbers.now) products.now }
-    requires start { IsProductRow ring.now columns.now numbers.now key.now.position key.now.monomial start.now }
+    requires start { IsProductEntries ring.now columns.now numbers.now key.now.position key.now.monomial start.now }
     requires count { length work.old.sums.items ≡ length numbers.now }
-    requires idle { IsIdle work.old.sums.items }
-    ensures made { IfOk result (λ made. IfSome made (IsMade ring.now columns.now induced.now key.now)) }
-    ensures idle { IfOk result (λ made. IfSome made (λ _. IsIdle work.new.sums.items)) }
+    requires idle { AreZeroSums work.old.sums.items }
+    ensures made { IfOk result (λ made. IfSome made (IsColumnMade ring.now columns.now induced.now key.now)) }
+    ensures idle { IfOk result (λ made. IfSome made (λ _. AreZeroSums work.new.sums.items)) }
 {
     let modulus = &ring.modulus;
     modulus.domain();
@@ -167,7 +167,7 @@ fn next_start(
     requires hashes { AreColumnHashes columns.now hashes.now }
     requires keys { AreKeys (variables ring.now) ring.now.weights numbers.old }
     requires products { Each (IsLastProduct ring.now columns.now numbers.old) products.now }
-    ensures row { IfOk result (λ row. IsProductRow ring.now columns.now numbers.new key.now.position key.now.monomial row.items) }
+    ensures row { IfOk result (λ row. IsProductEntries ring.now columns.now numbers.new key.now.position key.now.monomial row.items) }
     ensures keys { OnOk result (AreKeys (variables ring.now) ring.now.weights numbers.new) }
     ensures products { OnOk result (Each (IsLastProduct ring.now columns.now numbers.new) products.now) }
 {
@@ -197,11 +197,11 @@ fn next_column(
     requires hashes { AreColumnHashes columns.now hashes.now }
     requires keys { AreKeys (variables ring.now) ring.now.weights numbers.old }
     requires products { Each (IsLastProduct ring.now columns.now numbers.old) products.now }
-    requires idle { IsIdle work.old.sums.items }
-    ensures made { IfOk result (λ made. IfSome made (IsMade ring.now columns.now induced.now key.now)) }
+    requires idle { AreZeroSums work.old.sums.items }
+    ensures made { IfOk result (λ made. IfSome made (IsColumnMade ring.now columns.now induced.now key.now)) }
     ensures keys { OnOk result (AreKeys (variables ring.now) ring.now.weights numbers.new) }
     ensures products { OnOk result (Each (IsLastProduct ring.now columns.now numbers.new) products.now) }
-    ensures idle { IfOk result (λ made. IfSome made (λ _. IsIdle work.new.sums.items)) }
+    ensures idle { IfOk result (λ made. IfSome made (λ _. AreZeroSums work.new.sums.items)) }
 {
     let start = next_start(alloc, ring, columns, hashes, key, products, numbers)?;
     if work.sums.len() != numbers.len() {
@@ -242,8 +242,8 @@ fn columns_by(
     requires hashes { AreColumnHashes columns.now hashes.now }
     requires keys { AreKeys (variables ring.now) ring.now.weights numbers.old }
     requires products { Each (IsLastProduct ring.now columns.now numbers.old) products.now }
-    requires idle { IsIdle work.old.sums.items }
-    ensures { IfOk result (λ made. IfSome made (λ next. AreMade ring.now columns.now induced.now keys.now (length keys.now) next.items)) }
+    requires idle { AreZeroSums work.old.sums.items }
+    ensures { IfOk result (λ made. IfSome made (λ next. AreColumnsMade ring.now columns.now induced.now keys.now (length keys.now) next.items)) }
 {
     let mut next = Vec::new(alloc);
     for key in keys {
@@ -275,7 +275,7 @@ fn made_columns<F: Frame>(
     requires monomials { Each (λ k. IsMonomialOver ring.now k.monomial) keys.now }
     requires weighed { AreWeighed (variables ring.now) ring.now.weights columns.now }
     requires reduced { AreReduced ring.now.modulus.value columns.now }
-    ensures { IfOk result (λ made. IfSome made (λ next. AreMade ring.now columns.now induced.now keys.now (length keys.now) next.items)) }
+    ensures { IfOk result (λ made. IfSome made (λ next. AreColumnsMade ring.now columns.now induced.now keys.now (length keys.now) next.items)) }
 {
     let hashes = column_hashes(alloc, columns)?;
     let mut numbers = KeyTable::new(alloc)?;

@@ -2,7 +2,7 @@
 ghost use Rattle.std.specs.Prelude.{◌≡◌, ◌<◌, ◌*◌, ◌+◌, ◌^◌, [], ℕ, Contains, IfOk, IfSome, IsTrue, OnOk, length};
 ghost use Rattle.residues.specs.Residues.{IsCongruent};
 ghost use Rattle.formal_sums.specs.FormalSums.{Each, IsSame, Key as SumKey};
-ghost use Rattle.schreyer_resolution.specs.Sharing.{AddsMultiple, AreLastQuotients, AreSmall, AreTaken, AreTouched, AreWithin, IsIdle, IsLastProduct, IsProductRow, numbered_sum};
+ghost use Rattle.schreyer_resolution.specs.Sharing.{AddsProduct, AreLastQuotients, AreSmall, AreTakenQuotients, AreTouched, AreEntriesWithin, AreZeroSums, IsLastProduct, IsProductEntries, numbered_sum};
 
 use crate::numbered::Product;
 use module_vectors::{Key, NoMemory, Ring, Vect};
@@ -52,7 +52,7 @@ impl Drop for Work {
 
 /// Sums for so many numbers, all 0.
 pub(crate) fn no_work(alloc: Global, count: usize) -> Result<Work, NoMemory>
-    ensures idle { IfOk result (λ w. IsIdle w.sums.items) }
+    ensures idle { IfOk result (λ w. AreZeroSums w.sums.items) }
     ensures count { IfOk result (λ w. length w.sums.items ≡ count) }
 {
     let sums = vec![in alloc; 0; count]?;
@@ -113,8 +113,8 @@ fn add_multiple(
     requires factor { factor < modulus.now.value }
     requires small { AreSmall sums.old.items }
     requires touched { AreTouched touched.old.items sums.old.items }
-    requires within { AreWithin modulus.now.value (length sums.old.items) entries.now }
-    ensures adds { OnOk result (AddsMultiple modulus.now.value factor entries.now sums.old.items sums.new.items) }
+    requires within { AreEntriesWithin modulus.now.value (length sums.old.items) entries.now }
+    ensures adds { OnOk result (AddsProduct modulus.now.value factor entries.now sums.old.items sums.new.items) }
     ensures small { OnOk result (AreSmall sums.new.items) }
     ensures touched { OnOk result (AreTouched touched.new.items sums.new.items) }
 {
@@ -192,8 +192,8 @@ fn take_product(
     work: &mut Work,
 ) -> Result<(), NoMemory>
     requires product { IsLastProduct ring.now columns.now numbers.now product.now }
-    requires taken { AreTaken ring.now columns.now numbers.now key.now quotients.old.items work.old.sums.items work.old.touched.items }
-    ensures { OnOk result (AreTaken ring.now columns.now numbers.now key.now quotients.new.items work.new.sums.items work.new.touched.items) }
+    requires taken { AreTakenQuotients ring.now columns.now numbers.now key.now quotients.old.items work.old.sums.items work.old.touched.items }
+    ensures { OnOk result (AreTakenQuotients ring.now columns.now numbers.now key.now quotients.new.items work.new.sums.items work.new.touched.items) }
 {
     let _columns = columns;
     let _numbers = numbers;
@@ -241,8 +241,8 @@ fn take_word(
     work: &mut Work,
 ) -> Result<(), NoMemory>
     requires products { Each (IsLastProduct ring.now columns.now numbers.now) products.now }
-    requires taken { AreTaken ring.now columns.now numbers.now key.now quotients.old.items work.old.sums.items work.old.touched.items }
-    ensures { OnOk result (AreTaken ring.now columns.now numbers.now key.now quotients.new.items work.new.sums.items work.new.touched.items) }
+    requires taken { AreTakenQuotients ring.now columns.now numbers.now key.now quotients.old.items work.old.sums.items work.old.touched.items }
+    ensures { OnOk result (AreTakenQuotients ring.now columns.now numbers.now key.now quotients.new.items work.new.sums.items work.new.touched.items) }
 {
     'bits: for _ in 0..64 {
         let place = match take_mark(word, &mut work.marks) {
@@ -271,8 +271,8 @@ fn take_all(
     work: &mut Work,
 ) -> Result<Vec<ScaledProduct>, NoMemory>
     requires products { Each (IsLastProduct ring.now columns.now numbers.now) products.now }
-    requires taken { AreTaken ring.now columns.now numbers.now key.now [] work.old.sums.items work.old.touched.items }
-    ensures { IfOk result (λ qs. AreTaken ring.now columns.now numbers.now key.now qs.items work.new.sums.items work.new.touched.items) }
+    requires taken { AreTakenQuotients ring.now columns.now numbers.now key.now [] work.old.sums.items work.old.touched.items }
+    ensures { IfOk result (λ qs. AreTakenQuotients ring.now columns.now numbers.now key.now qs.items work.new.sums.items work.new.touched.items) }
 {
     let mut quotients = Vec::new(alloc);
     for word in first..work.marks.len() {
@@ -297,7 +297,7 @@ fn clear_sums(modulus: &Modulus, touched: &[u32], sums: &mut Vec<u64>) -> bool
     requires { AreTouched touched.now sums.old.items }
     ensures same { (n : ℕ) (key : ℕ → SumKey n) → IsTrue result
         → IsSame modulus.now.value (numbered_sum key 0 sums.old.items) [] }
-    ensures idle { IsTrue result → IsIdle sums.new.items }
+    ensures idle { IsTrue result → AreZeroSums sums.new.items }
     ensures count { length sums.new.items ≡ length sums.old.items }
 {
     modulus.domain();
@@ -334,11 +334,11 @@ pub(crate) fn quotients_of(
     work: &mut Work,
 ) -> Result<Option<Vec<ScaledProduct>>, NoMemory>
     requires products { Each (IsLastProduct ring.now columns.now numbers.now) products.now }
-    requires start { IsProductRow ring.now columns.now numbers.now key.now.position key.now.monomial start.now }
+    requires start { IsProductEntries ring.now columns.now numbers.now key.now.position key.now.monomial start.now }
     requires count { length work.old.sums.items ≡ length numbers.now }
-    requires idle { IsIdle work.old.sums.items }
+    requires idle { AreZeroSums work.old.sums.items }
     ensures quotients { IfOk result (λ found. IfSome found (λ qs. AreLastQuotients ring.now columns.now key.now qs.items)) }
-    ensures idle { IfOk result (λ found. IfSome found (λ _. IsIdle work.new.sums.items)) }
+    ensures idle { IfOk result (λ found. IfSome found (λ _. AreZeroSums work.new.sums.items)) }
     ensures count { IfOk result (λ found. IfSome found (λ _. length work.new.sums.items ≡ length numbers.now)) }
 {
     let modulus = &ring.modulus;

@@ -6,7 +6,7 @@ use Rattle.std.specs.Prelude.{OnErr, OnOk}
 use Rattle.poly_text.proofs.Writing.{begins_more}
 use Rattle.poly_text.specs.Writing.{IsFront}
 use Rattle.module_vectors.specs.declared.ring.Ring.{Ring}
-use Rattle.schreyer_resolution.specs.declared.maps.Map.{Map}
+use Rattle.resolution_maps.specs.declared.maps.Map.{Map}
 use Rattle.session_values.specs.Resolving.{map_text}
 use Rattle.session_values.specs.Writing.{written_maps}
 

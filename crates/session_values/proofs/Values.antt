@@ -9,27 +9,27 @@ use Rattle.script_parse.specs.declared.named.NameInfo.{NameInfo}
 use Rattle.script_parse.specs.Places.{place_named}
 use Rattle.session_values.specs.Kept.{AreKept, AreSound, IsSound, value_of, values_of}
 use Rattle.session_values.specs.Names.{AreInfosOf, value_named, with_basis, with_value}
-use Rattle.session_values.specs.Held.{Held}
+use Rattle.session_values.specs.Held.{StoredShown}
 
 -- the values are sound, so there is a list for each name
-pub as_many : (ring : Ring) (infos : List NameInfo) (stored : List Held) → AreSound ring infos stored → length infos ≡ length stored
+pub as_many : (ring : Ring) (infos : List NameInfo) (stored : List StoredShown) → AreSound ring infos stored → length infos ≡ length stored
 as_many ring [] [] h = refl
 as_many ring [] (t ∷ stored) h = absurd h
 as_many ring (j ∷ infos) [] h = absurd h
 as_many ring (j ∷ infos) (t ∷ stored) h = ap suc (as_many ring infos stored h.2)
 
-pub kept_as_many : (ring : Option Ring) (infos : List NameInfo) (stored : List Held) → AreKept ring infos stored → length infos ≡ length stored
+pub kept_as_many : (ring : Option Ring) (infos : List NameInfo) (stored : List StoredShown) → AreKept ring infos stored → length infos ≡ length stored
 kept_as_many None infos stored h = ap length h.0 ∙ sym (ap length h.1)
 kept_as_many (Some ring) infos stored h = as_many ring infos stored h
 
 -- what a reader is told of sound values is so
-told : (ring : Ring) (infos : List NameInfo) (stored : List Held) → AreSound ring infos stored → AreInfosOf (values_of infos stored) infos
+told : (ring : Ring) (infos : List NameInfo) (stored : List StoredShown) → AreSound ring infos stored → AreInfosOf (values_of infos stored) infos
 told ring [] [] h = tt
 told ring [] (t ∷ stored) h = absurd h
 told ring (j ∷ infos) [] h = absurd h
 told ring (j ∷ infos) (t ∷ stored) h = (refl, refl, h.1, told ring infos stored h.2)
 
-pub kept_told : (ring : Option Ring) (infos : List NameInfo) (stored : List Held) → AreKept ring infos stored → AreInfosOf (values_of infos stored) infos
+pub kept_told : (ring : Option Ring) (infos : List NameInfo) (stored : List StoredShown) → AreKept ring infos stored → AreInfosOf (values_of infos stored) infos
 kept_told None [] stored h = tt
 kept_told None (j ∷ infos) stored h = absurd (cons_nil h.0)
   where
@@ -37,10 +37,10 @@ kept_told None (j ∷ infos) stored h = absurd (cons_nil h.0)
     cons_nil e = cc
 kept_told (Some ring) infos stored h = told ring infos stored h
 
-module _ (info : NameInfo) (s : Held) where
+module _ (info : NameInfo) (s : StoredShown) where
   -- a value in place of the one with its name
   pub placed_values :
-      (infos : List NameInfo) (stored : List Held) (i : ℕ)
+      (infos : List NameInfo) (stored : List StoredShown) (i : ℕ)
       → length infos ≡ length stored → place_named infos (string_bytes info.name) ≡ Some i
       → values_of (slice_set infos i info) (slice_set stored i s) ≡ with_value (value_of info s) (values_of infos stored)
   placed_values [] stored i same e = absurd cc
@@ -64,7 +64,7 @@ module _ (info : NameInfo) (s : Held) where
           (ap (λ vs. value_of j t ∷ vs) (later r.0 r.1))
 
   pub placed_sound :
-      (ring : Ring) (infos : List NameInfo) (stored : List Held) (i : ℕ)
+      (ring : Ring) (infos : List NameInfo) (stored : List StoredShown) (i : ℕ)
       → AreSound ring infos stored → IsSound ring info.rank s → info.length ≡ length s.list
       → AreSound ring (slice_set infos i info) (slice_set stored i s)
   placed_sound ring [] [] i h sound len = tt
@@ -75,7 +75,7 @@ module _ (info : NameInfo) (s : Held) where
 
   -- a value behind the others
   pub new_values :
-      (infos : List NameInfo) (stored : List Held)
+      (infos : List NameInfo) (stored : List StoredShown)
       → length infos ≡ length stored → place_named infos (string_bytes info.name) ≡ None
       → values_of (infos ++ info ∷ []) (stored ++ s ∷ []) ≡ with_value (value_of info s) (values_of infos stored)
   new_values [] [] same e = refl
@@ -94,7 +94,7 @@ module _ (info : NameInfo) (s : Held) where
       by_test false h later = ap (λ vs. value_of j t ∷ vs) (later (no_later_place (place_named infos (string_bytes info.name)) h))
 
   pub new_sound :
-      (ring : Ring) (infos : List NameInfo) (stored : List Held)
+      (ring : Ring) (infos : List NameInfo) (stored : List StoredShown)
       → AreSound ring infos stored → IsSound ring info.rank s → info.length ≡ length s.list
       → AreSound ring (infos ++ info ∷ []) (stored ++ s ∷ [])
   new_sound ring [] [] h sound len = (sound, len, tt)
@@ -104,7 +104,7 @@ module _ (info : NameInfo) (s : Held) where
 
 -- the value at the place of a name has the name
 pub found_value :
-    (infos : List NameInfo) (stored : List Held) (name : List ℕ) (i : ℕ) (d : NameInfo) (e : Held)
+    (infos : List NameInfo) (stored : List StoredShown) (name : List ℕ) (i : ℕ) (d : NameInfo) (e : StoredShown)
     → length infos ≡ length stored → place_named infos name ≡ Some i
     → value_named (values_of infos stored) name ≡ Some (value_of (get_or infos i d) (get_or stored i e))
 found_value [] stored name i d e same h = absurd cc
@@ -123,7 +123,7 @@ found_value (j ∷ infos) (t ∷ stored) name i d e same h =
 
 -- a value with a name has a place
 pub no_value :
-    (infos : List NameInfo) (stored : List Held) (name : List ℕ) → place_named infos name ≡ None → value_named (values_of infos stored) name ≡ None
+    (infos : List NameInfo) (stored : List StoredShown) (name : List ℕ) → place_named infos name ≡ None → value_named (values_of infos stored) name ≡ None
 no_value [] stored name h = refl
 no_value (j ∷ infos) [] name h = refl
 no_value (j ∷ infos) (t ∷ stored) name h = by_test (pointwise nat_eq (string_bytes j.name) name) h (λ q. no_value infos stored name q)
@@ -137,7 +137,7 @@ no_value (j ∷ infos) (t ∷ stored) name h = by_test (pointwise nat_eq (string
 
 -- a basis is kept: the value with the name has it now
 pub kept_values :
-    (infos : List NameInfo) (stored : List Held) (name : List ℕ) (i : ℕ) (s e : Held)
+    (infos : List NameInfo) (stored : List StoredShown) (name : List ℕ) (i : ℕ) (s e : StoredShown)
     → length infos ≡ length stored → place_named infos name ≡ Some i → s.list ≡ (get_or stored i e).list → is_some s.basis ≡ true
     → values_of infos (slice_set stored i s) ≡ with_basis name (values_of infos stored)
 kept_values [] stored name i s e same found list some = absurd cc
@@ -166,7 +166,7 @@ kept_values (j ∷ infos) (t ∷ stored) name i s e same found list some =
 
 -- and they stay sound
 pub kept_sound :
-    (ring : Ring) (infos : List NameInfo) (stored : List Held) (i : ℕ) (s e : Held) (d : NameInfo)
+    (ring : Ring) (infos : List NameInfo) (stored : List StoredShown) (i : ℕ) (s e : StoredShown) (d : NameInfo)
     → AreSound ring infos stored → IsSound ring (get_or infos i d).rank s → s.list ≡ (get_or stored i e).list
     → AreSound ring infos (slice_set stored i s)
 kept_sound ring [] [] i s e d h sound same = tt
@@ -177,7 +177,7 @@ kept_sound ring (j ∷ infos) (t ∷ stored) (suc i) s e d h sound same = (h.0, 
 
 -- the value at a place is sound
 pub sound_at :
-    (ring : Ring) (infos : List NameInfo) (stored : List Held) (i : ℕ) (e : Held) (d : NameInfo)
+    (ring : Ring) (infos : List NameInfo) (stored : List StoredShown) (i : ℕ) (e : StoredShown) (d : NameInfo)
     → AreSound ring infos stored → i < length infos → IsSound ring (get_or infos i d).rank (get_or stored i e)
 sound_at ring [] stored i e d h lt = absurd (omega arith)
 sound_at ring (j ∷ infos) [] i e d h lt = absurd h

@@ -1,15 +1,15 @@
 -- Ext modules of a value, against the ring (UAG chapter 6, section 1; Eisenbud, Commutative Algebra, appendix A3.11)
 use Rattle.std.specs.Fmt.{decimal}
-use Rattle.std.specs.Prelude.{List, [], codes, length, ℕ, ◌++◌, ◌∷◌, ◌≡◌}
+use Rattle.std.specs.Prelude.{List, [], codes, length, suc, ℕ, ◌++◌, ◌∷◌, ◌≡◌}
 use Rattle.module_vectors.specs.Rings.{ring_comparison, setting, variables}
 use Rattle.module_vectors.specs.Vectors.{sums_of}
 use Rattle.module_vectors.specs.declared.key.Key.{Key}
 use Rattle.module_vectors.specs.declared.ring.Ring.{Ring}
 use Rattle.groebner_iface.specs.Runs.{IsReducedBasisOf}
 use Rattle.ideal_ops.specs.Runs.{OfRuns}
-use Rattle.resolution_laws.specs.Resolutions.{IsCanonical}
-use Rattle.schreyer_resolution.specs.Inducing.{Columns, maps_of}
-use Rattle.schreyer_resolution.specs.Resolved.{AreVectorsThrough}
+use Rattle.resolution_laws.specs.Resolutions.{IsCanonicalStart}
+use Rattle.resolution_maps.specs.Inducing.{Columns, maps_of}
+use Rattle.resolution_maps.specs.Resolved.{AreVectorsThrough}
 use Rattle.ext_laws.specs.Transposes.{rank_at}
 use Rattle.ext_modules.specs.Ext.{AreExtRuns, IsExt}
 use Rattle.ext_modules.specs.declared.presentation.Ext.{Ext}
@@ -17,11 +17,12 @@ use Rattle.session_values.specs.Names.{Value}
 use Rattle.session_values.specs.Resolving.{columns_text, counts_text}
 use Rattle.session_values.specs.Texts.{verdict}
 
--- these are the maps of the canonical resolution of a reduced basis of this rank, the columns by descending terms
-pub record AreMapsOf (ring : Ring) (rank : ℕ) (basis : List (List (Key × ℕ))) (maps : Columns) : Type 0 where
-  pub canonical :
+-- these are the maps that the Ext module at a step reads, the first step + 1 of the canonical resolution of a reduced basis of
+-- this rank, or all where it has fewer, the columns by descending terms
+pub record AreMapsTo (ring : Ring) (rank : ℕ) (basis : List (List (Key × ℕ))) (step : ℕ) (maps : Columns) : Type 0 where
+  pub start :
       let n = variables ring in
-      IsCanonical (setting ring n (ring_comparison ring n) rank) (sums_of n basis) (maps_of n maps)
+      IsCanonicalStart (setting ring n (ring_comparison ring n) rank) (sums_of n basis) (suc step) (maps_of n maps)
   pub vectors : AreVectorsThrough ring [] maps
 
 -- the line before a presentation: the name, the step, how many generators and how many relations there are
@@ -39,14 +40,14 @@ pub record IsExtText (ring : Ring) (value : Value) (step : ℕ) (text : List ℕ
   pub basis : List (List (Key × ℕ))
   pub reduced : IsReducedBasisOf ring value.rank value.list basis
   pub maps : Columns
-  pub resolution : AreMapsOf ring value.rank basis maps
+  pub resolution : AreMapsTo ring value.rank basis step maps
   pub answer : Ext
   pub ext : IsExt ring value.rank maps step answer
   pub text_is : text ≡ ext_text ring value.name step (rank_at value.rank maps step) answer
 
 -- a run for the Ext module at a step of the resolution of a reduced basis
 abbrev pub IsExtRun : Ring → ℕ → List (List (Key × ℕ)) → ℕ → OfRuns
-IsExtRun ring rank basis step over m l = (maps : Columns) × AreMapsOf ring rank basis maps × AreExtRuns ring rank maps step over m l
+IsExtRun ring rank basis step over m l = (maps : Columns) × AreMapsTo ring rank basis step maps × AreExtRuns ring rank maps step over m l
 
 -- the same of the value's reduced basis
 abbrev pub IsExtendingRun : Ring → Value → ℕ → OfRuns

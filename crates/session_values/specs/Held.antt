@@ -5,7 +5,7 @@ use Rattle.session_values.specs.declared.stored.Basis.{Basis}
 use Rattle.session_values.specs.declared.stored.Basis.TheVariants as bases
 
 -- the list as it was given, and its reduced basis where there is one
-pub record Held : Type 0 where
+pub record StoredShown : Type 0 where
   pub list : List (List (Key × ℕ))
   pub basis : Option (List (List (Key × ℕ)))
 

@@ -8,36 +8,36 @@ use Rattle.module_vectors.specs.declared.ring.Ring.{Ring}
 use Rattle.groebner_iface.specs.Runs.{IsReducedBasisOf}
 use Rattle.script_parse.specs.declared.named.NameInfo.{NameInfo}
 use Rattle.session_values.specs.Names.{Value}
-use Rattle.session_values.specs.Held.{Held}
+use Rattle.session_values.specs.Held.{StoredShown}
 
 -- the rank of a value: from 1 to 64
 abbrev pub IsValueRank : ℕ → Type 0
 IsValueRank rank = (1 ≤ rank) × (rank ≤ 64)
 
 -- the list is one of vectors of this rank, and what is kept as its reduced basis is that
-pub record IsSound (ring : Ring) (rank : ℕ) (s : Held) : Type 0 where
+pub record IsSound (ring : Ring) (rank : ℕ) (s : StoredShown) : Type 0 where
   pub ranked : IsValueRank rank
   pub vectors : AreVectorsOver ring (ring_comparison ring) s.list
   pub positions : Each (HasPositions rank) s.list
   pub basis : IfSome s.basis (IsReducedBasisOf ring rank s.list)
 
 -- name, list and mark of a value as one
-abbrev pub value_of : NameInfo → Held → Value
+abbrev pub value_of : NameInfo → StoredShown → Value
 value_of i s = record { name = string_bytes i.name; rank = i.rank; list = s.list; kept = is_some s.basis }
 
 -- the values: their names and their lists stand beside one another
-abbrev pub values_of : List NameInfo → List Held → List Value
+abbrev pub values_of : List NameInfo → List StoredShown → List Value
 values_of (i ∷ infos) (s ∷ stored) = value_of i s ∷ values_of infos stored
 values_of _ _ = []
 
 -- each value is sound, and its length is told
-abbrev pub AreSound : Ring → List NameInfo → List Held → Type 0
+abbrev pub AreSound : Ring → List NameInfo → List StoredShown → Type 0
 AreSound ring [] [] = Unit {0}
 AreSound ring (i ∷ infos) (s ∷ stored) = IsSound ring i.rank s × (i.length ≡ length s.list) × AreSound ring infos stored
 AreSound ring _ _ = ⊥
 
 -- the values are sound over the ring, and where none is stated there are none
-abbrev pub AreKept : Option Ring → List NameInfo → List Held → Type 0
+abbrev pub AreKept : Option Ring → List NameInfo → List StoredShown → Type 0
 AreKept None infos stored = (infos ≡ []) × (stored ≡ [])
 AreKept (Some ring) infos stored = AreSound ring infos stored
 

@@ -14,12 +14,12 @@ pub record Value : Type 0 where
   pub kept : Bool
 
 -- the ring, once one is stated, and the values over it
-pub record State : Type 0 where
+pub record ScriptState : Type 0 where
   pub ring : Option Ring
   pub values : List Value
 
 -- what there is before the first line
-abbrev pub no_names : State
+abbrev pub no_names : ScriptState
 no_names = record { ring = None; values = [] }
 
 -- the value with this name, if there is one
@@ -33,7 +33,7 @@ with_value v [] = v ∷ []
 with_value v (w ∷ values) = if pointwise nat_eq w.name v.name then v ∷ values else w ∷ with_value v values
 
 -- the state once the value is given to its name
-abbrev pub after_giving : Value → State → State
+abbrev pub after_giving : Value → ScriptState → ScriptState
 after_giving v before = record { ring = before.ring; values = with_value v before.values }
 
 -- the values, the one with this name now with its reduced basis
@@ -44,11 +44,11 @@ with_basis name (v ∷ values) =
     else v ∷ with_basis name values
 
 -- the state once the reduced basis of the value with this name is kept
-abbrev pub after_run : List ℕ → State → State
+abbrev pub after_run : List ℕ → ScriptState → ScriptState
 after_run name before = record { ring = before.ring; values = with_basis name before.values }
 
 -- this ring is stated, and the value has this name
-pub record HasValue (before : State) (name : List ℕ) (ring : Ring) (value : Value) : Type 0 where
+pub record HasValue (before : ScriptState) (name : List ℕ) (ring : Ring) (value : Value) : Type 0 where
   pub stated : before.ring ≡ Some ring
   pub named : value_named before.values name ≡ Some value
 

@@ -19,26 +19,26 @@ use Rattle.ring_maps.specs.Graphs.{ArePreimageRuns}
 use Rattle.ring_maps.specs.Maps.{IsInPreimage}
 use Rattle.script_parse.specs.declared.operation.Operation.{Operation}
 use Rattle.script_parse.specs.declared.operation.Operation.TheVariants as operations
-use Rattle.session_values.specs.Names.{HasValue, State, Value}
+use Rattle.session_values.specs.Names.{HasValue, ScriptState, Value}
 
-abbrev pub Terms : Type 0
-Terms = List (Key × ℕ)
+abbrev pub TermList : Type 0
+TermList = List (Key × ℕ)
 
 -- an operation with the rank of its vectors and the lists that it works on; in a product the rank is that of the second list, in a
 -- preimage all are polynomials
-pub data Work : Type 0 where
-  sum : (rank : ℕ) (left right : List Terms) → Work
-  multiply : (rank : ℕ) (left right : List Terms) → Work
-  intersect : (rank : ℕ) (left right : List Terms) → Work
-  colon : (rank : ℕ) (left right : List Terms) → Work
-  quotient : (rank : ℕ) (list : List Terms) (f : Terms) → Work
-  saturate : (rank : ℕ) (list : List Terms) (f : Terms) → Work
-  eliminate : (rank : ℕ) (list : List Terms) (k : ℕ) → Work
-  syzygies : (rank : ℕ) (list : List Terms) → Work
-  preimage : (images list : List Terms) → Work
+pub data TaskShown : Type 0 where
+  sum : (rank : ℕ) (left right : List TermList) → TaskShown
+  multiply : (rank : ℕ) (left right : List TermList) → TaskShown
+  intersect : (rank : ℕ) (left right : List TermList) → TaskShown
+  colon : (rank : ℕ) (left right : List TermList) → TaskShown
+  quotient : (rank : ℕ) (list : List TermList) (f : TermList) → TaskShown
+  saturate : (rank : ℕ) (list : List TermList) (f : TermList) → TaskShown
+  eliminate : (rank : ℕ) (list : List TermList) (k : ℕ) → TaskShown
+  syzygies : (rank : ℕ) (list : List TermList) → TaskShown
+  preimage : (images list : List TermList) → TaskShown
 
 -- the operation works on the stored lists of the values with its names
-abbrev pub WorksOn : State → Operation → Ring → Work → Type 0
+abbrev pub WorksOn : ScriptState → Operation → Ring → TaskShown → Type 0
 WorksOn before (operations.Sum a b) ring work =
     (left right : Value) × HasValue before (string_bytes a) ring left × HasValue before (string_bytes b) ring right
     × (work ≡ sum left.rank left.list right.list)
@@ -58,7 +58,7 @@ WorksOn before (operations.Syzygies a) ring work = (value : Value) × HasValue b
 WorksOn before (operations.Preimage a images) ring work = (value : Value) × HasValue before (string_bytes a) ring value × (work ≡ preimage images value.list)
 
 -- the rank of the result
-abbrev pub result_rank : Work → ℕ
+abbrev pub result_rank : TaskShown → ℕ
 result_rank (sum rank left right) = rank
 result_rank (multiply rank left right) = rank
 result_rank (intersect rank left right) = rank
@@ -70,7 +70,7 @@ result_rank (syzygies rank list) = length list
 result_rank (preimage images list) = 1
 
 -- which vectors are in the result
-abbrev pub IsInResult : (ring : Ring) → Work → FormalSum (variables ring) → Type 0
+abbrev pub IsInResult : (ring : Ring) → TaskShown → FormalSum (variables ring) → Type 0
 IsInResult ring (sum rank left right) v = IsMember ring.modulus.value (sums_of (variables ring) left ++ sums_of (variables ring) right) v
 IsInResult ring (multiply rank left right) v = IsMember ring.modulus.value (products_of (sums_of (variables ring) left) (sums_of (variables ring) right)) v
 IsInResult ring (intersect rank left right) v =
@@ -87,11 +87,11 @@ IsInResult ring (syzygies rank list) v = IsSyzygy ring.modulus.value (sums_of (v
 IsInResult ring (preimage images list) v = IsInPreimage ring images list v
 
 -- the list is the result: the reduced basis of the module of these vectors
-abbrev pub IsResult : Ring → Work → List Terms → Type 0
+abbrev pub IsResult : Ring → TaskShown → List TermList → Type 0
 IsResult ring work list = IsBasisOfThose ring (result_rank work) (IsInResult ring work) list
 
 -- the runs that it needs
-abbrev pub AreRunsOf : Ring → Work → Ring → ℕ → List Terms → Type 0
+abbrev pub AreRunsOf : Ring → TaskShown → Ring → ℕ → List TermList → Type 0
 AreRunsOf ring (sum rank left right) r m l = IsRunOn ring rank (left ++ right) r m l
 AreRunsOf ring (multiply rank left right) r m l = IsProductRun ring rank left right r m l
 AreRunsOf ring (intersect rank left right) r m l = AreIntersectionRuns ring rank left right r m l
@@ -103,7 +103,7 @@ AreRunsOf ring (syzygies rank list) r m l = IsSyzygyRun ring rank list r m l
 AreRunsOf ring (preimage images list) r m l = ArePreimageRuns ring images list r m l
 
 -- the trails that it can meet outside of its runs
-abbrev pub AreTrailsOf : Ring → Work → KeptTrail → Type 0
+abbrev pub AreTrailsOf : Ring → TaskShown → KeptTrail → Type 0
 AreTrailsOf ring (multiply rank left right) t = IsTrailOfProducts ring left right t
 AreTrailsOf ring (intersect rank left right) t = IsTrailOfIntersection ring left right t
 AreTrailsOf ring (saturate rank list f) t = IsTrailOfSaturation ring list f t

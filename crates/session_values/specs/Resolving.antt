@@ -9,8 +9,8 @@ use Rattle.module_vectors.specs.declared.trail.KeptTrail.{KeptTrail}
 use Rattle.groebner_iface.specs.Runs.{IsReducedBasisOf}
 use Rattle.poly_text.specs.Texts.{entries_text, names_of}
 use Rattle.resolution_laws.specs.Resolutions.{IsCanonical}
-use Rattle.schreyer_resolution.specs.Inducing.{Columns, maps_of}
-use Rattle.schreyer_resolution.specs.Resolved.{AreVectorsThrough, IsResolutionTrail}
+use Rattle.resolution_maps.specs.Inducing.{Columns, maps_of}
+use Rattle.resolution_maps.specs.Resolved.{AreVectorsThrough, IsResolutionTrail}
 use Rattle.session_values.specs.Names.{Value}
 use Rattle.session_values.specs.Texts.{heading}
 

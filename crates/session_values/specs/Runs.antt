@@ -2,15 +2,15 @@
 use Rattle.std.specs.Prelude.{if◌then◌else◌, is_some, ℕ}
 use Rattle.module_vectors.specs.declared.ring.Ring.{Ring}
 use Rattle.syzygy_engine.specs.Kernels.{runs_in_order}
-use Rattle.session_values.specs.Held.{Held}
-use Rattle.session_values.specs.Operations.{Work, colon, eliminate, intersect, multiply, preimage, quotient, saturate, sum, syzygies}
+use Rattle.session_values.specs.Held.{StoredShown}
+use Rattle.session_values.specs.Operations.{TaskShown, colon, eliminate, intersect, multiply, preimage, quotient, saturate, sum, syzygies}
 
 -- the runs until the reduced basis of a value is kept: none where it is kept already, and else one
-abbrev pub fresh_runs : Held → ℕ
+abbrev pub fresh_runs : StoredShown → ℕ
 fresh_runs s = if is_some s.basis then 0 else 1
 
 -- how many runs an operation makes at most
-abbrev pub most_runs : Ring → Work → ℕ
+abbrev pub most_runs : Ring → TaskShown → ℕ
 most_runs ring (sum rank left right) = 1
 most_runs ring (multiply rank left right) = 1
 most_runs ring (intersect rank left right) = 2

@@ -4,7 +4,7 @@ use Rattle.formal_sums.specs.FormalSums.{Each}
 use Rattle.module_vectors.specs.Rings.{variables}
 use Rattle.module_vectors.specs.Vectors.{HasVariables}
 use Rattle.module_vectors.specs.declared.ring.Ring.{Ring}
-use Rattle.schreyer_resolution.specs.declared.maps.Map.{Map}
+use Rattle.resolution_maps.specs.declared.maps.Map.{Map}
 use Rattle.session_values.specs.Resolving.{map_text}
 use Rattle.session_values.specs.Texts.{heading}
 

@@ -10,7 +10,7 @@ ghost use Rattle.session_values.specs.Writing.{AreOverVariables, resolution_writ
 use crate::texts::{append_heading, append_word, push_cofactors};
 use itoa::Buffer;
 use module_vectors::{NoMemory, Ring, VectList};
-use schreyer_resolution::{Map, Resolution};
+use resolution_maps::{Map, Resolution};
 use std::alloc::Global;
 
 /// Appends the columns of a map with so many rows. After an error what was written so far stands there.

@@ -125,10 +125,7 @@ fn append_measure(
     ensures err { OnErr result (IsFront out.old.items out.new.items) }
 {
     out.extend_from_slice(word)?;
-    match push_number(alloc, out, number) {
-        Ok(()) => Ok(()),
-        Err(_) => Err(NoMemory),
-    }
+    push_number(alloc, out, number)
 }
 
 // Appends dimension and degree. After an error what was written so far stands there.

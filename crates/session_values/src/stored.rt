@@ -29,9 +29,9 @@ impl Drop for Stored {
 }
 
 impl Model for Stored {
-    ghost use Rattle.session_values.specs.Held.{Held, basis_of};
+    ghost use Rattle.session_values.specs.Held.{StoredShown, basis_of};
 
-    ghost Value = { Held };
+    ghost Value = { StoredShown };
 
     ghost view = { λ s. record { list = s.list; basis = basis_of s.list s.basis } };
 }

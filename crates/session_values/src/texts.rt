@@ -61,10 +61,7 @@ pub fn append_number(alloc: Global, out: &mut Vec<u8>, number: i128) -> Result<(
     ensures err { OnErr result (IsFront out.old.items out.new.items) }
 {
     out.push(b' ')?;
-    match push_number(alloc, out, number) {
-        Ok(()) => Ok(()),
-        Err(_) => Err(NoMemory),
-    }
+    push_number(alloc, out, number)
 }
 
 // Appends a heading and a list. After an error what was written so far stands there.
@@ -82,10 +79,7 @@ fn append_listing(
     ensures err { OnErr result (IsFront out.old.items out.new.items) }
 {
     append_heading(out, word, name, list.len())?;
-    match push_list(alloc, out, ring, u128::from(rank), list) {
-        Ok(()) => Ok(()),
-        Err(_) => Err(NoMemory),
-    }
+    push_list(alloc, out, ring, u128::from(rank), list)
 }
 
 /// Appends a list of a value with its heading. After an error nothing is appended.

@@ -5,8 +5,8 @@ use Rattle.module_vectors.specs.Rings.{variables}
 use Rattle.module_vectors.specs.Vectors.{sums_of}
 use Rattle.groebner_iface.specs.Calls.{CallStops, NoTrail}
 use Rattle.groebner_iface.proofs.CallingRuns.{more_stops}
-use Rattle.schreyer_resolution.specs.Inducing.{Columns}
-use Rattle.schreyer_resolution.specs.declared.maps.Map.{Map}
+use Rattle.resolution_maps.specs.Inducing.{Columns}
+use Rattle.resolution_maps.specs.declared.maps.Map.{Map}
 use Rattle.ext_modules.specs.Ext.{AreExtRuns, IsRelationsRun, IsRowsRun}
 use Rattle.ext_modules.proofs.Counted.{both_runs, first_runs}
 use Rattle.ext_modules.proofs.Presenting.{zero_is}

@@ -7,8 +7,8 @@ use Rattle.module_vectors.specs.Vectors.{AreTermsOver, HasPositions, sum_of, sum
 use Rattle.syzygy_engine.specs.Marking.{position_ring}
 use Rattle.syzygy_engine.proofs.Marks.{lawful_by_position}
 use Rattle.ideal_ops.specs.Runs.{AreVectorsFor}
-use Rattle.schreyer_resolution.specs.Inducing.{Columns}
-use Rattle.schreyer_resolution.specs.declared.maps.Map.{Map}
+use Rattle.resolution_maps.specs.Inducing.{Columns}
+use Rattle.resolution_maps.specs.declared.maps.Map.{Map}
 use Rattle.ext_modules.proofs.RowVectors.{positions_for, rows_ranks}
 use Rattle.ext_modules.proofs.Steps.{columns_there, image_before, positions_at, rank_before, terms_at}
 use Rattle.ext_modules.proofs.homology.image_list.Goals as goal

@@ -5,8 +5,8 @@ use Rattle.module_vectors.specs.Rings.{variables}
 use Rattle.module_vectors.specs.Vectors.{AreTermsOver, HasPositions, sums_of}
 use Rattle.groebner_iface.specs.Calls.{NoTrail}
 use Rattle.groebner_iface.proofs.CallingRuns.{more_stops}
-use Rattle.schreyer_resolution.specs.Inducing.{Columns}
-use Rattle.schreyer_resolution.specs.declared.maps.Map.{Map}
+use Rattle.resolution_maps.specs.Inducing.{Columns}
+use Rattle.resolution_maps.specs.declared.maps.Map.{Map}
 use Rattle.ext_modules.specs.Ext.{IsRowsRun, IsTransposedRun, columns_at}
 use Rattle.ext_modules.specs.Units.{AreUnits}
 use Rattle.ext_modules.proofs.Presenting.{whole_is}

@@ -1,6 +1,6 @@
 use Rattle.std.proofs.Common.{arith, map, sym, ◌<◌, ◌∙◌}
-use Rattle.schreyer_resolution.specs.Inducing.{Columns}
-use Rattle.schreyer_resolution.specs.declared.maps.Map.{Map}
+use Rattle.resolution_maps.specs.Inducing.{Columns}
+use Rattle.resolution_maps.specs.declared.maps.Map.{Map}
 use Rattle.ext_modules.proofs.Steps.{rank_before}
 use Rattle.ext_modules.proofs.homology.rank_of.Goals as goal
 

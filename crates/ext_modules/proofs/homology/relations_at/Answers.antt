@@ -4,8 +4,8 @@ use Rattle.module_vectors.specs.Vectors.{sums_of}
 use Rattle.groebner_iface.specs.Calls.{NoTrail}
 use Rattle.groebner_iface.proofs.CallingRuns.{more_stops}
 use Rattle.ideal_ops.specs.Modulo.{AreModuloRuns}
-use Rattle.schreyer_resolution.specs.Inducing.{Columns}
-use Rattle.schreyer_resolution.specs.declared.maps.Map.{Map}
+use Rattle.resolution_maps.specs.Inducing.{Columns}
+use Rattle.resolution_maps.specs.declared.maps.Map.{Map}
 use Rattle.ext_modules.specs.Ext.{AreExtRelations, IsRelationsRun}
 use Rattle.ext_modules.proofs.Presenting.{relations_are, relations_none}
 use Rattle.ext_modules.proofs.Steps.{steps_of_kernel}

@@ -1,5 +1,5 @@
 use Rattle.std.proofs.Common.{[], ap, length, map, subst, ◌∙◌}
-use Rattle.schreyer_resolution.proofs.Joining.{length-zeros}
+use Rattle.resolution_maps.proofs.Joining.{length-zeros}
 use Rattle.ext_modules.specs.Ext.{AreLinked}
 use Rattle.ext_modules.proofs.Resolved.{linked_maps}
 use Rattle.ext_modules.proofs.laws.resolutions_linked.Goals as goal

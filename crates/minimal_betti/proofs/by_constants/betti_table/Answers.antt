@@ -3,15 +3,15 @@ use Rattle.betti_laws.specs.Tables.{step_count}
 use Rattle.formal_sums.specs.FormalSums.{Each}
 use Rattle.module_vectors.specs.Rings.{variables}
 use Rattle.module_vectors.specs.Vectors.{AreTermsOver}
-use Rattle.schreyer_resolution.proofs.FirstMaps.{if_more}
-use Rattle.schreyer_resolution.specs.declared.maps.Map.{Map}
+use Rattle.resolution_maps.proofs.Joining.{if_more}
+use Rattle.resolution_maps.specs.declared.maps.Map.{Map}
+use Rattle.column_passes.proofs.Lists.{each_unmapped}
 use Rattle.minimal_betti.specs.Carried.{LeadsTo, graded_map, graded_maps}
 use Rattle.minimal_betti.specs.ConstantMaps.{AreConstantMaps}
-use Rattle.minimal_betti.specs.Tables.{IsTable}
+use Rattle.minimal_betti.specs.Tables.{IsBettiTable}
 use Rattle.minimal_betti.specs.declared.carried.Carried.{Carried}
-use Rattle.minimal_betti.proofs.ConstantTerms.{betti_counts, constants_underway}
+use Rattle.minimal_betti.proofs.ConstantCounts.{betti_counts, constants_underway}
 use Rattle.minimal_betti.proofs.Counts.{table_same}
-use Rattle.minimal_betti.proofs.Ending.{each_unmapped}
 use Rattle.minimal_betti.proofs.by_constants.betti_table.Goals as goal
 
 pub constant_maps-requires : goal.constant_maps-requires
@@ -42,5 +42,5 @@ returns-in-Ok c = λ places A D P m Q.
     if_more _ _ c.carried_table.result
     (λ entries h. table_same _ _ entries.items
     (λ k d. betti_counts ring (c.lawful_setting.ensures 0) c.args.resolution.now start rows left c.requires carried leads c.in-Ok.ensures.underway places A D P m Q k d)
-    (subst₂ (λ (x : List ℕ) (y : List Carried). IsTable (step_count x (map (graded_map n) y)) entries.items) c.deref-in-Ok.ensures.value c.deref-in-Ok-2.ensures.value (h n)))
+    (subst₂ (λ (x : List ℕ) (y : List Carried). IsBettiTable (step_count x (map (graded_map n) y)) entries.items) c.deref-in-Ok.ensures.value c.deref-in-Ok-2.ensures.value (h n)))
     c.carried_table.ensures

@@ -2,7 +2,7 @@ use Rattle.std.proofs.Common.{ap, arith, length, map, refl, subst, suc, sym, ◌
 use Rattle.betti_laws.specs.Tables.{occurrences, step_count}
 use Rattle.minimal_betti.specs.Carried.{graded_map}
 use Rattle.minimal_betti.specs.Growing.{IsTableTo}
-use Rattle.minimal_betti.proofs.ConstantTerms.{step_beyond, step_carried}
+use Rattle.minimal_betti.proofs.ConstantCounts.{step_beyond, step_carried}
 use Rattle.minimal_betti.proofs.Growing.{table_done, table_start}
 use Rattle.minimal_betti.proofs.by_constants.carried_table.Goals as goal
 

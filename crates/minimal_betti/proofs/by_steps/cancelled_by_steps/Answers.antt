@@ -2,7 +2,9 @@ use Rattle.std.proofs.Common.{arith, refl, reverse, subst, sym, ◌∙◌}
 use Rattle.formal_sums.specs.FormalSums.{Each}
 use Rattle.module_vectors.specs.Rings.{ring_comparison, variables}
 use Rattle.module_vectors.specs.Vectors.{AreVectorsOver, sums_of}
-use Rattle.minimal_betti.specs.Carried.{HasNone, IsFirst, IsGraded, graded_maps}
+use Rattle.column_passes.specs.Constants.{HasNoConstants, IsFirst}
+use Rattle.column_passes.specs.Passing.{IsGraded}
+use Rattle.minimal_betti.specs.Carried.{graded_maps}
 use Rattle.minimal_betti.specs.Splitting.{in_turn}
 use Rattle.minimal_betti.proofs.Reaching.{leads_itself, leads_on, stops_before}
 use Rattle.minimal_betti.proofs.Splittings.{graded_here, ordered_here}
@@ -58,7 +60,7 @@ returns-in-None-clause-rest c = c.loop-map.invariant.count
 pub returns-in-None-clause-none : goal.returns-in-None-clause-none
 returns-in-None-clause-none c =
     let ring = c.args.ring.now in
-    subst (λ z. HasNone ring.modulus.value (sums_of (variables ring) z)) c.as_slice.ensures (c.in-None.ensures.none refl)
+    subst (λ z. HasNoConstants ring.modulus.value (sums_of (variables ring) z)) c.as_slice.ensures (c.in-None.ensures.none refl)
 
 pub returns-in-Err-clause-stop : goal.returns-in-Err-clause-stop
 returns-in-Err-clause-stop c =

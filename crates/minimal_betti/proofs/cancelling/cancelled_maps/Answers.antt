@@ -1,6 +1,6 @@
 use Rattle.std.proofs.Common.{ap, arith, length, reverse, subst, sym, ◌+◌, ◌++◌, ◌∙◌, ◌≡◌}
 use Rattle.minimal_betti.specs.Carried.{LeadsTo, graded_maps}
-use Rattle.minimal_betti.specs.Splitting.{IsUnderway}
+use Rattle.minimal_betti.specs.Splitting.{IsCancellationUnderway}
 use Rattle.minimal_betti.proofs.Reaching.{leads_itself, leads_on, stops_before}
 use Rattle.minimal_betti.proofs.Splittings.{done_more, leads_popped, leads_pushed, length_end}
 use Rattle.minimal_betti.proofs.cancelling.cancelled_maps.Goals as goal
@@ -12,7 +12,7 @@ loop-current-init c =
     let maps = reverse c.args.maps.items in
     let none = sym c.in_ok-done.ensures.items in
     record {
-      underway = subst (λ d. IsUnderway ring rows d (d ++ maps)) none c.requires.underway;
+      underway = subst (λ d. IsCancellationUnderway ring rows d (d ++ maps)) none c.requires.underway;
       leads = subst (λ d. LeadsTo ring.modulus.value (graded_maps ring rows maps) (graded_maps ring rows (d ++ maps))) none
           (leads_itself ring.modulus.value (graded_maps ring rows maps));
     }
@@ -32,7 +32,7 @@ loop-current-preserved c =
     in
     record {
       underway =
-          subst (λ d. IsUnderway ring rows d (d ++ reverse rest)) (sym put)
+          subst (λ d. IsCancellationUnderway ring rows d (d ++ reverse rest)) (sym put)
           (done_more ring rows done c.in-Ok.map (reverse rest) c.in-Ok.ensures.underway c.in-Ok.ensures.none);
       leads = leads_pushed ring start rows done c.push.new.self.items rest c.in-Ok.map put
           (leads_on ring.modulus.value start _ _ before c.in-Ok.ensures.leads);

@@ -1,10 +1,10 @@
 use Rattle.std.proofs.Common.{arith, map, subst, sym, ◌<◌}
 use Rattle.module_vectors.specs.Rings.{variables}
 use Rattle.module_vectors.specs.Vectors.{sums_of}
-use Rattle.minimal_betti.specs.Carried.{HasNone}
-use Rattle.minimal_betti.specs.Passing.{Pivot}
+use Rattle.column_passes.specs.Constants.{HasNoConstants}
+use Rattle.column_passes.specs.Passing.{Pivot}
 use Rattle.minimal_betti.proofs.Splittings.{ordered_rest}
-use Rattle.minimal_betti.proofs.Passes.{passed_none, passed_rest, passed_some}
+use Rattle.minimal_betti.proofs.PassedMaps.{passed_none, passed_rest, passed_some}
 use Rattle.minimal_betti.proofs.cancelling.leave_passed.Goals as goal
 
 pub returns-then-passed-eq0-clause-none : goal.returns-then-passed-eq0-clause-none
@@ -53,4 +53,4 @@ returns-clause-rest c =
 pub returns-clause-none : goal.returns-clause-none
 returns-clause-none c =
     let ring = c.args.ring.now in
-    subst (λ F. HasNone ring.modulus.value (sums_of (variables ring) F)) (sym c.in_ok-left.ensures.columns) c.requires.passed.none
+    subst (λ F. HasNoConstants ring.modulus.value (sums_of (variables ring) F)) (sym c.in_ok-left.ensures.columns) c.requires.passed.none

@@ -2,10 +2,11 @@ use Rattle.std.specs.Prelude.{IfSome}
 use Rattle.std.proofs.Common.{List, arith, reverse, subst, sym, ℕ, ◌<◌, ◌∙◌}
 use Rattle.formal_sums.specs.FormalSums.{Each}
 use Rattle.module_vectors.specs.Vectors.{AreTermsOver}
-use Rattle.schreyer_resolution.specs.declared.maps.Map.{Map}
+use Rattle.resolution_maps.specs.declared.maps.Map.{Map}
+use Rattle.column_passes.proofs.Lists.{each_unmapped}
 use Rattle.minimal_betti.specs.Carried.{AreCarried, graded_maps}
 use Rattle.minimal_betti.specs.Complementing.{ComesTo}
-use Rattle.minimal_betti.proofs.Ending.{cancellation_result, each_unmapped, minimal_result, presents_result, start_underway, vectors_result}
+use Rattle.minimal_betti.proofs.Ending.{cancellation_result, minimal_result, presents_result, start_underway, vectors_result}
 use Rattle.minimal_betti.proofs.cancelling.minimal.Goals as goal
 
 pub carried_maps-requires : goal.carried_maps-requires

@@ -1,10 +1,11 @@
 use Rattle.std.proofs.Common.{arith, reverse, subst, sym, ◌<◌, ◌∙◌}
 use Rattle.formal_sums.specs.FormalSums.{Each}
 use Rattle.module_vectors.specs.Vectors.{AreTermsOver}
-use Rattle.schreyer_resolution.specs.declared.maps.Map.{Map}
+use Rattle.resolution_maps.specs.declared.maps.Map.{Map}
+use Rattle.column_passes.proofs.Lists.{each_unmapped}
 use Rattle.minimal_betti.specs.Carried.{AreCarried, LeadsTo, graded_maps}
 use Rattle.minimal_betti.specs.Graded.{graded_of}
-use Rattle.minimal_betti.proofs.Ending.{cancellation_result, comes_itself, each_unmapped, minimal_result, presents_result, start_same, start_underway, vectors_result}
+use Rattle.minimal_betti.proofs.Ending.{cancellation_result, comes_itself, minimal_result, presents_result, start_same, start_underway, vectors_result}
 use Rattle.minimal_betti.proofs.Reaching.{stops_there}
 use Rattle.minimal_betti.proofs.cancelling.minimal_by_passes.Goals as goal
 

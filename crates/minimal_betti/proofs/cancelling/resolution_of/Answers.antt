@@ -1,8 +1,8 @@
 use Rattle.std.proofs.Common.{ap, length, map, subst, subst₂, sym, take}
 use Rattle.formal_sums.specs.FormalSums.{Each}
 use Rattle.module_vectors.specs.Rings.{variables}
-use Rattle.schreyer_resolution.specs.Progress.{HavePositions}
 use Rattle.vector_division.specs.Progress.{AreWeighed}
+use Rattle.resolution_maps.specs.Resolved.{HavePositions}
 use Rattle.minimal_betti.specs.Carried.{AreOrdered}
 use Rattle.minimal_betti.proofs.NoZeroColumns.{positions_are}
 use Rattle.minimal_betti.proofs.Splittings.{graded_take, ordered_take, weighed_all}

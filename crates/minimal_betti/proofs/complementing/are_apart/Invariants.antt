@@ -1,7 +1,7 @@
 use Rattle.std.proofs.Common.{List, take, ℕ}
 use Rattle.formal_sums.specs.FormalSums.{Each}
+use Rattle.column_passes.specs.Placing.{ArePlacesAfter}
 use Rattle.minimal_betti.specs.Complementing.{IsApart}
-use Rattle.minimal_betti.specs.Placing.{ArePlacesAfter}
 use Rattle.minimal_betti.proofs.complementing.are_apart.Given as goal
 
 abbrev pub invariant-loop-v : goal.invariant-loop-v

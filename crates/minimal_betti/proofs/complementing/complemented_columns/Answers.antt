@@ -3,8 +3,8 @@ use Rattle.complements.specs.Complements.{AreComplements}
 use Rattle.formal_sums.specs.FormalSums.{Each}
 use Rattle.module_vectors.specs.Rings.{ring_comparison, variables}
 use Rattle.module_vectors.specs.Vectors.{AreVectorsOver}
+use Rattle.column_passes.specs.Passing.{Pivot}
 use Rattle.minimal_betti.specs.Complementing.{AreGone, IsApart}
-use Rattle.minimal_betti.specs.Passing.{Pivot}
 use Rattle.minimal_betti.proofs.Complements.{complemented_in_turn}
 use Rattle.minimal_betti.proofs.Gone.{gone_vectors, kept_vectors}
 use Rattle.minimal_betti.proofs.complementing.complemented_columns.Goals as goal

@@ -1,9 +1,9 @@
 use Rattle.std.specs.Prelude.{IfSome}
 use Rattle.std.proofs.Common.{ap, map, subst, ◌∙◌}
 use Rattle.module_vectors.specs.Rings.{variables}
+use Rattle.column_passes.specs.Passing.{Pivot}
+use Rattle.column_passes.specs.Placing.{all_removed}
 use Rattle.minimal_betti.specs.Complementing.{AreComplemented}
-use Rattle.minimal_betti.specs.Passing.{Pivot}
-use Rattle.minimal_betti.specs.Splitting.{all_removed}
 use Rattle.minimal_betti.proofs.complementing.complemented_map.Goals as goal
 
 pub complemented_columns-requires-clause-rows : goal.complemented_columns-requires-clause-rows

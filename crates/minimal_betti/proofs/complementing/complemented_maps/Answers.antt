@@ -2,9 +2,9 @@ use Rattle.std.specs.Prelude.{IfSome}
 use Rattle.std.proofs.Common.{List, [], arith, map, refl, reverse, rules, subst, sym, ℕ, ◌<◌, ◌≡◌}
 use Rattle.module_vectors.specs.Rings.{variables}
 use Rattle.module_vectors.specs.Vectors.{sums_of}
+use Rattle.column_passes.specs.Passing.{AreGradedColumns, Pivot}
 use Rattle.minimal_betti.specs.Carried.{graded_maps}
 use Rattle.minimal_betti.specs.Complementing.{ComesTo, IsComplemented}
-use Rattle.minimal_betti.specs.Passing.{AreGradedColumns, Pivot}
 use Rattle.minimal_betti.proofs.Pending.{IsPending, next_graded, next_vectors, pending_first, pending_last, pending_next, pending_none}
 use Rattle.minimal_betti.proofs.complementing.complemented_maps.Goals as goal
 

@@ -1,6 +1,6 @@
 use Rattle.std.proofs.Common.{List, ℕ}
+use Rattle.column_passes.specs.Placing.{ArePlacesAfter}
 use Rattle.minimal_betti.specs.Complementing.{AreGone}
-use Rattle.minimal_betti.specs.Placing.{ArePlacesAfter}
 use Rattle.minimal_betti.proofs.complementing.gone_columns.Given as goal
 
 abbrev pub invariant-loop-number : goal.invariant-loop-number

@@ -1,5 +1,5 @@
 use Rattle.std.proofs.Common.{arith, ◌∙◌}
-use Rattle.minimal_betti.proofs.Columns.{removed_is, removed_past}
+use Rattle.minimal_betti.proofs.SplitColumns.{removed_is, removed_past}
 use Rattle.minimal_betti.proofs.leaving.drop_degree.Goals as goal
 
 pub returns-then-at-len : goal.returns-then-at-len

@@ -7,7 +7,7 @@ use Rattle.minimal_laws.specs.Cancellation.{cleared}
 use Rattle.module_vectors.specs.Rings.{variables}
 use Rattle.module_vectors.specs.Vectors.{StandsFor, sum_of}
 use Rattle.vector_division.proofs.Members.{sums_at}
-use Rattle.minimal_betti.specs.Clearing.{ClearingStops}
+use Rattle.column_passes.specs.Clearing.{ClearingStops}
 use Rattle.minimal_betti.proofs.splitting.split_column.Goals as goal
 
 pub splitting_stop-requires-clause-stop : goal.splitting_stop-requires-clause-stop

@@ -1,5 +1,5 @@
 use Rattle.std.proofs.Common.{arith}
-use Rattle.minimal_betti.proofs.Columns.{split_all, split_more, split_start}
+use Rattle.minimal_betti.proofs.SplitColumns.{split_all, split_more, split_start}
 use Rattle.minimal_betti.proofs.splitting.split_columns.Goals as goal
 
 pub loop-i-init : goal.loop-i-init

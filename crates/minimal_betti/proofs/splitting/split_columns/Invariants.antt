@@ -1,4 +1,4 @@
-use Rattle.minimal_betti.proofs.Columns.{AreSplitTo}
+use Rattle.minimal_betti.proofs.SplitColumns.{AreSplitTo}
 use Rattle.minimal_betti.proofs.splitting.split_columns.Given as goal
 
 abbrev pub invariant-loop-i : goal.invariant-loop-i

@@ -3,8 +3,8 @@ use Rattle.std.proofs.lemmas.List.{get_or_default}
 use Rattle.minimal_laws.specs.Cancellation.{component}
 use Rattle.module_vectors.specs.Rings.{variables}
 use Rattle.module_vectors.specs.Vectors.{sum_of}
+use Rattle.column_passes.specs.Clearing.{IsMonomialAt}
 use Rattle.minimal_betti.proofs.Entries.{clearing_is}
-use Rattle.minimal_betti.specs.Clearing.{IsMonomialAt}
 use Rattle.minimal_betti.proofs.stopping.clearing_trail.Goals as goal
 
 pub returns-clause-trail : goal.returns-clause-trail

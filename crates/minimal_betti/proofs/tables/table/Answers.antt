@@ -2,8 +2,8 @@ use Rattle.std.proofs.Common.{ap, arith, length, subst, suc, sym, ◌+◌, ◌<�
 use Rattle.betti_laws.proofs.Tables.{betti}
 use Rattle.betti_laws.specs.Tables.{occurrences, step_count}
 use Rattle.module_vectors.specs.Rings.{variables}
-use Rattle.schreyer_resolution.specs.Resolved.{degrees_of}
 use Rattle.vector_division.specs.Progress.{AreWeighed}
+use Rattle.resolution_maps.specs.Resolved.{degrees_of}
 use Rattle.minimal_betti.specs.Graded.{graded_of}
 use Rattle.minimal_betti.specs.Growing.{IsTableTo}
 use Rattle.minimal_betti.proofs.Counts.{columns_at, step_joined, step_past, table_same}

@@ -3,7 +3,7 @@ use Rattle.module_vectors.specs.Rings.{variables}
 use Rattle.vector_division.specs.Progress.{room_of}
 use Rattle.vector_division.specs.Runs.{IsNext, total, with_next}
 use Rattle.vector_division.proofs.Keeping.{room_taken}
-use Rattle.schreyer_resolution.specs.Columns.{IsUnderway}
+use Rattle.schreyer_resolution.specs.Columns.{IsColumnUnderway}
 use Rattle.schreyer_resolution.proofs.Dividing.{underway_end, underway_start, underway_taken}
 use Rattle.schreyer_resolution.proofs.column.divided.Goals as goal
 
@@ -21,7 +21,7 @@ loop-next-init g c =
     let next = c.in_ok-next.next in
     record {
       next = c.in_ok-next.ensures.taken.next;
-      underway = subst (λ qs. IsUnderway ring compare cols key qs c.take_top.new.self (with_next n next (total n c.take_top.new.self))) (sym c.new-quotients.ensures.items)
+      underway = subst (λ qs. IsColumnUnderway ring compare cols key qs c.take_top.new.self (with_next n next (total n c.take_top.new.self))) (sym c.new-quotients.ensures.items)
           (underway_taken ring compare base.rank lawful order cols c.requires.vectors base.monic base.basis key c.requires.pair [] old c.take_top.new.self next
           (underway_start ring compare base.rank lawful order cols c.requires.vectors base.monic base.basis key c.requires.pair c.in-Ok.product c.in_ok-kept.kept old
           c.in-Ok.ensures.product c.in_ok-kept.ensures (c.in_ok-buckets.ensures ∙ ap (λ v. v ∷ []) c.from_vect.ensures))
@@ -40,7 +40,7 @@ returns-in-None-clause-done g c =
     let qs = c.loop-next.quotients.items in
     underway_end ring compare base.rank (c.lawful_setting.ensures base.rank) (g.met.F.Frame.laws c.args.frame.now n 0) cols c.requires.vectors base.monic base.basis key c.requires.pair qs runs
     (subst (IsNext n ring.weights ring.modulus.value (compare n) runs) c.in-None.is c.loop-next.invariant.next)
-    (subst (λ x. IsUnderway ring compare cols key qs runs (with_next n x (total n runs))) c.in-None.is c.loop-next.invariant.underway)
+    (subst (λ x. IsColumnUnderway ring compare cols key qs runs (with_next n x (total n runs))) c.in-None.is c.loop-next.invariant.underway)
 
 pub loop-next-smaller : goal.loop-next-smaller
 loop-next-smaller g c =
@@ -121,5 +121,5 @@ advance-requires-clause-underway g c =
     let n = variables ring in
     let compare = g.F.Frame.compare c.args.frame.now in
     let here = c.loop-next in
-    subst (λ x. IsUnderway ring compare c.args.columns.now c.args.key.now here.quotients.items here.buckets (with_next n x (total n here.buckets)))
+    subst (λ x. IsColumnUnderway ring compare c.args.columns.now c.args.key.now here.quotients.items here.buckets (with_next n x (total n here.buckets)))
     c.in-Some.is c.loop-next.invariant.underway

@@ -5,7 +5,7 @@ use Rattle.module_vectors.specs.Vectors.{IsVectorOver, key_of}
 use Rattle.vector_division.specs.Progress.{IsSubtraction}
 use Rattle.vector_division.specs.Runs.{total}
 use Rattle.schreyer_resolution.specs.Chains.{IsFailing}
-use Rattle.schreyer_resolution.specs.Columns.{IsUnderway}
+use Rattle.schreyer_resolution.specs.Columns.{IsColumnUnderway}
 use Rattle.schreyer_resolution.proofs.Dividing.{failing_is, one_first, rest_below, underway_next}
 use Rattle.schreyer_resolution.proofs.LeastLeads.{each_at}
 use Rattle.schreyer_resolution.proofs.column.take_last.Goals as goal
@@ -60,7 +60,7 @@ returns-in_ok-push-in-Ok-clause-underway g c =
     let x = c.index-as_slice-at.result in
     let at = c.index-as_slice-at.is ∙ ap (λ l. get_or l c.in_ok-at.at x) c.as_slice.ensures ∙ get_or_default cols c.in_ok-at.at x [] c.in_ok-at.ensures.0.index in
     let put = c.in_ok-put_covered-in-Ok.ensures in
-    subst (λ q. IsUnderway ring compare cols c.args.key.now q c.put_covered.new.buckets (total n c.put_covered.new.buckets)) (sym c.in_ok-push-in-Ok.ensures.items)
+    subst (λ q. IsColumnUnderway ring compare cols c.args.key.now q c.put_covered.new.buckets (total n c.put_covered.new.buckets)) (sym c.in_ok-push-in-Ok.ensures.items)
     (underway_next ring compare base.rank (c.lawful_setting.ensures base.rank) (g.met.F.Frame.laws c.args.frame.now n 0) cols c.requires.vectors base.monic base.basis
     c.args.key.now c.requires.pair c.args.quotients.now.items c.args.term c.args.buckets.now c.requires.variables c.requires.nonzero c.requires.reduced c.requires.below c.requires.underway
     (c.in_ok-at.at, c.in_ok-at.monomial) c.in_ok-at.ensures c.put_covered.new.buckets c.in-Ok.rest put.kept put.runs
@@ -122,7 +122,7 @@ pub next_divisor-requires-clause-underway : goal.next_divisor-requires-clause-un
 next_divisor-requires-clause-underway g c =
     let ring = g.F.Frame.over c.args.frame.now in
     let n = variables ring in
-    subst (λ q. IsUnderway ring (g.F.Frame.compare c.args.frame.now) c.args.columns.now c.args.key.now q c.args.buckets.now
+    subst (λ q. IsColumnUnderway ring (g.F.Frame.compare c.args.frame.now) c.args.columns.now c.args.key.now q c.args.buckets.now
     ((key_of n c.args.term.0, c.args.term.1) ∷ total n c.args.buckets.now))
     (sym c.deref.ensures.value) c.requires.underway
 

@@ -1,4 +1,4 @@
-use Rattle.std.proofs.Common.{[], arith, get_or, get_or, length, refl, subst, sym, ◌+◌, ◌<◌, ◌≡◌, ◌∙◌}
+use Rattle.std.proofs.Common.{[], arith, get_or, length, refl, subst, sym, ◌+◌, ◌<◌, ◌≡◌, ◌∙◌}
 use Rattle.std.proofs.lemmas.List.{get_or_default}
 use Rattle.vector_division.specs.Marks.{IsMarkOf}
 use Rattle.schreyer_resolution.specs.declared.divisors.Span.{Span}

@@ -3,7 +3,7 @@ use Rattle.std.specs.Vec.{vec_capacity, vec_len}
 use Rattle.module_vectors.specs.Trails.{lead_at}
 use Rattle.vector_division.specs.Marks.{IsMarkOf}
 use Rattle.vector_division.specs.declared.marks.Mark.{Mark}
-use Rattle.schreyer_resolution.specs.Spans.{IsSpanned}
+use Rattle.schreyer_resolution.specs.Spans.{IsSpannedAt}
 use Rattle.schreyer_resolution.proofs.divisors.index_leads.Given as goal
 
 abbrev pub invariant-loop-i : goal.invariant-loop-i
@@ -11,5 +11,5 @@ invariant-loop-i l = record {
   count : vec_len l.marks ≡ l.i;
   room : length l.columns ≤ vec_capacity l.marks;
   each : (j : ℕ) (x : Mark) → j < l.i → x ≡ get_or l.marks.items j x → IsMarkOf (get_or l.columns j []) x;
-  spans : (n j : ℕ) → j < l.i → 0 < length (get_or l.columns j []) → IsSpanned l.spans.items (lead_at n l.columns j).0 j;
+  spans : (n j : ℕ) → j < l.i → 0 < length (get_or l.columns j []) → IsSpannedAt l.spans.items (lead_at n l.columns j).0 j;
 }

@@ -1,11 +1,11 @@
 use Rattle.std.proofs.Common.{◌+◌, ◌-◌}
 use Rattle.std.specs.Vec.{vec_len}
-use Rattle.schreyer_resolution.specs.Spans.{IsSpanned}
+use Rattle.schreyer_resolution.specs.Spans.{IsSpannedAt}
 use Rattle.schreyer_resolution.proofs.divisors.widen.Given as goal
 use Rattle.std.proofs.Common.{ℕ}
 
 abbrev pub invariant-loop-spans : goal.invariant-loop-spans
-invariant-loop-spans l = (p j : ℕ) → IsSpanned l.fn.spans.items p j → IsSpanned l.spans.items p j
+invariant-loop-spans l = (p j : ℕ) → IsSpannedAt l.fn.spans.items p j → IsSpannedAt l.spans.items p j
 
 abbrev pub decreases-loop-spans : goal.decreases-loop-spans
 decreases-loop-spans l = (l.position + 1) - vec_len l.spans

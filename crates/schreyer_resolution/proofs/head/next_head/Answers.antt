@@ -2,7 +2,7 @@ use Rattle.std.proofs.Common.{[], ap, arith, get_or, refl, subst, sym, ◌++◌,
 use Rattle.std.proofs.lemmas.List.{get_or_default, take_all}
 use Rattle.module_vectors.proofs.Scaling.{take_item}
 use Rattle.module_vectors.specs.Rings.{variables}
-use Rattle.schreyer_resolution.specs.Heads.{AreSums}
+use Rattle.schreyer_resolution.specs.Heads.{AreExponentSums}
 use Rattle.schreyer_resolution.proofs.Heading.{next_is}
 use Rattle.schreyer_resolution.proofs.head.next_head.Goals as goal
 
@@ -14,7 +14,7 @@ returns c = λ maps F i heads lead.
     let p = c.args.position in
     let items = c.deref-place-items.result.now in
     next_is n ws maps F i p c.args.exponents.now head _ (c.at-head.ensures n ws maps heads) lead
-    (subst (λ z. AreSums n c.args.exponents.now z c.in_ok-exponents.exponents.items) c.deref.ensures.value c.in_ok-exponents.ensures.sums) refl
+    (subst (λ z. AreExponentSums n c.args.exponents.now z c.in_ok-exponents.exponents.items) c.deref.ensures.value c.in_ok-exponents.ensures.sums) refl
     (c.in_ok-push-2.ensures.items ∙ ap (λ w. w ++ p ∷ []) (c.loop-place.invariant ∙ take_all c.loop-place.place-index items (omega arith) ∙ c.deref-place-items.ensures.value))
     c.in_ok-exponents.ensures.degree c.in_ok-exponents.ensures.low
 

@@ -8,9 +8,9 @@ use Rattle.module_vectors.specs.Rings.{variables}
 use Rattle.module_vectors.specs.Vectors.{sum_of}
 use Rattle.row_matrix.specs.Naming.{AreNamed}
 use Rattle.row_matrix.specs.Rows.{AreKeys}
-use Rattle.schreyer_resolution.proofs.FirstMaps.{if_more}
+use Rattle.resolution_maps.proofs.Joining.{if_more}
 use Rattle.schreyer_resolution.proofs.Rows.{product_named}
-use Rattle.schreyer_resolution.specs.Sharing.{IsProductRow}
+use Rattle.schreyer_resolution.specs.Sharing.{IsProductEntries}
 use Rattle.schreyer_resolution.proofs.numbered.column_product.Goals as goal
 
 pub returns-clause-row : goal.returns-clause-row
@@ -22,7 +22,7 @@ returns-clause-row c =
     let v = c.terms.result.now in
     let new = c.product_row.new.keys in
     let is : v ≡ get_or cols c.args.index [] = c.terms.ensures ∙ c.index-columns-index.is ∙ get_or_default cols c.args.index c.index-columns-index.result [] c.requires.index in
-    if_more (λ row. AreNamed k new row.items (scale 1 (exponents_of k m.exponents) (sum_of k v))) (λ row. IsProductRow ring cols new c.args.index m row.items) c.product_row.result
+    if_more (λ row. AreNamed k new row.items (scale 1 (exponents_of k m.exponents) (sum_of k v))) (λ row. IsProductEntries ring cols new c.args.index m row.items) c.product_row.result
     (λ row h. product_named ring cols new c.args.index m row.items v c.requires.monomial c.requires.index c.requires.reduced is h) c.product_row.ensures.named
 
 pub returns-clause-keys : goal.returns-clause-keys

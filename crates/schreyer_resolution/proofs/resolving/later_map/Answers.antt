@@ -3,11 +3,12 @@ use Rattle.std.proofs.Common.{[], length, map, subst, sym, ◌++◌, ◌∙◌, 
 use Rattle.formal_sums.specs.FormalSums.{Each}
 use Rattle.module_vectors.specs.Rings.{variables}
 use Rattle.module_vectors.specs.Vectors.{IsMonomialOver, key_of, sums_of}
+use Rattle.resolution_maps.specs.Inducing.{tower_comparison}
+use Rattle.resolution_maps.proofs.Joining.{if_more}
 use Rattle.schreyer_resolution.specs.Columns.{AreColumnsTo, ColumnStops}
-use Rattle.schreyer_resolution.specs.Inducing.{tower_comparison}
-use Rattle.schreyer_resolution.specs.Progress.{IsNext}
+use Rattle.schreyer_resolution.specs.Progress.{IsNextMap}
 use Rattle.schreyer_resolution.specs.Steps.{ArePairLeads}
-use Rattle.schreyer_resolution.proofs.FirstMaps.{above_by, if_more, next_by, tower_is}
+use Rattle.schreyer_resolution.proofs.FirstMaps.{above_by, next_by, tower_is}
 use Rattle.schreyer_resolution.proofs.Starting.{base_at, vectors_at}
 use Rattle.schreyer_resolution.proofs.resolving.later_map.Goals as goal
 
@@ -58,7 +59,7 @@ columns_at-requires-clause-above c =
 
 pub returns-clause-next : goal.returns-clause-next
 returns-clause-next c =
-    if_more (AreColumnsTo c.in_ok-frame.frame.ring (tower_comparison c.in_ok-frame.frame) c.args.columns.now c.in_ok-induced.induced c.deref.result.now (length c.deref.result.now)) (IsNext c.args.ring.now c.args.below.now c.args.columns.now) c.columns_at.result
+    if_more (AreColumnsTo c.in_ok-frame.frame.ring (tower_comparison c.in_ok-frame.frame) c.args.columns.now c.in_ok-induced.induced c.deref.result.now (length c.deref.result.now)) (IsNextMap c.args.ring.now c.args.below.now c.args.columns.now) c.columns_at.result
     (next_by c.args.ring.now c.args.below.now c.args.columns.now c.in_ok-frame.frame c.in_ok-induced.induced c.in_ok-keys.keys.items c.deref.result.now
     (tower_is c.in_ok-frame.frame c.args.ring.now c.args.below.now c.in_ok-frame.ensures.ring c.in_ok-frame.ensures.maps)
     (tower_is c.in_ok-induced.induced c.args.ring.now (c.args.below.now ++ c.args.columns.now ∷ []) c.in_ok-induced.ensures.ring (c.in_ok-induced.ensures.maps ∙ c.requires.maps))

@@ -1,7 +1,7 @@
 use Rattle.std.specs.Prelude.{IfErr, IfOk}
 use Rattle.std.proofs.Common.{[], subst, sym, ◌++◌, ◌∷◌, ◌≡◌}
 use Rattle.schreyer_resolution.specs.Columns.{ColumnStops}
-use Rattle.schreyer_resolution.specs.Progress.{IsNext, IsTopMap}
+use Rattle.schreyer_resolution.specs.Progress.{IsNextMap, IsTopMap}
 use Rattle.schreyer_resolution.proofs.FirstMaps.{none_at_all, some_at_all}
 use Rattle.schreyer_resolution.proofs.resolving.map_above.Goals as goal
 
@@ -17,7 +17,7 @@ later_map-requires-clause-some c = some_at_all c.args.below.now c.if-is_empty.en
 
 pub returns-then-is_empty-clause-next : goal.returns-then-is_empty-clause-next
 returns-then-is_empty-clause-next c =
-    subst (λ b. IfOk c.second_map.result (IsNext c.args.ring.now b c.args.columns.now)) (sym (none_at_all c.args.below.now c.if-is_empty.ensures)) c.second_map.ensures.next
+    subst (λ b. IfOk c.second_map.result (IsNextMap c.args.ring.now b c.args.columns.now)) (sym (none_at_all c.args.below.now c.if-is_empty.ensures)) c.second_map.ensures.next
 
 pub returns-then-is_empty-clause-stop : goal.returns-then-is_empty-clause-stop
 returns-then-is_empty-clause-stop c =

@@ -2,11 +2,12 @@ use Rattle.std.proofs.Common.{[], arith, length, map, refl, subst, sym, ◌<◌,
 use Rattle.formal_sums.specs.FormalSums.{Each}
 use Rattle.module_vectors.specs.Rings.{ring_comparison, variables}
 use Rattle.module_vectors.specs.Vectors.{IsMonomialOver, key_of, sums_of}
+use Rattle.resolution_maps.specs.Inducing.{over}
+use Rattle.resolution_maps.proofs.Joining.{if_more}
 use Rattle.schreyer_resolution.specs.Columns.{AreColumnsTo}
-use Rattle.schreyer_resolution.specs.Progress.{IsNext}
-use Rattle.schreyer_resolution.specs.Inducing.{over}
+use Rattle.schreyer_resolution.specs.Progress.{IsNextMap}
 use Rattle.schreyer_resolution.specs.Steps.{ArePairLeads}
-use Rattle.schreyer_resolution.proofs.FirstMaps.{above_by, if_more, next_by, tower_is}
+use Rattle.schreyer_resolution.proofs.FirstMaps.{above_by, next_by, tower_is}
 use Rattle.schreyer_resolution.proofs.resolving.second_map.Goals as goal
 
 pub through-requires : goal.through-requires
@@ -40,7 +41,7 @@ columns_at-requires-clause-pairs c =
 
 pub returns-clause-next : goal.returns-clause-next
 returns-clause-next c =
-    if_more (AreColumnsTo c.args.ring.now (ring_comparison c.args.ring.now) c.args.columns.now c.in_ok-induced.induced c.deref.result.now (length c.deref.result.now)) (IsNext c.args.ring.now [] c.args.columns.now) c.columns_at.result
+    if_more (AreColumnsTo c.args.ring.now (ring_comparison c.args.ring.now) c.args.columns.now c.in_ok-induced.induced c.deref.result.now (length c.deref.result.now)) (IsNextMap c.args.ring.now [] c.args.columns.now) c.columns_at.result
     (next_by c.args.ring.now [] c.args.columns.now (over c.args.ring.now []) c.in_ok-induced.induced c.in_ok-keys.keys.items c.deref.result.now refl
     (tower_is c.in_ok-induced.induced c.args.ring.now (c.args.columns.now ∷ []) c.in_ok-induced.ensures.ring (c.in_ok-induced.ensures.maps ∙ c.requires.maps))
     c.deref.ensures.value c.requires.top c.lawful_setting.ensures c.in_ok-keys.ensures.pairs)

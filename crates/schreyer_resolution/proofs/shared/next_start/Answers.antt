@@ -1,6 +1,6 @@
 use Rattle.formal_sums.specs.FormalSums.{Each}
 use Rattle.row_matrix.specs.Naming.{IsGrown}
-use Rattle.schreyer_resolution.proofs.FirstMaps.{if_more}
+use Rattle.resolution_maps.proofs.Joining.{if_more}
 use Rattle.schreyer_resolution.proofs.Rows.{products_more}
 use Rattle.schreyer_resolution.specs.Sharing.{IsLastProduct}
 use Rattle.schreyer_resolution.proofs.shared.next_start.Goals as goal

@@ -4,7 +4,7 @@ use Rattle.formal_sums.specs.FormalSums.{Each}
 use Rattle.orders.specs.KeyOrders.{Descends}
 use Rattle.module_vectors.specs.Rings.{variables}
 use Rattle.module_vectors.specs.Vectors.{IsMonomialOver, sum_of}
-use Rattle.schreyer_resolution.specs.Inducing.{tower_comparison}
+use Rattle.resolution_maps.specs.Inducing.{tower_comparison}
 use Rattle.schreyer_resolution.proofs.shared.ordered_column.Goals as goal
 
 pub descends-requires : goal.descends-requires

@@ -5,7 +5,7 @@ use Rattle.formal_sums.specs.FormalSums.{Each}
 use Rattle.module_vectors.specs.Rings.{variables}
 use Rattle.module_vectors.specs.Vectors.{IsTerm}
 use Rattle.schreyer_resolution.proofs.SharedColumns.{column_terms_over, if_some, made_of}
-use Rattle.schreyer_resolution.specs.Sharing.{AreLastQuotients, IsIdle}
+use Rattle.schreyer_resolution.specs.Sharing.{AreLastQuotients, AreZeroSums}
 use Rattle.schreyer_resolution.proofs.shared.shared_column.Goals as goal
 
 pub column_terms-requires : goal.column_terms-requires
@@ -39,4 +39,4 @@ returns-in_ok-terms-in-Some-clause-made c =
 pub returns-in_ok-terms-in-Some-clause-idle : goal.returns-in_ok-terms-in-Some-clause-idle
 returns-in_ok-terms-in-Some-clause-idle c =
     let new = c.quotients_of.new.work.sums.items in
-    if_some (λ _. IsIdle new) c.ordered_column.result (λ _. subst (λ o. IfSome o (λ _. IsIdle new)) c.in-Some.is c.in_ok-found.ensures.idle)
+    if_some (λ _. AreZeroSums new) c.ordered_column.result (λ _. subst (λ o. IfSome o (λ _. AreZeroSums new)) c.in-Some.is c.in_ok-found.ensures.idle)

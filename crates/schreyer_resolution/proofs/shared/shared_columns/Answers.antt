@@ -9,7 +9,7 @@ use Rattle.schreyer_resolution.proofs.PairSteps.{base_leads}
 use Rattle.schreyer_resolution.proofs.SharedColumns.{columns_of_made, positions_of, vectors_reduced}
 use Rattle.schreyer_resolution.specs.Columns.{AreColumnsTo}
 use Rattle.schreyer_resolution.specs.Pairs.{AreNonzero}
-use Rattle.schreyer_resolution.specs.Sharing.{AreMade, AreReduced}
+use Rattle.schreyer_resolution.specs.Sharing.{AreColumnsMade, AreReduced}
 use Rattle.schreyer_resolution.specs.Spans.{IsIndexOf}
 use Rattle.schreyer_resolution.proofs.shared.shared_columns.Goals as goal
 
@@ -58,9 +58,9 @@ returns-in-Ok-Some g c =
     let t = c.args.induced.now in
     let keys = c.args.keys.now in
     let next = c.in-Ok-Some.next.items in
-    let some : AreMade c.ring-ring.result.now c.as_slice.result.now t keys (length keys) next =
-    subst (λ o. IfSome o (λ x. AreMade c.ring-ring.result.now c.as_slice.result.now t keys (length keys) x.items)) c.in-Ok-Some.field-0-is c.in-Ok-Some.ensures in
-    let made : AreMade ring cols t keys (length keys) next = subst₂ (λ r z. AreMade r z t keys (length keys) next) c.ring-ring.ensures c.as_slice.ensures some in
+    let some : AreColumnsMade c.ring-ring.result.now c.as_slice.result.now t keys (length keys) next =
+    subst (λ o. IfSome o (λ x. AreColumnsMade c.ring-ring.result.now c.as_slice.result.now t keys (length keys) x.items)) c.in-Ok-Some.field-0-is c.in-Ok-Some.ensures in
+    let made : AreColumnsMade ring cols t keys (length keys) next = subst₂ (λ r z. AreColumnsMade r z t keys (length keys) next) c.ring-ring.ensures c.as_slice.ensures some in
     let whole : length keys ≤ length keys = omega arith in
     subst (AreColumnsTo ring compare cols t keys (length keys)) (sym c.from_vec.ensures)
     (columns_of_made ring compare cols t keys base.rank (c.lawful_setting.ensures base.rank) base.monic (c.requires.above (variables ring)) c.requires.pairs

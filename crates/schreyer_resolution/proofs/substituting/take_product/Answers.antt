@@ -3,7 +3,7 @@ use Rattle.residues.proofs.Congruences.{IsCongruent_of, IsCongruent_trans}
 use Rattle.residues.specs.Residues.{IsCongruent}
 use Rattle.vector_division.specs.declared.reduction.ScaledProduct.{ScaledProduct}
 use Rattle.schreyer_resolution.proofs.Substitution.{cancelled, taken_more}
-use Rattle.schreyer_resolution.specs.Sharing.{AddsMultiple, AreTaken}
+use Rattle.schreyer_resolution.specs.Sharing.{AddsProduct, AreTakenQuotients}
 use Rattle.schreyer_resolution.proofs.substituting.take_product.Goals as goal
 
 pub returns : goal.returns
@@ -21,10 +21,10 @@ returns c =
     let lt : r < p = c.residue_at-residue.ensures in
     let pos : 0 < r = omega (arith, c.if-residue-eq0.false) in
     let z : IsCongruent p (f + r) 0 = IsCongruent_trans (IsCongruent_of p _ _ (ap (λ x. x + r) c.neg.ensures.value)) (cancelled p r lt) in
-    let adds : AddsMultiple p f s.entries.items old.sums.items new = subst (λ es. AddsMultiple p f es old.sums.items new) c.deref.ensures.value c.in_ok-add_multiple.ensures.adds in
+    let adds : AddsProduct p f s.entries.items old.sums.items new = subst (λ es. AddsProduct p f es old.sums.items new) c.deref.ensures.value c.in_ok-add_multiple.ensures.adds in
     let more = taken_more ring c.args.columns.now c.args.numbers.now c.args.key.now qs r f old.sums.items new old.touched.items touched s
     c.requires.taken c.requires.product pos lt z adds c.in_ok-add_multiple.ensures.small c.in_ok-add_multiple.ensures.touched in
     let copied : m ≡ s.monomial = c.in_ok-monomial.ensures.ok in
     let pushed : c.push.new.self.items ≡ qs ++ (record { index = s.index; residue = r; monomial = m }) ∷ [] = c.in_ok-push.ensures.items in
-    subst (λ xs. AreTaken ring c.args.columns.now c.args.numbers.now c.args.key.now xs new touched)
+    subst (λ xs. AreTakenQuotients ring c.args.columns.now c.args.numbers.now c.args.key.now xs new touched)
     (sym (pushed ∙ ap (λ x. let q : ScaledProduct = record { index = s.index; residue = r; monomial = x } in qs ++ q ∷ []) copied)) more

@@ -1,7 +1,8 @@
 use Rattle.std.proofs.Common.{ap, ap₂, length, subst, sym, ◌∙◌}
 use Rattle.module_vectors.specs.Rings.{variables}
 use Rattle.module_vectors.specs.Vectors.{IsMonomialOver}
-use Rattle.schreyer_resolution.specs.Inducing.{Tower, by_way, over}
+use Rattle.resolution_maps.specs.Inducing.{Tower, over}
+use Rattle.schreyer_resolution.specs.Ways.{by_way}
 use Rattle.schreyer_resolution.proofs.Inducing.{by_bottoms, by_monomials, by_positions, by_ways, same_ways}
 use Rattle.schreyer_resolution.proofs.induced.InducedFrame.cmp.Goals as goal
 

@@ -1,0 +1,32 @@
+-- A row that a column clears
+use Rattle.std.specs.Prelude.{Contains, List, cond, map, nat_lt, ℕ, ⊤, ◌*◌, ◌-◌, ◌≡◌}
+use Rattle.monomials.specs.Exponents.{unit}
+use Rattle.formal_sums.specs.FormalSums.{FormalSum, product, scale}
+use Rattle.minimal_laws.specs.Cancellation.{component}
+use Rattle.monomial_orders.specs.Kept.{Monomial}
+use Rattle.module_vectors.specs.Rings.{variables}
+use Rattle.module_vectors.specs.Stops.{HasMonomial, IsTooGreat}
+use Rattle.module_vectors.specs.Vectors.{sum_of}
+use Rattle.module_vectors.specs.declared.key.Key.{Key as CodeKey}
+use Rattle.module_vectors.specs.declared.ring.Ring.{Ring}
+use Rattle.module_vectors.specs.declared.stop.VectStop.{VectStop}
+use Rattle.module_vectors.specs.declared.stop.VectStop.TheVariants.{Degree, Memory}
+
+-- the multiple of w that these terms' entry in row r takes away; s is the inverse of w's entry there
+abbrev pub multiple_of : (ring : Ring) → ℕ → ℕ → List (CodeKey × ℕ) → List (CodeKey × ℕ) → FormalSum (variables ring)
+multiple_of ring r s w v =
+    let n = variables ring in
+    product (scale ((ring.modulus.value - 1) * s) (unit n) (component r (sum_of n v))) (sum_of n w)
+
+-- the terms at the positions that are left to them when row r leaves
+abbrev pub lowered : ℕ → List (CodeKey × ℕ) → List (CodeKey × ℕ)
+lowered r v = map (λ t. (record { position = cond (nat_lt t.0.position r) t.0.position (t.0.position - 1); monomial = t.0.monomial }, t.1)) v
+
+-- some term of the list has this monomial and stands in row r
+abbrev pub IsMonomialAt : ℕ → List (CodeKey × ℕ) → Monomial → Type 0
+IsMonomialAt r v a = (t : CodeKey × ℕ) × Contains v t × (t.0.position ≡ r) × (t.0.monomial ≡ a)
+
+-- Degree comes where a monomial of v's entry in row r times one of w has too great a degree
+abbrev pub ClearingStops : ℕ → List (CodeKey × ℕ) → List (CodeKey × ℕ) → VectStop → Type 0
+ClearingStops r w v Memory = ⊤
+ClearingStops r w v (Degree a b) = IsMonomialAt r v a × HasMonomial w b × IsTooGreat a b

@@ -1,9 +1,0 @@
-use Rattle.std.proofs.Common.{drop, length, ◌≤◌}
-use Rattle.minimal_betti.proofs.Places.{AreIndicesTo}
-use Rattle.minimal_betti.proofs.one_pass.leaving_columns.Given as goal
-
-abbrev pub invariant-loop-m : goal.invariant-loop-m
-invariant-loop-m l = record {
-  bound : l.leaving.count ≤ length l.leaving.places.items;
-  indices : AreIndicesTo l.met (drop l.m-index l.met) l.leaving;
-}
