@@ -3,20 +3,21 @@ use Rattle.std.proofs.Common.{◌≡◌, ℕ, ◌<◌, ◌≤◌, inl, inr, true
 use Rattle.std.specs.List.{AllByRecursion, list_all}
 use Rattle.std.specs.Prelude.{Contains}
 use Rattle.poly_grammar.specs.Numerals.{value_of}
-use Rattle.poly_grammar.specs.declared.step.Step.{Step}
+use Rattle.poly_grammar.specs.declared.step.PolyStep.{PolyStep}
 use Rattle.zp_field.specs.Moduli.{is_modulus}
 use Rattle.module_vectors.specs.declared.ring.Ring.{Ring}
+use Rattle.script_forms.specs.Forms.{IsFormOf, IsLineOf, head_of}
+use Rattle.script_forms.specs.RingForms.{ring_line_of}
+use Rattle.script_forms.specs.Written.{IsLine, RingLine, Written, given_by, nothing, polys_of, ring_line, value_places}
+use Rattle.script_forms.specs.declared.form.Form.{Form}
+use Rattle.script_forms.specs.declared.form.Form.TheVariants as forms
+use Rattle.script_forms.specs.declared.form.Head.{Head}
+use Rattle.script_forms.specs.declared.ring_words.RingForm.{RingForm}
+use Rattle.script_forms.proofs.Lines.{one_line}
 use Rattle.script_parse.specs.Answers.{AnswersLine}
-use Rattle.script_parse.specs.Forms.{IsFormOf, IsLineOf, head_of}
-use Rattle.script_parse.specs.Tests.{AnswersForm, HoldsOf, IsFormed, IsPolynomial, IsStated, known_names, low_degree, number_fits, rank_fits, repeats, right_kinds}
-use Rattle.script_parse.specs.RingForms.{ring_line_of}
+use Rattle.script_parse.specs.Tests.{AnswersForm, HoldsOf, IsFormed, AreStepsOfPolynomial, IsStated, known_names, low_degree, number_fits, rank_fits, repeats, right_kinds}
 use Rattle.script_parse.specs.Refusals.{HasFaultyRing, HasGreatDegree, HasGreatNumeral, HasOtherElim, HasOtherFactor, HasOtherKind, HasOtherModulus, HasOtherRank, HasOtherWeights, HasUnknownName, RefusalHolds, LacksRing, place}
 use Rattle.script_parse.specs.Statements.{Makes}
-use Rattle.script_parse.specs.Written.{IsLine, RingLine, Written, given_by, nothing, polys_of, ring_line, value_places}
-use Rattle.script_parse.specs.declared.form.Form.{Form}
-use Rattle.script_parse.specs.declared.form.Form.TheVariants as forms
-use Rattle.script_parse.specs.declared.form.Head.{Head}
-use Rattle.script_parse.specs.declared.ring_words.RingForm.{RingForm}
 use Rattle.script_parse.specs.declared.kind.Kind.{Kind}
 use Rattle.script_parse.specs.declared.kind.Kind.TheVariants as kinds
 use Rattle.script_parse.specs.declared.kind.ParseStop.{ParseStop}
@@ -25,7 +26,6 @@ use Rattle.script_parse.specs.declared.named.NameInfo.{NameInfo}
 use Rattle.script_parse.specs.declared.stated.Statement.{Statement}
 use Rattle.script_parse.specs.declared.stated.Statement.TheVariants as statements
 use Rattle.script_parse.proofs.Testing.{each_known, each_right, great_degree, has_ring, lacks_ring, low_degrees, other_kind, other_rank, right_rank, unknown_name}
-use Rattle.script_parse.proofs.Lines.{one_line}
 use Rattle.script_parse.proofs.Texts.{are_polynomials, repeats_not}
 
 none_before_syntax : (ring : Option Ring) (infos : List NameInfo) (line : List ℕ) (earlier : Kind) → place earlier < 1 → RefusalHolds ring infos line earlier → ⊥
@@ -169,17 +169,17 @@ pub ring_answered :
 ring_answered ring infos line form words result e h f =
     let g = subst (λ x. IsFormed line (Ok x)) e h in ring_at ring infos line g.0 words result g.1 g.2 g.4 f
 
-pub line_answered : (ring : Option Ring) (infos : List NameInfo) (line : List ℕ) (form : Form) (head : Head) (pieces : Vec (Vec Step Global) Global) (result : Result Statement ParseStop) → form ≡ forms.Line head pieces → IsFormed line (Ok form)
+pub line_answered : (ring : Option Ring) (infos : List NameInfo) (line : List ℕ) (form : Form) (head : Head) (pieces : Vec (Vec PolyStep Global) Global) (result : Result Statement ParseStop) → form ≡ forms.Line head pieces → IsFormed line (Ok form)
     → ((w : Written) → IsLineOf head pieces.items w → AnswersForm ring infos line w result) → AnswersLine ring infos line result
 line_answered ring infos line form head pieces result e h f =
     let g = subst (λ x. IsFormed line (Ok x)) e h in late ring infos line g.0 g.1 g.4 result (f g.0 g.2)
 
 -- the polynomials of a line are some
-pub line_polynomials : (line : List ℕ) (form : Form) (head : Head) (pieces : Vec (Vec Step Global) Global) → form ≡ forms.Line head pieces → IsFormed line (Ok form) → AllByRecursion IsPolynomial pieces.items
+pub line_polynomials : (line : List ℕ) (form : Form) (head : Head) (pieces : Vec (Vec PolyStep Global) Global) → form ≡ forms.Line head pieces → IsFormed line (Ok form) → AllByRecursion AreStepsOfPolynomial pieces.items
 line_polynomials line form head pieces e h = let g = subst (λ x. IsFormed line (Ok x)) e h in are_polynomials pieces.items (polys_of g.0) g.2.steps_are
 
 -- the head and the polynomials are those of a line
-pub line_of : (line : List ℕ) (form : Form) (head : Head) (pieces : Vec (Vec Step Global) Global) → form ≡ forms.Line head pieces → IsFormed line (Ok form)
+pub line_of : (line : List ℕ) (form : Form) (head : Head) (pieces : Vec (Vec PolyStep Global) Global) → form ≡ forms.Line head pieces → IsFormed line (Ok form)
     → (w : Written) × IsLineOf head pieces.items w
 line_of line form head pieces e h = let g = subst (λ x. IsFormed line (Ok x)) e h in (g.0, g.2)
 
@@ -256,7 +256,7 @@ no_other_modulus : (line : List ℕ) (w : Written) (head : Head) → head_of w �
 no_other_modulus line (ring_line r) head e h = absurd cc
 no_other_modulus line _ head e h = h
 
-module _ (o : Option Ring) (ring : Ring) (infos : List NameInfo) (line : List ℕ) (w : Written) (head : Head) (pieces : List (Vec Step Global)) (stated : o ≡ Some ring) (is : IsLineOf head pieces w) where
+module _ (o : Option Ring) (ring : Ring) (infos : List NameInfo) (line : List ℕ) (w : Written) (head : Head) (pieces : List (Vec PolyStep Global)) (stated : o ≡ Some ring) (is : IsLineOf head pieces w) where
   -- no kind before the place n holds, by the tests that were passed
   record Passed (n : ℕ) : Type 0 where
     number : 3 < n → number_fits (length ring.vars) line head ≡ true

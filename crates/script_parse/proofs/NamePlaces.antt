@@ -1,12 +1,12 @@
 -- Values at the places of their names
-use Rattle.std.proofs.Common.{Bool, List, None, Option, Some, [], ap, arith, cond, false, get_or, length, nat_eq, refl, set, subst, subst₂, suc, sym, true, zero, ℕ, ◌++◌, ◌<◌, ◌∙◌, ◌↔◌, ◌∷◌, ◌≡◌}
-use Rattle.std.proofs.lemmas.Bool.{false≢true}
-use Rattle.std.proofs.lemmas.List.{get_or-map, length-map}
+use Rattle.std.proofs.Common.{Bool, List, None, Option, Some, [], ap, ap₂, arith, cond, false, length, get_or, ltb, nat_eq, not, refl, set, suc, true, ℕ, ◌+◌, ◌++◌, ◌<◌, ◌||◌, ◌∙◌, ◌∷◌, ◌≡◌}
+use Rattle.std.proofs.lemmas.Bool.{lt-ltb}
 use Rattle.std.proofs.lemmas.Option.{same_Some}
-use Rattle.std.proofs.Math.Seq.{map-set_same}
-use Rattle.std.specs.Cmp.Lexicographic.{other_text, pointwise, same_text}
-use Rattle.std.specs.Prelude.{IfNone, IfSome, IsTrue, option_map, string_bytes}
-use Rattle.script_parse.specs.Hashes.{AreApart, Lacks, names_of}
+use lib.Dec.{leb-suc-suc}
+use Rattle.std.specs.Cmp.Lexicographic.{nat_list_eq_equiv, pointwise}
+use Rattle.std.specs.List.{list_any, position_or_len}
+use Rattle.std.specs.Prelude.{option_map, position, string_bytes}
+use Rattle.indexmap.specs.IndexSet.{replace_key, swap_key}
 use Rattle.script_parse.specs.Places.{place_named, with_info}
 use Rattle.script_parse.specs.Refusals.{length_named, rank_named}
 use Rattle.script_parse.specs.declared.named.NameInfo.{NameInfo}
@@ -73,72 +73,37 @@ no_length = named_nowhere ℕ (λ i. i.length) length_named (λ text. refl) (λ 
 
 -- ---- a table's places
 
--- names behind the first are apart
-apart_rest : (name : List ℕ) (names : List (List ℕ)) → AreApart (name ∷ names) → AreApart names
-apart_rest name names h i j l m e = h (suc i) (suc j) (omega arith) (omega arith) e
-
--- the name stands at this place alone
-place_there :
-    (infos : List NameInfo) (name : List ℕ) (i : ℕ) → AreApart (names_of infos) → i < length infos → get_or (names_of infos) i [] ≡ name
-    → place_named infos name ≡ Some i
-place_there [] name i h lt e = absurd (omega arith)
-place_there (j ∷ infos) name zero h lt e = by_test (pointwise nat_eq (string_bytes j.name) name) refl
-  where
-    by_test : (b : Bool) → pointwise nat_eq (string_bytes j.name) name ≡ b → cond b (Some 0) (option_map suc (place_named infos name)) ≡ Some 0
-    by_test true q = refl
-    by_test false q = absurd (other_text (string_bytes j.name) name (sym q) e)
-place_there (j ∷ infos) name (suc i) h lt e =
-    by_test (pointwise nat_eq (string_bytes j.name) name) refl (place_there infos name i (apart_rest (string_bytes j.name) (names_of infos) h) (omega arith) e)
-  where
-    size : length (names_of infos) ≡ length infos
-    size = length-map infos (λ (v : NameInfo). string_bytes v.name)
-
-    by_test :
-        (b : Bool) → pointwise nat_eq (string_bytes j.name) name ≡ b → place_named infos name ≡ Some i
-        → cond b (Some 0) (option_map suc (place_named infos name)) ≡ Some (suc i)
-    by_test true q later = absurd (h 0 (suc i) (omega arith) (omega (arith, lt, size)) (same_text (string_bytes j.name) name (sym q) ∙ sym e))
-    by_test false q later = ap (option_map suc) later
-
-lacks_rest : (first name : List ℕ) (names : List (List ℕ)) → Lacks (first ∷ names) name → Lacks names name
-lacks_rest first name names h i lt e = h (suc i) (omega arith) e
-
--- a name that stands nowhere has no place
-place_nowhere : (infos : List NameInfo) (name : List ℕ) → Lacks (names_of infos) name → place_named infos name ≡ None
-place_nowhere [] name h = refl
-place_nowhere (j ∷ infos) name h =
-    by_test (pointwise nat_eq (string_bytes j.name) name) refl (place_nowhere infos name (lacks_rest (string_bytes j.name) name (names_of infos) h))
+-- a search goes on behind the first, if that is not it
+position_goes : (test : NameInfo → Bool) (j : NameInfo) (infos : List NameInfo) → position test (j ∷ infos) ≡ cond (test j) (Some 0) (option_map suc (position test infos))
+position_goes test j infos = by_test (test j)
   where
     by_test :
-        (b : Bool) → pointwise nat_eq (string_bytes j.name) name ≡ b → place_named infos name ≡ None
-        → cond b (Some 0) (option_map suc (place_named infos name)) ≡ None
-    by_test true q later = absurd (h 0 (omega arith) (same_text (string_bytes j.name) name (sym q)))
-    by_test false q later = ap (option_map suc) later
+        (b : Bool)
+        → cond (ltb (cond (not b) (1 + position_or_len test infos) 0) (suc (length infos))) (Some (cond (not b) (1 + position_or_len test infos) 0)) None
+        ≡ cond b (Some 0) (option_map suc (cond (ltb (position_or_len test infos) (length infos)) (Some (position_or_len test infos)) None))
+    by_test true = ap (λ b. cond b (Some 0) None) (lt-ltb 0 (suc (length infos)) (omega arith))
+    by_test false =
+        let p = position_or_len test infos in
+        let next : 1 + p ≡ suc p = omega arith in
+        ap (λ k. cond (ltb k (suc (length infos))) (Some k) None) next
+        ∙ ap (λ b. cond b (Some (suc p)) None) (leb-suc-suc (suc p) (length infos)) ∙ further (ltb p (length infos))
+      where
+        further : (b : Bool) → cond b (Some (suc (position_or_len test infos))) None ≡ option_map suc (cond b (Some (position_or_len test infos)) None)
+        further true = refl
+        further false = refl
 
--- the same by equations
-pub found_there :
-    {infos seen : List NameInfo} {name text : List ℕ} {i : ℕ} → seen ≡ infos → text ≡ name → AreApart (names_of infos)
-    → (i < length seen) × (get_or (names_of seen) i [] ≡ text) → place_named infos name ≡ Some i
-found_there {infos} {seen} {name} {text} {i} e f h t =
-    place_there infos name i h (subst (λ vs. i < length vs) e t.0) (ap (λ vs. get_or (names_of vs) i []) (sym e) ∙ t.1 ∙ f)
-
-pub found_nowhere :
-    {infos seen : List NameInfo} {name text : List ℕ} → seen ≡ infos → text ≡ name → Lacks (names_of seen) text → place_named infos name ≡ None
-found_nowhere {infos} {seen} {name} {text} e f h = place_nowhere infos name (subst₂ (λ vs x. Lacks (names_of vs) x) e f h)
-
--- what a search found is the place
-pub place_is :
-    {infos seen : List NameInfo} {name text : List ℕ} (found : Option ℕ) → seen ≡ infos → text ≡ name → AreApart (names_of infos)
-    → IfSome found (λ i. (i < length seen) × (get_or (names_of seen) i [] ≡ text)) → IfNone found (Lacks (names_of seen) text)
-    → found ≡ place_named infos name
-place_is (Some i) e f h some none = sym (found_there e f h some)
-place_is None e f h some none = sym (found_nowhere e f none)
-
--- a test for equal bytes tells whether names are the same
-pub name_told : (xs word : List ℕ) (b : Bool) → b ≡ pointwise nat_eq xs word → IsTrue b ↔ (xs ≡ word)
-name_told xs word true e = (λ t. same_text xs word e, λ q. refl)
-name_told xs word false e = (λ t. absurd (false≢true t), λ q. absurd (other_text xs word e q))
+-- the first that a search by the name finds
+pub place_found : (infos : List NameInfo) (name : List ℕ) → position (λ (i : NameInfo). pointwise nat_eq name (string_bytes i.name)) infos ≡ place_named infos name
+place_found [] name = refl
+place_found (j ∷ infos) name =
+    position_goes (λ (i : NameInfo). pointwise nat_eq name (string_bytes i.name)) j infos
+    ∙ ap₂ (λ b o. cond b (Some 0) (option_map suc o)) (nat_list_eq_equiv.symm name (string_bytes j.name)) (place_found infos name)
 
 -- ---- a name is given
+
+-- values are told apart by their names
+abbrev named_alike : NameInfo → NameInfo → Bool
+named_alike i j = pointwise nat_eq (string_bytes i.name) (string_bytes j.name)
 
 module _ (info : NameInfo) where
   -- in place of the value that has it
@@ -167,10 +132,19 @@ module _ (info : NameInfo) where
       by_test true h later = absurd cc
       by_test false h later = ap (λ vs. j ∷ vs) (later (no_later_place (place_named infos (string_bytes info.name)) h))
 
-  -- another value of the same name leaves the names as they were
-  pub names_kept :
-      (infos : List NameInfo) (i : ℕ) → i < length infos → get_or (names_of infos) i [] ≡ string_bytes info.name
-      → names_of (set infos i info) ≡ names_of infos
-  names_kept infos i lt e =
-      map-set_same (λ (v : NameInfo). string_bytes v.name) infos i info info
-      (sym e ∙ get_or-map (λ (v : NameInfo). string_bytes v.name) infos i info [] lt)
+  -- so the values are as a set's keys where one takes the place of its equal
+  pub given : (infos : List NameInfo) → replace_key named_alike infos info ≡ with_info info infos
+  given [] = refl
+  given (j ∷ infos) = by_test (pointwise nat_eq (string_bytes info.name) (string_bytes j.name)) (nat_list_eq_equiv.symm (string_bytes info.name) (string_bytes j.name)) (given infos)
+    where
+      by_test :
+          (b : Bool) → b ≡ pointwise nat_eq (string_bytes j.name) (string_bytes info.name) → replace_key named_alike infos info ≡ with_info info infos
+          → cond (b || list_any (named_alike info) infos) (cond b (info ∷ infos) (j ∷ swap_key (named_alike info) infos info)) (j ∷ infos ++ info ∷ []) ≡ with_info info (j ∷ infos)
+      by_test true e later = ap (λ b. cond b (info ∷ infos) (j ∷ with_info info infos)) e
+      by_test false e later = within (list_any (named_alike info) infos) later ∙ ap (λ b. cond b (info ∷ infos) (j ∷ with_info info infos)) e
+        where
+          within :
+              (b : Bool) → cond b (swap_key (named_alike info) infos info) (infos ++ info ∷ []) ≡ with_info info infos
+              → cond b (j ∷ swap_key (named_alike info) infos info) (j ∷ infos ++ info ∷ []) ≡ j ∷ with_info info infos
+          within true h = ap (λ vs. j ∷ vs) h
+          within false h = ap (λ vs. j ∷ vs) h

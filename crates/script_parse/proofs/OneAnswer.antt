@@ -10,21 +10,21 @@ use Rattle.module_vectors.specs.declared.key.Key.{Key}
 use Rattle.module_vectors.specs.declared.ring.Ring.{Ring}
 use Rattle.poly_grammar.specs.Trees.{Poly}
 use Rattle.poly_value.specs.Values.{IsValue}
+use Rattle.script_forms.specs.Written.{Written, WrittenOperation, ask_line, change_line, divide_line, elimination, equal_line, express_line, ext_line, ideal_line, let_line, module_line, nothing, of_polynomial, of_two, preimage, ring_line, show_line, syzygies}
+use Rattle.script_forms.specs.declared.form.DivisionWord.TheVariants as divisions
+use Rattle.script_forms.specs.declared.form.QuestionWord.TheVariants as questions
+use Rattle.script_forms.specs.declared.operands.Binary.TheVariants as binaries
+use Rattle.script_forms.specs.declared.operands.ByPolynomial.TheVariants as divisors
+use Rattle.script_forms.proofs.Lines.{one_line}
 use Rattle.script_parse.specs.Refusals.{Refuses, place}
 use Rattle.script_parse.specs.Statements.{ArePolynomialsOf, AreVectorsOf, HasEntries, IsOperationOf, IsSameOperation, IsSameStatement, Says, States, entries_from}
-use Rattle.script_parse.specs.Written.{Written, WrittenOperation, ask_line, change_line, divide_line, elimination, equal_line, express_line, ext_line, ideal_line, let_line, module_line, nothing, of_polynomial, of_two, preimage, ring_line, show_line, syzygies}
-use Rattle.script_parse.specs.declared.form.Division.TheVariants as divisions
-use Rattle.script_parse.specs.declared.form.Question.TheVariants as questions
 use Rattle.script_parse.specs.declared.kind.Kind.{Kind}
 use Rattle.script_parse.specs.declared.kind.Kind.TheVariants as kinds
 use Rattle.script_parse.specs.declared.named.NameInfo.{NameInfo}
-use Rattle.script_parse.specs.declared.operands.Binary.TheVariants as binaries
-use Rattle.script_parse.specs.declared.operands.ByPolynomial.TheVariants as divisors
 use Rattle.script_parse.specs.declared.operation.Operation.{Operation}
 use Rattle.script_parse.specs.declared.operation.Operation.TheVariants as operations
 use Rattle.script_parse.specs.declared.stated.Statement.{Statement}
 use Rattle.script_parse.specs.declared.stated.Statement.TheVariants as statements
-use Rattle.script_parse.proofs.Lines.{one_line}
 use Rattle.script_parse.proofs.Working.{lawful}
 
 pub apart : (ring : Option Ring) (infos : List NameInfo) (line : List ℕ) (a : Statement) (b : Kind) → States ring infos line a → Refuses ring infos line b → ⊥

@@ -4,11 +4,11 @@ use Rattle.std.proofs.lemmas.Bool.{cases_lt, eqb-false, eqb-true, leb-false, leb
 use Rattle.std.specs.List.{list_all}
 use Rattle.std.specs.Prelude.{Contains, flat_map, nat_le, ◌&&◌}
 use Rattle.poly_grammar.specs.Trees.{Poly}
-use Rattle.script_parse.specs.Forms.{further, shape_behind}
+use Rattle.script_forms.specs.Forms.{further, shape_behind}
+use Rattle.script_forms.specs.declared.vectors.Shape.{Shape}
+use Rattle.script_forms.specs.declared.vectors.Shape.TheVariants.{Each, Empty, Mixed}
 use Rattle.script_parse.specs.Refusals.{IsOutside}
 use Rattle.script_parse.specs.Tests.{has_width, length_fits, low_rank, module_fits, within}
-use Rattle.script_parse.specs.declared.vectors.Shape.{Shape}
-use Rattle.script_parse.specs.declared.vectors.Shape.TheVariants.{Each, Empty, Mixed}
 
 both : (a b : Bool) → (a && b) ≡ true → (a ≡ true) × (b ≡ true)
 both true b h = (refl, h)

@@ -8,31 +8,31 @@ use Rattle.poly_grammar.specs.Algebras.{Algebra, worth, worth_of_steps}
 use Rattle.poly_grammar.specs.Numerals.{text_of, value_of}
 use Rattle.poly_grammar.specs.Steps.{steps}
 use Rattle.poly_grammar.specs.Trees.{Poly}
-use Rattle.poly_grammar.specs.declared.step.Step.{Step}
-use Rattle.poly_grammar.specs.declared.step.Step.TheVariants.{Name}
+use Rattle.poly_grammar.specs.declared.step.PolyStep.{PolyStep}
+use Rattle.poly_grammar.specs.declared.step.PolyStep.TheVariants.{Name}
 use Rattle.poly_grammar.proofs.Worths.{worth_is_left}
 use Rattle.module_vectors.specs.Rings.{ring_comparison, variables}
 use Rattle.module_vectors.specs.Vectors.{HasPositions, IsVectorOver}
 use Rattle.module_vectors.specs.declared.key.Key.{Key}
 use Rattle.module_vectors.specs.declared.ring.Ring.{Ring}
 use Rattle.poly_value.specs.Values.{degrees_of, place_of, polynomials_of}
-use Rattle.script_parse.specs.Forms.{IsLineOf, operands_of, shape_behind}
+use Rattle.script_forms.specs.Forms.{IsLineOf, operands_of, shape_behind}
+use Rattle.script_forms.specs.Written.{Written, WrittenOperation, divide_line, express_line, ideal_line, module_line, of_polynomial, operation_polys, preimage, show_line}
+use Rattle.script_forms.specs.declared.form.DivisionWord.TheVariants.{Lift, Member, NormalForm}
+use Rattle.script_forms.specs.declared.form.Head.{Head}
+use Rattle.script_forms.specs.declared.form.Head.TheVariants as heads
+use Rattle.script_forms.specs.declared.operands.ByPolynomial.{ByPolynomial}
+use Rattle.script_forms.specs.declared.operands.ByPolynomial.TheVariants.{Quotient, Saturate}
+use Rattle.script_forms.specs.declared.operands.Operands.TheVariants as shapes
+use Rattle.script_forms.specs.declared.vectors.Shape.{Shape}
+use Rattle.script_forms.specs.declared.vectors.Shape.TheVariants.{Empty}
+use Rattle.script_forms.proofs.Apart.{heads_apart}
 use Rattle.script_parse.specs.Tests.{AreVectorWorths, AreWorths, HaveNumerals, IsWorkable, IsWorth, StandsForEntries, is_known, is_no_value, known_names, knows, low_degree, module_fits, names_pass, right_kinds}
 use Rattle.script_parse.specs.Refusals.{rank_named}
 use Rattle.script_parse.specs.Statements.{ArePolynomialsOf, AreVectorsOf, IsOperationOf, IsPolynomialOf, IsVectorWith, Says}
-use Rattle.script_parse.specs.Written.{Written, WrittenOperation, divide_line, express_line, ideal_line, module_line, of_polynomial, operation_polys, preimage, show_line}
-use Rattle.script_parse.specs.declared.form.Division.TheVariants.{Lift, Member, NormalForm}
-use Rattle.script_parse.specs.declared.form.Head.{Head}
-use Rattle.script_parse.specs.declared.form.Head.TheVariants as heads
 use Rattle.script_parse.specs.declared.named.NameInfo.{NameInfo}
-use Rattle.script_parse.specs.declared.operands.ByPolynomial.{ByPolynomial}
-use Rattle.script_parse.specs.declared.operands.ByPolynomial.TheVariants.{Quotient, Saturate}
-use Rattle.script_parse.specs.declared.operands.Operands.TheVariants as shapes
 use Rattle.script_parse.specs.declared.operation.Operation.TheVariants as operations
 use Rattle.script_parse.specs.declared.stated.Statement.TheVariants as statements
-use Rattle.script_parse.specs.declared.vectors.Shape.{Shape}
-use Rattle.script_parse.specs.declared.vectors.Shape.TheVariants.{Empty}
-use Rattle.script_parse.proofs.Apart.{heads_apart}
 use Rattle.script_parse.proofs.Ranks.{module_passes, same_width}
 use Rattle.script_parse.proofs.Testing.{both_true}
 use Rattle.script_parse.proofs.Working.{has_worth, weight_of}
@@ -47,7 +47,7 @@ is_variable vars infos text e f = by_cases (is_some (place_of vars text)) (is_so
     by_cases false true p q = absurd cc
     by_cases false false p q = absurd cc
 
-only_variables : (vars : List (List ℕ)) (infos : List NameInfo) (line : List ℕ) (xs : List Step) → names_pass (is_known vars infos) line xs ≡ true → names_pass (is_no_value infos) line xs ≡ true → knows vars line xs ≡ true
+only_variables : (vars : List (List ℕ)) (infos : List NameInfo) (line : List ℕ) (xs : List PolyStep) → names_pass (is_known vars infos) line xs ≡ true → names_pass (is_no_value infos) line xs ≡ true → knows vars line xs ≡ true
 only_variables vars infos line [] e f = refl
 only_variables vars infos line (Name t ∷ xs) e f = by_tests (is_known vars infos (text_of line t)) (is_no_value infos (text_of line t)) refl refl e f (λ g h. only_variables vars infos line xs g h)
   where
@@ -62,7 +62,7 @@ low : (o : Option ℕ) → is_some o ≡ true → (d : ℕ) × (o ≡ Some d)
 low None e = absurd cc
 low (Some d) e = (d, refl)
 
-able : (ring : Ring) (infos : List NameInfo) (line : List ℕ) (pieces : List (Vec Step Global))
+able : (ring : Ring) (infos : List NameInfo) (line : List ℕ) (pieces : List (Vec PolyStep Global))
     → list_all (λ v. names_pass (is_known ring.vars infos) line v.items) pieces ≡ true → list_all (λ v. names_pass (is_no_value infos) line v.items) pieces ≡ true
     → list_all (λ v. low_degree ring line v.items) pieces ≡ true → AllByRecursion (HaveNumerals line) pieces → AllByRecursion (IsWorkable ring line) pieces
 able ring infos line [] n k d h = tt
@@ -74,14 +74,14 @@ able ring infos line (v ∷ pieces) n k d h =
     let worth = has_worth (variables ring) ring.modulus.value ring.vars line (weight_of ring line) v.items degree.0 (only_variables ring.vars infos line v.items ns.0 ks.0) degree.1 in
     (record { worth = worth; degree = degree; numerals = h.0 }, able ring infos line pieces ns.1 ks.1 ds.1 h.1)
 
-pub workable : (ring : Ring) (infos : List NameInfo) (line : List ℕ) (head : Head) (pieces : List (Vec Step Global))
+pub workable : (ring : Ring) (infos : List NameInfo) (line : List ℕ) (head : Head) (pieces : List (Vec PolyStep Global))
     → known_names ring.vars infos line head pieces ≡ true → right_kinds ring.vars infos line head pieces ≡ true → list_all (λ v. low_degree ring line v.items) pieces ≡ true
     → AllByRecursion (HaveNumerals line) pieces → AllByRecursion (IsWorkable ring line) pieces
 workable ring infos line head pieces n k d h = able ring infos line pieces (both_true _ (list_all (λ v. names_pass (is_known ring.vars infos) line v.items) pieces) n).1 (both_true _ (list_all (λ v. names_pass (is_no_value infos) line v.items) pieces) k).1 d h
 
 -- ---- what is worked out
 
-polynomial_of : (ring : Ring) (line : List ℕ) (p : Poly) (v : Vec Step Global) (u : List (Key × ℕ)) → v.items ≡ steps p → IsWorkable ring line v → IsWorth ring line v.items u → IsPolynomialOf ring line p u
+polynomial_of : (ring : Ring) (line : List ℕ) (p : Poly) (v : Vec PolyStep Global) (u : List (Key × ℕ)) → v.items ≡ steps p → IsWorkable ring line v → IsWorth ring line v.items u → IsPolynomialOf ring line p u
 polynomial_of ring line p v u e able w = (
   w.vector,
   w.polynomial,
@@ -92,7 +92,7 @@ polynomial_of ring line p v u e able w = (
   },
 )
 
-polynomials_are : (ring : Ring) (line : List ℕ) (pieces : List (Vec Step Global)) (ps : List Poly) (us : List (List (Key × ℕ))) → map (λ v. v.items) pieces ≡ map steps ps → AllByRecursion (IsWorkable ring line) pieces → AreWorths ring line pieces us → ArePolynomialsOf ring line ps us
+polynomials_are : (ring : Ring) (line : List ℕ) (pieces : List (Vec PolyStep Global)) (ps : List Poly) (us : List (List (Key × ℕ))) → map (λ v. v.items) pieces ≡ map steps ps → AllByRecursion (IsWorkable ring line) pieces → AreWorths ring line pieces us → ArePolynomialsOf ring line ps us
 polynomials_are ring line [] [] [] e able w = tt
 polynomials_are ring line [] [] (u ∷ us) e able w = absurd w
 polynomials_are ring line [] (p ∷ ps) us e able w = absurd cc
@@ -103,7 +103,7 @@ polynomials_are ring line (v ∷ pieces) (p ∷ ps) (u ∷ us) e able w =
     let tail : map (λ v. v.items) pieces ≡ map steps ps = cc in
     (polynomial_of ring line p v u head able.0 w.0, polynomials_are ring line pieces ps us tail able.1 w.1)
 
-worths_of : {A : Type 0} (g : Algebra A) (pieces : List (Vec Step Global)) (ps : List Poly) → map (λ v. v.items) pieces ≡ map steps ps → map (λ v. worth_of_steps g v.items) pieces ≡ map (worth g) ps
+worths_of : {A : Type 0} (g : Algebra A) (pieces : List (Vec PolyStep Global)) (ps : List Poly) → map (λ v. v.items) pieces ≡ map steps ps → map (λ v. worth_of_steps g v.items) pieces ≡ map (worth g) ps
 worths_of g [] [] e = refl
 worths_of g [] (p ∷ ps) e = absurd cc
 worths_of g (v ∷ pieces) [] e = absurd cc
@@ -112,7 +112,7 @@ worths_of g (v ∷ pieces) (p ∷ ps) e =
     let tail : map (λ v. v.items) pieces ≡ map steps ps = cc in
     ap₂ (λ x l. x ∷ l) (ap (worth_of_steps g) head ∙ worth_is_left g p) (worths_of g pieces ps tail)
 
-vector_is : (ring : Ring) (line : List ℕ) (pieces : List (Vec Step Global)) (ps : List Poly) (u : List (Key × ℕ)) → map (λ v. v.items) pieces ≡ map steps ps
+vector_is : (ring : Ring) (line : List ℕ) (pieces : List (Vec PolyStep Global)) (ps : List Poly) (u : List (Key × ℕ)) → map (λ v. v.items) pieces ≡ map steps ps
     → IsVectorOver ring (ring_comparison ring) u → HasPositions (length pieces) u → StandsForEntries ring line pieces u → IsVectorWith ring line ps u
 vector_is ring line pieces ps u e vector positions stands = (
   vector,
@@ -123,12 +123,12 @@ vector_is ring line pieces ps u e vector positions stands = (
 -- ---- what is said
 
 -- a shown polynomial is there
-pub is_shown : (pieces : List (Vec Step Global)) (w : Written) → IsLineOf heads.Show pieces w → 0 < length pieces
+pub is_shown : (pieces : List (Vec PolyStep Global)) (w : Written) → IsLineOf heads.Show pieces w → 0 < length pieces
 is_shown (v ∷ pieces) w is = omega arith
 is_shown [] (show_line p) is = let e = is.steps_are in absurd cc
 is_shown [] _ is = absurd (heads_apart is.head_is refl)
 
-pub show_says : (ring : Ring) (line : List ℕ) (pieces more : List (Vec Step Global)) (v : Vec Step Global) (u : List (Key × ℕ)) → pieces ≡ v ∷ more → AllByRecursion (IsWorkable ring line) pieces → IsWorth ring line v.items u
+pub show_says : (ring : Ring) (line : List ℕ) (pieces more : List (Vec PolyStep Global)) (v : Vec PolyStep Global) (u : List (Key × ℕ)) → pieces ≡ v ∷ more → AllByRecursion (IsWorkable ring line) pieces → IsWorth ring line v.items u
     → (w : Written) → IsLineOf heads.Show pieces w → Says (Some ring) line w (statements.Show u)
 show_says ring line pieces more v u e able worth (show_line p) is =
     let all : map (λ v. v.items) (v ∷ more) ≡ steps p ∷ [] = ap (λ l. map (λ v. v.items) l) (sym e) ∙ is.steps_are in
@@ -138,13 +138,13 @@ show_says ring line pieces more v u e able worth (show_line p) is =
 show_says ring line pieces more v u e able worth _ is = absurd (heads_apart is.head_is refl)
 
 -- so is a polynomial that is expressed
-pub is_expressed : (pieces : List (Vec Step Global)) (w : Written) → IsLineOf heads.Express pieces w → 0 < length pieces
+pub is_expressed : (pieces : List (Vec PolyStep Global)) (w : Written) → IsLineOf heads.Express pieces w → 0 < length pieces
 is_expressed (v ∷ pieces) w is = omega arith
 is_expressed [] (express_line p images) is = let e = is.steps_are in absurd cc
 is_expressed [] _ is = absurd (heads_apart is.head_is refl)
 
 pub express_says :
-    (ring : Ring) (line : List ℕ) (pieces more : List (Vec Step Global)) (v : Vec Step Global) (u : List (Key × ℕ)) (us : List (List (Key × ℕ))) → pieces ≡ v ∷ more
+    (ring : Ring) (line : List ℕ) (pieces more : List (Vec PolyStep Global)) (v : Vec PolyStep Global) (u : List (Key × ℕ)) (us : List (List (Key × ℕ))) → pieces ≡ v ∷ more
     → AllByRecursion (IsWorkable ring line) pieces → IsWorth ring line v.items u → AreWorths ring line more us
     → (w : Written) → IsLineOf heads.Express pieces w → Says (Some ring) line w (statements.Express u us)
 express_says ring line pieces more v u us e able worth worths (express_line p images) is =
@@ -155,7 +155,7 @@ express_says ring line pieces more v u us e able worth worths (express_line p im
     (polynomial_of ring line p v u head each.0 worth, polynomials_are ring line more images us tail each.1 worths)
 express_says ring line pieces more v u us e able worth worths _ is = absurd (heads_apart is.head_is refl)
 
-pub ideal_says : (ring : Ring) (line : List ℕ) (pieces : List (Vec Step Global)) (given : Token) (name : _) (us : List (List (Key × ℕ))) → string_bytes name ≡ text_of line given → AllByRecursion (IsWorkable ring line) pieces → AreWorths ring line pieces us
+pub ideal_says : (ring : Ring) (line : List ℕ) (pieces : List (Vec PolyStep Global)) (given : Token) (name : _) (us : List (List (Key × ℕ))) → string_bytes name ≡ text_of line given → AllByRecursion (IsWorkable ring line) pieces → AreWorths ring line pieces us
     → (w : Written) → IsLineOf (heads.Ideal given) pieces w → Says (Some ring) line w (statements.Ideal name us)
 ideal_says ring line pieces given name us e able worths (ideal_line t ps) is =
     let h = is.head_is in
@@ -163,7 +163,7 @@ ideal_says ring line pieces given name us e able worths (ideal_line t ps) is =
     (e ∙ ap (text_of line) same, polynomials_are ring line pieces ps us is.steps_are able worths)
 ideal_says ring line pieces given name us e able worths _ is = absurd (heads_apart is.head_is refl)
 
-pub normal_says : (ring : Ring) (line : List ℕ) (pieces : List (Vec Step Global)) (value : Token) (name : _) (u : List (Key × ℕ)) → string_bytes name ≡ text_of line value
+pub normal_says : (ring : Ring) (line : List ℕ) (pieces : List (Vec PolyStep Global)) (value : Token) (name : _) (u : List (Key × ℕ)) → string_bytes name ≡ text_of line value
     → IsVectorOver ring (ring_comparison ring) u → HasPositions (length pieces) u → StandsForEntries ring line pieces u
     → (w : Written) → IsLineOf (heads.Divide NormalForm value) pieces w → Says (Some ring) line w (statements.NormalForm name u)
 normal_says ring line pieces value name u e vector positions stands (divide_line NormalForm t ps) is =
@@ -174,7 +174,7 @@ normal_says ring line pieces value name u e vector positions stands (divide_line
 normal_says ring line pieces value name u e vector positions stands (divide_line Lift t ps) is = let h = is.head_is in absurd cc
 normal_says ring line pieces value name u e vector positions stands _ is = absurd (heads_apart is.head_is refl)
 
-pub member_says : (ring : Ring) (line : List ℕ) (pieces : List (Vec Step Global)) (value : Token) (name : _) (u : List (Key × ℕ)) → string_bytes name ≡ text_of line value
+pub member_says : (ring : Ring) (line : List ℕ) (pieces : List (Vec PolyStep Global)) (value : Token) (name : _) (u : List (Key × ℕ)) → string_bytes name ≡ text_of line value
     → IsVectorOver ring (ring_comparison ring) u → HasPositions (length pieces) u → StandsForEntries ring line pieces u
     → (w : Written) → IsLineOf (heads.Divide Member value) pieces w → Says (Some ring) line w (statements.Member name u)
 member_says ring line pieces value name u e vector positions stands (divide_line Member t ps) is =
@@ -185,7 +185,7 @@ member_says ring line pieces value name u e vector positions stands (divide_line
 member_says ring line pieces value name u e vector positions stands (divide_line Lift t ps) is = let h = is.head_is in absurd cc
 member_says ring line pieces value name u e vector positions stands _ is = absurd (heads_apart is.head_is refl)
 
-pub lift_says : (ring : Ring) (line : List ℕ) (pieces : List (Vec Step Global)) (value : Token) (name : _) (u : List (Key × ℕ)) → string_bytes name ≡ text_of line value
+pub lift_says : (ring : Ring) (line : List ℕ) (pieces : List (Vec PolyStep Global)) (value : Token) (name : _) (u : List (Key × ℕ)) → string_bytes name ≡ text_of line value
     → IsVectorOver ring (ring_comparison ring) u → HasPositions (length pieces) u → StandsForEntries ring line pieces u
     → (w : Written) → IsLineOf (heads.Divide Lift value) pieces w → Says (Some ring) line w (statements.Lift name u)
 lift_says ring line pieces value name u e vector positions stands (divide_line Lift t ps) is =
@@ -212,7 +212,7 @@ drop_front (suc n) (x ∷ xs) ys e = drop_front n xs ys (omega (arith, e))
 
 module _ (ring : Ring) (line : List ℕ) (rank : ℕ) (some : 0 < rank) where
   vectors_are :
-      (pieces : List (Vec Step Global)) (vectors : List (List Poly)) (us : List (List (Key × ℕ))) → map (λ v. v.items) pieces ≡ map steps (flat_map (λ es. es) vectors)
+      (pieces : List (Vec PolyStep Global)) (vectors : List (List Poly)) (us : List (List (Key × ℕ))) → map (λ v. v.items) pieces ≡ map steps (flat_map (λ es. es) vectors)
       → list_all (λ es. nat_eq (length es) rank) vectors ≡ true → AreVectorWorths ring line rank pieces us → AreVectorsOf ring line rank vectors us
   vectors_are pieces [] [] e wide w = tt
   vectors_are pieces [] (u ∷ us) e wide w =
@@ -239,7 +239,7 @@ module _ (ring : Ring) (line : List ℕ) (rank : ℕ) (some : 0 < rank) where
       ((one.0, subst (λ k. HasPositions k u) width one.1, one.2), vectors_are (drop rank pieces) more us back b.1 w.2)
 
 pub module_says :
-    (ring : Ring) (line : List ℕ) (pieces : List (Vec Step Global)) (given rank : Token) (shape : Shape) (name : _) (r : ℕ) (us : List (List (Key × ℕ))) → string_bytes name ≡ text_of line given → r ≡ value_of line rank
+    (ring : Ring) (line : List ℕ) (pieces : List (Vec PolyStep Global)) (given rank : Token) (shape : Shape) (name : _) (r : ℕ) (us : List (List (Key × ℕ))) → string_bytes name ≡ text_of line given → r ≡ value_of line rank
     → module_fits (value_of line rank) shape (length pieces) ≡ true → AreVectorWorths ring line r pieces us
     → (w : Written) → IsLineOf (heads.Module given rank shape) pieces w → Says (Some ring) line w (statements.Module name r us)
 module_says ring line pieces given rank shape name r us e n fits worths (module_line t s vectors) is =
@@ -253,25 +253,25 @@ module_says ring line pieces given rank shape name r us e n fits worths (module_
 module_says ring line pieces given rank shape name r us e n fits worths _ is = absurd (heads_apart is.head_is refl)
 
 -- the vectors that are worked out, one behind the other
-pub record AreChunks (ring : Ring) (line : List ℕ) (rank : ℕ) (all rest : List (Vec Step Global)) (list : List (List (Key × ℕ))) : Type 0 where
+pub record AreChunks (ring : Ring) (line : List ℕ) (rank : ℕ) (all rest : List (Vec PolyStep Global)) (list : List (List (Key × ℕ))) : Type 0 where
   pub joins : (us : List (List (Key × ℕ))) → AreVectorWorths ring line rank rest us → AreVectorWorths ring line rank all (list ++ us)
   pub workable : AllByRecursion (IsWorkable ring line) rest
 
-pub chunks_end : (ring : Ring) (line : List ℕ) (rank : ℕ) (all rest : List (Vec Step Global)) (list : List (List (Key × ℕ))) → rest ≡ [] → AreChunks ring line rank all rest list → AreVectorWorths ring line rank all list
+pub chunks_end : (ring : Ring) (line : List ℕ) (rank : ℕ) (all rest : List (Vec PolyStep Global)) (list : List (List (Key × ℕ))) → rest ≡ [] → AreChunks ring line rank all rest list → AreVectorWorths ring line rank all list
 chunks_end ring line rank all rest list none h = subst (λ l. AreVectorWorths ring line rank all l) (append-nil list) (h.joins [] none)
 
 -- ---- operations
 
 -- the polynomial that is worked out, and its value's name
-pub record Divides (ring : Ring) (line : List ℕ) (pieces : List (Vec Step Global)) (value : Token) (name : List ℕ) (u : List (Key × ℕ)) : Type 0 where
-  pub first : Vec Step Global
-  pub more : List (Vec Step Global)
+pub record Divides (ring : Ring) (line : List ℕ) (pieces : List (Vec PolyStep Global)) (value : Token) (name : List ℕ) (u : List (Key × ℕ)) : Type 0 where
+  pub first : Vec PolyStep Global
+  pub more : List (Vec PolyStep Global)
   pub pieces_are : pieces ≡ first ∷ more
   pub workable : AllByRecursion (IsWorkable ring line) pieces
   pub worth : IsWorth ring line first.items u
   pub name_is : name ≡ text_of line value
 
-divisor_of : (ring : Ring) (line : List ℕ) (pieces : List (Vec Step Global)) (value : Token) (name : List ℕ) (u : List (Key × ℕ)) (p : Poly) → Divides ring line pieces value name u → map (λ v. v.items) pieces ≡ steps p ∷ [] → IsPolynomialOf ring line p u
+divisor_of : (ring : Ring) (line : List ℕ) (pieces : List (Vec PolyStep Global)) (value : Token) (name : List ℕ) (u : List (Key × ℕ)) (p : Poly) → Divides ring line pieces value name u → map (λ v. v.items) pieces ≡ steps p ∷ [] → IsPolynomialOf ring line p u
 divisor_of ring line pieces value name u p d s =
     let all : map (λ v. v.items) (d.first ∷ d.more) ≡ steps p ∷ [] = ap (λ l. map (λ v. v.items) l) (sym d.pieces_are) ∙ s in
     let head : d.first.items ≡ steps p = cc in
@@ -280,7 +280,7 @@ divisor_of ring line pieces value name u p d s =
 
 -- an operation by a polynomial has one
 pub polynomial_there :
-    (pieces : List (Vec Step Global)) (word : ByPolynomial) (value : Token) (w : WrittenOperation) → operands_of w ≡ shapes.Polynomial word value → map
+    (pieces : List (Vec PolyStep Global)) (word : ByPolynomial) (value : Token) (w : WrittenOperation) → operands_of w ≡ shapes.Polynomial word value → map
     (λ v. v.items) pieces ≡ map steps (operation_polys w)
     → length pieces ≡ 0 → ⊥
 polynomial_there (v ∷ pieces) word value w e s none = omega (arith, none)
@@ -288,7 +288,7 @@ polynomial_there [] word value (of_polynomial other t p) e s none = cc
 polynomial_there [] word value _ e s none = cc
 
 pub quotient_says :
-    (ring : Ring) (line : List ℕ) (pieces : List (Vec Step Global)) (value : Token) (name : _) (u : List (Key × ℕ)) → Divides ring line pieces value (string_bytes name) u
+    (ring : Ring) (line : List ℕ) (pieces : List (Vec PolyStep Global)) (value : Token) (name : _) (u : List (Key × ℕ)) → Divides ring line pieces value (string_bytes name) u
     → (w : WrittenOperation) → operands_of w ≡ shapes.Polynomial Quotient value → map (λ v. v.items) pieces ≡ map steps (operation_polys w) → IsOperationOf ring line w (operations.Quotient name u)
 quotient_says ring line pieces value name u d (of_polynomial Quotient t p) e s =
     let same : value ≡ t = cc in (d.name_is ∙ ap (text_of line) same, divisor_of ring line pieces value (string_bytes name) u p d s)
@@ -296,7 +296,7 @@ quotient_says ring line pieces value name u d (of_polynomial Saturate t p) e s =
 quotient_says ring line pieces value name u d _ e s = absurd cc
 
 pub saturation_says :
-    (ring : Ring) (line : List ℕ) (pieces : List (Vec Step Global)) (value : Token) (name : _) (u : List (Key × ℕ)) → Divides ring line pieces value (string_bytes name) u
+    (ring : Ring) (line : List ℕ) (pieces : List (Vec PolyStep Global)) (value : Token) (name : _) (u : List (Key × ℕ)) → Divides ring line pieces value (string_bytes name) u
     → (w : WrittenOperation) → operands_of w ≡ shapes.Polynomial Saturate value → map (λ v. v.items) pieces ≡ map steps (operation_polys w) → IsOperationOf ring line w (operations.Saturate name u)
 saturation_says ring line pieces value name u d (of_polynomial Saturate t p) e s =
     let same : value ≡ t = cc in (d.name_is ∙ ap (text_of line) same, divisor_of ring line pieces value (string_bytes name) u p d s)
@@ -304,7 +304,7 @@ saturation_says ring line pieces value name u d (of_polynomial Quotient t p) e s
 saturation_says ring line pieces value name u d _ e s = absurd cc
 
 pub preimage_says :
-    (ring : Ring) (line : List ℕ) (pieces : List (Vec Step Global)) (value : Token) (name : _) (us : List (List (Key × ℕ))) → string_bytes name ≡ text_of line value
+    (ring : Ring) (line : List ℕ) (pieces : List (Vec PolyStep Global)) (value : Token) (name : _) (us : List (List (Key × ℕ))) → string_bytes name ≡ text_of line value
     → AllByRecursion (IsWorkable ring line) pieces → AreWorths ring line pieces us
     → (w : WrittenOperation) → operands_of w ≡ shapes.Preimage value → map (λ v. v.items) pieces ≡ map steps (operation_polys w) → IsOperationOf ring line w (operations.Preimage name us)
 preimage_says ring line pieces value name us n able worths (preimage t images) e s =

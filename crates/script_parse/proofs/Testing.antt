@@ -13,22 +13,22 @@ use Rattle.poly_grammar.specs.Lexemes.{names_in}
 use Rattle.poly_grammar.specs.Numerals.{text_of, value_of}
 use Rattle.poly_grammar.specs.Steps.{names_of_steps, steps}
 use Rattle.poly_grammar.specs.Trees.{Poly, spelling}
-use Rattle.poly_grammar.specs.declared.step.Step.{Step}
-use Rattle.poly_grammar.specs.declared.step.Step.TheVariants.{Name}
+use Rattle.poly_grammar.specs.declared.step.PolyStep.{PolyStep}
+use Rattle.poly_grammar.specs.declared.step.PolyStep.TheVariants.{Name}
 use Rattle.poly_grammar.proofs.Names.{steps_have_names}
 use Rattle.poly_value.specs.Values.{place_of}
 use Rattle.module_vectors.specs.declared.ring.Ring.{Ring}
-use Rattle.script_parse.specs.Forms.{IsLineOf, head_of, operands_of, shape_behind}
+use Rattle.script_forms.specs.Forms.{IsLineOf, head_of, operands_of, shape_behind}
+use Rattle.script_forms.specs.declared.ring_words.OrderName.{OrderName}
+use Rattle.script_forms.specs.declared.ring_words.OrderName.TheVariants.{Elim, Grevlex, Lex}
+use Rattle.script_forms.specs.Written.{Written, WrittenOperation, ask_line, change_line, divide_line, elimination, equal_line, express_line, ext_line, given_by, ideal_line, let_line, module_line, nothing, of_polynomial, of_two, operation_places, operation_polys, polys_of, preimage, ring_line, show_line, syzygies, value_places}
+use Rattle.script_forms.specs.declared.form.Head.{Head}
+use Rattle.script_forms.specs.declared.form.Head.TheVariants as heads
+use Rattle.script_forms.specs.declared.operands.Binary.TheVariants.{Colon, Intersect, Product, Sum}
+use Rattle.script_forms.specs.declared.vectors.Shape.TheVariants.{Empty}
 use Rattle.script_parse.specs.Tests.{factor_fits, given_name, is_known, is_no_value, is_no_variable, known_names, low_degree, names_pass, number_fits, operand_places, operands_eliminate, operands_fit, operands_low, order_eliminates, places, rank_fits, right_kinds, same_rank}
 use Rattle.script_parse.specs.Refusals.{HasElimOutside, HasGreatDegree, HasOtherFactor, HasOtherImages, HasOtherKind, HasOtherOperands, HasOtherRank, HasUnknownName, IsNamed, LacksRing, StandsInPoly, length_named, rank_named}
-use Rattle.script_parse.specs.declared.ring_words.OrderName.{OrderName}
-use Rattle.script_parse.specs.declared.ring_words.OrderName.TheVariants.{Elim, Grevlex, Lex}
-use Rattle.script_parse.specs.Written.{Written, WrittenOperation, ask_line, change_line, divide_line, elimination, equal_line, express_line, ext_line, given_by, ideal_line, let_line, module_line, nothing, of_polynomial, of_two, operation_places, operation_polys, polys_of, preimage, ring_line, show_line, syzygies, value_places}
-use Rattle.script_parse.specs.declared.form.Head.{Head}
-use Rattle.script_parse.specs.declared.form.Head.TheVariants as heads
 use Rattle.script_parse.specs.declared.named.NameInfo.{NameInfo}
-use Rattle.script_parse.specs.declared.operands.Binary.TheVariants.{Colon, Intersect, Product, Sum}
-use Rattle.script_parse.specs.declared.vectors.Shape.TheVariants.{Empty}
 use Rattle.script_parse.proofs.Ranks.{length_low, length_other, low_not, not_within, rank_above, vectors_fit, vectors_other, within_not}
 use Rattle.script_parse.proofs.Working.{degree_of_steps, weight_of}
 
@@ -104,13 +104,13 @@ all_pass f (y ∷ xs) x e (suc i, lt, is) = all_pass f xs x (both_true (f y) (li
 pub variable_no_value : (vars : List (List ℕ)) (infos : List NameInfo) (text : List ℕ) (apart : Bool) → apart ≡ list_all (is_no_value infos) vars → apart ≡ true → is_some (place_of vars text) ≡ true → true ≡ is_no_value infos text
 variable_no_value vars infos text apart e f h = sym (all_pass (is_no_value infos) vars text (sym e ∙ f) (placed vars text h))
 
-pass_names : (test : List ℕ → Bool) (line : List ℕ) (xs : List Step) → names_pass test line xs ≡ list_all (λ t. test (text_of line t)) (names_of_steps xs)
+pass_names : (test : List ℕ → Bool) (line : List ℕ) (xs : List PolyStep) → names_pass test line xs ≡ list_all (λ t. test (text_of line t)) (names_of_steps xs)
 pass_names test line [] = refl
 pass_names test line (Name t ∷ xs) = cond_and (test (text_of line t)) (names_pass test line xs) ∙ ap (λ b. test (text_of line t) && b) (pass_names test line xs)
 pass_names test line (_ ∷ xs) = pass_names test line xs
 
 -- a test of a POLY's steps is one of the POLY
-same_tests : (F : List Step → Bool) (G : Poly → Bool) → ((p : Poly) → F (steps p) ≡ G p) → (pieces : List (Vec Step Global)) (ps : List Poly) → map (λ v. v.items) pieces ≡ map steps ps → list_all (λ v. F v.items) pieces ≡ list_all G ps
+same_tests : (F : List PolyStep → Bool) (G : Poly → Bool) → ((p : Poly) → F (steps p) ≡ G p) → (pieces : List (Vec PolyStep Global)) (ps : List Poly) → map (λ v. v.items) pieces ≡ map steps ps → list_all (λ v. F v.items) pieces ≡ list_all G ps
 same_tests F G same [] [] e = refl
 same_tests F G same [] (p ∷ ps) e = absurd cc
 same_tests F G same (v ∷ pieces) [] e = absurd cc
@@ -403,7 +403,7 @@ no_number (Some n) e = absurd cc
 
 -- ---- the kinds of a line
 
-module _ (ring : Ring) (names : List NameInfo) (line : List ℕ) (w : Written) (head : Head) (pieces : List (Vec Step Global)) (is : IsLineOf head pieces w) where
+module _ (ring : Ring) (names : List NameInfo) (line : List ℕ) (w : Written) (head : Head) (pieces : List (Vec PolyStep Global)) (is : IsLineOf head pieces w) where
   abbrev vars : List (List ℕ)
   vars = ring.vars
 

@@ -19,19 +19,19 @@ use Rattle.poly_grammar.specs.Lexemes.{Lexeme, close_bracket, comma, lexeme, lex
 use Rattle.poly_grammar.specs.Numerals.{FitsAs, NumeralFits, number_of, text_of, value_of}
 use Rattle.poly_grammar.specs.Steps.{numbers_of_steps, steps}
 use Rattle.poly_grammar.specs.Trees.{Poly, Reads, spelling}
-use Rattle.poly_grammar.specs.declared.step.Step.{Step}
+use Rattle.poly_grammar.specs.declared.step.PolyStep.{PolyStep}
 use Rattle.poly_grammar.proofs.NumbersOfSteps.{steps_have_numbers}
-use Rattle.script_parse.specs.Forms.{IsFormOf, head_of, operands_of, shape_behind}
-use Rattle.script_parse.specs.Tests.{IsPolynomial, IsWellFormed, head_names, operand_places, repeats, stands_among}
+use Rattle.script_forms.specs.Forms.{IsFormOf, head_of, operands_of, shape_behind}
+use Rattle.script_forms.specs.Written.{AreVectorEntries, AreListedNames, ArePolys, AreVectors, IsExpressLine, IsOperation, IsWritten, Written, WrittenOperation, ask_line, change_line, comma_list, divide_line, elimination, equal_line, express_line, ext_line, ideal_line, let_line, module_line, nothing, of_polynomial, of_two, operation_polys, polys_of, preimage, ring_line, show_line, syzygies}
+use Rattle.script_forms.specs.declared.form.Form.{Form}
+use Rattle.script_forms.specs.declared.form.Form.TheVariants as forms
+use Rattle.script_forms.specs.declared.form.Head.{Head}
+use Rattle.script_forms.specs.declared.form.Head.TheVariants as heads
+use Rattle.script_forms.specs.declared.ring_words.RingForm.{RingForm}
+use Rattle.script_forms.specs.declared.vectors.Shape.TheVariants.{Empty}
+use Rattle.script_forms.proofs.Pieces.{all_append}
+use Rattle.script_parse.specs.Tests.{AreStepsOfPolynomial, IsWellFormed, head_names, operand_places, repeats, stands_among}
 use Rattle.script_parse.specs.Refusals.{HasGreatNumeral, HasRepeat}
-use Rattle.script_parse.specs.Written.{AreEntries, AreListedNames, ArePolys, AreVectors, IsExpression, IsOperation, IsWritten, Written, WrittenOperation, ask_line, change_line, comma_list, divide_line, elimination, equal_line, express_line, ext_line, ideal_line, let_line, module_line, nothing, of_polynomial, of_two, operation_polys, polys_of, preimage, ring_line, show_line, syzygies}
-use Rattle.script_parse.specs.declared.form.Form.{Form}
-use Rattle.script_parse.specs.declared.form.Form.TheVariants as forms
-use Rattle.script_parse.specs.declared.form.Head.{Head}
-use Rattle.script_parse.specs.declared.form.Head.TheVariants as heads
-use Rattle.script_parse.specs.declared.ring_words.RingForm.{RingForm}
-use Rattle.script_parse.specs.declared.vectors.Shape.TheVariants.{Empty}
-use Rattle.script_parse.proofs.Pieces.{all_append}
 
 letter_ascii : (b : ℕ) → is_ascii_alphabetic b ≡ true → b < 128
 letter_ascii b e = grind arith
@@ -158,7 +158,7 @@ module _ (P : Token → Type 0) where
       let both = subst (λ l. AllByRecursion P l) (ap numbers_in h.2 ∙ numbers_in_both h.0 (comma ∷ h.1)) all in
       ((in_poly h.0 p h.3 (all_front P (numbers_in h.0) (numbers_in h.1) both)).0, in_polys h.1 (q ∷ ps) h.4 (all_back P (numbers_in h.0) (numbers_in h.1) both))
 
-  in_entries : (xs : List Lexeme) (ps : List Poly) → AreEntries xs ps → AllByRecursion P (numbers_in xs) → InPolys ps
+  in_entries : (xs : List Lexeme) (ps : List Poly) → AreVectorEntries xs ps → AllByRecursion P (numbers_in xs) → InPolys ps
   in_entries xs ps (inl h) all = subst InPolys (sym h.1) (in_poly xs h.0 h.2 all)
   in_entries xs ps (inr h) all =
       let both = subst (λ l. AllByRecursion P l) (ap numbers_in h.1 ∙ numbers_in_both h.0 (close_bracket ∷ [])) all in
@@ -177,7 +177,7 @@ module _ (P : Token → Type 0) where
   in_operation line xs (preimage value images) h all = in_polys h.2.0 images h.2.2 (subst (λ l. AllByRecursion P (numbers_in l)) (h.1.2 ∙ ap (λ l. name h.1.0 ∷ l) h.2.1) all)
   in_operation line xs _ h all = tt
 
-  in_expression : (line : List ℕ) (xs : List Lexeme) (p : Poly) (images : List Poly) → IsExpression line xs p images → AllByRecursion P (numbers_in xs) → InPolys (p ∷ images)
+  in_expression : (line : List ℕ) (xs : List Lexeme) (p : Poly) (images : List Poly) → IsExpressLine line xs p images → AllByRecursion P (numbers_in xs) → InPolys (p ∷ images)
   in_expression line xs p images e all =
       let both = subst (λ l. AllByRecursion P l) (ap numbers_in (e.spelled ∙ ap (λ l. e.front ++ l) e.word.2) ∙ numbers_in_both e.front (name e.word.0 ∷ e.rest)) all in
       ((in_poly e.front p e.first (all_front P (numbers_in e.front) (numbers_in e.rest) both)).0, in_polys e.rest images e.others (all_back P (numbers_in e.front) (numbers_in e.rest) both))
@@ -191,7 +191,7 @@ module _ (P : Token → Type 0) where
   in_line line xs (express_line p images) h all = in_expression line h.0 p images h.2 (subst (λ l. AllByRecursion P (numbers_in l)) h.1.2 all)
   in_line line xs _ h all = tt
 
-  in_pieces : (pieces : List (Vec Step Global)) (ps : List Poly) → map (λ v. v.items) pieces ≡ map steps ps → InPolys ps → AllByRecursion (λ v. AllByRecursion P (numbers_of_steps v.items)) pieces
+  in_pieces : (pieces : List (Vec PolyStep Global)) (ps : List Poly) → map (λ v. v.items) pieces ≡ map steps ps → InPolys ps → AllByRecursion (λ v. AllByRecursion P (numbers_of_steps v.items)) pieces
   in_pieces [] ps e h = tt
   in_pieces (v ∷ pieces) [] e h = absurd cc
   in_pieces (v ∷ pieces) (p ∷ ps) e h =
@@ -200,7 +200,7 @@ module _ (P : Token → Type 0) where
       (subst (λ l. AllByRecursion P l) (sym (ap numbers_of_steps head ∙ steps_have_numbers p)) h.0, in_pieces pieces ps tail h.1)
 
 -- the steps of a line's POLYs are those of POLYs
-pub are_polynomials : (pieces : List (Vec Step Global)) (ps : List Poly) → map (λ v. v.items) pieces ≡ map steps ps → AllByRecursion IsPolynomial pieces
+pub are_polynomials : (pieces : List (Vec PolyStep Global)) (ps : List Poly) → map (λ v. v.items) pieces ≡ map steps ps → AllByRecursion AreStepsOfPolynomial pieces
 are_polynomials [] ps e = tt
 are_polynomials (v ∷ pieces) [] e = absurd cc
 are_polynomials (v ∷ pieces) (p ∷ ps) e =

@@ -10,8 +10,8 @@ use Rattle.poly_grammar.specs.Degrees.{bounded, degrees, formal_degree}
 use Rattle.poly_grammar.specs.Numerals.{text_of, value_of}
 use Rattle.poly_grammar.specs.Steps.{numbers_of_steps, steps}
 use Rattle.poly_grammar.specs.Trees.{Poly}
-use Rattle.poly_grammar.specs.declared.step.Step.{Step}
-use Rattle.poly_grammar.specs.declared.step.Step.TheVariants.{Number, Name, Power, Multiply, Add, Subtract, Negate}
+use Rattle.poly_grammar.specs.declared.step.PolyStep.{PolyStep}
+use Rattle.poly_grammar.specs.declared.step.PolyStep.TheVariants.{Number, Name, Power, Multiply, Add, Subtract, Negate}
 use Rattle.poly_grammar.proofs.Worths.{worth_is_left}
 use Rattle.monomials.specs.Exponents.{exponents_of, times, unit}
 use Rattle.monomials.proofs.Monomials.{times-unit, times_comm}
@@ -36,19 +36,19 @@ use Rattle.script_parse.specs.Statements.{entries_from}
 
 -- where the degrees can be worked out and the names are known, so can the polynomials
 module _ (n p : ℕ) (vars : List (List ℕ)) (line : List ℕ) (weight : Token → ℕ) where
-  abbrev Runs : List Step → List (FormalSum n) → List ℕ → Type 0
+  abbrev Runs : List PolyStep → List (FormalSum n) → List ℕ → Type 0
   Runs xs vs ds = (left : List (FormalSum n)) × (worths (polynomials n p vars (text_of line) (value_of line)) xs vs ≡ Some left) × (length left ≡ length ds)
 
-  abbrev Goes : List Step → Type 0
+  abbrev Goes : List PolyStep → Type 0
   Goes xs = (ds left : List ℕ) (vs : List (FormalSum n)) → length vs ≡ length ds → knows vars line xs ≡ true → worths (degrees weight (value_of line)) xs ds ≡ Some left → Runs xs vs left
 
-  pushed : (xs : List Step) (o : Option ℕ) (ds left : List ℕ) (v : FormalSum n) (vs : List (FormalSum n)) → Goes xs → length vs ≡ length ds → knows vars line xs ≡ true
+  pushed : (xs : List PolyStep) (o : Option ℕ) (ds left : List ℕ) (v : FormalSum n) (vs : List (FormalSum n)) → Goes xs → length vs ≡ length ds → knows vars line xs ≡ true
       → option_and_then (worths (degrees weight (value_of line)) xs) (push ds o) ≡ Some left → Runs xs (v ∷ vs) left
   pushed xs None ds left v vs go e known h = absurd cc
   pushed xs (Some d) ds left v vs go e known h = go (d ∷ ds) left (v ∷ vs) (omega (arith, e)) known h
 
   named :
-      (xs : List Step) (o w : Option ℕ) (f : ℕ → FormalSum n) (ds left : List ℕ) (vs : List (FormalSum n)) → Goes xs → length vs ≡ length ds → is_some o ≡ true → knows vars line xs ≡ true
+      (xs : List PolyStep) (o w : Option ℕ) (f : ℕ → FormalSum n) (ds left : List ℕ) (vs : List (FormalSum n)) → Goes xs → length vs ≡ length ds → is_some o ≡ true → knows vars line xs ≡ true
       → option_and_then (worths (degrees weight (value_of line)) xs) (push ds w) ≡ Some left
       → (end : List (FormalSum n)) × (option_and_then (worths (polynomials n p vars (text_of line) (value_of line)) xs) (push vs (option_map f o)) ≡ Some end) × (length end ≡ length left)
   named xs None w f ds left vs go e some known h = absurd cc
@@ -59,7 +59,7 @@ module _ (n p : ℕ) (vars : List (List ℕ)) (line : List ℕ) (weight : Token 
   both_true true b h = (refl, h)
   both_true false b h = absurd cc
 
-  goes : (xs : List Step) → Goes xs
+  goes : (xs : List PolyStep) → Goes xs
   goes [] ds left vs e known h = (vs, refl, (let s : ds ≡ left = cc (h) in e ∙ ap length s))
   goes (Number t ∷ xs) ds left vs e known h = goes xs (0 ∷ ds) left (_ ∷ vs) (omega (arith, e)) known h
   goes (Name t ∷ xs) ds left vs e known h =
@@ -96,7 +96,7 @@ module _ (n p : ℕ) (vars : List (List ℕ)) (line : List ℕ) (weight : Token 
   has_top o [] k e l = absurd (omega (arith, l))
   has_top o (x ∷ rest) k e l = (x, rw e refl)
 
-  pub has_worth : (xs : List Step) (d : ℕ) → knows vars line xs ≡ true → worth_of_steps (degrees weight (value_of line)) xs ≡ Some d → (x : FormalSum n) × (worth_of_steps (polynomials n p vars (text_of line) (value_of line)) xs ≡ Some x)
+  pub has_worth : (xs : List PolyStep) (d : ℕ) → knows vars line xs ≡ true → worth_of_steps (degrees weight (value_of line)) xs ≡ Some d → (x : FormalSum n) × (worth_of_steps (polynomials n p vars (text_of line) (value_of line)) xs ≡ Some x)
   has_worth xs d known h =
       let t = on_top (worths (degrees weight (value_of line)) xs []) d h in
       let r = goes xs [] (d ∷ t.0) [] refl known t.1 in
@@ -107,7 +107,7 @@ abbrev pub weight_of : Ring → List ℕ → Token → ℕ
 weight_of ring line t = name_weight ring (text_of line t)
 
 pub degree_of_steps :
-    (ring : Ring) (line : List ℕ) (xs : List Step) (p : Poly) (o : Option ℕ) → xs ≡ steps p → o ≡ formal_degree (weight_of ring line) (value_of line) p
+    (ring : Ring) (line : List ℕ) (xs : List PolyStep) (p : Poly) (o : Option ℕ) → xs ≡ steps p → o ≡ formal_degree (weight_of ring line) (value_of line) p
     → worth_of_steps (degrees_of ring line) xs ≡ o
 degree_of_steps ring line xs p o is e = ap (worth_of_steps (degrees_of ring line)) is ∙ worth_is_left (degrees_of ring line) p ∙ sym e
 
@@ -128,26 +128,26 @@ pub all_goes : {X : Type 0} (f : X → Bool) (xs : List X) (i : ℕ) (x : X) →
 all_goes f xs i x lt e h passes = ap (λ b. b && list_all f (drop (i + 1) xs)) (sym passes) ∙ sym (ap (list_all f) (dropped xs i x lt e)) ∙ h
 
 pub low_is :
-    (ring : Ring) (line : List ℕ) (xs : List Step) (p : Poly) (o : Option ℕ) (r : Bool) → xs ≡ steps p → o ≡ formal_degree (weight_of ring line) (value_of line) p
+    (ring : Ring) (line : List ℕ) (xs : List PolyStep) (p : Poly) (o : Option ℕ) (r : Bool) → xs ≡ steps p → o ≡ formal_degree (weight_of ring line) (value_of line) p
     → is_some o ≡ not r → low_degree ring line xs ≡ not r
 low_is ring line xs p o r is e f = ap is_some (degree_of_steps ring line xs p o is e) ∙ f
 
 -- ---- lists of worths
 
-worths_push : (ring : Ring) (line : List ℕ) (pieces : List (Vec Step Global)) (us : List (List (Key × ℕ))) (v : Vec Step Global) (u : List (Key × ℕ)) → AreWorths ring line pieces us → IsWorth ring line v.items u → AreWorths ring line (pieces ++ v ∷ []) (us ++ u ∷ [])
+worths_push : (ring : Ring) (line : List ℕ) (pieces : List (Vec PolyStep Global)) (us : List (List (Key × ℕ))) (v : Vec PolyStep Global) (u : List (Key × ℕ)) → AreWorths ring line pieces us → IsWorth ring line v.items u → AreWorths ring line (pieces ++ v ∷ []) (us ++ u ∷ [])
 worths_push ring line [] [] v u h w = (w, tt)
 worths_push ring line [] (x ∷ us) v u h w = absurd h
 worths_push ring line (p ∷ pieces) [] v u h w = absurd h
 worths_push ring line (p ∷ pieces) (x ∷ us) v u h w = (h.0, worths_push ring line pieces us v u h.1 w)
 
 pub worths_go :
-    (ring : Ring) (line : List ℕ) (pieces : List (Vec Step Global)) (i : ℕ) (v : Vec Step Global) (old new : List (List (Key × ℕ))) (u : List (Key × ℕ))
+    (ring : Ring) (line : List ℕ) (pieces : List (Vec PolyStep Global)) (i : ℕ) (v : Vec PolyStep Global) (old new : List (List (Key × ℕ))) (u : List (Key × ℕ))
     → i < length pieces → v ≡ get_or pieces i v → new ≡ old ++ u ∷ [] → AreWorths ring line (take i pieces) old → IsWorth ring line v.items u → AreWorths ring line (take (i + 1) pieces) new
 worths_go ring line pieces i v old new u lt e f h w =
     subst (λ l. AreWorths ring line l new) (sym (take_item pieces i v lt e)) (subst (λ l. AreWorths ring line (take i pieces ++ v ∷ []) l) (sym f) (worths_push ring line (take i pieces) old v u h w))
 
 -- ---- what working a polynomial out asks of its steps
-module _ (ring : Ring) (line : List ℕ) (v : Vec Step Global) (xs : List Step) (is : xs ≡ v.items) (able : IsWorkable ring line v) where
+module _ (ring : Ring) (line : List ℕ) (v : Vec PolyStep Global) (xs : List PolyStep) (is : xs ≡ v.items) (able : IsWorkable ring line v) where
   pub worth_by : (x : FormalSum (variables ring)) × (worth_of_steps (polynomials_of ring line) xs ≡ Some x)
   worth_by = subst (λ l. (x : FormalSum (variables ring)) × (worth_of_steps (polynomials_of ring line) l ≡ Some x)) (sym is) able.worth
 
@@ -158,7 +158,7 @@ module _ (ring : Ring) (line : List ℕ) (v : Vec Step Global) (xs : List Step) 
   numerals_by = subst (λ l. AllByRecursion (λ t. value_of line t < 2 ^ 128) (numbers_of_steps l)) (sym is) able.numerals
 
 -- the first of those that can be worked out
-pub first_workable : (ring : Ring) (line : List ℕ) (pieces more : List (Vec Step Global)) (v : Vec Step Global) → pieces ≡ v ∷ more → AllByRecursion
+pub first_workable : (ring : Ring) (line : List ℕ) (pieces more : List (Vec PolyStep Global)) (v : Vec PolyStep Global) → pieces ≡ v ∷ more → AllByRecursion
     (IsWorkable ring line) pieces → IsWorkable ring line v
 first_workable ring line pieces more v e able = let all = subst (λ l. AllByRecursion (IsWorkable ring line) l) e able in all.0
 
@@ -219,7 +219,7 @@ positive ring = let d = is_modulus-domain ring.modulus.value ring.modulus.table 
 
 -- one more entry
 pub entries_go :
-    (ring : Ring) (line : List ℕ) (pieces : List (Vec Step Global)) (i : ℕ) (v : Vec Step Global) (old new u : List (Key × ℕ))
+    (ring : Ring) (line : List ℕ) (pieces : List (Vec PolyStep Global)) (i : ℕ) (v : Vec PolyStep Global) (old new u : List (Key × ℕ))
     → i < length pieces → v ≡ get_or pieces i v → new ≡ old ++ moved_to i u → HasEntryTerms ring line (take i pieces) old → IsWorkable ring line v → IsWorth ring line v.items u
     → HasEntryTerms ring line (take (i + 1) pieces) new
 entries_go ring line pieces i v old new u lt e f h able w =
@@ -228,7 +228,7 @@ entries_go ring line pieces i v old new u lt e f h able w =
     n : ℕ
     n = variables ring
 
-    first : List (Vec Step Global)
+    first : List (Vec PolyStep Global)
     first = take i pieces
 
     count : length (take i pieces) ≡ i

@@ -12,13 +12,13 @@ use Rattle.zp_field.specs.Moduli.{is_modulus}
 use Rattle.module_vectors.specs.Rings.{variables}
 use Rattle.module_vectors.specs.declared.ring.Ring.{Ring}
 use Rattle.poly_value.specs.Values.{name_weight}
-use Rattle.script_parse.specs.Written.{IsLine, RingLine, Written, WrittenOperation, change_line, divide_line, elimination, equal_line, express_line, ext_line, given_by, ideal_line, let_line, module_line, nothing, of_two, polys_of, preimage, ring_line, syzygies, value_places}
+use Rattle.script_forms.specs.Written.{IsLine, RingLine, Written, WrittenOperation, change_line, divide_line, elimination, equal_line, express_line, ext_line, given_by, ideal_line, let_line, module_line, nothing, of_two, polys_of, preimage, ring_line, syzygies, value_places}
+use Rattle.script_forms.specs.declared.operands.Binary.TheVariants.{Colon, Intersect, Product, Sum}
+use Rattle.script_forms.specs.declared.ring_words.OrderName.{OrderName}
+use Rattle.script_forms.specs.declared.ring_words.OrderName.TheVariants.{Elim}
 use Rattle.script_parse.specs.declared.kind.Kind.{Kind}
 use Rattle.script_parse.specs.declared.kind.Kind.TheVariants as kinds
 use Rattle.script_parse.specs.declared.named.NameInfo.{NameInfo}
-use Rattle.script_parse.specs.declared.operands.Binary.TheVariants.{Colon, Intersect, Product, Sum}
-use Rattle.script_parse.specs.declared.ring_words.OrderName.{OrderName}
-use Rattle.script_parse.specs.declared.ring_words.OrderName.TheVariants.{Elim}
 
 -- a NUM of the line has a value of 2^128 or more
 pub record HasGreatNumeral (line : List ℕ) : Type 0 where

@@ -15,18 +15,18 @@ use Rattle.module_vectors.specs.Rings.{ring_comparison, variables}
 use Rattle.module_vectors.specs.Vectors.{HasPositions, IsVectorOver, StandsFor}
 use Rattle.module_vectors.specs.declared.key.Key.{Key}
 use Rattle.module_vectors.specs.declared.ring.Ring.{Ring}
+use Rattle.script_forms.specs.Written.{IsLine, RingLine, Written, WrittenOperation, ask_line, change_line, divide_line, elimination, equal_line, express_line, ext_line, ideal_line, let_line, module_line, nothing, of_polynomial, of_two, preimage, ring_line, show_line, syzygies}
+use Rattle.script_forms.specs.declared.form.DivisionWord.TheVariants as divisions
+use Rattle.script_forms.specs.declared.form.QuestionWord.TheVariants as questions
+use Rattle.script_forms.specs.declared.operands.Binary.TheVariants as binaries
+use Rattle.script_forms.specs.declared.operands.ByPolynomial.TheVariants as divisors
+use Rattle.script_forms.specs.declared.ring_words.OrderName.{OrderName}
+use Rattle.script_forms.specs.declared.ring_words.OrderName.TheVariants.{Elim, Grevlex, Lex}
 use Rattle.script_parse.specs.Refusals.{RefusalHolds}
-use Rattle.script_parse.specs.Written.{IsLine, RingLine, Written, WrittenOperation, ask_line, change_line, divide_line, elimination, equal_line, express_line, ext_line, ideal_line, let_line, module_line, nothing, of_polynomial, of_two, preimage, ring_line, show_line, syzygies}
-use Rattle.script_parse.specs.declared.form.Division.TheVariants as divisions
-use Rattle.script_parse.specs.declared.form.Question.TheVariants as questions
 use Rattle.script_parse.specs.declared.kind.Kind.{Kind}
 use Rattle.script_parse.specs.declared.named.NameInfo.{NameInfo}
-use Rattle.script_parse.specs.declared.operands.Binary.TheVariants as binaries
-use Rattle.script_parse.specs.declared.operands.ByPolynomial.TheVariants as divisors
 use Rattle.script_parse.specs.declared.operation.Operation.{Operation}
 use Rattle.script_parse.specs.declared.operation.Operation.TheVariants as operations
-use Rattle.script_parse.specs.declared.ring_words.OrderName.{OrderName}
-use Rattle.script_parse.specs.declared.ring_words.OrderName.TheVariants.{Elim, Grevlex, Lex}
 use Rattle.script_parse.specs.declared.stated.Statement.{Statement}
 use Rattle.script_parse.specs.declared.stated.Statement.TheVariants as statements
 

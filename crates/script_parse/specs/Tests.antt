@@ -9,36 +9,36 @@ use Rattle.poly_grammar.specs.Algebras.{worth_of_steps}
 use Rattle.poly_grammar.specs.Numerals.{text_of, value_of}
 use Rattle.poly_grammar.specs.Steps.{numbers_of_steps, steps}
 use Rattle.poly_grammar.specs.Trees.{Poly}
-use Rattle.poly_grammar.specs.declared.step.Step.{Step}
-use Rattle.poly_grammar.specs.declared.step.Step.TheVariants as acts
+use Rattle.poly_grammar.specs.declared.step.PolyStep.{PolyStep}
+use Rattle.poly_grammar.specs.declared.step.PolyStep.TheVariants as acts
 use Rattle.formal_sums.specs.FormalSums.{FormalSum}
 use Rattle.poly_value.specs.Values.{degrees_of, place_of, polynomials_of}
 use Rattle.module_vectors.specs.Rings.{ring_comparison, variables}
 use Rattle.module_vectors.specs.Vectors.{AreTermsOver, HasPositions, IsVectorOver, StandsFor}
 use Rattle.module_vectors.specs.declared.key.Key.{Key}
 use Rattle.module_vectors.specs.declared.ring.Ring.{Ring}
-use Rattle.script_parse.specs.Forms.{IsFormOf, IsLineOf, operands_of}
+use Rattle.script_forms.specs.Forms.{IsFormOf, IsLineOf, operands_of}
+use Rattle.script_forms.specs.Written.{IsLine, Written, WrittenOperation, operation_polys}
+use Rattle.script_forms.specs.declared.form.Form.{Form}
+use Rattle.script_forms.specs.declared.form.Form.TheVariants as forms
+use Rattle.script_forms.specs.declared.form.Head.{Head}
+use Rattle.script_forms.specs.declared.form.Head.TheVariants as heads
+use Rattle.script_forms.specs.declared.operands.Binary.TheVariants.{Product}
+use Rattle.script_forms.specs.declared.operands.Operands.{Operands}
+use Rattle.script_forms.specs.declared.operands.Operands.TheVariants.{Eliminate, Polynomial, Preimage, Syzygies, Two}
+use Rattle.script_forms.specs.declared.ring_words.OrderName.{OrderName}
+use Rattle.script_forms.specs.declared.ring_words.OrderName.TheVariants.{Elim}
+use Rattle.script_forms.specs.declared.vectors.Shape.{Shape}
+use Rattle.script_forms.specs.declared.vectors.Shape.TheVariants as widths
 use Rattle.script_parse.specs.Refusals.{HasGreatDegree, HasGreatNumeral, HasOtherKind, HasOtherModulus, HasOtherRank, HasUnknownName, IsOutside, LacksRing, length_named, place, rank_named}
 use Rattle.script_parse.specs.Statements.{IsOperationOf, Says, entries_from}
-use Rattle.script_parse.specs.Written.{IsLine, Written, WrittenOperation, operation_polys}
-use Rattle.script_parse.specs.declared.form.Form.{Form}
-use Rattle.script_parse.specs.declared.form.Form.TheVariants as forms
-use Rattle.script_parse.specs.declared.form.Head.{Head}
-use Rattle.script_parse.specs.declared.form.Head.TheVariants as heads
 use Rattle.script_parse.specs.declared.kind.Kind.{Kind}
 use Rattle.script_parse.specs.declared.kind.Kind.TheVariants as kinds
 use Rattle.script_parse.specs.declared.kind.ParseStop.{ParseStop}
 use Rattle.script_parse.specs.declared.kind.ParseStop.TheVariants as stops
 use Rattle.script_parse.specs.declared.named.NameInfo.{NameInfo}
-use Rattle.script_parse.specs.declared.operands.Binary.TheVariants.{Product}
-use Rattle.script_parse.specs.declared.operands.Operands.{Operands}
-use Rattle.script_parse.specs.declared.operands.Operands.TheVariants.{Eliminate, Polynomial, Preimage, Syzygies, Two}
 use Rattle.script_parse.specs.declared.operation.Operation.{Operation}
-use Rattle.script_parse.specs.declared.ring_words.OrderName.{OrderName}
-use Rattle.script_parse.specs.declared.ring_words.OrderName.TheVariants.{Elim}
 use Rattle.script_parse.specs.declared.stated.Statement.{Statement}
-use Rattle.script_parse.specs.declared.vectors.Shape.{Shape}
-use Rattle.script_parse.specs.declared.vectors.Shape.TheVariants as widths
 
 -- of a line written as w, the kind holds behind the tests of its tokens
 abbrev pub HoldsOf : Option Ring → List NameInfo → List ℕ → Written → Kind → Type 0
@@ -95,11 +95,11 @@ head_names (heads.Let given operands) = given ∷ operand_places operands
 head_names head = places head
 
 -- the steps are those of some POLY
-abbrev pub IsPolynomial : Vec Step Global → Type 0
-IsPolynomial v = (p : Poly) × (v.items ≡ steps p)
+abbrev pub AreStepsOfPolynomial : Vec PolyStep Global → Type 0
+AreStepsOfPolynomial v = (p : Poly) × (v.items ≡ steps p)
 
 -- their numbers are below 2^128
-abbrev pub HaveNumerals : List ℕ → Vec Step Global → Type 0
+abbrev pub HaveNumerals : List ℕ → Vec PolyStep Global → Type 0
 HaveNumerals line v = AllByRecursion (λ t. value_of line t < 2 ^ 128) (numbers_of_steps v.items)
 
 -- the names of a form are ASCII, and its numbers are below 2^128
@@ -128,13 +128,13 @@ repeats line [] = false
 repeats line (t ∷ ts) = if stands_among line (text_of line t) ts then true else repeats line ts
 
 -- whether each name among the steps is a variable
-abbrev pub knows : List (List ℕ) → List ℕ → List Step → Bool
+abbrev pub knows : List (List ℕ) → List ℕ → List PolyStep → Bool
 knows vars line [] = true
 knows vars line (acts.Name t ∷ xs) = if is_some (place_of vars (text_of line t)) then knows vars line xs else false
 knows vars line (_ ∷ xs) = knows vars line xs
 
 -- whether each name among the steps passes the test
-abbrev pub names_pass : (List ℕ → Bool) → List ℕ → List Step → Bool
+abbrev pub names_pass : (List ℕ → Bool) → List ℕ → List PolyStep → Bool
 names_pass test line [] = true
 names_pass test line (acts.Name t ∷ xs) = if test (text_of line t) then names_pass test line xs else false
 names_pass test line (_ ∷ xs) = names_pass test line xs
@@ -152,7 +152,7 @@ abbrev pub is_no_variable : List (List ℕ) → List ℕ → Bool
 is_no_variable vars text = not (is_some (place_of vars text))
 
 -- whether the names of a line, by its head and the steps of its POLYs, are known, and the one to be given is no variable
-abbrev pub known_names : List (List ℕ) → List NameInfo → List ℕ → Head → List (Vec Step Global) → Bool
+abbrev pub known_names : List (List ℕ) → List NameInfo → List ℕ → Head → List (Vec PolyStep Global) → Bool
 known_names vars names line head pieces =
     (list_all (λ t. is_known vars names (text_of line t)) (places head) && list_all (λ t. is_no_variable vars (text_of line t)) (given_name head))
     && list_all (λ v. names_pass (is_known vars names) line v.items) pieces
@@ -174,7 +174,7 @@ factor_fits names line (heads.Let given operands) = operands_low names line oper
 factor_fits names line _ = true
 
 -- whether no name in a POLY is a value, none in a value's place a variable, and a value that has to be an ideal is one
-abbrev pub right_kinds : List (List ℕ) → List NameInfo → List ℕ → Head → List (Vec Step Global) → Bool
+abbrev pub right_kinds : List (List ℕ) → List NameInfo → List ℕ → Head → List (Vec PolyStep Global) → Bool
 right_kinds vars names line head pieces =
     (list_all (λ t. is_no_variable vars (text_of line t)) (places head) && factor_fits names line head)
     && list_all (λ v. names_pass (is_no_value names) line v.items) pieces
@@ -245,23 +245,23 @@ rank_fits n names line heads.Express count = nat_eq count (n + 1)
 rank_fits n names line _ count = true
 
 -- whether steps have a formal degree, by the ring's weights, of at most 1,000
-abbrev pub low_degree : Ring → List ℕ → List Step → Bool
+abbrev pub low_degree : Ring → List ℕ → List PolyStep → Bool
 low_degree ring line xs = is_some (worth_of_steps (degrees_of ring line) xs)
 
 -- a polynomial that can be worked out
-pub record IsWorkable (ring : Ring) (line : List ℕ) (v : Vec Step Global) : Type 0 where
+pub record IsWorkable (ring : Ring) (line : List ℕ) (v : Vec PolyStep Global) : Type 0 where
   pub worth : (x : FormalSum (variables ring)) × (worth_of_steps (polynomials_of ring line) v.items ≡ Some x)
   pub degree : (d : ℕ) × (worth_of_steps (degrees_of ring line) v.items ≡ Some d)
   pub numerals : AllByRecursion (λ t. value_of line t < 2 ^ 128) (numbers_of_steps v.items)
 
 -- the normal vector of rank 1 that steps are worth
-pub record IsWorth (ring : Ring) (line : List ℕ) (xs : List Step) (u : List (Key × ℕ)) : Type 0 where
+pub record IsWorth (ring : Ring) (line : List ℕ) (xs : List PolyStep) (u : List (Key × ℕ)) : Type 0 where
   pub vector : IsVectorOver ring (ring_comparison ring) u
   pub polynomial : HasPositions 1 u
   pub value : (x : FormalSum (variables ring)) → worth_of_steps (polynomials_of ring line) xs ≡ Some x → StandsFor ring u x
 
 -- one such vector for each
-abbrev pub AreWorths : Ring → List ℕ → List (Vec Step Global) → List (List (Key × ℕ)) → Type 0
+abbrev pub AreWorths : Ring → List ℕ → List (Vec PolyStep Global) → List (List (Key × ℕ)) → Type 0
 AreWorths ring line [] [] = Unit {0}
 AreWorths ring line (v ∷ pieces) (u ∷ us) = IsWorth ring line v.items u × AreWorths ring line pieces us
 AreWorths ring line _ _ = ⊥
@@ -271,38 +271,38 @@ abbrev pub moved_to : ℕ → List (Key × ℕ) → List (Key × ℕ)
 moved_to i terms = map (λ t. (record { position = i; monomial = t.0.monomial }, t.1)) terms
 
 -- terms stand for the vector that has what the steps are worth for its entries
-pub record StandsForEntries (ring : Ring) (line : List ℕ) (pieces : List (Vec Step Global)) (terms : List (Key × ℕ)) : Type 0 where
+pub record StandsForEntries (ring : Ring) (line : List ℕ) (pieces : List (Vec PolyStep Global)) (terms : List (Key × ℕ)) : Type 0 where
   pub entries : List (FormalSum (variables ring))
   pub worths_are : map (λ v. worth_of_steps (polynomials_of ring line) v.items) pieces ≡ map Some entries
   pub stands : StandsFor ring terms (entries_from 0 entries)
 
 -- terms in any order that do
-pub record HasEntryTerms (ring : Ring) (line : List ℕ) (pieces : List (Vec Step Global)) (terms : List (Key × ℕ)) : Type 0 where
+pub record HasEntryTerms (ring : Ring) (line : List ℕ) (pieces : List (Vec PolyStep Global)) (terms : List (Key × ℕ)) : Type 0 where
   pub over : AreTermsOver ring terms
   pub positions : HasPositions (length pieces) terms
   pub stands : StandsForEntries ring line pieces terms
 
 -- the normal vector that has what the steps are worth for its entries
-pub record IsVectorWorth (ring : Ring) (line : List ℕ) (pieces : List (Vec Step Global)) (u : List (Key × ℕ)) : Type 0 where
+pub record IsVectorWorth (ring : Ring) (line : List ℕ) (pieces : List (Vec PolyStep Global)) (u : List (Key × ℕ)) : Type 0 where
   pub vector : IsVectorOver ring (ring_comparison ring) u
   pub positions : HasPositions (length pieces) u
   pub entries : StandsForEntries ring line pieces u
 
 -- one such vector for each so many of the pieces
-abbrev pub AreVectorWorths : Ring → List ℕ → ℕ → List (Vec Step Global) → List (List (Key × ℕ)) → Type 0
+abbrev pub AreVectorWorths : Ring → List ℕ → ℕ → List (Vec PolyStep Global) → List (List (Key × ℕ)) → Type 0
 AreVectorWorths ring line rank pieces [] = pieces ≡ []
 AreVectorWorths ring line rank pieces (u ∷ us) =
     (0 < length pieces) × IsVectorWorth ring line (take rank pieces) u × AreVectorWorths ring line rank (drop rank pieces) us
 
 -- what is stated of operands and these polynomials is the operation that is written
-abbrev pub IsOperationStated : Ring → List ℕ → Operands → List (Vec Step Global) → Result Operation ParseStop → Type 0
+abbrev pub IsOperationStated : Ring → List ℕ → Operands → List (Vec PolyStep Global) → Result Operation ParseStop → Type 0
 IsOperationStated ring line operands pieces (Ok operation) =
     (w : WrittenOperation) → operands_of w ≡ operands → map (λ v. v.items) pieces ≡ map steps (operation_polys w) → IsOperationOf ring line w operation
 IsOperationStated ring line operands pieces (Err stops.Memory) = Unit {0}
 IsOperationStated ring line operands pieces (Err (stops.Refused kind)) = ⊥
 
 -- what is stated of a line with this head and these polynomials is what it says
-abbrev pub IsStated : Ring → List ℕ → Head → List (Vec Step Global) → Result Statement ParseStop → Type 0
+abbrev pub IsStated : Ring → List ℕ → Head → List (Vec PolyStep Global) → Result Statement ParseStop → Type 0
 IsStated ring line head pieces (Ok statement) = (w : Written) → IsLineOf head pieces w → Says (Some ring) line w statement
 IsStated ring line head pieces (Err stops.Memory) = Unit {0}
 IsStated ring line head pieces (Err (stops.Refused kind)) = ⊥

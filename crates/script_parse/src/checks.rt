@@ -4,18 +4,15 @@ ghost use Rattle.std.specs.Prelude.{◌≡◌, IfOk, length};
 ghost use Rattle.std.specs.List.{AllByRecursion, list_all};
 ghost use Rattle.poly_grammar.specs.Numerals.{text_of, value_of};
 ghost use Rattle.script_parse.specs.Refusals.{length_named, rank_named};
-ghost use Rattle.script_parse.specs.Tests.{IsPolynomial, factor_fits, given_name, has_width, is_known, is_no_value, is_no_variable, length_fits, low_degree, low_rank, module_fits, names_pass, number_fits, operand_places, operands_fit, places, rank_fits, same_rank};
+ghost use Rattle.script_parse.specs.Tests.{AreStepsOfPolynomial, factor_fits, given_name, has_width, is_known, is_no_value, is_no_variable, length_fits, low_degree, low_rank, module_fits, names_pass, number_fits, operand_places, operands_fit, places, rank_fits, same_rank};
 
-use crate::form::Head;
 use crate::name_table::NameTable;
 use crate::named::{length_named, rank_named};
 use crate::numbers::{is_at_most, is_within, number_within};
-use crate::operands::{Binary, Operands};
-use crate::ring_words::OrderName;
-use crate::vectors::Shape;
 use module_vectors::{Names, Ring};
-use poly_grammar::{Step, formal_degree, text};
+use poly_grammar::{PolyStep, formal_degree, text};
 use poly_value::{RingNames, place};
+use script_forms::{Binary, Head, Operands, OrderName, Shape};
 use script_tokens::Token;
 use std::alloc::{AllocError, Global};
 
@@ -33,11 +30,11 @@ fn is_known(vars: &Names, names: &NameTable, text: &[u8]) -> bool
 }
 
 /// Whether each name among the steps is a variable or a value.
-fn steps_known(line: &[u8], vars: &Names, names: &NameTable, steps: &[Step]) -> bool
+fn steps_known(line: &[u8], vars: &Names, names: &NameTable, steps: &[PolyStep]) -> bool
     ensures { result ≡ names_pass (is_known vars.now names.now) line.now steps.now }
 {
     for step in steps {
-        if let Step::Name(token) = *step {
+        if let PolyStep::Name(token) = *step {
             if !is_known(vars, names, text(line, token)) {
                 return false;
             }
@@ -71,12 +68,12 @@ fn is_no_value(vars: &Names, names: &NameTable, apart: bool, text: &[u8]) -> boo
 }
 
 /// Whether no name among the steps is a value.
-fn steps_free(line: &[u8], vars: &Names, names: &NameTable, apart: bool, steps: &[Step]) -> bool
+fn steps_free(line: &[u8], vars: &Names, names: &NameTable, apart: bool, steps: &[PolyStep]) -> bool
     requires { apart ≡ list_all (is_no_value names.now) vars.now }
     ensures { result ≡ names_pass (is_no_value names.now) line.now steps.now }
 {
     for step in steps {
-        if let Step::Name(token) = *step {
+        if let PolyStep::Name(token) = *step {
             if !is_no_value(vars, names, apart, text(line, token)) {
                 return false;
             }
@@ -90,7 +87,7 @@ pub fn polynomials_known(
     line: &[u8],
     vars: &Names,
     names: &NameTable,
-    polynomials: &[Vec<Step>],
+    polynomials: &[Vec<PolyStep>],
 ) -> bool
     ensures { result ≡ list_all (λ v. names_pass (is_known vars.now names.now) line.now v.items) polynomials.now }
 {
@@ -107,7 +104,7 @@ pub fn polynomials_free(
     line: &[u8],
     vars: &Names,
     names: &NameTable,
-    polynomials: &[Vec<Step>],
+    polynomials: &[Vec<PolyStep>],
 ) -> bool
     ensures { result ≡ list_all (λ v. names_pass (is_no_value names.now) line.now v.items) polynomials.now }
 {
@@ -331,9 +328,9 @@ pub fn degrees_fit(
     alloc: Global,
     line: &[u8],
     ring: &Ring,
-    polynomials: &[Vec<Step>],
+    polynomials: &[Vec<PolyStep>],
 ) -> Result<bool, AllocError>
-    requires { AllByRecursion IsPolynomial polynomials.now }
+    requires { AllByRecursion AreStepsOfPolynomial polynomials.now }
     ensures { IfOk result (λ fit. fit ≡ list_all (λ v. low_degree ring.now line.now v.items) polynomials.now) }
 {
     let names = RingNames::new(ring);

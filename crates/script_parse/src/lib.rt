@@ -4,25 +4,19 @@
 #![tactic(auto)]
 
 mod checks;
-mod expressions;
-mod form;
 mod kind;
 mod line_laws;
 mod name_table;
+mod name_text;
 mod named;
 mod numbers;
-mod operands;
 mod operation;
 mod operation_line;
-mod polynomials;
 mod reading;
 mod ring_line;
 mod ring_needed;
-mod ring_words;
 mod stated;
 mod values;
-mod vectors;
-mod words;
 
 pub use kind::{Kind, ParseStop};
 pub use line_laws::one_answer;

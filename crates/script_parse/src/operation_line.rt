@@ -6,24 +6,24 @@ ghost use Rattle.std.specs.List.{AllByRecursion};
 ghost use Rattle.std.specs.Str.{IsAscii};
 ghost use Rattle.poly_grammar.specs.Numerals.{text_of};
 ghost use Rattle.poly_grammar.specs.Steps.{steps};
-ghost use Rattle.poly_grammar.specs.declared.step.Step.{Step as StepValue};
+ghost use Rattle.poly_grammar.specs.declared.step.PolyStep.{PolyStep as StepValue};
 ghost use Rattle.module_vectors.specs.declared.ring.Ring.{Ring as RingValue};
-ghost use Rattle.script_parse.specs.Forms.{operands_of};
+ghost use Rattle.script_forms.specs.Forms.{operands_of};
+ghost use Rattle.script_forms.specs.Written.{WrittenOperation, operation_polys};
+ghost use Rattle.script_forms.specs.declared.form.Head.TheVariants as heads;
+ghost use Rattle.script_forms.specs.declared.operands.Operands.TheVariants as shapes;
 ghost use Rattle.script_parse.specs.Tests.{IsOperationStated, IsStated, IsWorkable, operand_places};
-ghost use Rattle.script_parse.specs.Written.{WrittenOperation, operation_polys};
-ghost use Rattle.script_parse.specs.declared.form.Head.TheVariants as heads;
-ghost use Rattle.script_parse.specs.declared.operands.Operands.TheVariants as shapes;
 
 use crate::kind::ParseStop;
+use crate::name_text::name_of;
 use crate::numbers::small_number;
-use crate::operands::{Binary, ByPolynomial, Operands};
 use crate::operation::Operation;
 use crate::stated::Statement;
 use crate::values::list_value;
-use crate::words::name_of;
 use module_vectors::Ring;
-use poly_grammar::Step;
+use poly_grammar::PolyStep;
 use poly_value::polynomial_value;
+use script_forms::{Binary, ByPolynomial, Operands};
 use script_tokens::Token;
 use std::alloc::Global;
 
@@ -56,7 +56,7 @@ fn by_polynomial(
     line: &[u8],
     word: ByPolynomial,
     value: Token,
-    polynomials: &[Vec<Step>],
+    polynomials: &[Vec<PolyStep>],
 ) -> Result<Operation, ParseStop>
     requires ascii { IsAscii (text_of line.now value) }
     requires workable { AllByRecursion (IsWorkable ring.now line.now) polynomials.now }
@@ -109,7 +109,7 @@ fn preimage(
     ring: &Ring,
     line: &[u8],
     value: Token,
-    polynomials: &[Vec<Step>],
+    polynomials: &[Vec<PolyStep>],
 ) -> Result<Operation, ParseStop>
     requires ascii { IsAscii (text_of line.now value) }
     requires workable { AllByRecursion (IsWorkable ring.now line.now) polynomials.now }
@@ -128,7 +128,7 @@ fn operation_of(
     ring: &Ring,
     line: &[u8],
     operands: Operands,
-    polynomials: &[Vec<Step>],
+    polynomials: &[Vec<PolyStep>],
 ) -> Result<Operation, ParseStop>
     requires ascii { AllByRecursion (λ t. IsAscii (text_of line.now t)) (operand_places operands) }
     requires workable { AllByRecursion (IsWorkable ring.now line.now) polynomials.now }
@@ -153,7 +153,7 @@ pub fn let_statement(
     line: &[u8],
     given: Token,
     operands: Operands,
-    polynomials: &[Vec<Step>],
+    polynomials: &[Vec<PolyStep>],
 ) -> Result<Statement, ParseStop>
     requires ascii { IsAscii (text_of line.now given) }
     requires places { AllByRecursion (λ t. IsAscii (text_of line.now t)) (operand_places operands) }

@@ -4,7 +4,6 @@ ghost use Rattle.std.specs.Option.{option_copied};
 ghost use Rattle.script_parse.specs.Answers.{AnswersLine};
 ghost use Rattle.script_parse.specs.Tests.{IsFormed};
 
-use crate::form::{Form, read_form};
 use crate::kind::{Kind, ParseStop};
 use crate::name_table::NameTable;
 use crate::ring_line::ring_statement;
@@ -12,6 +11,7 @@ use crate::ring_needed::line_statement;
 use crate::stated::Statement;
 use module_vectors::Ring;
 use poly_grammar::{ReadStop, numerals_fit};
+use script_forms::{Form, read_form};
 use script_tokens::{TokenStop, tokens};
 use std::alloc::Global;
 

@@ -6,32 +6,30 @@ ghost use Rattle.std.specs.List.{AllByRecursion};
 ghost use Rattle.std.specs.Option.{option_copied};
 ghost use Rattle.std.specs.Str.{IsAscii};
 ghost use Rattle.poly_grammar.specs.Numerals.{text_of, value_of};
-ghost use Rattle.poly_grammar.specs.declared.step.Step.{Step as StepValue};
+ghost use Rattle.poly_grammar.specs.declared.step.PolyStep.{PolyStep as StepValue};
 ghost use Rattle.module_vectors.specs.declared.ring.Ring.{Ring as RingValue};
-ghost use Rattle.script_parse.specs.Forms.{IsLineOf};
+ghost use Rattle.script_forms.specs.Forms.{IsLineOf};
+ghost use Rattle.script_forms.specs.Written.{Written};
+ghost use Rattle.script_forms.specs.declared.form.Head.TheVariants as heads;
 ghost use Rattle.script_parse.specs.Statements.{order_stated};
-ghost use Rattle.script_parse.specs.Tests.{AnswersForm, HasGreatElim, HaveNumerals, IsPolynomial, IsStated, IsWorkable, head_names, known_names, module_fits, rank_fits, right_kinds};
-ghost use Rattle.script_parse.specs.Written.{Written};
-ghost use Rattle.script_parse.specs.declared.form.Head.TheVariants as heads;
+ghost use Rattle.script_parse.specs.Tests.{AnswersForm, HasGreatElim, HaveNumerals, AreStepsOfPolynomial, IsStated, IsWorkable, head_names, known_names, module_fits, rank_fits, right_kinds};
 
 use crate::checks::{
     degrees_fit, factor_fits, given_free, number_fits, places_free, places_known, polynomials_free,
     polynomials_known, rank_fits,
 };
-use crate::form::{Division, Head, Question};
 use crate::kind::{Kind, ParseStop};
 use crate::name_table::NameTable;
+use crate::name_text::name_of;
 use crate::numbers::{number_within, small_number};
 use crate::operation_line::let_statement;
-use crate::ring_words::OrderName;
 use crate::stated::Statement;
 use crate::values::{list_value, vector_value, vectors_value};
-use crate::vectors::Shape;
-use crate::words::name_of;
 use module_vectors::Ring;
 use monomial_orders::Order;
-use poly_grammar::Step;
+use poly_grammar::PolyStep;
 use poly_value::polynomial_value;
+use script_forms::{DivisionWord, Head, OrderName, QuestionWord, Shape};
 use script_tokens::Token;
 use std::alloc::Global;
 
@@ -41,7 +39,7 @@ fn names_known(
     ring: &Ring,
     names: &NameTable,
     head: Head,
-    polynomials: &[Vec<Step>],
+    polynomials: &[Vec<PolyStep>],
 ) -> bool
     ensures { result ≡ known_names ring.now.vars names.now line.now head polynomials.now }
 {
@@ -56,7 +54,7 @@ fn kinds_right(
     ring: &Ring,
     names: &NameTable,
     head: Head,
-    polynomials: &[Vec<Step>],
+    polynomials: &[Vec<PolyStep>],
 ) -> bool
     ensures { result ≡ right_kinds ring.now.vars names.now line.now head polynomials.now }
 {
@@ -70,7 +68,7 @@ fn show_statement(
     alloc: Global,
     ring: &Ring,
     line: &[u8],
-    polynomials: &[Vec<Step>],
+    polynomials: &[Vec<PolyStep>],
 ) -> Result<Statement, ParseStop>
     requires some { 0 < length polynomials.now }
     requires workable { AllByRecursion (IsWorkable ring.now line.now) polynomials.now }
@@ -91,7 +89,7 @@ fn ideal_statement(
     ring: &Ring,
     line: &[u8],
     given: Token,
-    polynomials: &[Vec<Step>],
+    polynomials: &[Vec<PolyStep>],
 ) -> Result<Statement, ParseStop>
     requires ascii { IsAscii (text_of line.now given) }
     requires workable { AllByRecursion (IsWorkable ring.now line.now) polynomials.now }
@@ -112,7 +110,7 @@ fn module_statement(
     given: Token,
     rank: Token,
     shape: Shape,
-    polynomials: &[Vec<Step>],
+    polynomials: &[Vec<PolyStep>],
 ) -> Result<Statement, ParseStop>
     requires ascii { IsAscii (text_of line.now given) }
     requires workable { AllByRecursion (IsWorkable ring.now line.now) polynomials.now }
@@ -133,7 +131,7 @@ fn module_statement(
 fn ask_statement(
     alloc: Global,
     line: &[u8],
-    question: Question,
+    question: QuestionWord,
     value: Token,
 ) -> Result<Statement, ParseStop>
     requires { IsAscii (text_of line.now value) }
@@ -141,14 +139,14 @@ fn ask_statement(
 {
     let name = name_of(alloc, line, value)?;
     match question {
-        Question::Gens => Ok(Statement::Gens(name)),
-        Question::Gb => Ok(Statement::Gb(name)),
-        Question::Size => Ok(Statement::Size(name)),
-        Question::Hilbert => Ok(Statement::Hilbert(name)),
-        Question::Resolution => Ok(Statement::Resolution(name)),
-        Question::Minimal => Ok(Statement::Minimal(name)),
-        Question::Betti => Ok(Statement::Betti(name)),
-        Question::Regularity => Ok(Statement::Regularity(name)),
+        QuestionWord::Gens => Ok(Statement::Gens(name)),
+        QuestionWord::Gb => Ok(Statement::Gb(name)),
+        QuestionWord::Size => Ok(Statement::Size(name)),
+        QuestionWord::Hilbert => Ok(Statement::Hilbert(name)),
+        QuestionWord::Resolution => Ok(Statement::Resolution(name)),
+        QuestionWord::Minimal => Ok(Statement::Minimal(name)),
+        QuestionWord::Betti => Ok(Statement::Betti(name)),
+        QuestionWord::Regularity => Ok(Statement::Regularity(name)),
     }
 }
 
@@ -157,9 +155,9 @@ fn divide_statement(
     alloc: Global,
     ring: &Ring,
     line: &[u8],
-    division: Division,
+    division: DivisionWord,
     value: Token,
-    polynomials: &[Vec<Step>],
+    polynomials: &[Vec<PolyStep>],
 ) -> Result<Statement, ParseStop>
     requires ascii { IsAscii (text_of line.now value) }
     requires workable { AllByRecursion (IsWorkable ring.now line.now) polynomials.now }
@@ -168,9 +166,9 @@ fn divide_statement(
     let name = name_of(alloc, line, value)?;
     match vector_value(alloc, ring, line, polynomials) {
         Ok(vector) => match division {
-            Division::NormalForm => Ok(Statement::NormalForm(name, vector)),
-            Division::Member => Ok(Statement::Member(name, vector)),
-            Division::Lift => Ok(Statement::Lift(name, vector)),
+            DivisionWord::NormalForm => Ok(Statement::NormalForm(name, vector)),
+            DivisionWord::Member => Ok(Statement::Member(name, vector)),
+            DivisionWord::Lift => Ok(Statement::Lift(name, vector)),
         },
         Err(_) => Err(ParseStop::Memory),
     }
@@ -228,7 +226,7 @@ fn express_statement(
     alloc: Global,
     ring: &Ring,
     line: &[u8],
-    polynomials: &[Vec<Step>],
+    polynomials: &[Vec<PolyStep>],
 ) -> Result<Statement, ParseStop>
     requires some { 0 < length polynomials.now }
     requires workable { AllByRecursion (IsWorkable ring.now line.now) polynomials.now }
@@ -270,7 +268,7 @@ fn stated(
     line: &[u8],
     names: &NameTable,
     head: Head,
-    polynomials: &[Vec<Step>],
+    polynomials: &[Vec<PolyStep>],
 ) -> Result<Statement, ParseStop>
     requires written { (w : Written) × IsLineOf head polynomials.now w }
     requires ascii { AllByRecursion (λ t. IsAscii (text_of line.now t)) (head_names head) }
@@ -307,11 +305,11 @@ pub fn line_statement(
     ring: Option<&Ring>,
     names: &NameTable,
     head: Head,
-    polynomials: &[Vec<Step>],
+    polynomials: &[Vec<PolyStep>],
 ) -> Result<Statement, ParseStop>
     requires written { (w : Written) × IsLineOf head polynomials.now w }
     requires ascii { AllByRecursion (λ t. IsAscii (text_of line.now t)) (head_names head) }
-    requires polynomials { AllByRecursion IsPolynomial polynomials.now }
+    requires polynomials { AllByRecursion AreStepsOfPolynomial polynomials.now }
     requires numerals { AllByRecursion (HaveNumerals line.now) polynomials.now }
     ensures { (w : Written) → IsLineOf head polynomials.now w → AnswersForm (option_copied ring.entry) names.now line.now w result }
 {

@@ -7,7 +7,7 @@ ghost use Rattle.module_vectors.specs.Vectors.{HasPositions, IsVectorOver};
 ghost use Rattle.script_parse.specs.Tests.{AreVectorWorths, AreWorths, HasEntryTerms, IsWorkable, IsWorth, StandsForEntries, moved_to};
 
 use module_vectors::{Key, NoMemory, Ring, Vect, VectList};
-use poly_grammar::Step;
+use poly_grammar::PolyStep;
 use poly_value::polynomial_value;
 use std::alloc::Global;
 
@@ -16,7 +16,7 @@ pub fn list_value(
     alloc: Global,
     ring: &Ring,
     line: &[u8],
-    polynomials: &[Vec<Step>],
+    polynomials: &[Vec<PolyStep>],
 ) -> Result<VectList, NoMemory>
     requires { AllByRecursion (IsWorkable ring.now line.now) polynomials.now }
     ensures { IfOk result (λ list. AreWorths ring.now line.now polynomials.now list) }
@@ -44,7 +44,7 @@ fn push_entry(
     alloc: Global,
     ring: &Ring,
     line: &[u8],
-    steps: &Vec<Step>,
+    steps: &Vec<PolyStep>,
     position: u64,
     all: &mut Vec<(Key, u32)>,
 ) -> Result<(), NoMemory>
@@ -63,7 +63,7 @@ fn entry_terms(
     alloc: Global,
     ring: &Ring,
     line: &[u8],
-    polynomials: &[Vec<Step>],
+    polynomials: &[Vec<PolyStep>],
 ) -> Result<Vec<(Key, u32)>, NoMemory>
     requires { AllByRecursion (IsWorkable ring.now line.now) polynomials.now }
     ensures { IfOk result (λ terms. HasEntryTerms ring.now line.now polynomials.now terms.items) }
@@ -80,7 +80,7 @@ pub fn vector_value(
     alloc: Global,
     ring: &Ring,
     line: &[u8],
-    polynomials: &[Vec<Step>],
+    polynomials: &[Vec<PolyStep>],
 ) -> Result<Vect, NoMemory>
     requires { AllByRecursion (IsWorkable ring.now line.now) polynomials.now }
     ensures vector { IfOk result (λ v. IsVectorOver ring.now (ring_comparison ring.now) v) }
@@ -97,7 +97,7 @@ pub fn vectors_value(
     ring: &Ring,
     line: &[u8],
     rank: usize,
-    polynomials: &[Vec<Step>],
+    polynomials: &[Vec<PolyStep>],
 ) -> Result<VectList, NoMemory>
     requires rank { 0 < rank }
     requires workable { AllByRecursion (IsWorkable ring.now line.now) polynomials.now }

@@ -1,6 +1,6 @@
 use Rattle.std.proofs.Common.{ap, subst, ◌∙◌}
+use Rattle.script_forms.specs.declared.operands.Operands.TheVariants as shapes
 use Rattle.script_parse.specs.Tests.{IsWorth}
-use Rattle.script_parse.specs.declared.operands.Operands.TheVariants as shapes
 use Rattle.script_parse.proofs.Stating.{polynomial_there, quotient_says, saturation_says}
 use Rattle.script_parse.proofs.Working.{degree_by, first_workable, numerals_by, worth_by}
 use Rattle.script_parse.proofs.operation_line.by_polynomial.Goals as goal

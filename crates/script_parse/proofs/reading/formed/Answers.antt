@@ -2,7 +2,7 @@ use Rattle.std.proofs.Common.{◌≡◌, ◌∙◌, true, sym, subst, map}
 use Rattle.std.specs.List.{AllByRecursion}
 use Rattle.poly_grammar.specs.Lexemes.{lexeme}
 use Rattle.poly_grammar.specs.Numerals.{NumeralFits}
-use Rattle.script_parse.specs.Written.{IsWritten}
+use Rattle.script_forms.specs.Written.{IsWritten}
 use Rattle.script_parse.proofs.Texts.{great_numeral, no_great, sound}
 use Rattle.script_parse.proofs.reading.formed.Goals as goal
 use Rattle.script_tokens.proofs.Cuts.{cut_or_stop, one_cut}

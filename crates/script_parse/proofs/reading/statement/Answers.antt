@@ -1,9 +1,9 @@
 use Rattle.std.proofs.Common.{subst, sym}
 use Rattle.std.specs.List.{AllByRecursion}
 use Rattle.std.specs.Option.{option_copied}
-use Rattle.script_parse.specs.Forms.{IsLineOf}
-use Rattle.script_parse.specs.Tests.{IsPolynomial}
-use Rattle.script_parse.specs.Written.{Written}
+use Rattle.script_forms.specs.Forms.{IsLineOf}
+use Rattle.script_forms.specs.Written.{Written}
+use Rattle.script_parse.specs.Tests.{AreStepsOfPolynomial}
 use Rattle.script_parse.proofs.Answering.{blank, early, line_answered, line_of, line_polynomials, ring_answered}
 use Rattle.script_parse.proofs.reading.statement.Goals as goal
 
@@ -23,7 +23,7 @@ line_statement-requires-clause-written c =
     subst (λ l. (w : Written) × IsLineOf c.in-Line.head l w) (sym c.deref.ensures.value) (line_of c.args.line.now c.in-Ok.form c.in-Line.head c.in-Line.polynomials c.in-Line.is c.in-Ok.ensures)
 
 pub line_statement-requires-clause-polynomials : goal.line_statement-requires-clause-polynomials
-line_statement-requires-clause-polynomials c = subst (λ l. AllByRecursion IsPolynomial l) (sym c.deref.ensures.value) (line_polynomials c.args.line.now c.in-Ok.form c.in-Line.head c.in-Line.polynomials c.in-Line.is c.in-Ok.ensures)
+line_statement-requires-clause-polynomials c = subst (λ l. AllByRecursion AreStepsOfPolynomial l) (sym c.deref.ensures.value) (line_polynomials c.args.line.now c.in-Ok.form c.in-Line.head c.in-Line.polynomials c.in-Line.is c.in-Ok.ensures)
 
 pub returns-in-Line : goal.returns-in-Line
 returns-in-Line c = line_answered (option_copied c.args.ring) c.args.names.now c.args.line.now c.in-Ok.form c.in-Line.head c.in-Line.polynomials c.line_statement.result c.in-Line.is c.in-Ok.ensures

@@ -1,6 +1,6 @@
 use Rattle.std.proofs.Common.{ap, ap₂, inl, inr, length, map, subst, sym, ◌∙◌}
+use Rattle.script_forms.specs.RingForms.{ring_line_of}
 use Rattle.script_parse.specs.Refusals.{HasOtherWeights}
-use Rattle.script_parse.specs.RingForms.{ring_line_of}
 use Rattle.script_parse.specs.Statements.{weights_stated}
 use Rattle.script_parse.specs.Tests.{IsGood, repeats}
 use Rattle.script_parse.proofs.Answering.{no_fault, no_modulus, no_ring, ring_made}

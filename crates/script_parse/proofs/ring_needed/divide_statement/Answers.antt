@@ -1,6 +1,6 @@
 use Rattle.std.proofs.Common.{subst}
-use Rattle.script_parse.specs.Forms.{IsLineOf}
-use Rattle.script_parse.specs.declared.form.Head.TheVariants as heads
+use Rattle.script_forms.specs.Forms.{IsLineOf}
+use Rattle.script_forms.specs.declared.form.Head.TheVariants as heads
 use Rattle.script_parse.proofs.Stating.{lift_says, member_says, normal_says}
 use Rattle.script_parse.proofs.ring_needed.divide_statement.Goals as goal
 

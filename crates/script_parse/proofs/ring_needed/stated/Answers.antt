@@ -1,6 +1,6 @@
 use Rattle.std.proofs.Common.{subst, sym}
+use Rattle.script_forms.specs.Forms.{IsLineOf}
 use Rattle.script_parse.proofs.Stating.{is_expressed, is_shown}
-use Rattle.script_parse.specs.Forms.{IsLineOf}
 use Rattle.script_parse.specs.Tests.{IsStated}
 use Rattle.script_parse.proofs.ring_needed.stated.Goals as goal
 

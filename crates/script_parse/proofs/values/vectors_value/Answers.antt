@@ -1,4 +1,4 @@
-use Rattle.script_parse.proofs.Pieces.{none_more}
+use Rattle.script_forms.proofs.Pieces.{none_more}
 use Rattle.script_parse.proofs.Stating.{chunks_end}
 use Rattle.script_parse.proofs.values.vectors_value.Goals as goal
 

@@ -1,0 +1,9 @@
+pub mod Apart
+pub mod Expressed
+pub mod LetLines
+pub mod Lines
+pub mod Listing
+pub mod Pieces
+pub mod RingLines
+pub mod States
+pub mod VectorLists

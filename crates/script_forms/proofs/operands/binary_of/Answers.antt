@@ -1,0 +1,50 @@
+use Rattle.std.proofs.Common.{List, sym, ◌≡◌, ◌∙◌, ℕ}
+use Rattle.std.proofs.lemmas.Bool.{false≢true}
+use Rattle.poly_grammar.specs.Numerals.{text_of}
+use Rattle.script_forms.specs.Written.{operation_text, two_word}
+use Rattle.script_forms.specs.declared.operands.Binary.{Binary}
+use Rattle.script_forms.specs.declared.operands.Binary.TheVariants.{Colon, Intersect, Product, Sum}
+use Rattle.script_forms.proofs.operands.binary_of.Goals as goal
+
+-- no word is the text where none of the 4 is
+is_none : (text : List ℕ) → (text ≡ operation_text (two_word Sum) → ⊥) → (text ≡ operation_text (two_word Product) → ⊥) → (text ≡ operation_text (two_word Intersect) → ⊥) → (text ≡ operation_text (two_word Colon) → ⊥)
+    → (word : Binary) → text ≡ operation_text (two_word word) → ⊥
+is_none text not_sum _ _ _ Sum = not_sum
+is_none text _ not_product _ _ Product = not_product
+is_none text _ _ not_intersect _ Intersect = not_intersect
+is_none text _ _ _ not_colon Colon = not_colon
+
+pub returns-then-is_word-clause-found : goal.returns-then-is_word-clause-found
+returns-then-is_word-clause-found c = c.is_word.ensures.name.0 c.if-is_word.true
+
+pub returns-then-is_word-clause-none : goal.returns-then-is_word-clause-none
+returns-then-is_word-clause-none c = tt
+
+pub returns-then-is_word-2-clause-found : goal.returns-then-is_word-2-clause-found
+returns-then-is_word-2-clause-found c = c.is_word-else-is_word.ensures.name.0 c.if-is_word-2.true
+
+pub returns-then-is_word-2-clause-none : goal.returns-then-is_word-2-clause-none
+returns-then-is_word-2-clause-none c = tt
+
+pub returns-then-is_word-3-clause-found : goal.returns-then-is_word-3-clause-found
+returns-then-is_word-3-clause-found c = c.is_word-else-is_word-2.ensures.name.0 c.if-is_word-3.true
+
+pub returns-then-is_word-3-clause-none : goal.returns-then-is_word-3-clause-none
+returns-then-is_word-3-clause-none c = tt
+
+pub returns-then-is_word-4-clause-found : goal.returns-then-is_word-4-clause-found
+returns-then-is_word-4-clause-found c = c.is_word-else-is_word-3.ensures.name.0 c.if-is_word-4.true
+
+pub returns-then-is_word-4-clause-none : goal.returns-then-is_word-4-clause-none
+returns-then-is_word-4-clause-none c = tt
+
+pub returns-else-is_word-4-clause-found : goal.returns-else-is_word-4-clause-found
+returns-else-is_word-4-clause-found c = tt
+
+pub returns-else-is_word-4-clause-none : goal.returns-else-is_word-4-clause-none
+returns-else-is_word-4-clause-none c = λ word is_name. is_none (text_of c.args.line.now c.args.token)
+    (λ same. false≢true (sym c.if-is_word.false ∙ c.is_word.ensures.name.1 (is_name, same)))
+    (λ same. false≢true (sym c.if-is_word-2.false ∙ c.is_word-else-is_word.ensures.name.1 (is_name, same)))
+    (λ same. false≢true (sym c.if-is_word-3.false ∙ c.is_word-else-is_word-2.ensures.name.1 (is_name, same)))
+    (λ same. false≢true (sym c.if-is_word-4.false ∙ c.is_word-else-is_word-3.ensures.name.1 (is_name, same)))
+    word
