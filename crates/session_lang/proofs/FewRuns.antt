@@ -8,8 +8,8 @@ use Rattle.module_vectors.specs.declared.ring.Ring.{Ring}
 use Rattle.script_parse.specs.declared.stated.Statement.{Statement}
 use Rattle.script_parse.specs.declared.stated.Statement.TheVariants as statements
 use Rattle.session_lang.specs.Runs.{MayRun, runs_for, runs_for_both, runs_to_keep}
-use Rattle.session_values.specs.Names.{State, Value, after_run, value_named, with_basis}
-use Rattle.session_values.specs.Operations.{Work, colon, eliminate, intersect, multiply, preimage, quotient, saturate, sum, syzygies}
+use Rattle.session_values.specs.Names.{ScriptState, Value, after_run, value_named, with_basis}
+use Rattle.session_values.specs.Operations.{TaskShown, colon, eliminate, intersect, multiply, preimage, quotient, saturate, sum, syzygies}
 use Rattle.session_values.specs.Runs.{most_runs}
 use Rattle.syzygy_engine.specs.Kernels.{runs_in_module_order, runs_in_order}
 
@@ -28,7 +28,7 @@ module _ (name : List ℕ) where
       by_test true e later = ap (λ b. runs_to_keep (cond b (Some (with_own v)) (value_named values name))) e
       by_test false e later = ap (λ b. runs_to_keep (cond b (Some v) (value_named (with_basis name values) name))) e ∙ later
 
-pub none_once_kept : (before : State) (name : List ℕ) → runs_for (after_run name before) name ≡ 0
+pub none_once_kept : (before : ScriptState) (name : List ℕ) → runs_for (after_run name before) name ≡ 0
 none_once_kept before name = kept_among name before.values
 
 -- one at most for a value
@@ -40,11 +40,11 @@ to_keep (Some v) = by_mark v.kept
     by_mark true = omega arith
     by_mark false = omega arith
 
-pub one_for_value : (before : State) (name : List ℕ) → runs_for before name ≤ 1
+pub one_for_value : (before : ScriptState) (name : List ℕ) → runs_for before name ≤ 1
 one_for_value before name = to_keep (value_named before.values name)
 
 -- whatever stands for it twice
-pub one_for_both : (before : State) (name : List ℕ) → runs_for_both before name name ≤ 1
+pub one_for_both : (before : ScriptState) (name : List ℕ) → runs_for_both before name name ≤ 1
 one_for_both before name = no_more (runs_for before name) (runs_for (after_run name before) name) (one_for_value before name) (none_once_kept before name)
   where
     no_more : (first second : ℕ) → first ≤ 1 → second ≡ 0 → first + second ≤ 1
@@ -55,7 +55,7 @@ in_order : (order : ModOrder) → runs_in_module_order order ≤ 2
 in_order Pot = omega arith
 in_order Top = omega arith
 
-of_work : (ring : Ring) (work : Work) → most_runs ring work ≤ 2
+of_work : (ring : Ring) (work : TaskShown) → most_runs ring work ≤ 2
 of_work ring (sum rank left right) = omega arith
 of_work ring (multiply rank left right) = omega arith
 of_work ring (intersect rank left right) = omega arith
@@ -78,7 +78,7 @@ value_and_twice one two most e a b = omega (arith, e, a, b)
 at_most_two : (few : ℕ) → few ≤ 1 → few ≤ 2
 at_most_two few h = omega (arith, h)
 
-module _ (before : State) (most : ℕ) where
+module _ (before : ScriptState) (most : ℕ) where
   no_run : most ≡ 0 → most ≤ 5
   no_run e = within 0 most e (omega arith)
 
@@ -93,7 +93,7 @@ module _ (before : State) (most : ℕ) where
       two_values (runs_for before first) (runs_for (after_run first before) second) most e (one_for_value before first)
       (one_for_value (after_run first before) second)
 
-  of_operation : (ring : Ring) (work : Work) → most ≡ most_runs ring work → most ≤ 5
+  of_operation : (ring : Ring) (work : TaskShown) → most ≡ most_runs ring work → most ≤ 5
   of_operation ring work e = within (most_runs ring work) most e (of_work ring work)
 
   of_ext : (ring : Ring) (name : List ℕ) → most ≡ runs_for before name + 2 * runs_in_order ring → most ≤ 5

@@ -1,27 +1,22 @@
 -- The values that a session keeps, found by their names
 use Rattle.std.proofs.Common.{List, None, Option, Some, [], ap, arith, get_or, inl, inr, length, subst, sym, ℕ, ◌<◌, ◌∙◌, ◌∷◌, ◌≡◌}
 use Rattle.std.proofs.lemmas.Option.{none-some}
-use Rattle.formal_sums.proofs.Combining.{Each_map}
-use Rattle.formal_sums.specs.FormalSums.{Each}
-use Rattle.module_vectors.specs.Rings.{ring_comparison, variables}
-use Rattle.module_vectors.specs.Vectors.{AreVectorsOver, HasVariables, IsVectorOver}
 use Rattle.module_vectors.specs.declared.key.Key.{Key}
 use Rattle.module_vectors.specs.declared.ring.Ring.{Ring}
 use Rattle.script_parse.specs.declared.named.NameInfo.{NameInfo}
-use Rattle.session_lang.proofs.KeptValues.{length_written}
-use Rattle.session_lang.proofs.Stopping.{run_for}
+use Rattle.session_reports.proofs.KeptValues.{length_written}
 use Rattle.session_values.proofs.Values.{found_value, kept_values, no_value}
 use Rattle.session_values.specs.Answers.{Asked}
-use Rattle.session_lang.specs.Asking.{IsAskedOver}
+use Rattle.session_reports.specs.Asking.{IsAskedOver}
 use Rattle.script_parse.specs.Places.{place_named}
 use Rattle.session_lang.specs.Fitting.{IsGiven}
 use Rattle.session_values.specs.Kept.{AreKept, AreSound, value_of, values_of}
-use Rattle.session_values.specs.Names.{HasValue, State, after_run, value_named}
-use Rattle.session_lang.specs.Lines.{IsRunForEither}
-use Rattle.session_lang.specs.Parts.{IsRunAtEither, Keeps}
-use Rattle.session_values.specs.Held.{Held}
+use Rattle.session_values.specs.Names.{HasValue, ScriptState, Value, after_run, value_named}
+use Rattle.session_lang.specs.Lines.{IsRunForEither, IsRunForValue}
+use Rattle.session_reports.specs.Parts.{IsRunAtEither, IsRunToKeep, Keeps}
+use Rattle.session_values.specs.Held.{StoredShown}
 
-module _ (before : State) (ring : Option Ring) (infos : List NameInfo) (stored : List Held)
+module _ (before : ScriptState) (ring : Option Ring) (infos : List NameInfo) (stored : List StoredShown)
     (view : record { ring = ring; values = values_of infos stored } ≡ before) where
   ring_is : before.ring ≡ ring
   ring_is = ap (λ s. s.ring) (sym view)
@@ -39,7 +34,7 @@ module _ (before : State) (ring : Option Ring) (infos : List NameInfo) (stored :
 
   -- where the value is
   pub has_value :
-      (r : Ring) (name : List ℕ) (i : ℕ) (d : NameInfo) (e : Held) → length infos ≡ length stored → ring ≡ Some r → place_named infos name ≡ Some i
+      (r : Ring) (name : List ℕ) (i : ℕ) (d : NameInfo) (e : StoredShown) → length infos ≡ length stored → ring ≡ Some r → place_named infos name ≡ Some i
       → HasValue before name r (value_of (get_or infos i d) (get_or stored i e))
   has_value r name i d e kept is found = record {
     stated = ring_is ∙ is;
@@ -56,36 +51,32 @@ module _ (before : State) (ring : Option Ring) (infos : List NameInfo) (stored :
 
   -- the state once the basis of a value is kept
   pub kept_after :
-      (name : List ℕ) (i : ℕ) (after : List Held) (e : Held) → length infos ≡ length stored → place_named infos name ≡ Some i → Keeps stored i after
+      (name : List ℕ) (i : ℕ) (after : List StoredShown) (e : StoredShown) → length infos ≡ length stored → place_named infos name ≡ Some i → Keeps stored i after
       → record { ring = ring; values = values_of infos after } ≡ after_run name before
   kept_after name i after e same found k =
       ap (λ vs. record { ring = ring; values = vs }) (ap (values_of infos) k.written ∙ kept_values infos stored name i k.item e same found (k.list e) k.some)
       ∙ ap (after_run name) view
 
-  pub as_many_after : (i : ℕ) (after : List Held) → length infos ≡ length stored → Keeps stored i after → length infos ≡ length after
+  pub as_many_after : (i : ℕ) (after : List StoredShown) → length infos ≡ length stored → Keeps stored i after → length infos ≡ length after
   as_many_after i after same k = same ∙ sym (ap length k.written ∙ length_written stored i k.item)
-
--- a vector over a ring has its variables
-pub of_variables : (ring : Ring) (v : List (Key × ℕ)) → IsVectorOver ring (ring_comparison ring) v → Each (HasVariables (variables ring)) v
-of_variables ring v h = Each_map _ _ v (λ t x. x.weighed.variables) h.each
-
--- the same of a list of vectors
-pub listed : (ring : Ring) (list : List (List (Key × ℕ))) → AreVectorsOver ring (ring_comparison ring) list
-    → Each (λ v. Each (HasVariables (variables ring)) v) list
-listed ring [] h = tt
-listed ring (v ∷ list) h = (of_variables ring v h.0, listed ring list h.1)
 
 -- a name that stands at a place
 pub some_info : (infos : List NameInfo) (i : ℕ) → i < length infos → NameInfo
 some_info [] i lt = absurd (omega arith)
 some_info (j ∷ infos) i lt = j
 
-pub no_stored : Held
+pub no_stored : StoredShown
 no_stored = record { list = []; basis = None }
+
+-- the run for a value, as the run for a name that has it
+pub run_for :
+    (before : ScriptState) (name : List ℕ) (over : Ring) (value : Value) → HasValue before name over value
+    → (ring : Ring) (rank : ℕ) (list : List (List (Key × ℕ))) → IsRunToKeep over value ring rank list → IsRunForValue before name ring rank list
+run_for before name over value has ring rank list h = (value, subst (λ r. HasValue before name r value) (sym h.0) has, h.1, h.2, h.3)
 
 -- the run for one of two places, as the run for one of the names that have them
 pub run_for_either :
-    (before : State) (ring : Option Ring) (infos : List NameInfo) (stored : List Held) (view : record { ring = ring; values = values_of infos stored } ≡ before)
+    (before : ScriptState) (ring : Option Ring) (infos : List NameInfo) (stored : List StoredShown) (view : record { ring = ring; values = values_of infos stored } ≡ before)
     (over : Ring) (first second : List ℕ) (i j : ℕ) (d : NameInfo)
     → length infos ≡ length stored → ring ≡ Some over → place_named infos first ≡ Some i → place_named infos second ≡ Some j
     → (r : Ring) (rank : ℕ) (list : List (List (Key × ℕ))) → IsRunAtEither over infos stored (i, j) d no_stored r rank list

@@ -8,10 +8,10 @@ use Rattle.module_vectors.specs.declared.ring.Ring.{Ring}
 use Rattle.script_parse.specs.declared.operation.Operation.{Operation}
 use Rattle.script_parse.specs.declared.operation.Operation.TheVariants as operations
 use Rattle.session_lang.proofs.OneAnswer.{one_value}
-use Rattle.session_lang.specs.Fitting.{AreGiven, AreImages, IsWithPolynomial, IsWorkable}
+use Rattle.session_lang.specs.Fitting.{AreGiven, AreImages, IsWithPolynomial, IsOperable}
 use Rattle.session_values.specs.Kept.{IsListOver, IsPolynomialOver, IsSound, IsValueRank}
-use Rattle.session_values.specs.Names.{State}
-use Rattle.session_values.specs.Operations.{IsResult, Work, WorksOn, colon, eliminate, intersect, multiply, preimage, quotient, result_rank, saturate, sum, syzygies}
+use Rattle.session_values.specs.Names.{ScriptState}
+use Rattle.session_values.specs.Operations.{IsResult, TaskShown, WorksOn, colon, eliminate, intersect, multiply, preimage, quotient, result_rank, saturate, sum, syzygies}
 use Rattle.session_values.specs.Tasks.{IsOperand, IsReady}
 
 abbrev Lists : Type 0
@@ -19,7 +19,7 @@ Lists = List (List (Key × ℕ))
 
 -- the result is a value
 pub sound_result :
-    (ring : Ring) (work : Work) (rank : ℕ) (list : List (List (Key × ℕ))) → rank ≡ result_rank work → IsValueRank (result_rank work)
+    (ring : Ring) (work : TaskShown) (rank : ℕ) (list : List (List (Key × ℕ))) → rank ≡ result_rank work → IsValueRank (result_rank work)
     → IsResult ring work list → IsSound ring rank (record { list = list; basis = Some list })
 sound_result ring work rank list e ranked r =
     subst (λ m. IsSound ring m (record { list = list; basis = Some list })) (sym e)
@@ -32,11 +32,11 @@ pub sound_list :
 sound_list ring rank list ranked h = record { ranked = ranked; vectors = h.0; positions = h.1; basis = tt }
 
 -- ---- operations on operands
-module _ (before : State) (over : Ring) where
+module _ (before : ScriptState) (over : Ring) where
   abbrev IsOf : String Global → ℕ → Lists → Type 0
   IsOf name rank list = IsOperand before name over rank list
 
-  abbrev Does : Operation → Work → Type 0
+  abbrev Does : Operation → TaskShown → Type 0
   Does x work = WorksOn before x over work × IsReady over work
 
   -- the ranks of two operands pass the test
@@ -53,11 +53,11 @@ module _ (before : State) (over : Ring) where
       → IsListOver over m right
   same_rank a b m n left right h f g = subst (λ r. IsListOver over r right) (sym (ranks_pass (λ r s. r ≡ s) a b m n left right h f g)) g.vectors
 
-  written : (F : ℕ → Lists → Lists → Work) (m n : ℕ) (k l p q : Lists) → m ≡ n → k ≡ l → p ≡ q → F m k p ≡ F n l q
+  written : (F : ℕ → Lists → Lists → TaskShown) (m n : ℕ) (k l p q : Lists) → m ≡ n → k ≡ l → p ≡ q → F m k p ≡ F n l q
   written F m n k l p q e f g = λ i. F (e i) (f i) (g i)
 
   pub sum_does :
-      (a b : String Global) (m n : ℕ) (left right : Lists) → IsWorkable before (operations.Sum a b) → IsOf a m left → IsOf b n right
+      (a b : String Global) (m n : ℕ) (left right : Lists) → IsOperable before (operations.Sum a b) → IsOf a m left → IsOf b n right
       → Does (operations.Sum a b) (sum m left right)
   sum_does a b m n left right h f g = (
     (f.value, g.value, f.has, g.has, written sum m f.value.rank left f.value.list right g.value.list f.rank_is f.list_is g.list_is),
@@ -65,7 +65,7 @@ module _ (before : State) (over : Ring) where
   )
 
   pub product_does :
-      (a b : String Global) (m n : ℕ) (left right : Lists) → IsWorkable before (operations.Product a b) → IsOf a m left → IsOf b n right
+      (a b : String Global) (m n : ℕ) (left right : Lists) → IsOperable before (operations.Product a b) → IsOf a m left → IsOf b n right
       → Does (operations.Product a b) (multiply n left right)
   product_does a b m n left right h f g =
       let le = ranks_pass (λ r s. r ≤ 1) a b m n left right h f g in
@@ -76,7 +76,7 @@ module _ (before : State) (over : Ring) where
       )
 
   pub intersect_does :
-      (a b : String Global) (m n : ℕ) (left right : Lists) → IsWorkable before (operations.Intersect a b) → IsOf a m left → IsOf b n right
+      (a b : String Global) (m n : ℕ) (left right : Lists) → IsOperable before (operations.Intersect a b) → IsOf a m left → IsOf b n right
       → Does (operations.Intersect a b) (intersect m left right)
   intersect_does a b m n left right h f g = (
     (f.value, g.value, f.has, g.has, written intersect m f.value.rank left f.value.list right g.value.list f.rank_is f.list_is g.list_is),
@@ -84,7 +84,7 @@ module _ (before : State) (over : Ring) where
   )
 
   pub colon_does :
-      (a b : String Global) (m n : ℕ) (left right : Lists) → IsWorkable before (operations.Colon a b) → IsOf a m left → IsOf b n right
+      (a b : String Global) (m n : ℕ) (left right : Lists) → IsOperable before (operations.Colon a b) → IsOf a m left → IsOf b n right
       → Does (operations.Colon a b) (colon m left right)
   colon_does a b m n left right h f g = (
     (f.value, g.value, f.has, g.has, written colon m f.value.rank left f.value.list right g.value.list f.rank_is f.list_is g.list_is),
@@ -98,7 +98,7 @@ module _ (before : State) (over : Ring) where
       subst (λ r. IsPolynomialOver r f) e (h.3, h.4)
 
   pub quotient_does :
-      (a : String Global) (m : ℕ) (list : Lists) (f : List (Key × ℕ)) → IsWorkable before (operations.Quotient a f) → IsOf a m list
+      (a : String Global) (m : ℕ) (list : Lists) (f : List (Key × ℕ)) → IsOperable before (operations.Quotient a f) → IsOf a m list
       → Does (operations.Quotient a f) (quotient m list f)
   quotient_does a m list f h g = (
     (g.value, g.has, ap₂ (λ r l. quotient r l f) g.rank_is g.list_is),
@@ -106,7 +106,7 @@ module _ (before : State) (over : Ring) where
   )
 
   pub saturate_does :
-      (a : String Global) (m : ℕ) (list : Lists) (f : List (Key × ℕ)) → IsWorkable before (operations.Saturate a f) → IsOf a m list
+      (a : String Global) (m : ℕ) (list : Lists) (f : List (Key × ℕ)) → IsOperable before (operations.Saturate a f) → IsOf a m list
       → Does (operations.Saturate a f) (saturate m list f)
   saturate_does a m list f h g = (
     (g.value, g.has, ap₂ (λ r l. saturate r l f) g.rank_is g.list_is),
@@ -118,7 +118,7 @@ module _ (before : State) (over : Ring) where
   eliminate_does a m list k g = ((g.value, g.has, ap₂ (λ r l. eliminate r l k) g.rank_is g.list_is), (g.vectors, g.ranked))
 
   pub syzygies_does :
-      (a : String Global) (m : ℕ) (list : Lists) → IsWorkable before (operations.Syzygies a) → IsOf a m list → Does (operations.Syzygies a) (syzygies m list)
+      (a : String Global) (m : ℕ) (list : Lists) → IsOperable before (operations.Syzygies a) → IsOf a m list → Does (operations.Syzygies a) (syzygies m list)
   syzygies_does a m list h g =
       let x = one_value before (string_bytes a) h.0 over h.1 g.value h.2 g.has in (
         (g.value, g.has, ap₂ (λ r l. syzygies r l) g.rank_is g.list_is),
@@ -126,7 +126,7 @@ module _ (before : State) (over : Ring) where
       )
 
   pub preimage_does :
-      (a : String Global) (m : ℕ) (list images : Lists) → IsWorkable before (operations.Preimage a images) → IsOf a m list
+      (a : String Global) (m : ℕ) (list images : Lists) → IsOperable before (operations.Preimage a images) → IsOf a m list
       → Does (operations.Preimage a images) (preimage images list)
   preimage_does a m list images h g =
       let x = one_value before (string_bytes a) h.0 over h.1 g.value h.2 g.has in

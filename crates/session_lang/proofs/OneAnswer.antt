@@ -5,17 +5,17 @@ use Rattle.poly_text.specs.Texts.{names_of, vector_text}
 use Rattle.session_lang.proofs.OneForm.{one_form, one_reduced}
 use Rattle.session_values.specs.Answers.{Asked, Decides, IsAnswer, basis, member, normal_form, sizes_of_basis}
 use Rattle.session_lang.specs.Lines.{AnswersAsked}
-use Rattle.session_values.specs.Names.{HasValue, State, Value}
+use Rattle.session_values.specs.Names.{HasValue, ScriptState, Value}
 use Rattle.session_values.specs.Texts.{listing, sizes}
 
 pub some_same : {X : Type 0} {x y : X} → Some x ≡ Some y → x ≡ y
 some_same e = cc
 
 -- a name has one value, over one ring
-pub one_ring : (before : State) (name more : List ℕ) (r s : Ring) (v w : Value) → HasValue before name r v → HasValue before more s w → r ≡ s
+pub one_ring : (before : ScriptState) (name more : List ℕ) (r s : Ring) (v w : Value) → HasValue before name r v → HasValue before more s w → r ≡ s
 one_ring before name more r s v w g h = some_same (sym g.stated ∙ h.stated)
 
-pub one_value : (before : State) (name : List ℕ) (r s : Ring) (v w : Value) → HasValue before name r v → HasValue before name s w → v ≡ w
+pub one_value : (before : ScriptState) (name : List ℕ) (r s : Ring) (v w : Value) → HasValue before name r v → HasValue before name s w → v ≡ w
 one_value before name r s v w g h = some_same (sym g.named ∙ h.named)
 
 pub decides_once : (P : Type 0) (x y : List ℕ) → Decides P x → Decides P y → x ≡ y
@@ -32,7 +32,7 @@ answer_once ring value (normal_form v) x y g h =
     g.2 ∙ ap (λ w. vector_text (names_of ring) value.rank w ++ 10 ∷ []) (one_form ring value.rank value.list v g.0 h.0 g.1 h.1) ∙ sym h.2
 answer_once ring value (member v) x y g h = decides_once _ x y g h
 
-pub answers_once : (before : State) (name : List ℕ) (asked : Asked) (x y : List ℕ) → AnswersAsked before name asked x → AnswersAsked before name asked y → x ≡ y
+pub answers_once : (before : ScriptState) (name : List ℕ) (asked : Asked) (x y : List ℕ) → AnswersAsked before name asked x → AnswersAsked before name asked y → x ≡ y
 answers_once before name asked x y g h =
     answer_once g.0 g.1 asked x y g.3
     (subst₂ (λ r v. IsAnswer r v asked y) (sym (one_ring before name name g.0 h.0 g.1 h.1 g.2 h.2)) (sym (one_value before name g.0 h.0 g.1 h.1 g.2 h.2)) h.3)

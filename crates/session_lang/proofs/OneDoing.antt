@@ -22,10 +22,10 @@ use Rattle.session_lang.proofs.OneResolution.{resolves_once}
 use Rattle.session_lang.proofs.OneText.{counts_once, lifts_once}
 use Rattle.session_lang.proofs.OneWork.{gives_once}
 use Rattle.session_values.specs.Answers.{Asked, Decides, IsOneModule, basis, member, normal_form, sizes_of_basis}
-use Rattle.session_lang.specs.Lines.{AnswersAsked, Does, OperationGives, Tells}
-use Rattle.session_lang.specs.Minimising.{IsBettiText, IsMinimalText, IsRegularityText}
+use Rattle.session_lang.specs.Lines.{AnswersAsked, Does, OperationGives, TellsOfValue}
+use Rattle.session_reports.specs.Minimising.{IsBettiText, IsMinimalText, IsRegularityText}
 use Rattle.session_values.specs.Extending.{IsExtText}
-use Rattle.session_values.specs.Names.{HasValue, State, Value, after_giving, after_run}
+use Rattle.session_values.specs.Names.{HasValue, ScriptState, Value, after_giving, after_run}
 use Rattle.session_values.specs.Texts.{listing}
 
 abbrev Terms : Type 0
@@ -48,16 +48,16 @@ ring_same r s a b c d e = λ i. record {
   weighted = is_prop→PathP (λ i. length (e i) ≡ length (b i)) (λ i. ℕ_set (length (e i)) (length (b i))) r.weighted s.weighted i;
 }
 
-abbrev stated : Ring → State
+abbrev stated : Ring → ScriptState
 stated r = record { ring = Some r; values = [] }
 
-abbrev given : State → Bool → List ℕ → ℕ → List Terms → State
+abbrev given : ScriptState → Bool → List ℕ → ℕ → List Terms → ScriptState
 given before kept name rank list = after_giving (record { name = name; rank = rank; list = list; kept = kept }) before
 
 stated_once : (r s : Ring) → IsSameStatement (statements.Ring r) (statements.Ring s) → stated r ≡ stated s
 stated_once r s e = ap stated (ring_same r s (modulus_same r.modulus s.modulus e.0) e.1 e.2 e.3 e.4)
 
-module _ (before : State) where
+module _ (before : ScriptState) where
   -- a polynomial is printed one way
   shown_once :
       (v w : Terms) (r s : Ring) (x y : List ℕ) → v ≡ w → before.ring ≡ Some r → before.ring ≡ Some s
@@ -106,16 +106,16 @@ module _ (before : State) where
   given_once k m n r q v w e f g = λ i. given before k (e i) (f i) (g i)
 
   -- what an operation gives
-  abbrev Made : List ℕ → Operation → State → Type 0
+  abbrev Made : List ℕ → Operation → ScriptState → Type 0
   Made name x after = (ring : Ring) × (rank : ℕ) × (list : List Terms) × OperationGives before x ring rank list × (after ≡ given before true name rank list)
 
-  made_once : (m n : List ℕ) (x y : Operation) (p q : State) → m ≡ n → IsSameOperation x y → Made m x p → Made n y q → p ≡ q
+  made_once : (m n : List ℕ) (x y : Operation) (p q : ScriptState) → m ≡ n → IsSameOperation x y → Made m x p → Made n y q → p ≡ q
   made_once m n x y p q e f g h =
       let z = gives_once before x y g.0 h.0 g.1 h.1 g.2 h.2 f g.3 h.3 in
       g.4 ∙ given_once true m n g.1 h.1 g.2 h.2 e z.0 z.1 ∙ sym h.4
 
   pub does_once :
-      (s t : Statement) (p q : State) (x y : List ℕ) → IsSameStatement s t → Does before s p x → Does before t q y → (p ≡ q) × (x ≡ y)
+      (s t : Statement) (p q : ScriptState) (x y : List ℕ) → IsSameStatement s t → Does before s p x → Does before t q y → (p ≡ q) × (x ≡ y)
   does_once statements.Nothing statements.Nothing p q x y e a b = (a.0 ∙ sym b.0, a.1 ∙ sym b.1)
   does_once statements.Nothing _ p q x y e a b = absurd e
   does_once (statements.Ring r) (statements.Ring s) p q x y e a b = (a.0 ∙ stated_once r s e ∙ sym b.0, a.1 ∙ sym b.1)
@@ -160,7 +160,7 @@ module _ (before : State) where
   does_once (statements.Ext m j) (statements.Ext n k) p q x y e a b = (
     a.0 ∙ kept_once (string_bytes m) (string_bytes n) e.0 ∙ sym b.0,
     tells_once (λ r v t. IsExtText r v j t) (λ r v s t. ext_once r v j s t) before (string_bytes m) (string_bytes n) x y e.0 a.1
-        (subst (λ i. Tells before (string_bytes n) (λ r v t. IsExtText r v i t) y) (sym e.1) b.1),
+        (subst (λ i. TellsOfValue before (string_bytes n) (λ r v t. IsExtText r v i t) y) (sym e.1) b.1),
   )
   does_once (statements.Ext m j) _ p q x y e a b = absurd e
   does_once (statements.Gens m) (statements.Gens n) p q x y e a b =

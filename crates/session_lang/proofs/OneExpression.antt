@@ -15,9 +15,9 @@ use Rattle.module_vectors.specs.declared.ring.Ring.{Ring}
 use Rattle.ring_maps.specs.Maps.{IsExpression, IsExpressionAnswer, grevlex_ring, grevlex_setting}
 use Rattle.script_parse.proofs.Working.{lawful}
 use Rattle.std.proofs.lemmas.Option.{same_Some}
-use Rattle.session_lang.specs.Expressing.{IsExpressionText, expression_text}
+use Rattle.session_reports.specs.Expressing.{IsExpressionText, expression_text}
 use Rattle.session_lang.specs.Lines.{Expresses}
-use Rattle.session_values.specs.Names.{State}
+use Rattle.session_values.specs.Names.{ScriptState}
 
 abbrev Terms : Type 0
 Terms = List (CodeKey × ℕ)
@@ -53,7 +53,7 @@ text_once : (ring : Ring) (images : List Terms) (f : Terms) (x y : List ℕ) →
 text_once ring images f x y g h = g.2 ∙ ap (expression_text ring) (answers_same ring images f g.0 h.0 g.1 h.1) ∙ sym h.2
 
 pub expresses_once :
-    (before : State) (f g : Terms) (images others : List Terms) (x y : List ℕ) → f ≡ g → images ≡ others
+    (before : ScriptState) (f g : Terms) (images others : List Terms) (x y : List ℕ) → f ≡ g → images ≡ others
     → Expresses before f images x → Expresses before g others y → x ≡ y
 expresses_once before f g images others x y e i a b =
     text_once a.0 images f x y a.2

@@ -1,5 +1,5 @@
 -- An Ext module has one text
-use Rattle.std.proofs.Common.{Bool, List, ap, ap₂, false, length, refl, subst, sym, true, ℕ, ◌∙◌, ◌≡◌}
+use Rattle.std.proofs.Common.{Bool, List, ap, ap₂, false, length, refl, subst, suc, sym, true, ℕ, ◌∙◌, ◌≡◌}
 use Rattle.std.specs.Prelude.{◌↔◌}
 use Rattle.formal_sums.specs.Combinations.{IsMember}
 use Rattle.formal_sums.specs.FormalSums.{Each}
@@ -12,11 +12,12 @@ use Rattle.module_vectors.specs.Rings.{variables}
 use Rattle.module_vectors.specs.Vectors.{sums_of}
 use Rattle.module_vectors.specs.declared.key.Key.{Key}
 use Rattle.module_vectors.specs.declared.ring.Ring.{Ring}
-use Rattle.schreyer_resolution.specs.Inducing.{Columns}
-use Rattle.session_lang.proofs.OneResolution.{resolved_once}
+use Rattle.resolution_maps.specs.Inducing.{Columns}
+use Rattle.session_lang.proofs.OneResolution.{started_once}
 use Rattle.session_lang.proofs.OneWork.{basis_once}
 use Rattle.session_values.specs.Extending.{IsExtText, ext_text}
 use Rattle.session_values.specs.Names.{Value}
+use Rattle.session_lang.proofs.OneResolution.{resolved_once}
 
 -- marks of one fact are one
 marks_same : {P : Type 0} (a b : Bool) → (a ≡ true) ↔ P → (b ≡ true) ↔ P → a ≡ b
@@ -55,5 +56,5 @@ ext_once ring value step x y g h =
   where
     maps_same : g.maps ≡ h.maps
     maps_same =
-        resolved_once ring value.rank value.list g.basis h.basis g.maps h.maps g.reduced h.reduced g.resolution.canonical h.resolution.canonical
+        started_once ring value.rank value.list g.basis h.basis (suc step) g.maps h.maps g.reduced h.reduced g.resolution.start h.resolution.start
         g.resolution.vectors h.resolution.vectors

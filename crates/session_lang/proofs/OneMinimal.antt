@@ -19,18 +19,18 @@ use Rattle.minimal_laws.specs.Gradings.{GradedMap, GradedMaps, graded_by_leads, 
 use Rattle.betti_laws.proofs.Tables.{betti}
 use Rattle.betti_laws.specs.Tables.{step_count}
 use Rattle.minimal_betti.proofs.Counts.{table_same}
-use Rattle.minimal_betti.proofs.Growing.{each_in}
-use Rattle.minimal_betti.specs.Tables.{Ascends, ComesBefore, IsCounted, IsLastStep, IsRegularity, IsTable}
-use Rattle.minimal_betti.specs.declared.tables.Entry.{Entry}
-use Rattle.schreyer_resolution.specs.Inducing.{Columns, maps_of}
+use Rattle.minimal_betti.specs.Tables.{Ascends, ComesBefore, IsCountedEntry, IsLastStep, IsRegularity, IsBettiTable}
+use Rattle.minimal_betti.specs.declared.tables.BettiEntry.{BettiEntry}
+use Rattle.resolution_maps.specs.Inducing.{Columns, maps_of}
 use Rattle.script_parse.proofs.Working.{lawful}
 use Rattle.script_parse.specs.declared.kind.Kind.{Kind}
 use Rattle.script_parse.specs.declared.kind.Kind.TheVariants as kinds
 use Rattle.syzygy_engine.proofs.Standing.{ranks_of_positions}
+use Rattle.column_passes.proofs.Lists.{each_in}
 use Rattle.session_lang.proofs.OneForm.{one_reduced}
 use Rattle.session_lang.proofs.OneReordering.{there}
-use Rattle.session_lang.specs.Lines.{RefusesAsMinimal, Tells}
-use Rattle.session_lang.specs.Minimising.{
+use Rattle.session_lang.specs.Lines.{RefusesAsMinimal, TellsOfValue}
+use Rattle.session_reports.specs.Minimising.{
   AreInvariants,
   IsBettiText,
   IsCancelledBasis,
@@ -42,7 +42,7 @@ use Rattle.session_lang.specs.Minimising.{
   regularity_text,
   table_text,
 }
-use Rattle.session_values.specs.Names.{State, Value}
+use Rattle.session_values.specs.Names.{ScriptState, Value}
 use Rattle.session_values.specs.Resolving.{maps_text}
 use Rattle.session_values.specs.Texts.{heading}
 
@@ -144,24 +144,24 @@ module _ (ring : Ring) (value : Value) where
       g.text_is ∙ ap₂ (λ M r. heading (codes "minres") value.name (length M) ++ maps_text ring 1 (length r) M) maps one.0 ∙ sym h.text_is
 
 -- ---- tables
-contains_later : (e x : Entry) (es : List Entry) → Contains (e ∷ es) x → (e ≡ x) ⊎ Contains es x
+contains_later : (e x : BettiEntry) (es : List BettiEntry) → Contains (e ∷ es) x → (e ≡ x) ⊎ Contains es x
 contains_later e x es (zero, lt, is) = inl is
 contains_later e x es (suc k, lt, is) = inr (k, omega (arith, lt), is)
 
-contains_more : (e x : Entry) (es : List Entry) → Contains es x → Contains (e ∷ es) x
+contains_more : (e x : BettiEntry) (es : List BettiEntry) → Contains es x → Contains (e ∷ es) x
 contains_more e x es h = (suc h.0, let lt = h.1 in omega (arith, lt), h.2)
 
-first_in : (e : Entry) (es : List Entry) → Contains (e ∷ es) e
+first_in : (e : BettiEntry) (es : List BettiEntry) → Contains (e ∷ es) e
 first_in e es = (0, omega arith, refl)
 
-none_in : (x : Entry) → Contains [] x → ⊥
+none_in : (x : BettiEntry) → Contains [] x → ⊥
 none_in x h = let lt = h.1 in omega (arith, lt)
 
-not_before : (e : Entry) → ComesBefore e e → ⊥
+not_before : (e : BettiEntry) → ComesBefore e e → ⊥
 not_before e (inl lt) = omega (arith, lt)
 not_before e (inr h) = let lt = h.1 in omega (arith, lt)
 
-one_before : (e f : Entry) → ComesBefore e f → ComesBefore f e → ⊥
+one_before : (e f : BettiEntry) → ComesBefore e f → ComesBefore f e → ⊥
 one_before e f (inl lt) (inl gt) = omega (arith, lt, gt)
 one_before e f (inl lt) (inr h) = let s = h.0 in omega (arith, lt, s)
 one_before e f (inr h) (inl gt) = let s = h.0 in omega (arith, gt, s)
@@ -169,7 +169,7 @@ one_before e f (inr h) (inr k) = let lt = h.1 in let gt = k.1 in omega (arith, l
 
 -- ascending lists with the same entries are one
 ascending_once :
-    (es fs : List Entry) → Ascends es → Ascends fs → ((x : Entry) → Contains es x → Contains fs x) → ((x : Entry) → Contains fs x → Contains es x) → es ≡ fs
+    (es fs : List BettiEntry) → Ascends es → Ascends fs → ((x : BettiEntry) → Contains es x → Contains fs x) → ((x : BettiEntry) → Contains fs x → Contains es x) → es ≡ fs
 ascending_once [] [] a b to from = refl
 ascending_once [] (f ∷ fs) a b to from = absurd (none_in f (from f (first_in f fs)))
 ascending_once (e ∷ es) [] a b to from = absurd (none_in e (to e (first_in e es)))
@@ -185,17 +185,17 @@ ascending_once (e ∷ es) (f ∷ fs) a b to from =
     firsts (inr i) (inl j) = j
     firsts (inr i) (inr j) = absurd (one_before e f (each_in (λ x. ComesBefore e x) es f a.0 j) (each_in (λ x. ComesBefore f x) fs e b.0 i))
 
-    later : (x z : Entry) (zs : List Entry) → ComesBefore z x → (z ≡ x) ⊎ Contains zs x → Contains zs x
+    later : (x z : BettiEntry) (zs : List BettiEntry) → ComesBefore z x → (z ≡ x) ⊎ Contains zs x → Contains zs x
     later x z zs before (inl is) = absurd (not_before x (subst (λ y. ComesBefore y x) is before))
     later x z zs before (inr h) = h
 
 -- counts have one table
-one_table : (counts : ℕ → ℕ → ℕ) (es fs : List Entry) → IsTable counts es → IsTable counts fs → es ≡ fs
+one_table : (counts : ℕ → ℕ → ℕ) (es fs : List BettiEntry) → IsBettiTable counts es → IsBettiTable counts fs → es ≡ fs
 one_table counts es fs g h = ascending_once es fs g.ascends h.ascends (moved es fs g h) (moved fs es h g)
   where
-    moved : (es fs : List Entry) → IsTable counts es → IsTable counts fs → (x : Entry) → Contains es x → Contains fs x
+    moved : (es fs : List BettiEntry) → IsBettiTable counts es → IsBettiTable counts fs → (x : BettiEntry) → Contains es x → Contains fs x
     moved es fs g h x c =
-        let count = each_in (IsCounted counts) es x g.counted c in
+        let count = each_in (IsCountedEntry counts) es x g.counted c in
         subst (λ z. Contains fs (record { step = x.step; degree = x.degree; count = z })) (sym count.1)
         (h.complete x.step x.degree (subst (λ z. 0 < z) count.1 count.0))
 
@@ -260,12 +260,12 @@ module _ (ring : Ring) (value : Value) where
 -- ---- by names
 module _ (Is : Ring → Value → List ℕ → Type 0) where
   pub tells_once :
-      ((ring : Ring) (value : Value) (x y : List ℕ) → Is ring value x → Is ring value y → x ≡ y) → (before : State) (m n x y : List ℕ) → m ≡ n
-      → Tells before m Is x → Tells before n Is y → x ≡ y
+      ((ring : Ring) (value : Value) (x y : List ℕ) → Is ring value x → Is ring value y → x ≡ y) → (before : ScriptState) (m n x y : List ℕ) → m ≡ n
+      → TellsOfValue before m Is x → TellsOfValue before n Is y → x ≡ y
   tells_once once before m n x y e g h = once g.0 g.1 x y g.3 (there before m n e g.0 h.0 g.1 h.1 (λ r v. Is r v y) g.2 h.2 h.3)
 
   pub tells_or_refuses :
-      ((ring : Ring) (value : Value) (text : List ℕ) (kind : Kind) → Is ring value text → RefusesMinimal ring value kind → ⊥) → (before : State) (m n : List ℕ)
-      → m ≡ n → (text : List ℕ) (kind : Kind) → Tells before m Is text → RefusesAsMinimal before n kind → ⊥
+      ((ring : Ring) (value : Value) (text : List ℕ) (kind : Kind) → Is ring value text → RefusesMinimal ring value kind → ⊥) → (before : ScriptState) (m n : List ℕ)
+      → m ≡ n → (text : List ℕ) (kind : Kind) → TellsOfValue before m Is text → RefusesAsMinimal before n kind → ⊥
   tells_or_refuses never before m n e text kind g h =
       never g.0 g.1 text kind g.3 (there before m n e g.0 h.0 g.1 h.1 (λ r v. RefusesMinimal r v kind) g.2 h.2 h.3)

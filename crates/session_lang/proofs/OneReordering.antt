@@ -14,8 +14,8 @@ use Rattle.script_parse.specs.declared.kind.Kind.TheVariants as kinds
 use Rattle.session_lang.proofs.OneAnswer.{one_ring, one_value}
 use Rattle.session_lang.proofs.OneForm.{one_reduced}
 use Rattle.session_lang.specs.Lines.{Reorders}
-use Rattle.session_values.specs.Names.{HasValue, State, Value}
-use Rattle.session_lang.specs.Reordering.{IsReorderedText, RefusesReordering}
+use Rattle.session_values.specs.Names.{HasValue, ScriptState, Value}
+use Rattle.session_reports.specs.Reordering.{IsReorderedText, RefusesReordering}
 use Rattle.session_values.specs.Texts.{listing}
 
 module _ (ring : Ring) (value : Value) where
@@ -94,10 +94,10 @@ module _ (ring : Ring) (value : Value) where
   kind_once kinds.Homogeneous k g h = absurd g
 
 -- the same of a value by its name
-abbrev pub RefusesNamed : State → List ℕ → Kind → Type 0
+abbrev pub RefusesNamed : ScriptState → List ℕ → Kind → Type 0
 RefusesNamed before name kind = (ring : Ring) × (value : Value) × HasValue before name ring value × RefusesReordering ring value kind
 
-module _ (before : State) (m n : List ℕ) where
+module _ (before : ScriptState) (m n : List ℕ) where
   -- what is said of the value with a name is said of the one with the same name
   pub there : m ≡ n → (r s : Ring) (v w : Value) (P : Ring → Value → Type 0) → HasValue before m r v → HasValue before n s w → P s w → P r v
   there e r s v w P g h p =

@@ -1,5 +1,5 @@
 -- The resolution of a value has one text
-use Rattle.std.proofs.Common.{List, [], ap, ap₂, get_or, length, refl, subst, subst₂, sym, ℕ, ◌<◌, ◌++◌, ◌∙◌, ◌∷◌, ◌≡◌}
+use Rattle.std.proofs.Common.{List, [], ap, ap₂, arith, get_or, length, refl, subst, subst₂, sym, ℕ, ◌+◌, ◌<◌, ◌++◌, ◌∙◌, ◌∷◌, ◌≡◌}
 use Rattle.std.specs.declared.cmp.Ordering.{Ordering}
 use Rattle.std.specs.Prelude.{codes}
 use Rattle.formal_sums.proofs.OfRank.{IsOfRank_of}
@@ -11,19 +11,20 @@ use Rattle.module_vectors.specs.Vectors.{AreVectorsOver, sums_of}
 use Rattle.module_vectors.specs.declared.key.Key.{Key}
 use Rattle.module_vectors.specs.declared.ring.Ring.{Ring}
 use Rattle.operation_laws.proofs.Linear.{Each_at}
-use Rattle.resolution_laws.proofs.OneResolution.{canonical_unique}
-use Rattle.resolution_laws.specs.Resolutions.{IsCanonical}
+use Rattle.resolution_laws.proofs.OneResolution.{start_unique}
+use Rattle.resolution_laws.proofs.Starts.{start_whole}
+use Rattle.resolution_laws.specs.Resolutions.{IsCanonical, IsCanonicalStart}
 use Rattle.groebner_iface.specs.Runs.{IsReducedBasisOf}
-use Rattle.schreyer_resolution.specs.Inducing.{Columns, maps_of, over, tower_comparison}
-use Rattle.schreyer_resolution.specs.Resolved.{AreVectorsThrough}
 use Rattle.script_parse.proofs.Working.{lawful}
 use Rattle.syzygy_engine.proofs.Standing.{ranks_of_positions}
+use Rattle.resolution_maps.specs.Inducing.{Columns, maps_of, over, tower_comparison}
+use Rattle.resolution_maps.specs.Resolved.{AreVectorsThrough}
+use Rattle.session_values.specs.Names.{HasValue, ScriptState, Value}
+use Rattle.session_values.specs.Resolving.{IsResolutionText, maps_text}
+use Rattle.session_values.specs.Texts.{heading}
 use Rattle.session_lang.proofs.OneAnswer.{one_ring, one_value}
 use Rattle.session_lang.proofs.OneForm.{one_reduced}
 use Rattle.session_lang.specs.Lines.{Resolves}
-use Rattle.session_values.specs.Names.{HasValue, State, Value}
-use Rattle.session_values.specs.Resolving.{IsResolutionText, maps_text}
-use Rattle.session_values.specs.Texts.{heading}
 
 -- vectors with the same formal sums are one list, in whatever order each has its terms
 columns_once :
@@ -59,7 +60,29 @@ maps_once ring below other (F ∷ maps) (H ∷ others) g h e =
     tail : {X : Type 0} {x y : X} {xs ys : List X} → x ∷ xs ≡ y ∷ ys → xs ≡ ys
     tail e = cc
 
--- a reduced basis has one canonical resolution
+-- the vectors of a reduced basis have the rank
+ranks_of_basis :
+    (ring : Ring) (rank : ℕ) (list basis : List (List (Key × ℕ))) → IsReducedBasisOf ring rank list basis
+    → (i : ℕ) → i < length (sums_of (variables ring) basis) → IsOfRank ring.modulus.value rank (get_or (sums_of (variables ring) basis) i [])
+ranks_of_basis ring rank list basis reduced i lt =
+    IsOfRank_of ring.modulus.value rank (get_or (sums_of (variables ring) basis) i [])
+    (Each_at (HasRank rank) [] (sums_of (variables ring) basis) (ranks_of_positions (variables ring) rank basis reduced.positions) i lt)
+
+-- and it has one start of so many maps
+pub started_once :
+    (ring : Ring) (rank : ℕ) (list basis other : List (List (Key × ℕ))) (count : ℕ) (maps others : Columns) → IsReducedBasisOf ring rank list basis
+    → IsReducedBasisOf ring rank list other
+    → IsCanonicalStart (setting ring (variables ring) (ring_comparison ring (variables ring)) rank) (sums_of (variables ring) basis) count (maps_of (variables ring) maps)
+    → IsCanonicalStart (setting ring (variables ring) (ring_comparison ring (variables ring)) rank) (sums_of (variables ring) other) count (maps_of (variables ring) others)
+    → AreVectorsThrough ring [] maps → AreVectorsThrough ring [] others → maps ≡ others
+started_once ring rank list basis other count maps others reduced reduced' start start' vectors vectors' =
+    let S = setting ring (variables ring) (ring_comparison ring (variables ring)) rank in
+    maps_once ring [] [] maps others vectors vectors'
+    (start_unique S (lawful ring rank) (sums_of (variables ring) basis) (ranks_of_basis ring rank list basis reduced) count (maps_of (variables ring) maps)
+    (maps_of (variables ring) others) start
+    (subst (λ B. IsCanonicalStart S (sums_of (variables ring) B) count (maps_of (variables ring) others)) (one_reduced ring rank list other basis reduced' reduced) start'))
+
+-- so it has one canonical resolution
 pub resolved_once :
     (ring : Ring) (rank : ℕ) (list basis other : List (List (Key × ℕ))) (maps others : Columns) → IsReducedBasisOf ring rank list basis
     → IsReducedBasisOf ring rank list other
@@ -67,17 +90,12 @@ pub resolved_once :
     → IsCanonical (setting ring (variables ring) (ring_comparison ring (variables ring)) rank) (sums_of (variables ring) other) (maps_of (variables ring) others)
     → AreVectorsThrough ring [] maps → AreVectorsThrough ring [] others → maps ≡ others
 resolved_once ring rank list basis other maps others reduced reduced' canonical canonical' vectors vectors' =
-    maps_once ring [] [] maps others vectors vectors'
-    (canonical_unique S (lawful ring rank) (sums_of (variables ring) basis) ranks (maps_of (variables ring) maps) (maps_of (variables ring) others) canonical
-    (subst (λ B. IsCanonical S (sums_of (variables ring) B) (maps_of (variables ring) others)) (one_reduced ring rank list other basis reduced' reduced) canonical'))
-  where
-    S : Setting (variables ring)
-    S = setting ring (variables ring) (ring_comparison ring (variables ring)) rank
-
-    ranks : (i : ℕ) → i < length (sums_of (variables ring) basis) → IsOfRank ring.modulus.value rank (get_or (sums_of (variables ring) basis) i [])
-    ranks i lt =
-        IsOfRank_of ring.modulus.value rank (get_or (sums_of (variables ring) basis) i [])
-        (Each_at (HasRank rank) [] (sums_of (variables ring) basis) (ranks_of_positions (variables ring) rank basis reduced.positions) i lt)
+    let n = variables ring in
+    let S = setting ring n (ring_comparison ring n) rank in
+    let count = length (maps_of n maps) + length (maps_of n others) in
+    started_once ring rank list basis other count maps others reduced reduced'
+    (start_whole S (sums_of n basis) count (maps_of n maps) canonical (omega arith))
+    (start_whole S (sums_of n other) count (maps_of n others) canonical' (omega arith)) vectors vectors'
 
 module _ (ring : Ring) (value : Value) (x y : List ℕ) (g : IsResolutionText ring value x) (h : IsResolutionText ring value y) where
   maps_same : g.maps ≡ h.maps
@@ -88,7 +106,7 @@ module _ (ring : Ring) (value : Value) (x y : List ℕ) (g : IsResolutionText ri
   text_once =
       g.text_is ∙ ap (λ M. heading (codes "res") value.name (length M) ++ maps_text ring 1 value.rank M) maps_same ∙ sym h.text_is
 
-pub resolves_once : (before : State) (m n : List ℕ) (x y : List ℕ) → m ≡ n → Resolves before m x → Resolves before n y → x ≡ y
+pub resolves_once : (before : ScriptState) (m n : List ℕ) (x y : List ℕ) → m ≡ n → Resolves before m x → Resolves before n y → x ≡ y
 resolves_once before m n x y e g h =
     let there : HasValue before m h.0 h.1 = subst (λ z. HasValue before z h.0 h.1) (sym e) h.2 in
     text_once g.0 g.1 x y g.3

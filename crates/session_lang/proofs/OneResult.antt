@@ -13,28 +13,28 @@ use Rattle.session_lang.proofs.OneMinimal.{betti_or_refused, minimal_or_refused,
 use Rattle.session_lang.proofs.OneReordering.{reordering_refused_once, reorders_or_refuses}
 use Rattle.session_lang.proofs.OneText.{counts_or_refuses, refuses_once}
 use Rattle.session_lang.proofs.Reading.{refuses_alike, states_alike}
-use Rattle.session_lang.specs.Lines.{Does, Line, Refuses, RefusesReading, RefusesStated, RunOf, States}
-use Rattle.session_lang.specs.Minimising.{IsBettiText, IsMinimalText, IsRegularityText}
-use Rattle.session_values.specs.Names.{State}
+use Rattle.session_lang.specs.Lines.{Does, Line, RefusesLine, RefusesReading, RefusesStated, RunOf, StatesLine}
+use Rattle.session_reports.specs.Minimising.{IsBettiText, IsMinimalText, IsRegularityText}
+use Rattle.session_values.specs.Names.{ScriptState}
 
 -- a line states one statement
-pub states_once : (before : State) (line : List ℕ) (s t : Statement) → States before line s → States before line t → IsSameStatement s t
+pub states_once : (before : ScriptState) (line : List ℕ) (s t : Statement) → StatesLine before line s → StatesLine before line t → IsSameStatement s t
 states_once before line s t g h =
     one_statement before.ring g.0 line s t g.2 (states_alike before.values h.0 g.0 h.1 g.1 before.ring line t h.2)
 
 -- a line that states something is not refused as it is read
-pub stated_not_refused : (before : State) (line : List ℕ) (s : Statement) (kind : Kind) → States before line s → RefusesReading before line kind → ⊥
+pub stated_not_refused : (before : ScriptState) (line : List ℕ) (s : Statement) (kind : Kind) → StatesLine before line s → RefusesReading before line kind → ⊥
 stated_not_refused before line s kind g h =
     apart before.ring g.0 line s kind g.2 (refuses_alike before.values h.0 g.0 h.1 g.1 before.ring line kind h.2)
 
 -- a line that is done has one state behind it and one text
-pub line_once : (before : State) (line : List ℕ) (p q : State) (x y : List ℕ) → Line before line p x → Line before line q y → (p ≡ q) × (x ≡ y)
+pub line_once : (before : ScriptState) (line : List ℕ) (p q : ScriptState) (x y : List ℕ) → Line before line p x → Line before line q y → (p ≡ q) × (x ≡ y)
 line_once before line p q x y g h = does_once before g.0 h.0 p q x y (states_once before line g.0 h.0 g.1 h.1) g.2 h.2
 
-module _ (before : State) where
+module _ (before : ScriptState) where
   -- a statement that is done is not refused
   done_not_refused :
-      (s t : Statement) (p : State) (x : List ℕ) (kind : Kind) → IsSameStatement s t → Does before s p x → RefusesStated before t kind → ⊥
+      (s t : Statement) (p : ScriptState) (x : List ℕ) (kind : Kind) → IsSameStatement s t → Does before s p x → RefusesStated before t kind → ⊥
   done_not_refused (statements.Hilbert m) (statements.Hilbert n) p x kind e d r =
       counts_or_refuses before (string_bytes m) (string_bytes n) e x kind d.1 r
   done_not_refused statements.Nothing (statements.Hilbert n) p x kind e d r = absurd e
@@ -193,16 +193,16 @@ module _ (before : State) where
   stated_once (statements.Resolution y) t j k e g h = absurd g
 
 -- a line that is done is not refused
-pub line_not_refused : (before : State) (line : List ℕ) (p : State) (x : List ℕ) (kind : Kind) → Line before line p x → Refuses before line kind → ⊥
+pub line_not_refused : (before : ScriptState) (line : List ℕ) (p : ScriptState) (x : List ℕ) (kind : Kind) → Line before line p x → RefusesLine before line kind → ⊥
 line_not_refused before line p x kind g (inl h) = stated_not_refused before line g.0 kind g.1 h
 line_not_refused before line p x kind g (inr h) = done_not_refused before g.0 h.0 p x kind (states_once before line g.0 h.0 g.1 h.1) g.2 h.2
 
 -- a line is refused for one kind
-reading_once : (before : State) (line : List ℕ) (j k : Kind) → RefusesReading before line j → RefusesReading before line k → j ≡ k
+reading_once : (before : ScriptState) (line : List ℕ) (j k : Kind) → RefusesReading before line j → RefusesReading before line k → j ≡ k
 reading_once before line j k g h =
     one_kind before.ring g.0 line j k g.2 (refuses_alike before.values h.0 g.0 h.1 g.1 before.ring line k h.2)
 
-pub refused_once : (before : State) (line : List ℕ) (j k : Kind) → Refuses before line j → Refuses before line k → j ≡ k
+pub refused_once : (before : ScriptState) (line : List ℕ) (j k : Kind) → RefusesLine before line j → RefusesLine before line k → j ≡ k
 refused_once before line j k (inl g) (inl h) = reading_once before line j k g h
 refused_once before line j k (inl g) (inr h) = absurd (stated_not_refused before line h.0 j h.1 g)
 refused_once before line j k (inr g) (inl h) = absurd (stated_not_refused before line g.0 k g.1 h)
@@ -210,6 +210,6 @@ refused_once before line j k (inr g) (inr h) = stated_once before g.0 h.0 j k (s
 
 -- a line that is refused as it is read has no run
 pub no_run :
-    (before : State) (line : List ℕ) (kind : Kind) (ring : Ring) (rank : ℕ) (list : List (List (Key × ℕ)))
+    (before : ScriptState) (line : List ℕ) (kind : Kind) (ring : Ring) (rank : ℕ) (list : List (List (Key × ℕ)))
     → RefusesReading before line kind → RunOf before line ring rank list → ⊥
 no_run before line kind ring rank list refused run = stated_not_refused before line run.0 kind run.1 refused

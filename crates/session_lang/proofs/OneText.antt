@@ -18,9 +18,9 @@ use Rattle.syzygy_engine.proofs.OneLift.{one_lift_of}
 use Rattle.session_lang.proofs.OneAnswer.{one_ring, one_value}
 use Rattle.session_lang.proofs.OneForm.{one_reduced}
 use Rattle.session_values.specs.Answers.{IsInModule}
-use Rattle.session_lang.specs.Lifting.{IsLiftOver, IsLiftText, cofactor_text}
+use Rattle.session_reports.specs.Lifting.{IsLiftOver, IsLiftText, cofactor_text}
 use Rattle.session_lang.specs.Lines.{Counts, Lifts}
-use Rattle.session_values.specs.Names.{HasValue, State, Value}
+use Rattle.session_values.specs.Names.{HasValue, ScriptState, Value}
 use Rattle.session_values.specs.Numbers.{HasManyLeads, IsNumbersText, IsNumeratorFor, RefusesNumbers, leads_of, numbers_text}
 
 -- ---- lifts
@@ -36,7 +36,7 @@ lift_text_once ring value v x y (inr g) (inl h) = absurd (g.0 (lifted_is_inside 
 lift_text_once ring value v x y (inr g) (inr h) = g.1 ∙ sym h.1
 
 pub lifts_once :
-    (before : State) (m n : List ℕ) (v w : List (Key × ℕ)) (x y : List ℕ) → m ≡ n → v ≡ w → Lifts before m v x → Lifts before n w y → x ≡ y
+    (before : ScriptState) (m n : List ℕ) (v w : List (Key × ℕ)) (x y : List ℕ) → m ≡ n → v ≡ w → Lifts before m v x → Lifts before n w y → x ≡ y
 lifts_once before m n v w x y e f g h =
     let there : HasValue before m h.0 h.1 = subst (λ z. HasValue before z h.0 h.1) (sym e) h.2 in
     let of_v : IsLiftText h.0 h.1 v y = subst (λ z. IsLiftText h.0 h.1 z y) (sym f) h.3 in
@@ -84,7 +84,7 @@ module _ (ring : Ring) (value : Value) (x y : List ℕ) (g : IsNumbersText ring 
       ∙ numbers_text_same value.name g.numerator h.numerator g.dimension h.dimension g.degree h.degree numerators_same measures_same.0 measures_same.1
       ∙ sym h.text_is
 
-pub counts_once : (before : State) (m n : List ℕ) (x y : List ℕ) → m ≡ n → Counts before m x → Counts before n y → x ≡ y
+pub counts_once : (before : ScriptState) (m n : List ℕ) (x y : List ℕ) → m ≡ n → Counts before m x → Counts before n y → x ≡ y
 counts_once before m n x y e g h =
     let there : HasValue before m h.0 h.1 = subst (λ z. HasValue before z h.0 h.1) (sym e) h.2 in
     numbers_once g.0 g.1 x y g.3
@@ -165,10 +165,10 @@ module _ (ring : Ring) (value : Value) where
   kind_once kinds.Homogeneous k g h = absurd g
 
 -- the same of a value by its name
-abbrev pub RefusesNamed : State → List ℕ → Kind → Type 0
+abbrev pub RefusesNamed : ScriptState → List ℕ → Kind → Type 0
 RefusesNamed before name kind = (ring : Ring) × (value : Value) × HasValue before name ring value × RefusesNumbers ring value kind
 
-module _ (before : State) (m n : List ℕ) (e : m ≡ n) where
+module _ (before : ScriptState) (m n : List ℕ) (e : m ≡ n) where
   pub counts_or_refuses : (x : List ℕ) (kind : Kind) → Counts before m x → RefusesNamed before n kind → ⊥
   counts_or_refuses x kind g h =
       let there : HasValue before m h.0 h.1 = subst (λ z. HasValue before z h.0 h.1) (sym e) h.2 in

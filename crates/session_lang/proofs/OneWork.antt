@@ -18,8 +18,8 @@ use Rattle.ideal_ops.specs.Answers.{IsBasisOfThose}
 use Rattle.session_lang.proofs.OneForm.{one_reduced}
 use Rattle.session_lang.proofs.OneAnswer.{one_ring, one_value}
 use Rattle.session_lang.specs.Lines.{OperationGives}
-use Rattle.session_values.specs.Names.{HasValue, State, Value}
-use Rattle.session_values.specs.Operations.{IsInResult, IsResult, Work, WorksOn, colon, eliminate, intersect, multiply, preimage, quotient, result_rank, saturate, sum, syzygies}
+use Rattle.session_values.specs.Names.{HasValue, ScriptState, Value}
+use Rattle.session_values.specs.Operations.{IsInResult, IsResult, TaskShown, WorksOn, colon, eliminate, intersect, multiply, preimage, quotient, result_rank, saturate, sum, syzygies}
 
 abbrev Lists : Type 0
 Lists = List (List (Key × ℕ))
@@ -45,13 +45,13 @@ basis_once ring rank property A B a b =
         (sums_of (variables ring) A) (sums_of (variables ring) B) (sums_of (variables ring) A) same a.basis.basis
 
 -- so an operation on lists has one result
-pub result_once : (ring : Ring) (work : Work) (A B : Lists) → IsResult ring work A → IsResult ring work B → A ≡ B
+pub result_once : (ring : Ring) (work : TaskShown) (A B : Lists) → IsResult ring work A → IsResult ring work B → A ≡ B
 result_once ring work A B a b = basis_once ring (result_rank work) (IsInResult ring work) A B a b
 
-module _ (before : State) where
+module _ (before : ScriptState) where
   -- the work on two values, by their names
   two_once :
-      (F : Value → Value → Work) (a b c d : List ℕ) (r s : Ring) (v w : Work) → a ≡ c → b ≡ d
+      (F : Value → Value → TaskShown) (a b c d : List ℕ) (r s : Ring) (v w : TaskShown) → a ≡ c → b ≡ d
       → ((left right : Value) × HasValue before a r left × HasValue before b r right × (v ≡ F left right))
       → ((left right : Value) × HasValue before c s left × HasValue before d s right × (w ≡ F left right)) → (r ≡ s) × (v ≡ w)
   two_once F a b c d r s v w e f g h =
@@ -63,13 +63,13 @@ module _ (before : State) where
 
   -- the work on one
   one_once :
-      {X : Type 0} (F : Value → X → Work) (a c : List ℕ) (x y : X) (r s : Ring) (v w : Work) → a ≡ c → x ≡ y
+      {X : Type 0} (F : Value → X → TaskShown) (a c : List ℕ) (x y : X) (r s : Ring) (v w : TaskShown) → a ≡ c → x ≡ y
       → ((value : Value) × HasValue before a r value × (v ≡ F value x)) → ((value : Value) × HasValue before c s value × (w ≡ F value y)) → (r ≡ s) × (v ≡ w)
   one_once F a c x y r s v w e f g h =
       let there : HasValue before a s h.0 = subst (λ z. HasValue before z s h.0) (sym e) h.1 in
       (one_ring before a a r s g.0 h.0 g.1 there, g.2 ∙ ap₂ F (one_value before a r s g.0 h.0 g.1 there) f ∙ sym h.2)
 
-  works_once : (x y : Operation) (r s : Ring) (v w : Work) → IsSameOperation x y → WorksOn before x r v → WorksOn before y s w → (r ≡ s) × (v ≡ w)
+  works_once : (x y : Operation) (r s : Ring) (v w : TaskShown) → IsSameOperation x y → WorksOn before x r v → WorksOn before y s w → (r ≡ s) × (v ≡ w)
   works_once (operations.Sum a b) (operations.Sum c d) r s v w e g h =
       two_once (λ left right. sum left.rank left.list right.list) (string_bytes a) (string_bytes b) (string_bytes c) (string_bytes d) r s v w e.0 e.1 g h
   works_once (operations.Sum a b) _ r s v w e g h = absurd e

@@ -18,33 +18,40 @@ use Rattle.script_parse.specs.declared.kind.Kind.{Kind}
 use Rattle.script_parse.specs.declared.stated.Statement.{Statement}
 use Rattle.script_parse.specs.declared.stated.Statement.TheVariants as statements
 use Rattle.groebner_iface.proofs.CallingRuns.{more_stops}
-use Rattle.session_lang.proofs.Stopping.{no_trail, run_for, trail_for}
+use Rattle.session_lang.proofs.Finding.{run_for}
+use Rattle.session_reports.proofs.Stopping.{no_trail}
 use Rattle.session_values.specs.Answers.{Asked, Decides, IsAnswer, IsOneModule, basis, member, normal_form, sizes_of_basis}
-use Rattle.session_lang.specs.Asking.{IsAskedOver}
-use Rattle.session_values.specs.Held.{Held}
+use Rattle.session_reports.specs.Asking.{IsAskedOver, IsTrailOf}
+use Rattle.session_values.specs.Held.{StoredShown}
 use Rattle.session_lang.specs.Fitting.{IsFit, IsGiven}
-use Rattle.session_lang.specs.Lines.{AnswersAsked, Does, Expresses, IsExpressingRun, IsLiftRun, IsRunForExt, IsRunForValue, IsRunForEither, Lifts, Needs, RefusesStated, States}
-use Rattle.session_lang.specs.Extensions.{IsRunToExtend}
+use Rattle.session_lang.specs.Lines.{AnswersAsked, Does, Expresses, IsExpressingRun, IsLiftRun, IsRunForExt, IsRunForValue, IsRunForEither, Lifts, Needs, RefusesStated, StatesLine}
+use Rattle.session_reports.specs.Extensions.{IsRunToExtend}
 use Rattle.session_values.specs.Extending.{IsExtText}
-use Rattle.session_values.specs.Names.{HasValue, State, Value, after_run}
+use Rattle.session_values.specs.Names.{HasValue, ScriptState, Value, after_run}
 use Rattle.session_values.specs.Resolving.{IsResolvingTrail}
-use Rattle.session_lang.specs.Parts.{IsRunToKeep}
-use Rattle.session_lang.specs.Performing.{Performed, Performs, asking}
-use Rattle.session_lang.specs.Reporting.{HasReport, IsReport, IsReportTrail, KeepsAs, RefusesReport, ReportsAs, reporting}
-use Rattle.session_lang.specs.declared.reports.Report.{Report}
-use Rattle.session_lang.specs.declared.reports.Report.TheVariants.{Betti, InOrder, Minimal, Numbers, Regularity, Resolution}
-use Rattle.session_lang.specs.Stops.{IsTrailFor, IsTrailOf, IsTrailOfExpressing, IsTrailOfLift, Meets, Steps}
-use Rattle.session_lang.specs.declared.step.Step.{Step}
-use Rattle.session_lang.specs.declared.step.Step.TheVariants as steps
+use Rattle.session_reports.specs.Parts.{IsRunToKeep}
+use Rattle.session_lang.specs.Performing.{Performed, Performs, asking, reporting}
+use Rattle.session_reports.specs.Reporting.{HasReport, IsReport, IsReportTrail, KeepsAs, RefusesReport, ReportsAs}
+use Rattle.session_reports.specs.declared.reports.Report.{Report}
+use Rattle.session_reports.specs.declared.reports.Report.TheVariants.{Betti, InOrder, Minimal, Numbers, Regularity, Resolution}
+use Rattle.session_lang.specs.Stops.{IsTrailFor, IsTrailOfExpressing, IsTrailOfLift, Meets, Steps}
+use Rattle.session_reports.specs.declared.step.Step.{Step}
+use Rattle.session_reports.specs.declared.step.Step.TheVariants as steps
 
 abbrev Terms : Type 0
 Terms = List (List (Key × ℕ))
+
+-- the trail of a value, as one of a name that has it
+trail_for :
+    (before : ScriptState) (name : List ℕ) (ring : Ring) (value : Value) (asked : Asked) → HasValue before name ring value
+    → (t : KeptTrail) → IsTrailOf ring value asked t → IsTrailFor before name asked t
+trail_for before name ring value asked has t h = (ring, value, has, h)
 
 on_ok_both : {T E P Q S : Type 0} (r : Result T E) → (P → Q → S) → OnOk r P → OnOk r Q → OnOk r S
 on_ok_both (Ok t) f p q = f p q
 on_ok_both (Err e) f p q = tt
 
-module _ (before : State) (statement : Statement) (after : State) (out out' : List ℕ) (old new : ℕ) (kept kept' : Option StoppedRun) where
+module _ (before : ScriptState) (statement : Statement) (after : ScriptState) (out out' : List ℕ) (old new : ℕ) (kept kept' : Option StoppedRun) where
   -- the statement was done, with this text
   pub was_done :
       (text : List ℕ) → Does before statement after text → out' ≡ out ++ text → new ≡ old → kept' ≡ kept
@@ -77,7 +84,7 @@ module _ (before : State) (statement : Statement) (after : State) (out out' : Li
 pub nothing_behind : (text : List ℕ) → text ≡ text ++ []
 nothing_behind text = sym (append-nil text)
 
-module _ {before after : State} {out out' : List ℕ} {old new : ℕ} {kept kept' : Option StoppedRun} where
+module _ {before after : ScriptState} {out out' : List ℕ} {old new : ℕ} {kept kept' : Option StoppedRun} where
   -- the statement that was done, as the one that was stated
   pub performed_as :
       {s t : Statement} {answer : Result Step OpStop} → t ≡ s → Performed before s after out out' old new kept kept' answer
@@ -97,7 +104,7 @@ module _ {before after : State} {out out' : List ℕ} {old new : ℕ} {kept kept
   ideal_given (Err (causes.Trail t)) p = absurd p.stop.2
 
 -- ---- questions
-module _ (before : State) (name : String Global) where
+module _ (before : ScriptState) (name : String Global) where
   -- the value is there
   pub asked_given : (asked : Asked) → IsFit before (asking name asked) → IsGiven before (string_bytes name)
   asked_given basis f = f
@@ -113,7 +120,7 @@ module _ (before : State) (name : String Global) where
   asked_fit (member v) f ring is = subst (λ r. IsVectorOver r (ring_comparison r) v) (same_Some _ _ (sym f.2.stated ∙ is)) f.3
 
   asked_does :
-      (asked : Asked) (after : State) (text : List ℕ)
+      (asked : Asked) (after : ScriptState) (text : List ℕ)
       → after ≡ after_run (string_bytes name) before → AnswersAsked before (string_bytes name) asked text → Does before (asking name asked) after text
   asked_does basis after text d a = (d, a)
   asked_does sizes_of_basis after text d a = (d, a)
@@ -132,7 +139,7 @@ module _ (before : State) (name : String Global) where
   asked_meets (normal_form v) t h = h
   asked_meets (member v) t h = h
 
-module _ {before after : State} {out out' : List ℕ} {old new : ℕ} {kept kept' : Option StoppedRun} {U : Type 0} (called : Result U OpStop) (answer : Result Step OpStop)
+module _ {before after : ScriptState} {out out' : List ℕ} {old new : ℕ} {kept kept' : Option StoppedRun} {U : Type 0} (called : Result U OpStop) (answer : Result Step OpStop)
     (ok : OnOk called (answer ≡ Ok steps.Done)) (err : IfErr called (λ stop. answer ≡ Err stop))
     (same : OnErr called (after ≡ before)) (unwritten : OnErr called (out' ≡ out)) (engine : OnOk called ((new ≡ old) × (kept' ≡ kept))) where
   -- what is asked of a value
@@ -186,7 +193,7 @@ module _ {before after : State} {out out' : List ℕ} {old new : ℕ} {kept kept
 
 -- a lift to the list of a value
 pub lifted_performed :
-    {before : State} {out out' : List ℕ} {old new : ℕ} {kept kept' : Option StoppedRun} {U : Type 0} (called : Result U OpStop) (answer : Result Step OpStop)
+    {before : ScriptState} {out out' : List ℕ} {old new : ℕ} {kept kept' : Option StoppedRun} {U : Type 0} (called : Result U OpStop) (answer : Result Step OpStop)
     (name : String Global) (v : List (Key × ℕ)) (n : List ℕ) → n ≡ string_bytes name
     → OnOk called (answer ≡ Ok steps.Done) → IfErr called (λ stop. answer ≡ Err stop)
     → OnOk called ((text : List ℕ) × Lifts before n v text × (out' ≡ out ++ text)) → OnErr called (out' ≡ out)
@@ -207,7 +214,7 @@ lifted_performed {before} {out} {out'} {old} {new} {kept} {kept'} called answer 
 
 -- a polynomial by others
 pub expressed_performed :
-    {before : State} {out out' : List ℕ} {old new : ℕ} {kept kept' : Option StoppedRun} {U : Type 0} (called : Result U OpStop) (answer : Result Step OpStop)
+    {before : ScriptState} {out out' : List ℕ} {old new : ℕ} {kept kept' : Option StoppedRun} {U : Type 0} (called : Result U OpStop) (answer : Result Step OpStop)
     (f : List (Key × ℕ)) (images : Terms)
     → OnOk called (answer ≡ Ok steps.Done) → IfErr called (λ stop. answer ≡ Err stop)
     → OnOk called ((text : List ℕ) × Expresses before f images text × (out' ≡ out ++ text)) → OnErr called (out' ≡ out)
@@ -225,14 +232,14 @@ expressed_performed {before} {out} {out'} {old} {new} {kept} {kept'} called answ
 
 -- the runs for an Ext module of a value, as those of a name that has it
 run_for_ext :
-    (before : State) (name : List ℕ) (over : Ring) (value : Value) (step : ℕ) → HasValue before name over value
+    (before : ScriptState) (name : List ℕ) (over : Ring) (value : Value) (step : ℕ) → HasValue before name over value
     → (ring : Ring) (rank : ℕ) (list : Terms) → IsRunToExtend over value step ring rank list → IsRunForExt before name step ring rank list
 run_for_ext before name over value step has ring rank list (inl h) = inl (run_for before name over value has ring rank list h)
 run_for_ext before name over value step has ring rank list (inr h) = inr (over, value, has, h)
 
 -- an Ext module of a value
 pub extended_performed :
-    {before after : State} {out out' : List ℕ} {old new : ℕ} {kept kept' : Option StoppedRun} {U : Type 0} (called : Result U OpStop) (answer : Result Step OpStop)
+    {before after : ScriptState} {out out' : List ℕ} {old new : ℕ} {kept kept' : Option StoppedRun} {U : Type 0} (called : Result U OpStop) (answer : Result Step OpStop)
     (name : String Global) (step : ℕ) (n : List ℕ) (over : Ring) (value : Value) → n ≡ string_bytes name → HasValue before n over value
     → OnOk called (answer ≡ Ok steps.Done) → IfErr called (λ stop. answer ≡ Err stop)
     → OnErr called (after ≡ before) → OnErr called (out' ≡ out) → OnOk called ((new ≡ old) × (kept' ≡ kept))
@@ -250,7 +257,7 @@ extended_performed {before} {after} {out} {out'} {old} {new} {kept} {kept'} call
     stop
 
 -- ---- reports
-module _ (before : State) (name : String Global) where
+module _ (before : ScriptState) (name : String Global) where
   -- the value is there, and has such a report
   pub report_given : (report : Report) → IsFit before (reporting name report) → IsGiven before (string_bytes name)
   report_given Numbers f = f
@@ -271,7 +278,7 @@ module _ (before : State) (name : String Global) where
   has_report (InOrder order) f ring value h = subst (λ v. v.rank ≡ 1) (same_Some _ _ (sym f.2.named ∙ h.named)) f.3
 
   report_does :
-      (report : Report) (after : State) (text : List ℕ) (over : Ring) (value : Value)
+      (report : Report) (after : ScriptState) (text : List ℕ) (over : Ring) (value : Value)
       → HasValue before (string_bytes name) over value → after ≡ after_run (string_bytes name) before → IsReport over value report text
       → Does before (reporting name report) after text
   report_does Numbers after text over value has d r = (d, (over, value, has, r))
@@ -313,8 +320,8 @@ module _ (before : State) (name : String Global) where
 
 -- the report of a value
 pub reported_performed :
-    {before after : State} {out out' : List ℕ} {old new : ℕ} {kept kept' : Option StoppedRun} (answer : Result Step OpStop)
-    (name : String Global) (report : Report) (n : List ℕ) (over : Ring) (value : Value) (s item : Held) → n ≡ string_bytes name → HasValue before n over value
+    {before after : ScriptState} {out out' : List ℕ} {old new : ℕ} {kept kept' : Option StoppedRun} (answer : Result Step OpStop)
+    (name : String Global) (report : Report) (n : List ℕ) (over : Ring) (value : Value) (s item : StoredShown) → n ≡ string_bytes name → HasValue before n over value
     → (IsSome item.basis → after ≡ after_run n before) → (item ≡ s → after ≡ before)
     → IfOk answer (KeepsAs s item) → OnErr answer (item ≡ s)
     → IfOk answer (ReportsAs over value report out out') → OnErr answer (out' ≡ out) → OnOk answer ((new ≡ old) × (kept' ≡ kept))
@@ -346,8 +353,8 @@ reported_performed {before} {after} {out} {out'} {old} {new} {kept} {kept'} (Err
 
 -- a statement that was performed, as its line
 pub performed_line :
-    (before : State) (line : List ℕ) (statement : Statement) (after : State) (out out' : List ℕ) (answer : Result Step OpStop)
-    → States before line statement → IfOk answer (Performs before statement after out out') → IfOk answer (Steps before line after out out')
+    (before : ScriptState) (line : List ℕ) (statement : Statement) (after : ScriptState) (out out' : List ℕ) (answer : Result Step OpStop)
+    → StatesLine before line statement → IfOk answer (Performs before statement after out out') → IfOk answer (Steps before line after out out')
 performed_line before line statement after out out' (Ok steps.Done) stated p = (p.0, (statement, stated, p.1), p.2)
 performed_line before line statement after out out' (Ok (steps.Refused kind)) stated p = (inr (statement, stated, p.0), p.1, p.2)
 performed_line before line statement after out out' (Err stop) stated p = tt

@@ -4,18 +4,18 @@ use Rattle.std.specs.Prelude.{IsSome}
 use Rattle.module_vectors.specs.declared.ring.Ring.{Ring}
 use Rattle.script_parse.specs.declared.named.NameInfo.{NameInfo}
 use Rattle.session_lang.proofs.Finding.{has_value, kept_after, no_stored, sound_over}
-use Rattle.session_lang.proofs.KeptValues.{at_place, written_same}
+use Rattle.session_reports.proofs.KeptValues.{at_place, written_same}
 use Rattle.script_parse.proofs.NamePlaces.{place_bound}
 use Rattle.session_values.proofs.Values.{kept_as_many, kept_sound, sound_at}
-use Rattle.session_values.specs.Held.{Held}
+use Rattle.session_values.specs.Held.{StoredShown}
 use Rattle.script_parse.specs.Places.{place_named}
 use Rattle.session_values.specs.Kept.{AreKept, IsSound, value_of, values_of}
-use Rattle.session_values.specs.Names.{HasValue, State, after_run}
-use Rattle.session_lang.specs.Parts.{Keeps}
+use Rattle.session_values.specs.Names.{HasValue, ScriptState, after_run}
+use Rattle.session_reports.specs.Parts.{Keeps}
 
 -- what a call has found once it has the place of a name
-pub record IsPlaced (before : State) (own : Option Ring) (infos : List NameInfo) (stored : List Held) (over : Ring) (name : List ℕ) (i : ℕ)
-    (info : NameInfo) (s : Held) : Type 0 where
+pub record IsPlaced (before : ScriptState) (own : Option Ring) (infos : List NameInfo) (stored : List StoredShown) (over : Ring) (name : List ℕ) (i : ℕ)
+    (info : NameInfo) (s : StoredShown) : Type 0 where
   pub view : record { ring = own; values = values_of infos stored } ≡ before
   pub kept : AreKept own infos stored
   pub stated : own ≡ Some over
@@ -24,14 +24,14 @@ pub record IsPlaced (before : State) (own : Option Ring) (infos : List NameInfo)
   pub item_is : s ≡ get_or stored i s
 
 pub is_placed :
-    {before : State} {own : Option Ring} {over : Ring} {name : List ℕ} {i : ℕ} {info : NameInfo} {s : Held} (infos : List NameInfo) (stored : List Held)
+    {before : ScriptState} {own : Option Ring} {over : Ring} {name : List ℕ} {i : ℕ} {info : NameInfo} {s : StoredShown} (infos : List NameInfo) (stored : List StoredShown)
     → record { ring = own; values = values_of infos stored } ≡ before → AreKept own infos stored → own ≡ Some over → place_named infos name ≡ Some i
     → info ≡ get_or infos i info → s ≡ get_or stored i s → IsPlaced before own infos stored over name i info s
 is_placed infos stored view kept stated found info_is item_is =
     record { view = view; kept = kept; stated = stated; found = found; info_is = info_is; item_is = item_is }
 
-module _ {before : State} {own : Option Ring} {infos : List NameInfo} {stored : List Held} {over : Ring} {name : List ℕ} {i : ℕ}
-    {info : NameInfo} {s : Held} (p : IsPlaced before own infos stored over name i info s) where
+module _ {before : ScriptState} {own : Option Ring} {infos : List NameInfo} {stored : List StoredShown} {over : Ring} {name : List ℕ} {i : ℕ}
+    {info : NameInfo} {s : StoredShown} (p : IsPlaced before own infos stored over name i info s) where
   same : length infos ≡ length stored
   same = kept_as_many own infos stored p.kept
 
@@ -53,7 +53,7 @@ module _ {before : State} {own : Option Ring} {infos : List NameInfo} {stored : 
       subst₂ (λ j t. IsSound over j.rank t) (sym p.info_is) (sym p.item_is)
       (sound_at over infos stored i s info (sound_over before own infos stored p.view over p.kept p.stated) within)
 
-  module _ (item : Held) where
+  module _ (item : StoredShown) where
     -- with another basis of the same list the values stay sound
     pub placed_keeps : item.list ≡ s.list → IsSound over info.rank item → AreKept own infos (slice_set stored i item)
     placed_keeps list sound =

@@ -12,27 +12,27 @@ use Rattle.module_vectors.specs.Rings.{ring_comparison, variables}
 use Rattle.module_vectors.specs.Vectors.{AreVectorsOver, HasPositions, IsVectorOver}
 use Rattle.module_vectors.specs.declared.key.Key.{Key}
 use Rattle.module_vectors.specs.declared.ring.Ring.{Ring}
+use Rattle.script_forms.specs.declared.ring_words.OrderName.{OrderName}
+use Rattle.script_forms.specs.Written.{IsLine, Written, WrittenOperation, ask_line, change_line, divide_line, elimination, equal_line, express_line, ext_line, ideal_line, let_line, module_line, nothing, of_polynomial, of_two, preimage, ring_line, show_line, syzygies, value_places}
+use Rattle.script_forms.specs.declared.form.DivisionWord.{DivisionWord}
+use Rattle.script_forms.specs.declared.form.DivisionWord.TheVariants as divisions
+use Rattle.script_forms.specs.declared.form.QuestionWord.{QuestionWord}
+use Rattle.script_forms.specs.declared.form.QuestionWord.TheVariants as questions
+use Rattle.script_forms.specs.declared.operands.Binary.{Binary}
+use Rattle.script_forms.specs.declared.operands.Binary.TheVariants as binaries
+use Rattle.script_forms.specs.declared.operands.ByPolynomial.TheVariants as divisors
 use Rattle.script_parse.specs.Refusals.{HasHighRank, HasOtherFactor, HasOtherImages, HasOtherKind, HasOtherOperands, HasOtherRank, HasUnknownName, HaveOtherRanks, RefusalHolds, IsNamed, IsOutside, Refuses, length_named, rank_named}
 use Rattle.script_parse.specs.Statements.{ArePolynomialsOf, AreVectorsOf, IsOperationOf, Says, States}
-use Rattle.script_parse.specs.declared.ring_words.OrderName.{OrderName}
-use Rattle.script_parse.specs.Written.{IsLine, Written, WrittenOperation, ask_line, change_line, divide_line, elimination, equal_line, express_line, ext_line, ideal_line, let_line, module_line, nothing, of_polynomial, of_two, preimage, ring_line, show_line, syzygies, value_places}
-use Rattle.script_parse.specs.declared.form.Division.{Division}
-use Rattle.script_parse.specs.declared.form.Division.TheVariants as divisions
-use Rattle.script_parse.specs.declared.form.Question.{Question}
-use Rattle.script_parse.specs.declared.form.Question.TheVariants as questions
 use Rattle.script_parse.specs.declared.kind.Kind.{Kind}
 use Rattle.script_parse.specs.declared.kind.Kind.TheVariants as kinds
 use Rattle.script_parse.specs.declared.named.NameInfo.{NameInfo}
-use Rattle.script_parse.specs.declared.operands.Binary.{Binary}
-use Rattle.script_parse.specs.declared.operands.Binary.TheVariants as binaries
-use Rattle.script_parse.specs.declared.operands.ByPolynomial.TheVariants as divisors
 use Rattle.script_parse.specs.declared.operation.Operation.{Operation}
 use Rattle.script_parse.specs.declared.operation.Operation.TheVariants as operations
 use Rattle.script_parse.specs.declared.stated.Statement.{Statement}
 use Rattle.script_parse.specs.declared.stated.Statement.TheVariants as statements
-use Rattle.session_lang.specs.Fitting.{AreGiven, AreImages, IsFit, IsGiven, IsIdealGiven, IsOfValue, IsOfValueRank, IsWithPolynomial, IsWorkable}
+use Rattle.session_lang.specs.Fitting.{AreGiven, AreImages, IsFit, IsGiven, IsIdealGiven, IsOfValue, IsOfValueRank, IsWithPolynomial, IsOperable}
 use Rattle.session_values.specs.Kept.{IsValueRank}
-use Rattle.session_values.specs.Names.{AreInfosOf, HasValue, State, Value, value_named}
+use Rattle.session_values.specs.Names.{AreInfosOf, HasValue, ScriptState, Value, value_named}
 
 -- the rank of a value that may be none
 abbrev rank_of : Option Value → Option ℕ
@@ -272,7 +272,7 @@ module _ (values : List Value) (infos : List NameInfo) (line : List ℕ) (told :
 
   -- the value with a name that a line asks of
   asked_of :
-      (ring : Option Ring) (q : Question) (t : Token) (name : List ℕ) → IsLine line (ask_line q t)
+      (ring : Option Ring) (q : QuestionWord) (t : Token) (name : List ℕ) → IsLine line (ask_line q t)
       → ((kind : Kind) → RefusalHolds ring infos line kind → ⊥) → name ≡ text_of line t → IsGiven (record { ring = ring; values = values }) name
   asked_of None q t name is free e = absurd (free kinds.Ring (ask_line q t, is, refl))
   asked_of (Some r) q t name is free e =
@@ -299,7 +299,7 @@ module _ (values : List Value) (infos : List NameInfo) (line : List ℕ) (told :
 
   -- the value with a name that a vector is divided by
   divided_by :
-      (r : Ring) (d : Division) (t : Token) (ps : List Poly) (name : List ℕ) (v : List (Key × ℕ)) → IsLine line (divide_line d t ps)
+      (r : Ring) (d : DivisionWord) (t : Token) (ps : List Poly) (name : List ℕ) (v : List (Key × ℕ)) → IsLine line (divide_line d t ps)
       → ((kind : Kind) → RefusalHolds (Some r) infos line kind → ⊥) → name ≡ text_of line t → IsVectorOver r (ring_comparison r) v
       → IsOfValue (record { ring = Some r; values = values }) name v
   divided_by r d t ps name v is free e vector =
@@ -360,7 +360,7 @@ module _ (values : List Value) (infos : List NameInfo) (line : List ℕ) (told :
 
   workable :
       (r : Ring) (g : Token) (w : WrittenOperation) (x : Operation) → IsLine line (let_line g w) → ((kind : Kind) → RefusalHolds (Some r) infos line kind → ⊥)
-      → IsOperationOf r line w x → IsWorkable (record { ring = Some r; values = values }) x
+      → IsOperationOf r line w x → IsOperable (record { ring = Some r; values = values }) x
   workable r g (of_two binaries.Sum s t) (operations.Sum a b) is free h =
       of_one_rank r binaries.Sum g s t (string_bytes a) (string_bytes b) is free (λ z. z) h.0 h.1
   workable r g (of_two binaries.Sum s t) _ is free h = absurd h
@@ -464,6 +464,6 @@ module _ (values : List Value) (infos : List NameInfo) (line : List ℕ) (told :
   fit ring (equal_line s t) (statements.Equal a b) is free h = compared ring s t (string_bytes a) (string_bytes b) is free h.0 h.1
   fit ring (equal_line s t) _ is free h = absurd h
 
-pub stated_fits : (before : State) (infos : List NameInfo) (line : List ℕ) (s : Statement) → AreInfosOf before.values infos → States before.ring infos line s
+pub stated_fits : (before : ScriptState) (infos : List NameInfo) (line : List ℕ) (s : Statement) → AreInfosOf before.values infos → States before.ring infos line s
     → IsFit before s
 stated_fits before infos line s told h = fit before.values infos line told before.ring h.written s h.is_line h.free h.says

@@ -10,16 +10,16 @@ use Rattle.session_lang.proofs.Reading.{stated_fits}
 use Rattle.session_values.proofs.Values.{kept_told}
 use Rattle.session_lang.specs.Fitting.{IsFit}
 use Rattle.session_values.specs.Kept.{AreKept, values_of}
-use Rattle.session_lang.specs.Lines.{Refuses, RefusesReading, States}
-use Rattle.session_values.specs.Names.{State}
-use Rattle.session_values.specs.Held.{Held}
+use Rattle.session_lang.specs.Lines.{RefusesLine, RefusesReading, StatesLine}
+use Rattle.session_values.specs.Names.{ScriptState}
+use Rattle.session_values.specs.Held.{StoredShown}
 
-module _ (before : State) (ring : Option Ring) (infos : List NameInfo) (stored : List Held)
+module _ (before : ScriptState) (ring : Option Ring) (infos : List NameInfo) (stored : List StoredShown)
     (view : record { ring = ring; values = values_of infos stored } ≡ before) (kept : AreKept ring infos stored)
     (told : Option Ring) (names : List NameInfo) (same_ring : told ≡ ring) (same_names : names ≡ infos) (line : List ℕ) where
-  pub states : (statement : Statement) → readings.States told names line statement → States before line statement
+  pub states : (statement : Statement) → readings.States told names line statement → StatesLine before line statement
   states statement h =
-      subst (λ b. States b line statement) view
+      subst (λ b. StatesLine b line statement) view
       (infos, kept_told ring infos stored kept, subst₂ (λ r i. readings.States r i line statement) same_ring same_names h)
 
   pub fits : (statement : Statement) → readings.States told names line statement → IsFit before statement
@@ -28,7 +28,7 @@ module _ (before : State) (ring : Option Ring) (infos : List NameInfo) (stored :
       (stated_fits (record { ring = ring; values = values_of infos stored }) infos line statement (kept_told ring infos stored kept)
       (subst₂ (λ r i. readings.States r i line statement) same_ring same_names h))
 
-  pub refuses : (kind : Kind) → refusals.Refuses told names line kind → Refuses before line kind
+  pub refuses : (kind : Kind) → refusals.Refuses told names line kind → RefusesLine before line kind
   refuses kind h =
       inl
       (subst (λ b. RefusesReading b line kind) view

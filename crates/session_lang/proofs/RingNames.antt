@@ -14,17 +14,17 @@ use Rattle.script_tokens.specs.declared.token.TokenKind.TheVariants as kinds
 use Rattle.poly_grammar.specs.Lexemes.{Lexeme, lexeme, lexeme_as, name, names_in}
 use Rattle.poly_grammar.specs.Numerals.{text_of}
 use Rattle.module_vectors.specs.declared.ring.Ring.{Ring}
-use Rattle.poly_text.specs.Names.{AreDistinct, AreDistinctNames, IsLetter, IsName, IsNameByte}
+use Rattle.poly_text.specs.Names.{AreAllDistinct, AreDistinctNames, IsLetter, IsName, IsNameByte}
+use Rattle.script_forms.specs.Written.{AreListedNames, IsLine, IsWritten, RingLine, Written, ask_line, change_line, comma_list, divide_line, equal_line, express_line, ext_line, ideal_line, let_line, module_line, nothing, ring_line, show_line}
+use Rattle.script_forms.specs.declared.form.DivisionWord.TheVariants as divisions
+use Rattle.script_forms.specs.declared.form.QuestionWord.TheVariants as questions
 use Rattle.script_parse.specs.Refusals.{HasRepeat}
 use Rattle.script_parse.specs.Statements.{Makes, Says}
 use Rattle.script_parse.specs.Statements as readings
-use Rattle.script_parse.specs.Written.{AreListedNames, IsLine, IsWritten, RingLine, Written, ask_line, change_line, comma_list, divide_line, equal_line, express_line, ext_line, ideal_line, let_line, module_line, nothing, ring_line, show_line}
-use Rattle.script_parse.specs.declared.form.Division.TheVariants as divisions
-use Rattle.script_parse.specs.declared.form.Question.TheVariants as questions
 use Rattle.script_parse.specs.declared.kind.Kind.TheVariants as refused
 use Rattle.script_parse.specs.declared.stated.Statement.TheVariants as statements
-use Rattle.session_lang.specs.Lines.{States}
-use Rattle.session_values.specs.Names.{State}
+use Rattle.session_lang.specs.Lines.{StatesLine}
+use Rattle.session_values.specs.Names.{ScriptState}
 
 in_range : (low high b : ℕ) → is_in_range low high b ≡ true → (low ≤ b) × (b ≤ high)
 in_range low high b e = (grind arith, grind arith)
@@ -93,7 +93,7 @@ apart x (y ∷ ys) h = (
   apart x ys (λ k. h (suc k.0, (let lt = k.1 in omega (arith, lt)), k.2)),
 )
 
-distinct : (xs : List (List ℕ)) → (HasRepeat xs → ⊥) → AreDistinct xs
+distinct : (xs : List (List ℕ)) → (HasRepeat xs → ⊥) → AreAllDistinct xs
 distinct [] h = tt
 distinct (x ∷ xs) h = (apart x xs (λ k. h (inl k)), distinct xs (λ k. h (inr k)))
 
@@ -142,12 +142,12 @@ ring_said (Some s) line (change_line value order) made h = absurd h
 ring_said (Some s) line (express_line p images) made h = absurd h
 ring_said (Some s) line (ext_line value count) made h = absurd h
 
-pub stated_names : (before : State) (line : List ℕ) (made : Ring) → States before line (statements.Ring made) → AreDistinctNames made.vars
+pub stated_names : (before : ScriptState) (line : List ℕ) (made : Ring) → StatesLine before line (statements.Ring made) → AreDistinctNames made.vars
 stated_names before line made h =
     let says = ring_said before.ring line h.2.written made h.2.says in
     let r = says.0 in
     let whole : IsLine line (ring_line r) = subst (IsLine line) says.1 h.2.is_line in
     let texts = names_named line whole.found (have_texts line whole.found whole.cut) in
     let named : Each IsName (map (text_of line) r.names) = each_text line r.names (ring_names (λ u. IsName (text_of line u)) line (map lexeme whole.found) r whole.written texts) in
-    let once : AreDistinct (map (text_of line) r.names) = distinct (map (text_of line) r.names) (λ k. h.2.free refused.Ring (ring_line r, whole, inr (inl k))) in
+    let once : AreAllDistinct (map (text_of line) r.names) = distinct (map (text_of line) r.names) (λ k. h.2.free refused.Ring (ring_line r, whole, inr (inl k))) in
     subst AreDistinctNames (sym says.2.names_are) (named, once)

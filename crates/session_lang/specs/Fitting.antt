@@ -10,32 +10,32 @@ use Rattle.script_parse.specs.declared.operation.Operation.TheVariants as operat
 use Rattle.script_parse.specs.declared.stated.Statement.{Statement}
 use Rattle.script_parse.specs.declared.stated.Statement.TheVariants as statements
 use Rattle.session_values.specs.Kept.{IsListOver, IsPolynomialOver, IsValueRank}
-use Rattle.session_values.specs.Names.{HasValue, State, Value}
+use Rattle.session_values.specs.Names.{HasValue, ScriptState, Value}
 
 -- a value has this name
-abbrev pub IsGiven : State → List ℕ → Type 0
+abbrev pub IsGiven : ScriptState → List ℕ → Type 0
 IsGiven before name = (ring : Ring) × (value : Value) × HasValue before name ring value
 
 -- an ideal has this name
-abbrev pub IsIdealGiven : State → List ℕ → Type 0
+abbrev pub IsIdealGiven : ScriptState → List ℕ → Type 0
 IsIdealGiven before name = (ring : Ring) × (value : Value) × HasValue before name ring value × (value.rank ≡ 1)
 
 -- a value has this name, and the vector is of its rank over the ring
-abbrev pub IsOfValue : State → List ℕ → List (Key × ℕ) → Type 0
+abbrev pub IsOfValue : ScriptState → List ℕ → List (Key × ℕ) → Type 0
 IsOfValue before name v = (ring : Ring) × (value : Value) × HasValue before name ring value × IsVectorOver ring (ring_comparison ring) v
 
 -- the same, and the vector has as many entries as the value
-abbrev pub IsOfValueRank : State → List ℕ → List (Key × ℕ) → Type 0
+abbrev pub IsOfValueRank : ScriptState → List ℕ → List (Key × ℕ) → Type 0
 IsOfValueRank before name v =
     (ring : Ring) × (value : Value) × HasValue before name ring value × IsVectorOver ring (ring_comparison ring) v × HasPositions value.rank v
 
 -- two values have these names, and their ranks pass the test
-abbrev pub AreGiven : State → (first second : List ℕ) → (ℕ → ℕ → Type 0) → Type 0
+abbrev pub AreGiven : ScriptState → (first second : List ℕ) → (ℕ → ℕ → Type 0) → Type 0
 AreGiven before first second Test =
     (ring : Ring) × (left : Value) × (right : Value) × HasValue before first ring left × HasValue before second ring right × Test left.rank right.rank
 
 -- a value has this name, and the vector is a polynomial over the ring
-abbrev pub IsWithPolynomial : State → List ℕ → List (Key × ℕ) → Type 0
+abbrev pub IsWithPolynomial : ScriptState → List ℕ → List (Key × ℕ) → Type 0
 IsWithPolynomial before name f =
     (ring : Ring) × (value : Value) × HasValue before name ring value × IsVectorOver ring (ring_comparison ring) f × HasPositions 1 f
 
@@ -44,21 +44,21 @@ abbrev pub AreImages : Ring → List (List (Key × ℕ)) → Type 0
 AreImages ring images = IsListOver ring 1 images × (length images ≡ variables ring)
 
 -- the operation's names are those of values that it can work on
-abbrev pub IsWorkable : State → Operation → Type 0
-IsWorkable before (operations.Sum a b) = AreGiven before (string_bytes a) (string_bytes b) (λ r s. r ≡ s)
-IsWorkable before (operations.Product a b) = AreGiven before (string_bytes a) (string_bytes b) (λ r s. r ≤ 1)
-IsWorkable before (operations.Intersect a b) = AreGiven before (string_bytes a) (string_bytes b) (λ r s. r ≡ s)
-IsWorkable before (operations.Colon a b) = AreGiven before (string_bytes a) (string_bytes b) (λ r s. r ≡ s)
-IsWorkable before (operations.Quotient a f) = IsWithPolynomial before (string_bytes a) f
-IsWorkable before (operations.Saturate a f) = IsWithPolynomial before (string_bytes a) f
-IsWorkable before (operations.Eliminate a k) = IsGiven before (string_bytes a)
-IsWorkable before (operations.Syzygies a) =
+abbrev pub IsOperable : ScriptState → Operation → Type 0
+IsOperable before (operations.Sum a b) = AreGiven before (string_bytes a) (string_bytes b) (λ r s. r ≡ s)
+IsOperable before (operations.Product a b) = AreGiven before (string_bytes a) (string_bytes b) (λ r s. r ≤ 1)
+IsOperable before (operations.Intersect a b) = AreGiven before (string_bytes a) (string_bytes b) (λ r s. r ≡ s)
+IsOperable before (operations.Colon a b) = AreGiven before (string_bytes a) (string_bytes b) (λ r s. r ≡ s)
+IsOperable before (operations.Quotient a f) = IsWithPolynomial before (string_bytes a) f
+IsOperable before (operations.Saturate a f) = IsWithPolynomial before (string_bytes a) f
+IsOperable before (operations.Eliminate a k) = IsGiven before (string_bytes a)
+IsOperable before (operations.Syzygies a) =
     (ring : Ring) × (value : Value) × HasValue before (string_bytes a) ring value × IsValueRank (length value.list)
-IsWorkable before (operations.Preimage a images) =
+IsOperable before (operations.Preimage a images) =
     (ring : Ring) × (value : Value) × HasValue before (string_bytes a) ring value × (value.rank ≤ 1) × AreImages ring images
 
 -- what a statement that is read from a line says is fit to be done
-abbrev pub IsFit : State → Statement → Type 0
+abbrev pub IsFit : ScriptState → Statement → Type 0
 IsFit before statements.Nothing = Unit {0}
 IsFit before (statements.Ring ring) = Unit {0}
 IsFit before (statements.Show v) = (ring : Ring) × (before.ring ≡ Some ring) × IsVectorOver ring (ring_comparison ring) v
@@ -66,7 +66,7 @@ IsFit before (statements.Ideal name list) =
     (ring : Ring) × (before.ring ≡ Some ring) × AreVectorsOver ring (ring_comparison ring) list × Each (HasPositions 1) list
 IsFit before (statements.Module name rank list) =
     (ring : Ring) × (before.ring ≡ Some ring) × AreVectorsOver ring (ring_comparison ring) list × Each (HasPositions rank) list × IsValueRank rank
-IsFit before (statements.Let name operation) = IsWorkable before operation
+IsFit before (statements.Let name operation) = IsOperable before operation
 IsFit before (statements.Gens name) = IsGiven before (string_bytes name)
 IsFit before (statements.Gb name) = IsGiven before (string_bytes name)
 IsFit before (statements.Size name) = IsGiven before (string_bytes name)

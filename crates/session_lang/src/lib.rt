@@ -7,19 +7,9 @@
 //! line is refused, or why it was not done, and leaves session and text as they were.
 #![tactic(auto)]
 
-mod answers;
-mod counting;
-mod expressing;
-mod extending;
-mod lifts;
 mod line_laws;
-mod minimising;
-mod reordering;
-mod reports;
-mod resolving;
 mod session;
-mod step;
 
 pub use line_laws::{few_runs, no_run_of_refused, one_result, one_statement, same_members};
 pub use session::Session;
-pub use step::Step;
+pub use session_reports::Step;

@@ -4,17 +4,15 @@ ghost use Rattle.groebner_iface.specs.Calls.{CallStops};
 ghost use Rattle.session_lang.specs.Lines.{RunOf};
 ghost use Rattle.session_lang.specs.Runs.{RunsLine, RunsStated};
 ghost use Rattle.session_lang.specs.Stops.{Steps, TrailOf};
-ghost use Rattle.session_lang.specs.declared.step.Step.TheVariants as steps;
+ghost use Rattle.session_reports.specs.declared.step.Step.TheVariants as steps;
 
-use crate::answers::{Question, answer_value, compare_values};
-use crate::expressing::push_expression;
-use crate::extending::extend_value;
-use crate::lifts::push_lift;
-use crate::reports::{Report, report_value};
-use crate::step::Step;
 use groebner_iface::{Groebner, OpStop};
 use module_vectors::{NoMemory, Ring, Vect, VectList};
 use script_parse::{NameInfo, NameTable, Operation, ParseStop, Statement, statement};
+use session_reports::{
+    Question, Report, Step, answer_value, compare_values, extend_value, push_expression, push_lift,
+    report_value,
+};
 use session_values::{Stored, Task, give_name, operate, push_line, push_listing, rank_of_result};
 use std::alloc::Global;
 use std::marker::Model;
@@ -68,9 +66,9 @@ fn done(called: Result<(), OpStop>) -> Result<Step, OpStop>
 
 impl Model for Session {
     ghost use Rattle.session_values.specs.Kept.{AreKept, values_of};
-    ghost use Rattle.session_values.specs.Names.{State};
+    ghost use Rattle.session_values.specs.Names.{ScriptState};
 
-    ghost Value = { State };
+    ghost Value = { ScriptState };
 
     ghost view = { λ s. record { ring = s.ring; values = values_of s.names s.stored.items } };
 
@@ -81,13 +79,12 @@ impl Session {
     ghost use Rattle.std.specs.Prelude.{◌++◌, List, Some, [], is_some, string_bytes, ℕ};
     ghost use Rattle.module_vectors.specs.declared.ring.Ring.{Ring as RingValue};
     ghost use Rattle.script_parse.specs.declared.stated.Statement.TheVariants as statements;
-    ghost use Rattle.session_lang.specs.Asking.{asked_of};
-    ghost use Rattle.session_lang.specs.Fitting.{IsFit, IsGiven, IsWorkable};
+    ghost use Rattle.session_reports.specs.Asking.{asked_of};
+    ghost use Rattle.session_lang.specs.Fitting.{IsFit, IsGiven, IsOperable};
     ghost use Rattle.session_values.specs.Kept.{IsSound, value_of};
     ghost use Rattle.session_values.specs.Names.{HasValue, after_giving, no_names};
     ghost use Rattle.session_values.specs.Operations.{WorksOn};
-    ghost use Rattle.session_lang.specs.Performing.{Performed, PerformedAlone, asking};
-    ghost use Rattle.session_lang.specs.Reporting.{reporting};
+    ghost use Rattle.session_lang.specs.Performing.{Performed, PerformedAlone, asking, reporting};
     ghost use Rattle.session_values.specs.Tasks.{IsOperand, IsReady, work_of};
 
     /// A session in which no ring is stated and nothing has a name.
@@ -271,7 +268,7 @@ impl Session {
 
     // What is to be done for the operation.
     fn task<'a>(&'a self, operation: &'a Operation) -> Task<'a>
-        requires { IsWorkable self.now operation.now }
+        requires { IsOperable self.now operation.now }
         ensures { (ring : RingValue) → self.now.ring ≡ Some ring → WorksOn self.now operation.now ring (work_of result) × IsReady ring (work_of result) }
     {
         match operation {

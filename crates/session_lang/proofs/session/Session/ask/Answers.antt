@@ -1,6 +1,6 @@
 use Rattle.std.proofs.Common.{None, Some, arith, length, rules, subst, sym, ◌<◌, ◌≡◌}
 use Rattle.std.proofs.lemmas.Result.{on_err_weaker, on_ok_weaker}
-use Rattle.session_lang.specs.Asking.{asked_of}
+use Rattle.session_reports.specs.Asking.{asked_of}
 use Rattle.script_parse.specs.Places.{place_named}
 use Rattle.session_lang.specs.Fitting.{IsGiven}
 use Rattle.session_values.specs.Kept.{value_of}
@@ -9,7 +9,7 @@ use Rattle.session_lang.proofs.Performing.{asked_fit, asked_given, asked_perform
 use Rattle.session_lang.proofs.Placing.{is_placed, placed_after, placed_has, placed_keeps, placed_same, placed_sound}
 use Rattle.script_parse.proofs.NamePlaces.{place_bound}
 use Rattle.session_values.proofs.Values.{kept_as_many}
-use Rattle.session_lang.proofs.Counted.{asked_ran}
+use Rattle.session_lang.proofs.StatedRuns.{asked_ran}
 use Rattle.session_lang.proofs.session.Session.ask.Goals as goal
 
 pub unreachable-requires-in_default-place_of : goal.unreachable-requires-in_default-place_of

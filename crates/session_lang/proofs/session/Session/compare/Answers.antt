@@ -8,10 +8,10 @@ use Rattle.session_lang.proofs.OneAnswer.{one_value}
 use Rattle.session_lang.proofs.Finding.{as_many_after, has_value, kept_after, no_stored, place_given, run_for_either, some_info}
 use Rattle.session_lang.proofs.Performing.{compared_performed}
 use Rattle.groebner_iface.proofs.CallingRuns.{more_stops}
-use Rattle.session_lang.proofs.Stopping.{no_trail}
+use Rattle.session_reports.proofs.Stopping.{no_trail}
 use Rattle.script_parse.proofs.NamePlaces.{place_bound}
 use Rattle.session_values.proofs.Values.{kept_as_many}
-use Rattle.session_lang.proofs.Counted.{both_ran}
+use Rattle.session_lang.proofs.StatedRuns.{both_ran}
 use Rattle.std.specs.Prelude.{string_bytes}
 use Rattle.risen_counts.specs.Counts.{RoseAtMost}
 use Rattle.session_lang.specs.Runs.{runs_for_both}

@@ -8,7 +8,7 @@ use Rattle.session_lang.proofs.Performing.{extended_performed}
 use Rattle.session_lang.proofs.Placing.{is_placed, placed_after, placed_has, placed_keeps, placed_same, placed_sound}
 use Rattle.script_parse.proofs.NamePlaces.{place_bound}
 use Rattle.session_values.proofs.Values.{kept_as_many}
-use Rattle.session_lang.proofs.Counted.{extended_ran}
+use Rattle.session_lang.proofs.StatedRuns.{extended_ran}
 use Rattle.session_lang.proofs.session.Session.extend.Goals as goal
 
 pub unreachable-requires-in_default-place_of : goal.unreachable-requires-in_default-place_of

@@ -6,7 +6,7 @@ use Rattle.session_lang.specs.Fitting.{IsGiven}
 use Rattle.session_values.specs.Kept.{value_of}
 use Rattle.session_values.specs.Names.{HasValue}
 use Rattle.session_values.specs.Texts.{listing}
-use Rattle.session_lang.proofs.Finding.{listed}
+use Rattle.session_reports.proofs.Variables.{listed}
 use Rattle.session_lang.proofs.Performing.{was_done, was_stopped}
 use Rattle.session_lang.proofs.session.Session.list.Goals as goal
 

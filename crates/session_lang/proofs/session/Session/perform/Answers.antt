@@ -2,7 +2,8 @@ use Rattle.std.proofs.Common.{[], arith, refl, subst, sym}
 use Rattle.session_lang.specs.Fitting.{IsFit}
 use Rattle.session_lang.specs.Lines.{Does}
 use Rattle.session_lang.proofs.Performing.{ideal_given, nothing_behind, performed_as, was_done}
-use Rattle.session_lang.proofs.Counted.{none_ran, ran_as}
+use Rattle.session_reports.proofs.Counted.{none_ran}
+use Rattle.session_lang.proofs.StatedRuns.{ran_as}
 use Rattle.session_lang.proofs.session.Session.perform.Goals as goal
 
 pub returns-in-Nothing-clause-performed : goal.returns-in-Nothing-clause-performed

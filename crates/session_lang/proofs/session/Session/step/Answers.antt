@@ -4,8 +4,8 @@ use Rattle.session_lang.proofs.Reported.{fits, refuses, states}
 use Rattle.std.proofs.lemmas.Result.{IfErr-weaker}
 use Rattle.session_lang.proofs.Performing.{performed_line}
 use Rattle.groebner_iface.proofs.CallingRuns.{more_stops}
-use Rattle.session_lang.specs.Lines.{Refuses}
-use Rattle.session_lang.proofs.Counted.{ran_line}
+use Rattle.session_lang.specs.Lines.{RefusesLine}
+use Rattle.session_lang.proofs.StatedRuns.{ran_line}
 use Rattle.session_lang.proofs.session.Session.step.Goals as goal
 
 pub perform-requires-clause-fit : goal.perform-requires-clause-fit
@@ -40,7 +40,7 @@ returns-in-Ok-clause-engine g c = c.perform.ensures.performed.engine
 
 pub returns-in-Err-Refused-clause-steps : goal.returns-in-Err-Refused-clause-steps
 returns-in-Err-Refused-clause-steps g c = (
-  subst (λ kind. Refuses c.args.self.now c.args.line.now kind) (sym c.in-Err-Refused.kind-is)
+  subst (λ kind. RefusesLine c.args.self.now c.args.line.now kind) (sym c.in-Err-Refused.kind-is)
       (refuses c.args.self.now c.self.inside.ring c.self.inside.names c.self.inside.stored.items c.self.view_is c.self.invariant
       (option_copied c.as_ref.result) c.self.inside.names c.as_ref.ensures.value refl c.args.line.now c.in-Err-Refused.kind
       (rw c.in-Err-Refused.field-0-is at c.in-Err-Refused.ensures)),

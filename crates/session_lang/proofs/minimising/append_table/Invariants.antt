@@ -1,6 +1,0 @@
-use Rattle.std.proofs.Common.{flat_map, take, ◌++◌, ◌≡◌}
-use Rattle.session_lang.specs.Minimising.{entry_line}
-use Rattle.session_lang.proofs.minimising.append_table.Given as goal
-
-abbrev pub invariant-loop-entry : goal.invariant-loop-entry
-invariant-loop-entry l = l.out.items ≡ l.initial.out.items ++ flat_map entry_line (take l.entry-index l.entries)
