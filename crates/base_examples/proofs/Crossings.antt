@@ -14,7 +14,7 @@ use Rattle.base_examples.specs.Crossings.{budget_met, crossing, crossing_1, cros
 use Rattle.base_examples.specs.Examples.{at, generators, setting, square_plus, xy, y_squared}
 use Rattle.base_examples.specs.Histories.{member_0, member_1, state_4, two_members}
 use Rattle.basis_steps.specs.Criteria.{CriterionApplies}
-use Rattle.basis_steps.specs.Divisions.{IsMonicMember, LeavesMember, LeavesNothing, Makes}
+use Rattle.basis_steps.specs.Divisions.{IsMonicMember, LeavesMember, LeavesNothing, MakesMembers}
 use Rattle.basis_steps.proofs.JobProducts.{IsJobProductAt, job_products_from}
 use Rattle.basis_steps.specs.Outcomes.{AreJobProducts, HasLeadBelowJob, IsOutcome}
 use Rattle.basis_steps.specs.Pairs.{Pair, count}
@@ -56,7 +56,7 @@ leaves_y = record { quotients = tt; reached = tt; at_most = inr refl; inverse = 
 leaves_nothing : LeavesNothing setting (vectors new_members) square_row ((at 3 0 1, 1) ∷ [])
 leaves_nothing = record { quotients = ((omega arith, inr refl), tt); reached = (inl (occurs_at square_row.vector (at 0 0 2) refl), tt); vector = IsSame_of 101 _ _ refl }
 
-makes_old : Makes setting [] (generator_rows 0 crossing.generators) old_members
+makes_old : MakesMembers setting [] (generator_rows 0 crossing.generators) old_members
 makes_old = inr ([], 1, 1, member_0, member_1 ∷ (cubic_member ∷ []), leaves_0, refl, inr ([], 1, 1, member_1, cubic_member ∷ [], leaves_1, refl, inr ([], 1, 1, cubic_member, [], leaves_cubic, refl, refl)))
 
 -- ---- the queues

@@ -17,7 +17,7 @@ use Rattle.base_examples.specs.Histories.{after_put, first_state, last_state, me
 use Rattle.basis_steps.proofs.Counting.{is_same_pair-true}
 use Rattle.basis_steps.proofs.Updating.{pair_of_new}
 use Rattle.basis_steps.specs.Criteria.{CriterionApplies}
-use Rattle.basis_steps.specs.Divisions.{IsMonicMember, LeavesMember, Makes, Occurs}
+use Rattle.basis_steps.specs.Divisions.{IsMonicMember, LeavesMember, MakesMembers, Occurs}
 use Rattle.basis_steps.specs.Invariant.{HaveAllEnded}
 use Rattle.basis_steps.specs.Outcomes.{AreJobProducts, HasLeadBelowJob, IsOutcome}
 use Rattle.basis_steps.specs.Pairs.{Pair, count, is_same_pair}
@@ -59,10 +59,10 @@ leaves_1 = record { quotients = tt; reached = tt; at_most = inr refl; inverse = 
 leaves_2 : LeavesMember setting (vectors two_members) member_2 [] 1 1 member_2
 leaves_2 = record { quotients = tt; reached = tt; at_most = inr refl; inverse = record { same = refl }; vector = IsSame_of 101 _ _ refl; multiple = IsSame_of 101 _ _ refl; products = IsSame_of 101 _ _ refl; member = monic_2; free = free_2 }
 
-makes_two : Makes setting [] (generator_rows 0 generators) two_members
+makes_two : MakesMembers setting [] (generator_rows 0 generators) two_members
 makes_two = inr ([], 1, 1, member_0, member_1 ∷ [], leaves_0, refl, inr ([], 1, 1, member_1, [], leaves_1, refl, refl))
 
-makes_third : Makes setting (vectors two_members) (member_2 ∷ []) (member_2 ∷ [])
+makes_third : MakesMembers setting (vectors two_members) (member_2 ∷ []) (member_2 ∷ [])
 makes_third = inr ([], 1, 1, member_2, [], leaves_2, refl, refl)
 
 -- ---- the queues

@@ -12,7 +12,7 @@ use Rattle.base_examples.specs.Examples.{at, setting, xy}
 use Rattle.base_examples.specs.Histories.{member_1}
 use Rattle.base_examples.specs.Sharing.{all, monomial_members, none, sharing, sharing_state, x_member, x_squared, y_member}
 use Rattle.basis_steps.specs.Criteria.{CriterionApplies}
-use Rattle.basis_steps.specs.Divisions.{IsMonicMember, LeavesMember, Makes}
+use Rattle.basis_steps.specs.Divisions.{IsMonicMember, LeavesMember, MakesMembers}
 use Rattle.basis_steps.specs.Outcomes.{IsOutcome}
 use Rattle.basis_steps.specs.Pairs.{Pair, count}
 use Rattle.basis_steps.specs.Queues.{is_new_pair}
@@ -46,7 +46,7 @@ leaves_xy = record { quotients = tt; reached = tt; at_most = inr refl; inverse =
 leaves_y : LeavesMember setting (vectors (x_member ∷ (member_1 ∷ []))) y_member [] 1 1 y_member
 leaves_y = record { quotients = tt; reached = tt; at_most = inr refl; inverse = record { same = refl }; vector = IsSame_of 101 _ _ refl; multiple = IsSame_of 101 _ _ refl; products = IsSame_of 101 _ _ refl; member = monic_2; free = free_y }
 
-makes_all : Makes setting [] (generator_rows 0 sharing.generators) monomial_members
+makes_all : MakesMembers setting [] (generator_rows 0 sharing.generators) monomial_members
 makes_all = inr ([], 1, 1, x_member, member_1 ∷ (y_member ∷ []), leaves_x, refl, inr ([], 1, 1, member_1, y_member ∷ [], leaves_xy, refl, inr ([], 1, 1, y_member, [], leaves_y, refl, refl)))
 
 first_queue : (i j : ℕ) → i < j → j < 3 → count (i, j) ((1, 2) ∷ ((0, 1) ∷ ((0, 2) ∷ []))) ≡ count (i, j) [] + cond (is_new_pair 0 (vectors monomial_members) (i, j)) 1 0

@@ -8,10 +8,10 @@ use Rattle.module_vectors.specs.Trails.{KeptProduct, last_product, no_product}
 use Rattle.module_vectors.specs.Vectors.{sum_of}
 use Rattle.module_vectors.specs.declared.trail.KeptTrail.{KeptTrail}
 use Rattle.member_products.specs.Generators.{IsVectorOf}
-use Rattle.member_products.specs.declared.member.Row.{Row as CodeRow}
+use Rattle.member_products.specs.declared.member.Reduct.{Reduct as CodeReduct}
 use Rattle.basis_steps.proofs.Reading.{replays_given}
 use Rattle.basis_steps.specs.Criteria.{IsPair}
-use Rattle.basis_steps.specs.Divisions.{AreReached, Makes, Occurs}
+use Rattle.basis_steps.specs.Divisions.{AreReached, MakesMembers, Occurs}
 use Rattle.basis_steps.specs.Outcomes.{AreJobProducts, IsOutcome}
 use Rattle.basis_steps.specs.Pairs.{Drop, Pair}
 use Rattle.basis_steps.specs.Updates.{QueuesPairs}
@@ -30,12 +30,12 @@ use Rattle.basis_core.specs.declared.state.BasisState.TheInside.{Inside}
 use Rattle.module_vectors.specs.declared.trail.WorkStop.{WorkStop}
 use Rattle.module_vectors.specs.declared.trail.WorkStop.TheVariants.{Degree, Memory}
 use Rattle.basis_core.specs.Answers.{IsJobOut, IsPutTrail, PutStops}
-use Rattle.basis_core.specs.Inside.{IsCoherent, IsRead, all_left, shown}
+use Rattle.basis_core.specs.Inside.{IsCoherentState, IsEventRead, all_left, shown}
 use Rattle.pair_queue.specs.Shown.{PairsShown}
 use Rattle.basis_core.specs.Jobs.{pairs_of}
-use Rattle.basis_core.specs.Leads.{leads_of}
-use Rattle.basis_core.specs.Makings.{EndsAs, HaveMadeRows, StopsAt, StopsOne, StopsRow, StopsWork}
-use Rattle.basis_core.specs.Members.{IsRunRow, IsTracked, MembersShown, Shared, Tracked, member_of, members_of, row_of, rows_of, setting_of}
+use Rattle.basis_core.specs.Leads.{leads_shown_of}
+use Rattle.basis_core.specs.Makings.{TrailEndsAs, HaveMadeRows, StopsAt, StopsOne, StopsRow, StopsWork}
+use Rattle.basis_core.specs.Members.{IsRunRow, IsMemberShown, MembersShown, Shared, MemberShown, member_of, members_of, row_of, rows_of, setting_of}
 use Rattle.basis_core.specs.Outcomes.{OutcomeShown, IsOutcomeOver, product_of, products_of}
 use Rattle.basis_core.specs.Shown.{Shown}
 use Rattle.basis_core.specs.Views.{history_of, run_of, state_of, variables_of}
@@ -46,7 +46,7 @@ use Rattle.basis_core.proofs.Replaying.{replays_after}
 use Rattle.basis_core.proofs.Room.{room_after_put, room_bound}
 
 -- ---- lists of members
-pub members_length : (n : ℕ) (ms : List Tracked) → length (vectors (members_of n ms)) ≡ length ms
+pub members_length : (n : ℕ) (ms : List MemberShown) → length (vectors (members_of n ms)) ≡ length ms
 members_length n [] = refl
 members_length n (m ∷ ms) = ap suc (members_length n ms)
 
@@ -59,12 +59,12 @@ take_front {X} [] ys = none ys
     none (x ∷ l) = refl
 take_front (x ∷ xs) ys = ap (λ l. x ∷ l) (take_front xs ys)
 
-pub front_same : (ms made : List Tracked) (k : ℕ) → k ≡ length ms → take k (ms ++ made) ≡ ms
+pub front_same : (ms made : List MemberShown) (k : ℕ) → k ≡ length ms → take k (ms ++ made) ≡ ms
 front_same ms made k e = ap (λ j. take j (ms ++ made)) e ∙ take_front ms made
 
 -- the members behind the old ones are taken back
 pub taken_back :
-    (old after now : MembersShown) (first : ℕ) (made : List Tracked)
+    (old after now : MembersShown) (first : ℕ) (made : List MemberShown)
     → after.shared ≡ old.shared → after.list ≡ old.list ++ made → first ≡ length old.list → now.shared ≡ after.shared
     → now.list ≡ take first after.list → now ≡ old
 taken_back old after now first made shared list first_is same front = λ i. record {
@@ -74,11 +74,11 @@ taken_back old after now first made shared list first_is same front = λ i. reco
 
 -- ---- the step
 -- the state after a Put
-abbrev pub after_put : Shown → List Tracked → List Pair → List Drop → List (Pair × ℕ) → List Event → Shown
+abbrev pub after_put : Shown → List MemberShown → List Pair → List Drop → List (Pair × ℕ) → List Event → Shown
 after_put s after queue dropped out es = record s { members = after; queue = queue; dropped = dropped; out = out; history = es }
 
 -- what the code of a Put came to
-pub record HasPut (n : ℕ) (s : Shown) (o : OutcomeShown) (after : List Tracked) (queue : List Pair) (dropped : List Drop) (out : List (Pair × ℕ)) (es : List Event) : Type 0 where
+pub record HasPut (n : ℕ) (s : Shown) (o : OutcomeShown) (after : List MemberShown) (queue : List Pair) (dropped : List Drop) (out : List (Pair × ℕ)) (es : List Event) : Type 0 where
   pub known : o.job.worker < s.workers
   pub works : get_or s.ended o.job.worker true ≡ false
   pub job : IsJobOut s o
@@ -88,7 +88,7 @@ pub record HasPut (n : ℕ) (s : Shown) (o : OutcomeShown) (after : List Tracked
   pub first_is : first ≡ length s.members
   pub queues : QueuesPairs s.update (setting_of n s.shared) first (vectors (members_of n after)) s.queue s.dropped queue dropped
   pub out_is : out ≡ with_others o.job.worker s.out
-  pub read : Each (IsRead (length s.members) s.stop) s.history
+  pub read : Each (IsEventRead (length s.members) s.stop) s.history
   pub events : es ≡ s.history ++ (Put o.job.worker first (length after - first) ∷ [])
 
 -- the outcome in the number of variables of the run's ring
@@ -101,14 +101,14 @@ outcome_of s o e h =
     (pairs_of o.job.pairs) (rows_of (variables sh.ring) o.rows) (products_of (variables sh.ring) o.products)) e h.outcome
 
 -- the vectors of the job's members are the first ones
-pub base_vectors : (n : ℕ) (ms base : List Tracked) → base ≡ take (length base) ms
+pub base_vectors : (n : ℕ) (ms base : List MemberShown) → base ≡ take (length base) ms
     → vectors (members_of n base) ≡ take (length base) (vectors (members_of n ms))
 base_vectors n ms base e =
     ap (λ l. vectors (members_of n l)) e
     ∙ ap vectors (sym (take-map (λ m. member_of n m) (length base) ms))
     ∙ sym (take-map (λ (m : plain.Member n). m.vector) (length base) (members_of n ms))
 
-module _ (n : ℕ) (s : Shown) (o : OutcomeShown) (after : List Tracked) (queue : List Pair) (dropped : List Drop) (out : List (Pair × ℕ)) (es : List Event)
+module _ (n : ℕ) (s : Shown) (o : OutcomeShown) (after : List MemberShown) (queue : List Pair) (dropped : List Drop) (out : List (Pair × ℕ)) (es : List Event)
     (h : HasPut n s o after queue dropped out es) where
   made_count : length after - h.first ≡ length (h.made).made
   made_count = omega (arith, ap length (h.made).same, length-append s.members (h.made).made, h.first_is)
@@ -145,28 +145,28 @@ module _ (n : ℕ) (s : Shown) (o : OutcomeShown) (after : List Tracked) (queue 
           (stays s.stop s.stop refl) h.read
           ∙ ap (λ e. history_of n s.members s.stop s.history ++ (e ∷ [])) (put_made n s.members (h.made).made s.stop o.job.worker)
 
-  pub put_read : Each (IsRead (length after) s.stop) es
+  pub put_read : Each (IsEventRead (length after) s.stop) es
   put_read =
       let count : length after ≡ length s.members + length (h.made).made = ap length (h.made).same ∙ length-append s.members (h.made).made in
-      subst (Each (IsRead (length after) s.stop)) (sym h.events)
+      subst (Each (IsEventRead (length after) s.stop)) (sym h.events)
       (read_more (length s.members) (length after) s.stop s.stop s.history (Put o.job.worker h.first (length after - h.first)) (omega (arith, count))
       (stays s.stop s.stop refl) h.read (omega (arith, count, h.first_is)))
 
 -- what is kept is kept
 pub put_kept :
     (i : Inside) (o : OutcomeShown) (members : MembersShown) (pairs : PairsShown) (history : Vec Event Global)
-    → IsCoherent i → members.shared ≡ i.members.shared
+    → IsCoherentState i → members.shared ≡ i.members.shared
     → HasPut (variables_of (shown i)) (shown i) o members.list (pairs_of pairs.queue) pairs.dropped pairs.out history.items
-    → pairs.leads ≡ leads_of i.members.shared members.list → pairs.update ≡ i.pairs.update
+    → pairs.leads ≡ leads_shown_of i.members.shared members.list → pairs.update ≡ i.pairs.update
     → length i.history.items + (3 * i.workers + 1) ≤ vec_capacity history
-    → IsCoherent (record i { members = members; pairs = pairs; history = history })
+    → IsCoherentState (record i { members = members; pairs = pairs; history = history })
 put_kept i o members pairs history kept same h leads update room =
     let n : ℕ = variables_of (shown i) in
     let t : Shown = record (after_put (shown i) members.list (pairs_of pairs.queue) pairs.dropped pairs.out history.items) { update = pairs.update } in
     let step : Puts (run_of n (shown i)) (state_of n (shown i)) o.job.worker (length o.job.members) (rows_of n o.rows) (products_of n o.products)
     (members_of n (h.made).made) (state_of n t) =
     put_step n (shown i) o members.list (pairs_of pairs.queue) pairs.dropped pairs.out history.items h in
-    subst (λ (m : MembersShown). IsCoherent (record i { members = m; pairs = pairs; history = history }))
+    subst (λ (m : MembersShown). IsCoherentState (record i { members = m; pairs = pairs; history = history }))
     (λ j. record { shared = sym same j; list = members.list })
     (record {
       some = kept.some;
@@ -188,37 +188,37 @@ put_kept i o members pairs history kept same h leads update room =
 -- ---- a stop
 -- the members at a stop, of which the job had the first
 pub base_more :
-    (ms made after base : List Tracked) → after ≡ ms ++ made → length base ≤ length ms → base ≡ take (length base) ms → base ≡ take (length base) after
+    (ms made after base : List MemberShown) → after ≡ ms ++ made → length base ≤ length ms → base ≡ take (length base) ms → base ≡ take (length base) after
 base_more ms made after base e l b = b ∙ sym (ap (take (length base)) e ∙ go (length base) ms l)
   where
-    go : (k : ℕ) (ms : List Tracked) → k ≤ length ms → take k (ms ++ made) ≡ take k ms
+    go : (k : ℕ) (ms : List MemberShown) → k ≤ length ms → take k (ms ++ made) ≡ take k ms
     go zero ms l = none (ms ++ made) ∙ sym (none ms)
       where
-        none : (l : List Tracked) → take 0 l ≡ []
+        none : (l : List MemberShown) → take 0 l ≡ []
         none [] = refl
         none (x ∷ l) = refl
     go (suc k) [] l = absurd (omega arith)
     go (suc k) (m ∷ ms) l = ap (λ r. m ∷ r) (go k ms (omega arith))
 
-stands : (before later : List CodeRow) (row : CodeRow) → Contains (before ++ row ∷ later) row
+stands : (before later : List CodeReduct) (row : CodeReduct) → Contains (before ++ row ∷ later) row
 stands before later row = (length before, omega (arith, length-append before (row ∷ later)), at before)
   where
-    at : (before : List CodeRow) → get_or (before ++ row ∷ later) (length before) row ≡ row
+    at : (before : List CodeReduct) → get_or (before ++ row ∷ later) (length before) row ≡ row
     at [] = refl
     at (b ∷ before) = at before
 
 pub one_stops :
-    (n : ℕ) (shared : Shared) (ms : List Tracked) (rows : List CodeRow) (after : List Tracked) (stop : RowStop)
+    (n : ℕ) (shared : Shared) (ms : List MemberShown) (rows : List CodeReduct) (after : List MemberShown) (stop : RowStop)
     → StopsRow n shared ms rows after stop → StopsOne n shared.ring.weights after rows stop
 one_stops n shared ms rows after row_stops.Memory h = tt
 one_stops n shared ms rows after (row_stops.Degree t) h = (h.row, subst (λ l. Contains l h.row) (sym h.split) (stands h.before h.later h.row), h.stops)
 
 -- the row behind the first ones
-row_behind : (n : ℕ) (before later : List CodeRow) (row : CodeRow) → row_at (rows_of n (before ++ row ∷ later)) (length before) ≡ row_of n row
+row_behind : (n : ℕ) (before later : List CodeReduct) (row : CodeReduct) → row_at (rows_of n (before ++ row ∷ later)) (length before) ≡ row_of n row
 row_behind n [] later row = refl
 row_behind n (b ∷ before) later row = row_behind n before later row
 
-front_rows : (n : ℕ) (before later : List CodeRow) (row : CodeRow) → take (length before) (rows_of n (before ++ row ∷ later)) ≡ rows_of n before
+front_rows : (n : ℕ) (before later : List CodeReduct) (row : CodeReduct) → take (length before) (rows_of n (before ++ row ∷ later)) ≡ rows_of n before
 front_rows n before later row =
     ap (take (length before)) (rows-append n before (row ∷ later))
     ∙ ap (λ k. take k (rows_of n before ++ rows_of n (row ∷ later))) (sym (length-map before (λ r. row_of n r)))
@@ -233,7 +233,7 @@ last_of [] = no_product
 last_of (s ∷ ss) = last_product s ss
 
 -- a Put that stops by the degree
-module _ (s : Shown) (o : OutcomeShown) (after : List Tracked) (row : RowTrail) (t : KeptTrail)
+module _ (s : Shown) (o : OutcomeShown) (after : List MemberShown) (row : RowTrail) (t : KeptTrail)
     (replays : Replays (run_of (variables_of s) s) (state_of (variables_of s) s)) (job : IsJobOut s o)
     (outcome : IsOutcome (setting_of (variables_of s) s.shared) (vectors (members_of (variables_of s) o.job.members)) (pairs_of o.job.pairs)
     (rows_of (variables_of s) o.rows) (products_of (variables_of s) o.products))
@@ -241,7 +241,7 @@ module _ (s : Shown) (o : OutcomeShown) (after : List Tracked) (row : RowTrail) 
     (reached : AreReached s.shared.ring.modulus.value (vectors (members_of (variables_of s) after)) (sum_of (variables_of s) (r.row).vector) []
     (terms_of (variables_of s) (earlier_products (r.stops).first (r.stops).later) ++
     ((product_of (variables_of s) (last_product (r.stops).first (r.stops).later), 1) ∷ []))) (h : IsTrailBy s.shared after (pairs_of o.job.pairs) t)
-    (ends : EndsAs (variables_of s) row.products.items t) where
+    (ends : TrailEndsAs (variables_of s) row.products.items t) where
   abbrev n : ℕ
   n = variables_of s
 
@@ -263,8 +263,8 @@ module _ (s : Shown) (o : OutcomeShown) (after : List Tracked) (row : RowTrail) 
   front : take number (rows_of n o.rows) ≡ rows_of n r.before
   front = ap (λ l. take number (rows_of n l)) r.split ∙ front_rows n r.before r.later r.row
 
-  makes : Makes (setting_of n s.shared) G (take number (rows_of n o.rows)) made
-  makes = subst (λ l. Makes (setting_of n s.shared) G l made) (sym front) (r.made).makes
+  makes : MakesMembers (setting_of n s.shared) G (take number (rows_of n o.rows)) made
+  makes = subst (λ l. MakesMembers (setting_of n s.shared) G l made) (sym front) (r.made).makes
 
   failed : row_at (rows_of n o.rows) number ≡ row_of n r.row
   failed = ap (λ l. row_at (rows_of n l) number) r.split ∙ row_behind n r.before r.later r.row
@@ -300,7 +300,7 @@ module _ (s : Shown) (o : OutcomeShown) (after : List Tracked) (row : RowTrail) 
             failed = number;
             within = omega (arith, ap length r.split, length-append r.before (r.row ∷ r.later), length-map o.rows (λ x. row_of n x));
             made = made;
-            makes = subst (λ l. Makes (setting_of n s.shared) l (take number (rows_of n o.rows)) made) (sym (all_of G)) makes;
+            makes = subst (λ l. MakesMembers (setting_of n s.shared) l (take number (rows_of n o.rows)) made) (sym (all_of G)) makes;
             members = members ∙ ap (λ l. l ++ vectors made) (sym (all_of G));
             division = terms_of n (earlier_products (r.stops).first (r.stops).later);
             reached = reached_here;
@@ -347,17 +347,17 @@ put_stops s o (Degree t) replays job outcome r =
     r.row.products.items r.row.last rows.stops)
     r.trail r.ends
   where
-    contained_row : (rows : List CodeRow) (x : CodeRow) → Each (IsRunRow o.job.shared (length o.job.members)) rows → Contains rows x
+    contained_row : (rows : List CodeReduct) (x : CodeReduct) → Each (IsRunRow o.job.shared (length o.job.members)) rows → Contains rows x
         → IsVectorOf s.shared.ring x.vector
     contained_row [] x e (k, l, is) = absurd (omega arith)
-    contained_row (y ∷ rows) x e (zero, l, is) = subst (λ (z : CodeRow). IsVectorOf s.shared.ring z.vector) is
+    contained_row (y ∷ rows) x e (zero, l, is) = subst (λ (z : CodeReduct). IsVectorOf s.shared.ring z.vector) is
         (subst (λ (sh : Shared). IsVectorOf sh.ring y.vector) job.shared e.0.vector.vector)
     contained_row (y ∷ rows) x e (suc k, l, is) = contained_row rows x e.1 (k, omega arith, is)
 
 -- the calls on a row that stopped
 pub stops_outcome :
-    (n : ℕ) (shared : Shared) (ms after : List Tracked) (o : OutcomeShown) (row : RowStop) (stop : WorkStop)
-    → n ≡ variables shared.ring → StopsRow n shared ms o.rows after row → Each (IsTracked shared) after → StopsAt shared after o row stop
+    (n : ℕ) (shared : Shared) (ms after : List MemberShown) (o : OutcomeShown) (row : RowStop) (stop : WorkStop)
+    → n ≡ variables shared.ring → StopsRow n shared ms o.rows after row → Each (IsMemberShown shared) after → StopsAt shared after o row stop
     → StopsWork n shared ms o stop
 stops_outcome n shared ms after o row Memory e r tracked h = tt
 stops_outcome n shared ms after o row_stops.Memory (Degree t) e r tracked h = absurd h
@@ -367,5 +367,5 @@ stops_outcome n shared ms after o (row_stops.Degree row) (Degree t) e r tracked 
   row = row;
   stops = r;
   trail = h.0;
-  ends = subst (λ k. EndsAs k row.products.items t) (sym e) h.1;
+  ends = subst (λ k. TrailEndsAs k row.products.items t) (sym e) h.1;
 }

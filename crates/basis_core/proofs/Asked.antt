@@ -8,7 +8,7 @@ use Rattle.basis_steps.specs.Histories.{HasStopped, took_since}
 use Rattle.basis_core.specs.declared.event.Event.{Event}
 use Rattle.pair_queue.specs.declared.out.Out.{Out}
 use Rattle.basis_core.specs.declared.stop.StopReason.{StopReason}
-use Rattle.basis_core.specs.Members.{Tracked}
+use Rattle.basis_core.specs.Members.{MemberShown}
 use Rattle.basis_core.specs.Views.{event_of, history_of, outs_of}
 use Rattle.basis_core.proofs.Growing.{history_append}
 use Rattle.basis_core.proofs.Room.{took_append}
@@ -31,7 +31,7 @@ not_free w (o ∷ out) (suc i) d l e h = not_free w out i d (omega arith) e (res
     rest true h = absurd cc
     rest false h = h
 
-module _ (n : ℕ) (ms : List Tracked) (kept : Option StopReason) (w : ℕ) where
+module _ (n : ℕ) (ms : List MemberShown) (kept : Option StopReason) (w : ℕ) where
   -- a Take or an End, or neither
   pub took_more :
       (es : List Event) (i : ℕ) (d : Event) (took after : Bool) → i < length es

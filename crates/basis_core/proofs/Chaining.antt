@@ -12,8 +12,8 @@ use Rattle.module_vectors.specs.Trails.{HasKey, IsInProduct, IsKeptProduct, Kept
 use Rattle.module_vectors.specs.Vectors.{IsTerm, key_of, sum_of}
 use Rattle.module_vectors.specs.declared.key.Key.{Key as CodeKey}
 use Rattle.basis_core.specs.Chains.{IsChainTo}
-use Rattle.basis_core.specs.Members.{Shared, Tracked}
-use Rattle.basis_core.specs.Members.{IsTracked}
+use Rattle.basis_core.specs.Members.{Shared, MemberShown}
+use Rattle.basis_core.specs.Members.{IsMemberShown}
 use Rattle.basis_core.specs.Rows.{vectors_in}
 use Rattle.monomials.specs.Exponents.{cons, exponents_of, head, tail, times, unit}
 use Rattle.monomials.proofs.Monomials.{times-unit}
@@ -47,7 +47,7 @@ times_apart (suc n) (x ∷ a) (y ∷ b) (z ∷ c) (w ∷ d) la lb lc ld e (suc k
     times_apart n a b c d (omega arith) (omega arith) (omega arith) (omega arith) (ap tail e) k (omega arith)
 
 -- ---- terms of the members
-pub nonzero_at : (ms : List Tracked) (i : ℕ) → Each (λ m. 0 < length m.vector) ms → i < length (vectors_in ms) → 0 < length (get_or (vectors_in ms) i [])
+pub nonzero_at : (ms : List MemberShown) (i : ℕ) → Each (λ m. 0 < length m.vector) ms → i < length (vectors_in ms) → 0 < length (get_or (vectors_in ms) i [])
 nonzero_at [] i h l = absurd (omega arith)
 nonzero_at (m ∷ ms) zero h l = h.0
 nonzero_at (m ∷ ms) (suc i) h l = nonzero_at ms i h.1 (omega arith)
@@ -61,14 +61,14 @@ term_variables n ws p (u ∷ v) (suc k) t h l e = term_variables n ws p v k t h.
 
 -- each term of a member has the variables of the ring
 pub variables_at :
-    (shared : Shared) (ms : List Tracked) (i : ℕ) (v : List (CodeKey × ℕ)) (k : ℕ) (t : CodeKey × ℕ)
-    → Each (IsTracked shared) ms → v ≡ get_or (vectors_in ms) i [] → k < length v → t ≡ get_or v k t → length t.0.monomial.exponents ≡ variables shared.ring
+    (shared : Shared) (ms : List MemberShown) (i : ℕ) (v : List (CodeKey × ℕ)) (k : ℕ) (t : CodeKey × ℕ)
+    → Each (IsMemberShown shared) ms → v ≡ get_or (vectors_in ms) i [] → k < length v → t ≡ get_or v k t → length t.0.monomial.exponents ≡ variables shared.ring
 variables_at shared ms i v k t h e l is =
     term_variables (variables shared.ring) shared.ring.weights shared.ring.modulus.value v k t
     (subst (Each (IsTerm (variables shared.ring) shared.ring.weights shared.ring.modulus.value)) (sym e) (go ms i h)) l is
   where
     go :
-        (ms : List Tracked) (i : ℕ) → Each (IsTracked shared) ms
+        (ms : List MemberShown) (i : ℕ) → Each (IsMemberShown shared) ms
         → Each (IsTerm (variables shared.ring) shared.ring.weights shared.ring.modulus.value) (get_or (vectors_in ms) i [])
     go [] i h = tt
     go (m ∷ ms) zero h = h.0.vector.vector.each

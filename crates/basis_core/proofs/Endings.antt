@@ -10,7 +10,7 @@ use Rattle.basis_core.specs.declared.ending.Ending.TheVariants.{Ended, MoreWork}
 use Rattle.basis_core.specs.declared.event.Event.{Event}
 use Rattle.basis_core.specs.declared.event.Event.TheVariants.{End}
 use Rattle.basis_core.specs.declared.state.BasisState.TheInside.{Inside}
-use Rattle.basis_core.specs.Inside.{IsCoherent, IsRead, all_left, shown}
+use Rattle.basis_core.specs.Inside.{IsCoherentState, IsEventRead, all_left, shown}
 use Rattle.basis_core.specs.Jobs.{pairs_of}
 use Rattle.basis_core.specs.Shown.{Shown}
 use Rattle.basis_core.specs.Stops.{stop_of}
@@ -30,7 +30,7 @@ after_end s ended es = record s { ended = ended; history = es }
 -- worker w ends with this answer, and then these have ended
 pub record IsEnd (w : ℕ) (s : Shown) (e : Ending) (ended : List Bool) : Type 0 where
   pub may : MayEnd w s
-  pub answers : ending_of e ≡ steps.ending_of (state_of (variables_of s) s)
+  pub answers : ending_of e ≡ steps.end_answer_of (state_of (variables_of s) s)
   pub marks : e ≡ Ended → ended ≡ slice_set s.ended w true
   pub leaves : e ≡ MoreWork → ended ≡ s.ended
 
@@ -44,12 +44,12 @@ works_within (e ∷ es) (suc w) h = let rest : w < length es = works_within es w
 pub end_answer :
     (n : ℕ) (s : Shown) (e : Ending) (queue : List CodePair) → pairs_of queue ≡ s.queue
     → ending_of e ≡ cond (steps.is_stopped (stop_of n s.stop)) plain.Ended (cond (steps.is_empty (pairs_of queue)) plain.Ended plain.MoreWork)
-    → ending_of e ≡ steps.ending_of (state_of n s)
+    → ending_of e ≡ steps.end_answer_of (state_of n s)
 end_answer n s e queue q h = h ∙ ap (λ xs. cond (steps.is_stopped (stop_of n s.stop)) plain.Ended (cond (steps.is_empty xs) plain.Ended plain.MoreWork)) q
 
 pub end_step :
     (s : Shown) (w : ℕ) (e : Ending) (ended : List Bool) (es : List Event)
-    → IsEnd w s e ended → Each (IsRead (length s.members) s.stop) s.history
+    → IsEnd w s e ended → Each (IsEventRead (length s.members) s.stop) s.history
     → es ≡ s.history ++ (End w e ∷ [])
     → steps.Ends (run_of (variables_of s) s) (state_of (variables_of s) s) w (ending_of e) (state_of (variables_of s) (after_end s ended es))
 end_step s w e ended es end read more = record {
@@ -72,10 +72,10 @@ end_step s w e ended es end read more = record {
 -- what is kept of a state is kept
 pub end_kept :
     (i : Inside) (w : ℕ) (e : Ending) (ended : Vec Bool Global) (history : Vec Event Global)
-    → IsCoherent i → IsEnd w (shown i) e ended.items
+    → IsCoherentState i → IsEnd w (shown i) e ended.items
     → history.items ≡ i.history.items ++ (End w e ∷ [])
     → vec_capacity history ≡ vec_capacity i.history
-    → IsCoherent (record i { ended = ended; history = history })
+    → IsCoherentState (record i { ended = ended; history = history })
 end_kept i w e ended history kept end items capacity =
     let s : Shown = shown i in
     let n : ℕ = variables_of s in
@@ -90,7 +90,7 @@ end_kept i w e ended history kept end items capacity =
       replays = replays_after s t (plain.End w (ending_of e)) (record { shared = refl; budget = refl; workers = refl; update = refl }) kept.replays step;
       leads = kept.leads;
       stop = kept.stop;
-      read = subst (Each (IsRead many s.stop)) (sym items)
+      read = subst (Each (IsEventRead many s.stop)) (sym items)
           (read_more many many s.stop s.stop s.history (End w e) (omega arith) (stays s.stop s.stop refl) kept.read tt);
       room = omega (arith, long, fewer, kept.room, capacity);
     }

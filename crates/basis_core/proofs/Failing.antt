@@ -14,11 +14,11 @@ use Rattle.module_vectors.specs.declared.trail.TrailStart.{TrailStart}
 use Rattle.module_vectors.specs.declared.trail.WorkStop.{WorkStop}
 use Rattle.module_vectors.specs.declared.trail.WorkStop.TheVariants.{Degree}
 use Rattle.vector_division.specs.Divisions.{DivisionStops, IsDivisionTrail}
-use Rattle.basis_core.specs.Members.{Tracked}
+use Rattle.basis_core.specs.Members.{MemberShown}
 use Rattle.basis_core.specs.Rows.{IsRowTrail, vectors_in}
 
 -- a trail of the division of the row's vector
-module _ (ring : Ring) (ms : List Tracked) (v : List (CodeKey × ℕ)) (t : KeptTrail) where
+module _ (ring : Ring) (ms : List MemberShown) (v : List (CodeKey × ℕ)) (t : KeptTrail) where
   chain_trail :
       IsDivisionTrail ring v (vectors_in ms) t → (first : KeptProduct) (later : List KeptProduct)
       → IsChain (variables ring) t first later → IsRowTrail (variables ring) ring.weights ms v t.products.items t.last

@@ -3,14 +3,14 @@ use Rattle.std.proofs.Common.{Global, List, [], ap, arith, get_or, length, map, 
 use Rattle.std.proofs.lemmas.List.{map-append, take_more}
 use Rattle.std.specs.Arc.{arc_value}
 use Rattle.std.specs.declared.sync.Arc.{Arc}
-use Rattle.member_products.specs.declared.member.Member.{Member}
+use Rattle.member_products.specs.declared.member.RunMember.{RunMember}
 
 -- a handle of a member
 abbrev pub Handle : Type 0
-Handle = Arc Member Global
+Handle = Arc RunMember Global
 
 -- the members that they share
-abbrev pub shared_by : List Handle → List Member
+abbrev pub shared_by : List Handle → List RunMember
 shared_by hs = map (λ h. arc_value h) hs
 
 -- so many handles are copied

@@ -9,8 +9,8 @@ use Rattle.basis_steps.specs.Outcomes.{AreJobProducts}
 use Rattle.basis_steps.specs.Pairs.{Pair}
 use Rattle.queue_updates.specs.declared.Update.{Update}
 use Rattle.basis_steps.specs.States.{Run, vectors}
-use Rattle.basis_steps.specs.Trails.{IsTrailOf}
-use Rattle.basis_core.specs.Members.{Shared, Tracked, members_of, setting_of}
+use Rattle.basis_steps.specs.Trails.{IsJobTrail}
+use Rattle.basis_core.specs.Members.{Shared, MemberShown, members_of, setting_of}
 use Rattle.basis_core.specs.Stops.{IsTrailBy, trail_of}
 use Rattle.basis_core.proofs.AfterPut.{base_vectors, members_length}
 
@@ -27,9 +27,9 @@ run_with n shared budget workers update = record {
 
 -- a trail by the first members is one of a job that has these
 pub trail_of_job :
-    (shared : Shared) (budget workers : ℕ) (update : Update) (ms all : List Tracked) (job : List Pair) (t : KeptTrail)
+    (shared : Shared) (budget workers : ℕ) (update : Update) (ms all : List MemberShown) (job : List Pair) (t : KeptTrail)
     → ms ≡ take (length ms) all → length ms ≤ length all → IsTrailBy shared ms job t
-    → IsTrailOf (run_with (variables shared.ring) shared budget workers update) (vectors (members_of (variables shared.ring) all)) job
+    → IsJobTrail (run_with (variables shared.ring) shared budget workers update) (vectors (members_of (variables shared.ring) all)) job
     (trail_of (variables shared.ring) t)
 trail_of_job shared budget workers update ms all job t front had h =
     let n : ℕ = variables shared.ring in

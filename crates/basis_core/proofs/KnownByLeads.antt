@@ -24,11 +24,11 @@ use Rattle.basis_steps.specs.Pairs.{Drop, Pair, count}
 use Rattle.basis_steps.specs.Queues.{IsSorted, QueuesNewPairs, compare_pairs, degree_of, is_new_pair, number_of_degree, number_of_least_degree, share}
 use Rattle.basis_steps.specs.States.{Run, vectors}
 use Rattle.basis_steps.specs.Updates.{QueuesPairs}
-use Rattle.pair_queue.specs.Leads.{LeadsShown, lead_sums, setting_of as setting_by, sums_shown}
-use Rattle.pair_queue.specs.Pairs.{HasLcm as HasLcmOfLeads, IsRealPair}
-use Rattle.basis_core.specs.Jobs.{HasLcm, pair_of, pairs_of}
-use Rattle.basis_core.specs.Leads.{first_key, leads_of}
-use Rattle.basis_core.specs.Members.{Shared, Tracked, members_of, setting_of}
+use Rattle.pair_updates.specs.Leads.{LeadsShown, lead_sums, setting_of_leads as setting_by, sums_shown}
+use Rattle.pair_updates.specs.Pairs.{HasLcm as HasLcmOfLeads, IsRealPair}
+use Rattle.basis_core.specs.Jobs.{HasLcmOfMembers, pair_of, pairs_of}
+use Rattle.basis_core.specs.Leads.{first_key, leads_shown_of}
+use Rattle.basis_core.specs.Members.{Shared, MemberShown, members_of, setting_of}
 
 -- ---- lists with the same leads
 module _ {n : ℕ} (G H : List (FormalSum n)) (same : (i : ℕ) → leads G i ≡ leads H i) where
@@ -131,21 +131,21 @@ head_same : (n : ℕ) (v : List (CodeKey × ℕ)) → key_of n (first_key v) ≡
 head_same n [] = ap (λ m. (0, m)) (none_exponents n)
 head_same n (t ∷ v) = refl
 
-keys_same : (n : ℕ) (ms : List Tracked) (i : ℕ) → leads (lead_sums n (map (λ m. first_key m.vector) ms)) i ≡ leads (vectors (members_of n ms)) i
+keys_same : (n : ℕ) (ms : List MemberShown) (i : ℕ) → leads (lead_sums n (map (λ m. first_key m.vector) ms)) i ≡ leads (vectors (members_of n ms)) i
 keys_same n [] i = refl
 keys_same n (m ∷ ms) zero = head_same n m.vector
 keys_same n (m ∷ ms) (suc i) = keys_same n ms i
 
-keys_length : (n : ℕ) (ms : List Tracked) → length (lead_sums n (map (λ m. first_key m.vector) ms)) ≡ length (vectors (members_of n ms))
+keys_length : (n : ℕ) (ms : List MemberShown) → length (lead_sums n (map (λ m. first_key m.vector) ms)) ≡ length (vectors (members_of n ms))
 keys_length n [] = refl
 keys_length n (m ∷ ms) = ap suc (keys_length n ms)
 
-module _ (shared : Shared) (ms : List Tracked) where
+module _ (shared : Shared) (ms : List MemberShown) where
   abbrev n : ℕ
   n = variables shared.ring
 
   abbrev l : LeadsShown
-  l = leads_of shared ms
+  l = leads_shown_of shared ms
 
   abbrev G : List (FormalSum n)
   G = vectors (members_of n ms)
@@ -171,10 +171,10 @@ module _ (shared : Shared) (ms : List Tracked) where
       updates_same (setting_by n l) S refl (sums_shown l) G (keys_length n ms) (keys_same n ms) k old new drops later
       (sorted_same (setting_by n l) S refl refl (sums_shown l) G (keys_same n ms) new) h
 
-  lcm_known : (x : CodePair) → HasLcmOfLeads l x → HasLcm n shared.ring.weights ms x
+  lcm_known : (x : CodePair) → HasLcmOfLeads l x → HasLcmOfMembers n shared.ring.weights ms x
   lcm_known x h = record { weighed = h.weighed; lcm = h.lcm ∙ lcm_same (sums_shown l) G (keys_same n ms) (pair_of x) }
 
-  pub lcms_known : (xs : List CodePair) → Each (IsRealPair l) xs → Each (HasLcm n shared.ring.weights ms) xs
+  pub lcms_known : (xs : List CodePair) → Each (IsRealPair l) xs → Each (HasLcmOfMembers n shared.ring.weights ms) xs
   lcms_known [] h = tt
   lcms_known (x ∷ xs) h = (lcm_known x h.0.lcm, lcms_known xs h.1)
 
@@ -196,14 +196,14 @@ drop_none (suc k) [] h = refl
 drop_none (suc k) (x ∷ xs) h = drop_none k xs (omega arith)
 
 -- the keys of the members from number `first` on, of the first i
-abbrev pub keys_to : List Tracked → ℕ → ℕ → List CodeKey
+abbrev pub keys_to : List MemberShown → ℕ → ℕ → List CodeKey
 keys_to ms first i = drop first (map (λ m. first_key m.vector) (take i ms))
 
-pub no_keys : (ms : List Tracked) (first : ℕ) → keys_to ms first first ≡ []
+pub no_keys : (ms : List MemberShown) (first : ℕ) → keys_to ms first first ≡ []
 no_keys ms first = drop_none first _ (omega (arith, length-map (take first ms) (λ m. first_key m.vector), length-take first ms))
 
 pub next_key :
-    (ms : List Tracked) (first i : ℕ) (m : Tracked)
+    (ms : List MemberShown) (first i : ℕ) (m : MemberShown)
     → first ≤ i → i < length ms → m ≡ get_or ms i m → keys_to ms first (i + 1) ≡ keys_to ms first i ++ (first_key m.vector ∷ [])
 next_key ms first i m le lt is =
     ap (λ l. drop first (map (λ m. first_key m.vector) l)) (take_item ms i m lt is)
@@ -219,17 +219,17 @@ key_weighed shared (t ∷ v) h some = h.vector.each.0.weighed
 
 -- the leads of the first members, and those of the others behind them
 pub leads_joined :
-    (shared : Shared) (ms : List Tracked) (first : ℕ) (new old : LeadsShown) (keys : List CodeKey)
-    → new ≡ record old { keys = old.keys ++ keys } → old ≡ leads_of shared (take first ms) → keys ≡ drop first (leads_of shared ms).keys
-    → new ≡ leads_of shared ms
+    (shared : Shared) (ms : List MemberShown) (first : ℕ) (new old : LeadsShown) (keys : List CodeKey)
+    → new ≡ record old { keys = old.keys ++ keys } → old ≡ leads_shown_of shared (take first ms) → keys ≡ drop first (leads_shown_of shared ms).keys
+    → new ≡ leads_shown_of shared ms
 leads_joined shared ms first new old keys e o k =
     let all : List CodeKey = map (λ m. first_key m.vector) ms in
     e
     ∙ (λ i. record (o i) { keys = (o i).keys ++ k i })
-    ∙ ap (λ (l : List CodeKey). record (leads_of shared ms) { keys = l })
+    ∙ ap (λ (l : List CodeKey). record (leads_shown_of shared ms) { keys = l })
     (ap (λ l. l ++ drop first all) (sym (take-map (λ m. first_key m.vector) first ms)) ∙ take-append-drop first all)
 
-pub leads_count : (shared : Shared) (ms : List Tracked) (first : ℕ) (old : LeadsShown) → first ≤ length ms → old ≡ leads_of shared (take first ms)
+pub leads_count : (shared : Shared) (ms : List MemberShown) (first : ℕ) (old : LeadsShown) → first ≤ length ms → old ≡ leads_shown_of shared (take first ms)
     → length old.keys ≡ first
 leads_count shared ms first old le o =
     ap (λ (l : LeadsShown). length l.keys) o ∙ length-map (take first ms) (λ m. first_key m.vector) ∙ length-take-le first ms le

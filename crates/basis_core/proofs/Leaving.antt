@@ -33,13 +33,13 @@ use Rattle.vector_division.specs.declared.reduction.ScaledProduct.{ScaledProduct
 use Rattle.member_products.proofs.Ranks as ranks
 use Rattle.member_products.proofs.Ranks.{of_rank, rank_of_positions, ranked_by}
 use Rattle.member_products.specs.Generators.{IsRanked, IsVectorOf}
-use Rattle.member_products.specs.declared.member.Row.{Row as CodeRow}
+use Rattle.member_products.specs.declared.member.Reduct.{Reduct as CodeReduct}
 use Rattle.basis_steps.proofs.Sparing.{monic_list}
 use Rattle.basis_steps.specs.Divisions.{AreQuotients, AreReached, IsKeyAtMost, IsMonicMember, LeavesMember, LeavesNothing, difference}
 use Rattle.basis_steps.specs.States.{vectors}
 use Rattle.basis_core.proofs.Reaching.{quotients_reached}
 use Rattle.basis_core.proofs.Tracking.{ring_lawful, vectors_of_members, vectors_rank}
-use Rattle.basis_core.specs.Members.{IsRunMember, IsTracked, Shared, Tracked, member_of, members_of, setting_of}
+use Rattle.basis_core.specs.Members.{IsRunMember, IsMemberShown, Shared, MemberShown, member_of, members_of, setting_of}
 use Rattle.basis_core.specs.RowDivision.{AreRowProducts, AreRowQuotients, IsLeftMember, IsRowRest, lead_residue, with_multiple}
 use Rattle.basis_core.specs.Rows.{vectors_in}
 
@@ -138,7 +138,7 @@ module _ {n : ℕ} (S : Setting n) (lawful : IsLawful S) where
   rest_free V t w h covered = not_covered S V t.0 h covered
 
 -- ---- what is left of a vector
-module _ (shared : Shared) (ms : List Tracked) (u : List (CodeKey × ℕ)) (qs : List ScaledProduct) (members : Each (IsTracked shared) ms)
+module _ (shared : Shared) (ms : List MemberShown) (u : List (CodeKey × ℕ)) (qs : List ScaledProduct) (members : Each (IsMemberShown shared) ms)
     (over : IsRanked shared.ring shared.rank u) (hq : AreRowQuotients shared ms u qs) where
   abbrev n : ℕ
   n = variables shared.ring
@@ -209,7 +209,7 @@ quotient_positions n ws p list (q ∷ qs) h = (h.0.index, quotient_positions n w
 
 -- they are of the first members, as the row's are
 pub products_ranked :
-    (shared : Shared) (ms : List Tracked) (u products left : List (CodeKey × ℕ)) (qs : List ScaledProduct)
+    (shared : Shared) (ms : List MemberShown) (u products left : List (CodeKey × ℕ)) (qs : List ScaledProduct)
     → HasPositions (length ms) products → AreRowQuotients shared ms u qs → AreRowProducts shared products qs left
     → IsOfRank shared.ring.modulus.value (length ms) (sum_of (variables shared.ring) left)
 products_ranked shared ms u products left qs h hq hp =
@@ -252,8 +252,8 @@ row_products shared r products copy less scaled left value qs e ec ev hl hs iv s
         (IsSame_append (IsSame_refl r.modulus.value (sum_of (variables r) products)) taken)
 
 -- ---- the member that is left
-module _ (shared : Shared) (ms : List Tracked) (row : CodeRow) (multiple : List (CodeKey × ℕ)) (qs : List ScaledProduct)
-    (members : Each (IsTracked shared) ms) (over : IsRunMember shared (length ms) (with_multiple row multiple))
+module _ (shared : Shared) (ms : List MemberShown) (row : CodeReduct) (multiple : List (CodeKey × ℕ)) (qs : List ScaledProduct)
+    (members : Each (IsMemberShown shared) ms) (over : IsRunMember shared (length ms) (with_multiple row multiple))
     (hq : AreRowQuotients shared ms row.vector qs) where
   abbrev N : ℕ
   N = variables shared.ring
@@ -341,9 +341,9 @@ module _ (shared : Shared) (ms : List Tracked) (row : CodeRow) (multiple : List 
 
 -- the member that the calls of `monic_member` make
 pub left_member :
-    (shared : Shared) (r : Ring) (ms : List Tracked) (row : CodeRow) (multiple copy : List (CodeKey × ℕ)) (qs : List ScaledProduct)
+    (shared : Shared) (r : Ring) (ms : List MemberShown) (row : CodeReduct) (multiple copy : List (CodeKey × ℕ)) (qs : List ScaledProduct)
     (rest left v b c : List (CodeKey × ℕ)) (d : ℕ)
-    → r ≡ shared.ring → copy ≡ multiple → Each (IsTracked shared) ms → IsRunMember shared (length ms) (with_multiple row multiple)
+    → r ≡ shared.ring → copy ≡ multiple → Each (IsMemberShown shared) ms → IsRunMember shared (length ms) (with_multiple row multiple)
     → Each (IsMonicMember (setting_of (variables shared.ring) shared)) (vectors (members_of (variables shared.ring) ms))
     → 0 < length rest → AreRowQuotients shared ms row.vector qs → IsRowRest shared ms row.vector qs rest
     → AreRowProducts shared row.products qs left → IsInverse r.modulus.value (lead_residue rest) d

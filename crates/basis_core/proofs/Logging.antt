@@ -12,14 +12,14 @@ use Rattle.basis_core.specs.declared.ending.Ending.{Ending}
 use Rattle.basis_core.specs.declared.event.Event.{Event}
 use Rattle.basis_core.specs.declared.event.Event.TheVariants as events
 use Rattle.basis_core.specs.declared.stop.StopReason.{StopReason}
-use Rattle.basis_core.specs.Inside.{IsRead}
-use Rattle.basis_core.specs.Members.{Tracked, member_of, members_of}
+use Rattle.basis_core.specs.Inside.{IsEventRead}
+use Rattle.basis_core.specs.Members.{MemberShown, member_of, members_of}
 use Rattle.basis_core.specs.Shown.{Shown}
 use Rattle.basis_core.specs.Views.{IsSameRun, ending_of, history_of, run_of, state_of, variables_of}
 use Rattle.basis_core.proofs.Growing.{part_front}
 use Rattle.basis_core.specs.Logs.{Adds, End, Noted, Put, Stop, Take, base, count_made, log, made_in, members_after, notes_from, number_at_beginning}
 
-pub length_notes : (k : ℕ) (ms : List Tracked) (es : List Event) → length (notes_from k ms es) ≡ length es
+pub length_notes : (k : ℕ) (ms : List MemberShown) (es : List Event) → length (notes_from k ms es) ≡ length es
 length_notes k ms [] = refl
 length_notes k ms (events.Take w skipped job ∷ es) = ap suc (length_notes k ms es)
 length_notes k ms (events.Put w first count ∷ es) = ap suc (length_notes (k + count) ms es)
@@ -72,7 +72,7 @@ module _ {A : Type 0} where
   drop_length (x ∷ xs) ys = drop_length xs ys
 
 -- the members that these notes tell
-made_part : (k : ℕ) (ms : List Tracked) (es : List Event) → made_in (notes_from k ms es) ≡ take (count_made es) (drop k ms)
+made_part : (k : ℕ) (ms : List MemberShown) (es : List Event) → made_in (notes_from k ms es) ≡ take (count_made es) (drop k ms)
 made_part k ms [] = refl
 made_part k ms (events.Take w skipped job ∷ es) = made_part k ms es
 made_part k ms (events.Put w first count ∷ es) =
@@ -96,7 +96,7 @@ count_append (events.Put w first count ∷ es) e = let h = count_append es e in 
 count_append (events.End w ending ∷ es) e = count_append es e
 count_append (events.Stop w reason ∷ es) e = count_append es e
 
-notes_append : (k : ℕ) (ms : List Tracked) (es : List Event) (e : Event)
+notes_append : (k : ℕ) (ms : List MemberShown) (es : List Event) (e : Event)
     → notes_from k ms (es ++ (e ∷ [])) ≡ notes_from k ms es ++ notes_from (k + count_made es) ms (e ∷ [])
 notes_append k ms [] e = let at : k ≡ k + 0 = omega arith in ap (λ j. notes_from j ms (e ∷ [])) at
 notes_append k ms (events.Take w skipped job ∷ es) e = ap (λ l. Take w skipped.items job.items ∷ l) (notes_append k ms es e)
@@ -109,7 +109,7 @@ notes_append k ms (events.End w ending ∷ es) e = ap (λ l. End w (ending_of en
 notes_append k ms (events.Stop w reason ∷ es) e = ap (λ l. Stop w ∷ l) (notes_append k ms es e)
 
 -- the notes stay as members are added
-notes_front : (k : ℕ) (ms more : List Tracked) (es : List Event) → k + count_made es ≤ length ms → notes_from k (ms ++ more) es ≡ notes_from k ms es
+notes_front : (k : ℕ) (ms more : List MemberShown) (es : List Event) → k + count_made es ≤ length ms → notes_from k (ms ++ more) es ≡ notes_from k ms es
 notes_front k ms more [] h = refl
 notes_front k ms more (events.Take w skipped job ∷ es) h = ap (λ l. Take w skipped.items job.items ∷ l) (notes_front k ms more es h)
 notes_front k ms more (events.Put w first count ∷ es) h = λ i. Put w (part_front ms more k count (omega arith) i) ∷ notes_front (k + count) ms more
@@ -143,7 +143,7 @@ module _ {n : ℕ} (r : Run n) where
   runs_members s t (plain.Stop w reason ∷ es) (mid, q, rest) = let h = runs_members mid t es rest in let e =
       ap (λ u. length u.members) q.after in omega (arith, h, e)
 
-plain_counts : (n : ℕ) (ms : List Tracked) (kept : Option StopReason) (es : List Event) → Each (IsRead (length ms) kept) es
+plain_counts : (n : ℕ) (ms : List MemberShown) (kept : Option StopReason) (es : List Event) → Each (IsEventRead (length ms) kept) es
     → count_plain (history_of n ms kept es) ≡ count_made es
 plain_counts n ms kept [] h = refl
 plain_counts n ms kept (events.Take w skipped job ∷ es) h = plain_counts n ms kept es h.1
@@ -156,20 +156,20 @@ plain_counts n ms kept (events.End w ending ∷ es) h = plain_counts n ms kept e
 plain_counts n ms kept (events.Stop w reason ∷ es) h = plain_counts n ms kept es h.1
 
 -- a state that replays its history has the members that this made
-pub state_counted : (n : ℕ) (s : Shown) → Replays (run_of n s) (state_of n s) → Each (IsRead (length s.members) s.stop) s.history → IsCounted s
+pub state_counted : (n : ℕ) (s : Shown) → Replays (run_of n s) (state_of n s) → Each (IsEventRead (length s.members) s.stop) s.history → IsCounted s
 state_counted n s (first, begins, runs) read =
     let all : length (members_of n s.members) ≡ length first.members + count_plain (history_of n s.members s.stop s.history) =
     runs_members (run_of n s) first (state_of n s) (state_of n s).history runs in
     omega (arith, all, plain_counts n s.members s.stop s.history read, length-map s.members (λ m. member_of n m))
 
 -- the note of one more event, with the members that it made
-abbrev pub note_of : Event → List Tracked → Noted
+abbrev pub note_of : Event → List MemberShown → Noted
 note_of (events.Take w skipped job) made = Take w skipped.items job.items
 note_of (events.Put w first count) made = Put w made
 note_of (events.End w ending) made = End w (ending_of ending)
 note_of (events.Stop w reason) made = Stop w
 
-one_note : (ms made : List Tracked) (k : ℕ) (e : Event) → k ≡ length ms → count_made (e ∷ []) ≡ length made
+one_note : (ms made : List MemberShown) (k : ℕ) (e : Event) → k ≡ length ms → count_made (e ∷ []) ≡ length made
     → notes_from k (ms ++ made) (e ∷ []) ≡ note_of e made ∷ []
 one_note ms made k (events.Take w skipped job) at many = refl
 one_note ms made k (events.Put w first count) at many =
@@ -178,7 +178,7 @@ one_note ms made k (events.Put w first count) at many =
 one_note ms made k (events.End w ending) at many = refl
 one_note ms made k (events.Stop w reason) at many = refl
 
-module _ (s t : Shown) (made : List Tracked) (e : Event) (counted : IsCounted s) (same : IsSameRun s t) (members : t.members ≡ s.members ++ made)
+module _ (s t : Shown) (made : List MemberShown) (e : Event) (counted : IsCounted s) (same : IsSameRun s t) (members : t.members ≡ s.members ++ made)
     (history : t.history ≡ s.history ++ (e ∷ [])) (many : count_made (e ∷ []) ≡ length made) where
   number_same : number_at_beginning t ≡ number_at_beginning s
   number_same = omega (arith, counted, ap length members, length-append s.members made, ap count_made history, count_append s.history e, many)
@@ -192,7 +192,7 @@ module _ (s t : Shown) (made : List Tracked) (e : Event) (counted : IsCounted s)
       ∙ (λ i. notes_front k s.members made s.history (omega (arith, counted)) i ++ one_note s.members made (k + count_made s.history) e
       (omega (arith, counted)) many i)
 
-  front : (k : ℕ) (xs ys : List Tracked) → k ≤ length xs → take k (xs ++ ys) ≡ take k xs
+  front : (k : ℕ) (xs ys : List MemberShown) → k ≤ length xs → take k (xs ++ ys) ≡ take k xs
   front zero xs ys h = refl
   front (suc k) [] ys h = absurd (omega arith)
   front (suc k) (x ∷ xs) ys h = ap (λ l. x ∷ l) (front k xs ys (omega arith))
@@ -212,16 +212,16 @@ module _ (s t : Shown) (made : List Tracked) (e : Event) (counted : IsCounted s)
 
 -- the event that a call adds to the history is added to the log
 module _ (s t : Shown) (replays : Replays (run_of (variables_of s) s) (state_of (variables_of s) s))
-    (read : Each (IsRead (length s.members) s.stop) s.history) (same : IsSameRun s t) where
+    (read : Each (IsEventRead (length s.members) s.stop) s.history) (same : IsSameRun s t) where
   counted : IsCounted s
   counted = state_counted (variables_of s) s replays read
 
-  one_more : (made : List Tracked) (e : Event) → t.members ≡ s.members ++ made → t.history ≡ s.history ++ (e ∷ [])
+  one_more : (made : List MemberShown) (e : Event) → t.members ≡ s.members ++ made → t.history ≡ s.history ++ (e ∷ [])
       → count_made (e ∷ []) ≡ length made → Adds (note_of e made) s t
   one_more made e members history many = (log_more s t made e counted same members history many, base_same s t made e counted same members history many)
 
   pub puts_more :
-      (w : ℕ) (made : List Tracked) → t.members ≡ s.members ++ made
+      (w : ℕ) (made : List MemberShown) → t.members ≡ s.members ++ made
       → t.history ≡ s.history ++ (events.Put w (length s.members) (length t.members - length s.members) ∷ [])
       → Adds (Put w made) s t
   puts_more w made members history =

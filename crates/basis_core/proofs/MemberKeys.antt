@@ -17,20 +17,20 @@ use Rattle.basis_steps.specs.Divisions.{Occurs}
 use Rattle.basis_steps.specs.Outcomes as plain
 use Rattle.basis_steps.specs.Outcomes.{product_vector}
 use Rattle.basis_steps.specs.States.{vectors}
-use Rattle.basis_core.specs.Members.{Shared, Tracked, members_of}
+use Rattle.basis_core.specs.Members.{Shared, MemberShown, members_of}
 use Rattle.basis_core.specs.Outcomes.{product_of}
-use Rattle.basis_core.specs.Members.{IsTracked}
+use Rattle.basis_core.specs.Members.{IsMemberShown}
 use Rattle.basis_core.specs.Rows.{vectors_in}
 
 -- ---- the members' vectors
-pub vector_at : (n : ℕ) (ms : List Tracked) (k : ℕ) → get_or (vectors (members_of n ms)) k [] ≡ sum_of n (get_or (vectors_in ms) k [])
+pub vector_at : (n : ℕ) (ms : List MemberShown) (k : ℕ) → get_or (vectors (members_of n ms)) k [] ≡ sum_of n (get_or (vectors_in ms) k [])
 vector_at n [] k = refl
 vector_at n (m ∷ ms) zero = refl
 vector_at n (m ∷ ms) (suc k) = vector_at n ms k
 
 pub member_vector :
-    (shared : Shared) (ms : List Tracked) (k : ℕ)
-    → Each (IsTracked shared) ms → IsVectorOver shared.ring (ring_comparison shared.ring) (get_or (vectors_in ms) k [])
+    (shared : Shared) (ms : List MemberShown) (k : ℕ)
+    → Each (IsMemberShown shared) ms → IsVectorOver shared.ring (ring_comparison shared.ring) (get_or (vectors_in ms) k [])
 member_vector shared [] k h = record { each = tt; descends = tt }
 member_vector shared (m ∷ ms) zero h = h.0.vector.vector
 member_vector shared (m ∷ ms) (suc k) h = member_vector shared ms k h.1

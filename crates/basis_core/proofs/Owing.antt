@@ -11,9 +11,9 @@ use Rattle.basis_core.specs.declared.taken.Taken.{Taken}
 use Rattle.basis_core.specs.declared.taken.Taken.TheVariants as taken
 use Rattle.basis_core.specs.Answers.{AnswersTake, IsTaken, PutsOutcome, pairs_given}
 use Rattle.basis_core.specs.Jobs.{pairs_of}
-use Rattle.basis_core.specs.Members.{Tracked}
+use Rattle.basis_core.specs.Members.{MemberShown}
 use Rattle.basis_core.specs.Outcomes.{OutcomeShown}
-use Rattle.basis_core.specs.Pending.{HaveGrown, MayPut}
+use Rattle.basis_core.specs.Pending.{HaveGrown, MayPutOutcome}
 use Rattle.basis_core.specs.Shown.{Shown}
 use Rattle.basis_core.specs.Views.{IsSameRun, run_of, state_of, variables_of}
 
@@ -73,7 +73,7 @@ pub still_owed :
     (s t : Shown) (o : OutcomeShown) → IsSameRun s t → HaveGrown s.members t.members
     → job_of o.job.worker t.out ≡ job_of o.job.worker s.out
     → get_or t.ended o.job.worker true ≡ get_or s.ended o.job.worker true
-    → MayPut s o → MayPut t o
+    → MayPutOutcome s o → MayPutOutcome t o
 still_owed s t o same (made, grown) out works may = record {
   known = subst (λ k. o.job.worker < k) (sym same.workers) may.known;
   works = works ∙ may.works;
@@ -86,13 +86,13 @@ still_owed s t o same (made, grown) out works may = record {
 }
 
 -- the same members
-no_more : (old new : List Tracked) → new ≡ old → HaveGrown old new
+no_more : (old new : List MemberShown) → new ≡ old → HaveGrown old new
 no_more old new e = ([], e ∙ sym (append-nil old))
 
 pub owed_over_take :
     (s t : Shown) (w most : ℕ) (answer : Taken) (o : OutcomeShown)
     → IsTaken (variables_of s) s w most answer t → IsSameRun s t → t.members ≡ s.members
-    → (w ≡ o.job.worker → ⊥) → MayPut s o → MayPut t o
+    → (w ≡ o.job.worker → ⊥) → MayPutOutcome s o → MayPutOutcome t o
 owed_over_take s t w most answer o (skipped, added, inl found) same grown other may =
     still_owed s t o same (no_more s.members t.members grown) (ap (λ z. job_of o.job.worker z.out) found.after)
     (ap (λ z. get_or z.ended o.job.worker true) found.after) may
@@ -107,9 +107,9 @@ owed_over_take s t w most answer o (skipped, added, inr (left, takes)) same grow
         ∙ append-nil (job_of o.job.worker s.out)
 
 pub owed_over_put :
-    (s t : Shown) (given o : OutcomeShown) (made : List Tracked)
+    (s t : Shown) (given o : OutcomeShown) (made : List MemberShown)
     → PutsOutcome (variables_of s) s given made t → IsSameRun s t
-    → (given.job.worker ≡ o.job.worker → ⊥) → MayPut s o → MayPut t o
+    → (given.job.worker ≡ o.job.worker → ⊥) → MayPutOutcome s o → MayPutOutcome t o
 owed_over_put s t given o made put same other may =
     still_owed s t o same (made, put.members) (ap (λ z. job_of o.job.worker z.out) (put.puts).after ∙ job_others given.job.worker o.job.worker other s.out)
     (ap (λ z. get_or z.ended o.job.worker true) (put.puts).after) may
@@ -117,7 +117,7 @@ owed_over_put s t given o made put same other may =
 pub owed_over_end :
     (s t : Shown) (w : ℕ) (ending : plain.Ending) (o : OutcomeShown)
     → Ends (run_of (variables_of s) s) (state_of (variables_of s) s) w ending (state_of (variables_of s) t) → IsSameRun s t → t.members ≡ s.members
-    → (w ≡ o.job.worker → ⊥) → MayPut s o → MayPut t o
+    → (w ≡ o.job.worker → ⊥) → MayPutOutcome s o → MayPutOutcome t o
 owed_over_end s t w ending o ends same grown other may =
     still_owed s t o same (no_more s.members t.members grown) (ap (λ z. job_of o.job.worker z.out) ends.after)
     (ap (λ z. get_or z.ended o.job.worker true) ends.after ∙ works ending) may
@@ -129,7 +129,7 @@ owed_over_end s t w ending o ends same grown other may =
 pub owed_over_stop :
     (s t : Shown) (w : ℕ) (reason : plain.StopReason (variables_of s)) (o : OutcomeShown)
     → Stops (run_of (variables_of s) s) (state_of (variables_of s) s) w reason (state_of (variables_of s) t) → IsSameRun s t → t.members ≡ s.members
-    → MayPut s o → MayPut t o
+    → MayPutOutcome s o → MayPutOutcome t o
 owed_over_stop s t w reason o stops same grown may =
     still_owed s t o same (no_more s.members t.members grown) (ap (λ z. job_of o.job.worker z.out) stops.after)
     (ap (λ z. get_or z.ended o.job.worker true) stops.after) may
@@ -142,14 +142,14 @@ all_of (x ∷ xs) = ap (λ l. x ∷ l) (all_of xs)
 pub owed_by_take :
     (s t : Shown) (w most : ℕ) (answer : Taken) (o : OutcomeShown)
     → MayTake (run_of (variables_of s) s) (state_of (variables_of s) s) w most → IsTaken (variables_of s) s w most answer t → IsSameRun s t
-    → AnswersTake w t answer → answer ≡ taken.Job o.job → MayPut t o
+    → AnswersTake w t answer → answer ≡ taken.Job o.job → MayPutOutcome t o
 owed_by_take s t w most answer o may took same answers given = go took (subst (AnswersTake w t) given answers)
   where
     pairs : pairs_given answer ≡ pairs_of o.job.pairs
     pairs = ap pairs_given given
 
     owed : (o.job.worker ≡ w) → (o.job.shared ≡ t.shared) → (o.job.members ≡ t.members) → job_of w t.out ≡ pairs_of o.job.pairs
-        → get_or t.ended w true ≡ get_or s.ended w true → MayPut t o
+        → get_or t.ended w true ≡ get_or s.ended w true → MayPutOutcome t o
     owed mine shared members out ended = record {
       known = subst (λ v. v < t.workers) (sym mine) (subst (λ k. w < k) (sym same.workers) may.known);
       works = ap (λ v. get_or t.ended v true) mine ∙ ended ∙ may.works;
@@ -161,7 +161,7 @@ owed_by_take s t w most answer o may took same answers given = go took (subst (A
       };
     }
 
-    go : IsTaken (variables_of s) s w most answer t → AnswersTake w t (taken.Job o.job) → MayPut t o
+    go : IsTaken (variables_of s) s w most answer t → AnswersTake w t (taken.Job o.job) → MayPutOutcome t o
     go (skipped, added, inl found) (stop, mine, shared, members) =
         owed mine shared members (ap (λ z. job_of w z.out) found.after ∙ may.free ∙ sym found.gives_none ∙ pairs) (ap (λ z. get_or z.ended w true) found.after)
     go (skipped, added, inr (left, takes)) (stop, mine, shared, members) =

@@ -14,10 +14,10 @@ use Rattle.member_products.specs.Generators.{IsVectorOf}
 use Rattle.vector_division.proofs.Occurring.{Contains_here, Contains_later}
 use Rattle.vector_division.specs.Reductions.{AreMetFrom, cofactors_of, unscaled}
 use Rattle.vector_division.specs.declared.reduction.ScaledProduct.{ScaledProduct}
-use Rattle.basis_steps.specs.Divisions.{AreReached, IsReached, Occurs}
+use Rattle.basis_steps.specs.Divisions.{AreReached, IsMonomialReached, Occurs}
 use Rattle.basis_steps.specs.Outcomes.{product_vector}
 use Rattle.basis_steps.specs.States.{Product, vectors}
-use Rattle.basis_core.specs.Members.{IsTracked, Shared, Tracked, members_of, setting_of}
+use Rattle.basis_core.specs.Members.{IsMemberShown, Shared, MemberShown, members_of, setting_of}
 use Rattle.basis_core.specs.Outcomes.{product_of}
 use Rattle.basis_core.specs.Rows.{IsRowTrail, vectors_in}
 use Rattle.basis_core.specs.Stops.{earlier_products}
@@ -51,7 +51,7 @@ terms_apart : (n : ℕ) (s : KeptProduct) (ss : List KeptProduct) → terms_of n
 terms_apart n s [] = refl
 terms_apart n s (t ∷ ss) = ap (λ l. (product_of n s, 1) ∷ l) (terms_apart n t ss)
 
-module _ (shared : Shared) (ms : List Tracked) (members : Each (IsTracked shared) ms) (v : List (CodeKey × ℕ)) (iv : IsVectorOf shared.ring v) where
+module _ (shared : Shared) (ms : List MemberShown) (members : Each (IsMemberShown shared) ms) (v : List (CodeKey × ℕ)) (iv : IsVectorOf shared.ring v) where
   abbrev n : ℕ
   n = variables shared.ring
 
@@ -67,7 +67,7 @@ module _ (shared : Shared) (ms : List Tracked) (members : Each (IsTracked shared
   -- what is met as a key is reached as a monomial
   met_reached :
       (earlier : List ScaledProduct) (k : Key n)
-      → IsMet n (sum_of n v) vs (map unscaled earlier) k → IsReached p G (sum_of n v) (cofactors_of n earlier) k
+      → IsMet n (sum_of n v) vs (map unscaled earlier) k → IsMonomialReached p G (sum_of n v) (cofactors_of n earlier) k
   met_reached earlier k (inl there) = inl (key_occurs (setting_of n shared) (ring_lawful shared) v k iv there)
   met_reached earlier k (inr (s, there, h)) =
       let t = step_there n earlier s there in
@@ -83,7 +83,7 @@ module _ (shared : Shared) (ms : List Tracked) (members : Each (IsTracked shared
       → AreMetFrom n (sum_of n v) vs (map unscaled earlier) qs → AreReached p G (sum_of n v) (cofactors_of n earlier) (cofactors_of n qs)
   reached_from earlier [] h = tt
   reached_from earlier (q ∷ qs) h = (
-    subst (λ (g : FormalSum n). IsReached p G (sum_of n v) (cofactors_of n earlier) (shift (exponents_of n q.monomial.exponents) (head_key g)))
+    subst (λ (g : FormalSum n). IsMonomialReached p G (sum_of n v) (cofactors_of n earlier) (shift (exponents_of n q.monomial.exponents) (head_key g)))
         (sym (vector_at n ms q.index))
         (met_reached earlier (product_lead n vs (unscaled q)) h.0),
     subst (λ (b : FormalSum n). AreReached p G (sum_of n v) b (cofactors_of n qs))
@@ -98,7 +98,7 @@ module _ (shared : Shared) (ms : List Tracked) (members : Each (IsTracked shared
   -- ---- the same of products
   step_reached :
       (earlier : List KeptProduct) (k : Key n)
-      → IsMet n (sum_of n v) vs earlier k → IsReached p G (sum_of n v) (terms_of n earlier) k
+      → IsMet n (sum_of n v) vs earlier k → IsMonomialReached p G (sum_of n v) (terms_of n earlier) k
   step_reached earlier k (inl there) = inl (key_occurs (setting_of n shared) (ring_lawful shared) v k iv there)
   step_reached earlier k (inr (s, there, h)) =
       inr (
@@ -114,7 +114,7 @@ module _ (shared : Shared) (ms : List Tracked) (members : Each (IsTracked shared
       → AreMet n (sum_of n v) vs earlier products → AreReached p G (sum_of n v) (terms_of n earlier) (terms_of n products)
   steps_reached earlier [] h = tt
   steps_reached earlier (s ∷ products) h = (
-    subst (λ (g : FormalSum n). IsReached p G (sum_of n v) (terms_of n earlier) (shift (exponents_of n s.1.exponents) (head_key g))) (sym (vector_at n ms s.0))
+    subst (λ (g : FormalSum n). IsMonomialReached p G (sum_of n v) (terms_of n earlier) (shift (exponents_of n s.1.exponents) (head_key g))) (sym (vector_at n ms s.0))
         (step_reached earlier (product_lead n vs s) h.0),
     subst (λ (b : FormalSum n). AreReached p G (sum_of n v) b (terms_of n products)) (map-append (λ (r : KeptProduct). (product_of n r, 1)) earlier (s ∷ []))
         (steps_reached (earlier ++ s ∷ []) products h.1),

@@ -4,7 +4,7 @@ use Rattle.std.proofs.Common.{nat_eq, not, refl, set, suc, sym, true, zero, ℕ,
 use Rattle.std.proofs.lemmas.Bool.{eqb-false}
 use Rattle.basis_steps.specs.States.{End, Ended, Ending, Event, Member, MoreWork, Product, Put, Run, State, Stop, StopReason, Take}
 use Rattle.basis_steps.specs.Histories.{HasStopped, took_since}
-use Rattle.basis_steps.specs.Steps.{Ends, Puts, Stops, ending_of, is_empty, ended_after, is_stopped}
+use Rattle.basis_steps.specs.Steps.{Ends, Puts, Stops, end_answer_of, is_empty, ended_after, is_stopped}
 use Rattle.basis_core.specs.Inside.{all_left, events_left, has_stopped}
 
 pub took_append : {n : ℕ} (w : ℕ) (es : List (Event n)) (e : Event n) (b : Bool) → took_since w (es ++ (e ∷ [])) b ≡ took_since w (e ∷ []) (took_since w es b)
@@ -156,7 +156,7 @@ module _ {n : ℕ} where
       all_some s k w l (omega (arith, one, stopped_fewer (get_or s.ended w true) (took_since w s.history false)))
 
   -- no stop is kept where there is more work
-  more_unstopped : (s : State n) → MoreWork ≡ ending_of s → s.stop ≡ None
+  more_unstopped : (s : State n) → MoreWork ≡ end_answer_of s → s.stop ≡ None
   more_unstopped s e = go s.stop refl e
     where
       go : (o : Option (StopReason n)) → s.stop ≡ o → MoreWork ≡ cond (is_stopped o) Ended (cond (is_empty s.queue) Ended MoreWork) → s.stop ≡ None
@@ -188,7 +188,7 @@ module _ {n : ℕ} where
       others v ne = other_left s t v w (End w ending) (ended_other v ending ne (ap (λ u. u.ended) h.after)) history
           (ap (λ b. cond b false (took_since v s.history false)) (not_same v w ne)) refl
 
-      here : (answer : Ending) → answer ≡ ending_of s → t ≡ record s { ended = ended_after s w answer; history = s.history ++ (End w answer ∷ []) }
+      here : (answer : Ending) → answer ≡ end_answer_of s → t ≡ record s { ended = ended_after s w answer; history = s.history ++ (End w answer ∷ []) }
           → suc (events_left t w) ≤ events_left s w
       here Ended a e =
           let now : events_left t w ≡ left_by true (took_since w t.history false) (has_stopped w s.history) =

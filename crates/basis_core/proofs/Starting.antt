@@ -18,9 +18,9 @@ use Rattle.module_vectors.specs.declared.trail.TrailStart.TheVariants as starts
 use Rattle.formal_sums.proofs.OfRank.{IsOfRank_of}
 use Rattle.member_products.proofs.Ranks.{ranked_by}
 use Rattle.member_products.specs.Generators.{AreGenerators, IsRanked, IsVectorOf}
-use Rattle.member_products.specs.declared.member.Row.{Row as CodeRow}
+use Rattle.member_products.specs.declared.member.Reduct.{Reduct as CodeReduct}
 use Rattle.basis_steps.proofs.Making.{makes_members}
-use Rattle.basis_steps.specs.Divisions.{IsMonicMember, Makes}
+use Rattle.basis_steps.specs.Divisions.{IsMonicMember, MakesMembers}
 use Rattle.basis_steps.specs.Updates.{QueuesPairs}
 use Rattle.basis_steps.specs.States as plain
 use Rattle.basis_steps.specs.States.{Member, vectors}
@@ -31,7 +31,7 @@ use Rattle.basis_core.specs.Answers.{IsBeginningTrail}
 use Rattle.basis_core.specs.Beginning.{HaveMade, IsUnitMultiple}
 use Rattle.basis_core.specs.Inside.{shown}
 use Rattle.basis_core.specs.Jobs.{pairs_of}
-use Rattle.basis_core.specs.Members.{IsRunMember, IsTracked, Shared, Tracked, member_of, members_of, setting_of}
+use Rattle.basis_core.specs.Members.{IsRunMember, IsMemberShown, Shared, MemberShown, member_of, members_of, setting_of}
 use Rattle.basis_core.specs.RowDivision.{with_multiple}
 use Rattle.basis_core.specs.Rows.{IsRowTrail, vectors_in}
 use Rattle.basis_core.specs.Shown.{Shown}
@@ -96,7 +96,7 @@ generator_ranked ring rank (f ∷ fs) (suc i) h lt = generator_ranked ring rank 
 
 -- a generator, as a row with its multiple, is of vectors of the run
 pub generator_member :
-    (shared : Shared) (ms : List Tracked) (i : ℕ) (row : CodeRow) (multiple : List (CodeKey × ℕ))
+    (shared : Shared) (ms : List MemberShown) (i : ℕ) (row : CodeReduct) (multiple : List (CodeKey × ℕ))
     → AreGenerators shared.ring shared.rank shared.generators → i < length shared.generators
     → row.vector ≡ get_or shared.generators i [] → row.products ≡ [] → IsVectorOf shared.ring multiple → IsUnitMultiple shared.ring i multiple
     → IsRunMember shared (length ms) (with_multiple row multiple)
@@ -115,7 +115,7 @@ module _ (shared : Shared) where
 
   -- the row of a generator
   row_is :
-      (i : ℕ) (row : CodeRow) (multiple : List (CodeKey × ℕ))
+      (i : ℕ) (row : CodeReduct) (multiple : List (CodeKey × ℕ))
       → row.vector ≡ get_or shared.generators i [] → row.products ≡ [] → IsVectorOf shared.ring multiple → IsUnitMultiple shared.ring i multiple
       → member_of n (with_multiple row multiple) ≡ generator_row (get_or fs i []) (0 + i)
   row_is i row multiple e p v u =
@@ -126,10 +126,10 @@ module _ (shared : Shared) where
 
   -- one generator more
   pub made_more :
-      (i : ℕ) (ms made more : List Tracked) (row : CodeRow) (multiple : List (CodeKey × ℕ))
+      (i : ℕ) (ms made more : List MemberShown) (row : CodeReduct) (multiple : List (CodeKey × ℕ))
       → i < length shared.generators → HaveMade shared i ms → row.vector ≡ get_or shared.generators i [] → row.products ≡ []
       → IsVectorOf shared.ring multiple → IsUnitMultiple shared.ring i multiple → more ≡ ms ++ made
-      → Makes (setting_of n shared) (vectors (members_of n ms)) (member_of n (with_multiple row multiple) ∷ []) (members_of n made)
+      → MakesMembers (setting_of n shared) (vectors (members_of n ms)) (member_of n (with_multiple row multiple) ∷ []) (members_of n made)
       → HaveMade shared (i + 1) more
   made_more i ms made more row multiple lt h e p v u em g =
       let S = setting_of n shared in
@@ -139,18 +139,18 @@ module _ (shared : Shared) where
       ap (λ (m : Member n). generator_rows 0 (take i fs) ++ (m ∷ [])) (row_is i row multiple e p v u) ∙ sym (rows_more fs 0 i lf)
       ∙ ap (λ (j : ℕ). generator_rows 0 (take j fs)) (sym (add-one i)) in
       let members : members_of n ms ++ members_of n made ≡ members_of n more = sym (map-append (λ m. member_of n m) ms made) ∙ ap (members_of n) (sym em) in
-      subst₂ (λ (r : List (Member n)) (m : List (Member n)). Makes S [] r m) rows members
+      subst₂ (λ (r : List (Member n)) (m : List (Member n)). MakesMembers S [] r m) rows members
       (makes_append S [] (generator_rows 0 (take i fs)) (members_of n ms) (one ∷ []) (members_of n made) h g)
 
   -- they are monic
-  pub made_monic : (i : ℕ) (ms : List Tracked) → HaveMade shared i ms → Each (IsMonicMember (setting_of n shared)) (vectors (members_of n ms))
+  pub made_monic : (i : ℕ) (ms : List MemberShown) → HaveMade shared i ms → Each (IsMonicMember (setting_of n shared)) (vectors (members_of n ms))
   made_monic i ms h = makes_members (setting_of n shared) (ring_lawful shared) [] (generator_rows 0 (take i fs)) (members_of n ms) h tt
 
 -- ---- the trail of a generator that is not divided
 pub beginning_kept :
-    (shared : Shared) (ms : List Tracked) (v : List (CodeKey × ℕ)) (number : ℕ) (products : List KeptProduct) (last : Monomial) (t : KeptTrail)
+    (shared : Shared) (ms : List MemberShown) (v : List (CodeKey × ℕ)) (number : ℕ) (products : List KeptProduct) (last : Monomial) (t : KeptTrail)
     → number < length shared.generators → v ≡ get_or shared.generators number [] → HaveMade shared number ms
-    → Each (IsTracked shared) ms → IsRowTrail (variables shared.ring) shared.ring.weights ms v products last → t.ring ≡ shared.ring → t.rank ≡ shared.rank
+    → Each (IsMemberShown shared) ms → IsRowTrail (variables shared.ring) shared.ring.weights ms v products last → t.ring ≡ shared.ring → t.rank ≡ shared.rank
     → t.generators ≡ shared.generators → t.below.items ≡ [] → t.start ≡ starts.Term → t.vector ≡ v
     → t.members ≡ vectors_in ms → t.products.items ≡ products → t.last ≡ last
     → IsBeginningTrail (variables shared.ring) shared t
@@ -186,29 +186,29 @@ beginning_kept shared ms v number products last t lt e made tracked h e_ring e_r
 }
 
 -- no generator yet
-pub none_made : (shared : Shared) (ms : List Tracked) → ms ≡ [] → HaveMade shared 0 ms
+pub none_made : (shared : Shared) (ms : List MemberShown) → ms ≡ [] → HaveMade shared 0 ms
 none_made shared ms e = subst (HaveMade shared 0) (sym e) (go (sums_of (variables shared.ring) shared.generators))
   where
-    go : (xs : List (FormalSum (variables shared.ring))) → Makes (setting_of (variables shared.ring) shared) [] (generator_rows 0 (take 0 xs)) []
+    go : (xs : List (FormalSum (variables shared.ring))) → MakesMembers (setting_of (variables shared.ring) shared) [] (generator_rows 0 (take 0 xs)) []
     go [] = refl
     go (x ∷ xs) = refl
 
 -- all of them
 all_made :
-    (shared : Shared) (k : ℕ) (ms : List Tracked)
+    (shared : Shared) (k : ℕ) (ms : List MemberShown)
     → k ≡ length shared.generators → HaveMade shared k ms
-    → Makes (setting_of (variables shared.ring) shared) [] (generator_rows 0 (sums_of (variables shared.ring) shared.generators))
+    → MakesMembers (setting_of (variables shared.ring) shared) [] (generator_rows 0 (sums_of (variables shared.ring) shared.generators))
     (members_of (variables shared.ring) ms)
 all_made shared k ms e h =
     let fs = sums_of (variables shared.ring) shared.generators in
     let le : length fs ≤ k = omega (arith, length-map shared.generators (sum_of (variables shared.ring))) in
-    subst (λ (l : List (FormalSum (variables shared.ring))). Makes (setting_of (variables shared.ring) shared) [] (generator_rows 0 l)
+    subst (λ (l : List (FormalSum (variables shared.ring))). MakesMembers (setting_of (variables shared.ring) shared) [] (generator_rows 0 l)
     (members_of (variables shared.ring) ms)) (take_all k fs le) h
 
 -- ---- the state at the beginning
 begun :
     (n : ℕ) (s : Shown)
-    → Makes (setting_of n s.shared) [] (generator_rows 0 (sums_of n s.shared.generators)) (members_of n s.members)
+    → MakesMembers (setting_of n s.shared) [] (generator_rows 0 (sums_of n s.shared.generators)) (members_of n s.members)
     → QueuesPairs s.update (setting_of n s.shared) 0 (vectors (members_of n s.members)) [] [] s.queue s.dropped → s.out ≡ [] → s.taken ≡ 0
     → s.ended ≡ none_ended s.workers → s.stop ≡ None → s.history ≡ [] → Begins (run_of n s) (state_of n s)
 begun n s makes queues out taken ended stop history = record {

@@ -6,14 +6,14 @@ use Rattle.basis_steps.specs.States as plain
 use Rattle.basis_steps.specs.Histories.{HasStopped}
 use Rattle.basis_steps.specs.States.{Trail, vectors}
 use Rattle.basis_steps.specs.Steps as steps
-use Rattle.basis_steps.specs.Trails.{IsTrail}
+use Rattle.basis_steps.specs.Trails.{IsHistoryTrail}
 use Rattle.basis_core.specs.declared.event.Event.{Event}
 use Rattle.basis_core.specs.declared.event.Event.TheVariants.{Stop}
 use Rattle.basis_core.specs.declared.state.BasisState.TheInside.{Inside}
 use Rattle.basis_core.specs.declared.stop.StopReason.{StopReason}
 use Rattle.basis_core.specs.declared.stop.StopReason.TheVariants as reasons
 use Rattle.basis_core.specs.Answers.{IsReason}
-use Rattle.basis_core.specs.Inside.{HasReason, IsCoherent, IsRead, IsStopOver, all_left, shown}
+use Rattle.basis_core.specs.Inside.{HasReason, IsCoherentState, IsEventRead, IsStopOver, all_left, shown}
 use Rattle.basis_core.specs.Shown.{Shown}
 use Rattle.basis_core.specs.Stops.{IsReasonOver, reason_of, stop_of}
 use Rattle.basis_core.specs.Views.{history_of, reason_given, run_of, state_of, variables_of}
@@ -76,15 +76,15 @@ way_of other (plain.Degree way) = way
 
 is_trail :
     (n : ℕ) (s : Shown) (reason : StopReason) → IsReason n s reason → (way : Trail n) → reason_of n reason ≡ plain.Degree way
-    → IsTrail (run_of n s) (vectors (state_of n s).members) (state_of n s).history way
+    → IsHistoryTrail (run_of n s) (vectors (state_of n s).members) (state_of n s).history way
 is_trail n s reasons.Pairs h way e = absurd h
 is_trail n s reasons.Memory h way e = absurd cc
-is_trail n s (reasons.Degree t) h way e = subst (IsTrail (run_of n s) (vectors (state_of n s).members) (state_of n s).history) (ap (way_of way) e) h.way
+is_trail n s (reasons.Degree t) h way e = subst (IsHistoryTrail (run_of n s) (vectors (state_of n s).members) (state_of n s).history) (ap (way_of way) e) h.way
 
 pub stop_step :
     (s : Shown) (w : ℕ) (reason : StopReason) (after given : Option StopReason) (es : List Event)
     → MayStop w s reason → KeepsFirst s.stop after reason given
-    → Each (IsRead (length s.members) s.stop) s.history
+    → Each (IsEventRead (length s.members) s.stop) s.history
     → es ≡ s.history ++ (Stop w given ∷ [])
     → steps.Stops (run_of (variables_of s) s) (state_of (variables_of s) s) w (reason_of (variables_of s) reason)
     (state_of (variables_of s) (after_stop s after es))
@@ -110,10 +110,10 @@ stop_step s w reason after given es may keeps read more = record {
 -- what is kept of a state is kept
 pub stop_kept :
     (i : Inside) (w : ℕ) (reason : StopReason) (after given : Option StopReason) (history : Vec Event Global)
-    → IsCoherent i → MayStop w (shown i) reason → KeepsFirst i.stop after reason given
+    → IsCoherentState i → MayStop w (shown i) reason → KeepsFirst i.stop after reason given
     → history.items ≡ i.history.items ++ (Stop w given ∷ [])
     → vec_capacity history ≡ vec_capacity i.history
-    → IsCoherent (record i { stop = after; history = history })
+    → IsCoherentState (record i { stop = after; history = history })
 stop_kept i w reason after given history kept may keeps items capacity =
     let s : Shown = shown i in
     let n : ℕ = variables_of s in
@@ -129,7 +129,7 @@ stop_kept i w reason after given history kept may keeps items capacity =
       replays = replays_after s t (plain.Stop w (reason_of n reason)) (record { shared = refl; budget = refl; workers = refl; update = refl }) kept.replays step;
       leads = kept.leads;
       stop = keeps_over n after reason given t s.stop keeps kept.stop (reason_over n s reason may.why);
-      read = subst (Each (IsRead many after)) (sym items)
+      read = subst (Each (IsEventRead many after)) (sym items)
           (read_more many many s.stop after s.history (Stop w given) (omega arith) (keeps_stays n after reason given s.stop keeps) kept.read
           (keeps_reason n after reason given s.stop keeps));
       room = omega (arith, long, fewer, kept.room, capacity);

@@ -15,19 +15,19 @@ use Rattle.basis_steps.specs.Queues.{share}
 use Rattle.basis_steps.specs.States as plain
 use Rattle.basis_steps.specs.States.{vectors}
 use Rattle.basis_steps.specs.Steps as steps
-use Rattle.pair_queue.proofs.Passing.{pairs_drop, pairs_length, pairs_take}
-use Rattle.pair_queue.specs.Leads.{LeadsShown, setting_of as setting_by, sums_shown}
-use Rattle.pair_queue.specs.Pairs.{IsRealPair}
-use Rattle.pair_queue.specs.Shown.{IsGiven, PairsShown}
+use Rattle.pair_updates.proofs.PairLists.{pairs_drop, pairs_length, pairs_take}
+use Rattle.pair_updates.specs.Leads.{LeadsShown, setting_of_leads as setting_by, sums_shown}
+use Rattle.pair_updates.specs.Pairs.{IsRealPair}
+use Rattle.pair_queue.specs.Shown.{IsJobGiven, PairsShown}
 use Rattle.pair_queue.specs.declared.given.Given.{Given}
 use Rattle.basis_core.specs.declared.event.Event.{Event}
 use Rattle.basis_core.specs.declared.event.Event.TheVariants.{Take}
 use Rattle.basis_core.specs.declared.state.BasisState.TheInside.{Inside}
 use Rattle.basis_core.specs.declared.stop.StopReason.{StopReason}
 use Rattle.basis_core.specs.declared.stop.StopReason.TheVariants as reasons
-use Rattle.basis_core.specs.Inside.{IsCoherent, IsRead, IsStopOver, shown}
-use Rattle.basis_core.specs.Jobs.{HasLcm, IsJobOver, pairs_of}
-use Rattle.basis_core.specs.Leads.{leads_of}
+use Rattle.basis_core.specs.Inside.{IsCoherentState, IsEventRead, IsStopOver, shown}
+use Rattle.basis_core.specs.Jobs.{HasLcmOfMembers, IsJobOver, pairs_of}
+use Rattle.basis_core.specs.Leads.{leads_shown_of}
 use Rattle.basis_core.specs.Members.{members_of, setting_of}
 use Rattle.basis_core.specs.Shown.{Shown}
 use Rattle.basis_core.specs.Stops.{reason_of, stop_of}
@@ -56,7 +56,7 @@ pub record IsFound (i : Inside) (w most : ℕ) (g : Given) (q : PairsShown) (sto
       (pairs_of left)
   pub skips_none : i.pairs.update ≡ Gebauer → g.skipped.items ≡ []
   pub reals : Each (IsPair (vectors_inside i)) (pairs_of left)
-  pub lcms : Each (HasLcm (variables_of (shown i)) i.members.shared.ring.weights i.members.list) left
+  pub lcms : Each (HasLcmOfMembers (variables_of (shown i)) i.members.shared.ring.weights i.members.list) left
   pub shared : length g.pairs.items ≡ share (run_of (variables_of (shown i)) (shown i)) (vectors_inside i) i.taken most (pairs_of left)
   pub first : g.pairs.items ≡ take (length g.pairs.items) left
   pub given : g.given.items ≡ pairs_of g.pairs.items
@@ -71,7 +71,7 @@ pub record IsFound (i : Inside) (w most : ℕ) (g : Given) (q : PairsShown) (sto
 -- what the pairs gave out, and the stop that was kept
 pub found_by :
     (i : Inside) (w most : ℕ) (g : Given) (q : PairsShown) (stop : Option StopReason)
-    → MayTake w most (shown i) → i.stop ≡ None → IsCoherent i → IsGiven i.pairs w i.budget i.workers i.taken most g q
+    → MayTake w most (shown i) → i.stop ≡ None → IsCoherentState i → IsJobGiven i.pairs w i.budget i.workers i.taken most g q
     → ((n : ℕ) (r : plain.Run n) (left : List Pair) → r.budget ≡ i.budget → g.none_left ≡ steps.is_empty left
     → stop_of n stop ≡ steps.stop_of_take r i.taken left)
     → MatchOption stop ⊤ (λ reason. (reason ≡ reasons.Pairs) × (i.taken ≡ i.budget))
@@ -81,7 +81,7 @@ found_by i w most g q stop may none kept h stops kind =
     let ms = i.members.list in
     let n : ℕ = variables_of (shown i) in
     let left : List Pair = pairs_of h.left in
-    let reals : Each (IsRealPair (leads_of sh ms)) h.left = subst (λ (l : LeadsShown). Each (IsRealPair l) h.left) kept.leads h.real in
+    let reals : Each (IsRealPair (leads_shown_of sh ms)) h.left = subst (λ (l : LeadsShown). Each (IsRealPair l) h.left) kept.leads h.real in
     record {
       may = may;
       none = none;
@@ -134,7 +134,7 @@ module _ (i : Inside) (w most : ℕ) (g : Given) (q : PairsShown) (stop : Option
   gives : pairs_of g.pairs.items ≡ take (share (run_of n s) (vectors_inside i) i.taken most (pairs_of left)) (pairs_of left)
   gives = ap pairs_of found.first ∙ pairs_take k left ∙ ap (λ j. take j (pairs_of left)) found.shared
 
-  module _ (es : List Event) (read : Each (IsRead (length i.members.list) i.stop) i.history.items)
+  module _ (es : List Event) (read : Each (IsEventRead (length i.members.list) i.stop) i.history.items)
       (noted : es ≡ i.history.items ++ (Take w g.skipped g.given ∷ [])) where
     abbrev t : Shown
     t = record (after_take s (pairs_of q.queue) q.dropped q.out (i.taken + k) stop es) { update = q.update }
@@ -170,7 +170,7 @@ module _ (i : Inside) (w most : ℕ) (g : Given) (q : PairsShown) (stop : Option
     took = (most, found.may, inr (pairs_of left, take_step))
 
     -- where it keeps no stop and gives no pair, none is left
-    pub none_left : IsDomain i.members.shared.ring.modulus.value → IsCoherent i → stop ≡ None → g.pairs.items ≡ [] → pairs_of q.queue ≡ []
+    pub none_left : IsDomain i.members.shared.ring.modulus.value → IsCoherentState i → stop ≡ None → g.pairs.items ≡ [] → pairs_of q.queue ≡ []
     none_left domain kept unstopped empty = go left refl
       where
         nothing : (m : ℕ) → ◌≡◌ {A = List CodePair} (drop m []) []
@@ -192,9 +192,9 @@ module _ (i : Inside) (w most : ℕ) (g : Given) (q : PairsShown) (stop : Option
 
   -- what is kept of a state is kept
   pub take_kept :
-      (history : Vec Event Global) → IsCoherent i → history.items ≡ i.history.items ++ (Take w g.skipped g.given ∷ [])
+      (history : Vec Event Global) → IsCoherentState i → history.items ≡ i.history.items ++ (Take w g.skipped g.given ∷ [])
       → length i.history.items + (3 * i.workers + 1) ≤ vec_capacity history
-      → IsCoherent (record i { pairs = q; taken = i.taken + k; stop = stop; history = history })
+      → IsCoherentState (record i { pairs = q; taken = i.taken + k; stop = stop; history = history })
   take_kept history kept noted room =
       let many : ℕ = length i.members.list in
       let after_state : Shown = t history.items kept.read noted in
@@ -205,20 +205,20 @@ module _ (i : Inside) (w most : ℕ) (g : Given) (q : PairsShown) (stop : Option
             (record { shared = refl; budget = refl; workers = refl; update = found.update }) kept.replays (took history.items kept.read noted);
         leads = found.leads ∙ kept.leads;
         stop = stop_over stop found.kind after_state;
-        read = subst (Each (IsRead many stop)) (sym noted)
+        read = subst (Each (IsEventRead many stop)) (sym noted)
             (read_more many many i.stop stop i.history.items (Take w g.skipped g.given) (omega arith) stays_kept kept.read tt);
         room = omega (arith, long, room, room_bound (state_of n after_state) i.workers);
       }
 
   -- the pairs that go out are a job's
-  pub job_is : IsDomain i.members.shared.ring.modulus.value → IsCoherent i → 0 < k
+  pub job_is : IsDomain i.members.shared.ring.modulus.value → IsCoherentState i → 0 < k
       → IsJobOver (record { shared = i.members.shared; worker = w; members = i.members.list; pairs = g.pairs.items })
   job_is domain kept some = record {
     some = some;
     monic = (replayed_holds n s domain kept.some kept.replays).members;
     real = subst (Each (IsPair (vectors_inside i))) (sym gives) (Each_take (IsPair (vectors_inside i)) (share (run_of n s) (vectors_inside i) i.taken most (pairs_of left)) (pairs_of left) found.reals);
-    lcms = subst (Each (HasLcm n i.members.shared.ring.weights i.members.list)) (sym found.first)
-        (Each_take (HasLcm n i.members.shared.ring.weights i.members.list) k left found.lcms);
+    lcms = subst (Each (HasLcmOfMembers n i.members.shared.ring.weights i.members.list)) (sym found.first)
+        (Each_take (HasLcmOfMembers n i.members.shared.ring.weights i.members.list) k left found.lcms);
   }
 
   -- a stop is kept where the budget is met, and then no pair goes out
@@ -233,7 +233,7 @@ module _ (i : Inside) (w most : ℕ) (g : Given) (q : PairsShown) (stop : Option
 pub stopped_step :
     (s : Shown) (w : ℕ) (reason : StopReason) (skipped given : Vec Pair Global) (es : List Event)
     → s.stop ≡ Some reason → skipped.items ≡ [] → given.items ≡ []
-    → Each (IsRead (length s.members) s.stop) s.history
+    → Each (IsEventRead (length s.members) s.stop) s.history
     → es ≡ s.history ++ (Take w skipped given ∷ [])
     → steps.FindsStop (state_of (variables_of s) s) w [] [] (state_of (variables_of s) (record s { history = es }))
 stopped_step s w reason skipped given es stop none no_job read more = record {
@@ -251,10 +251,10 @@ stopped_step s w reason skipped given es stop none no_job read more = record {
 
 pub stopped_kept :
     (i : Inside) (w most : ℕ) (reason : StopReason) (skipped given : Vec Pair Global) (history : Vec Event Global)
-    → IsCoherent i → MayTake w most (shown i) → i.stop ≡ Some reason → skipped.items ≡ [] → given.items ≡ []
+    → IsCoherentState i → MayTake w most (shown i) → i.stop ≡ Some reason → skipped.items ≡ [] → given.items ≡ []
     → history.items ≡ i.history.items ++ (Take w skipped given ∷ [])
     → length i.history.items + (3 * i.workers + 1) ≤ vec_capacity history
-    → IsCoherent (record i { history = history })
+    → IsCoherentState (record i { history = history })
 stopped_kept i w most reason skipped given history kept may stop none no_job more room =
     let s : Shown = shown i in
     let n : ℕ = variables_of s in
@@ -268,7 +268,7 @@ stopped_kept i w most reason skipped given history kept may stop none no_job mor
       replays = replays_after s t (plain.Take w [] []) (record { shared = refl; budget = refl; workers = refl; update = refl }) kept.replays step;
       leads = kept.leads;
       stop = kept.stop;
-      read = subst (Each (IsRead many i.stop)) (sym more)
+      read = subst (Each (IsEventRead many i.stop)) (sym more)
           (read_more many many i.stop i.stop i.history.items (Take w skipped given) (omega arith) (stays i.stop i.stop refl) kept.read tt);
       room = omega (arith, long, room, room_bound (state_of n t) i.workers);
     }

@@ -17,15 +17,15 @@ use Rattle.basis_steps.proofs.Counting.{is_same_pair-refl, is_same_pair-true}
 use Rattle.basis_steps.proofs.JobProducts.{job_product_at}
 use Rattle.basis_steps.proofs.Listing.{row_made}
 use Rattle.basis_steps.specs.Criteria.{lcm_of}
-use Rattle.member_products.specs.declared.member.Row.{Row as CodeRow}
+use Rattle.member_products.specs.declared.member.Reduct.{Reduct as CodeReduct}
 use Rattle.basis_steps.specs.Outcomes as plain
 use Rattle.basis_steps.specs.Divisions.{Occurs}
-use Rattle.basis_steps.specs.Outcomes.{IsOutcome, IsRow, OccursBefore, product_at, product_vector}
+use Rattle.basis_steps.specs.Outcomes.{IsOutcome, IsReduct, OccursBefore, product_at, product_vector}
 use Rattle.basis_steps.specs.Pairs.{Pair, count, is_same_pair}
 use Rattle.basis_steps.specs.States.{Member, Product, vectors}
 use Rattle.pair_criteria.specs.Traces.{AreTraced}
-use Rattle.basis_core.specs.Jobs.{HasLcm, pair_of, pairs_of}
-use Rattle.basis_core.specs.Members.{IsRunRow, IsTracked, Shared, Tracked, members_of, row_of, rows_of, setting_of}
+use Rattle.basis_core.specs.Jobs.{HasLcmOfMembers, pair_of, pairs_of}
+use Rattle.basis_core.specs.Members.{IsRunRow, IsMemberShown, Shared, MemberShown, members_of, row_of, rows_of, setting_of}
 use Rattle.basis_core.specs.Outcomes.{product_of, products_of}
 use Rattle.basis_core.specs.Rows.{IsRowTrail, vectors_in}
 use Rattle.basis_core.proofs.AfterPut.{members_length}
@@ -82,14 +82,14 @@ contained_each P (y ∷ xs) x h (zero, l, e) = subst P e h.0
 contained_each P (y ∷ xs) x h (suc k, l, e) = contained_each P xs x h.1 (k, omega arith, e)
 
 -- ---- the members' vectors
-pub base_at : (ms : List Tracked) (b k : ℕ) → k < length (take b ms) → get_or (vectors_in (take b ms)) k [] ≡ get_or (vectors_in ms) k []
+pub base_at : (ms : List MemberShown) (b k : ℕ) → k < length (take b ms) → get_or (vectors_in (take b ms)) k [] ≡ get_or (vectors_in ms) k []
 base_at [] zero k l = refl
 base_at [] (suc b) k l = refl
 base_at (m ∷ ms) zero k l = absurd (omega arith)
 base_at (m ∷ ms) (suc b) zero l = refl
 base_at (m ∷ ms) (suc b) (suc k) l = base_at ms b k (omega arith)
 
-pub listed_length : (ms : List Tracked) → length (vectors_in ms) ≡ length ms
+pub listed_length : (ms : List MemberShown) → length (vectors_in ms) ≡ length ms
 listed_length [] = refl
 listed_length (m ∷ ms) = ap suc (listed_length ms)
 
@@ -112,28 +112,28 @@ products_length : (n : ℕ) (products : List KeptProduct) → length (products_o
 products_length n [] = refl
 products_length n (s ∷ products) = ap suc (products_length n products)
 
-each_row : {n : ℕ} (P : Member n → Type 0) (rows : List CodeRow) (row : CodeRow) → Each P (rows_of n rows) → Contains rows row → P (row_of n row)
+each_row : {n : ℕ} (P : Member n → Type 0) (rows : List CodeReduct) (row : CodeReduct) → Each P (rows_of n rows) → Contains rows row → P (row_of n row)
 each_row P [] row h (k, l, e) = absurd (omega arith)
 each_row {n} P (r ∷ rows) row h (zero, l, e) = subst (λ m. P (row_of n m)) e h.0
 each_row P (r ∷ rows) row h (suc k, l, e) = each_row P rows row h.1 (k, omega arith, e)
 
 -- an outcome over the first members, and one of its rows that stops
 pub record HasStoppedRow
-    (shared : Shared) (ms base : List Tracked) (rows : List CodeRow) (pairs : List CodePair) (products : List KeptProduct)
-    (row : CodeRow) (chain : List KeptProduct) (last : Monomial) : Type 0 where
-  pub tracked : Each (IsTracked shared) ms
+    (shared : Shared) (ms base : List MemberShown) (rows : List CodeReduct) (pairs : List CodePair) (products : List KeptProduct)
+    (row : CodeReduct) (chain : List KeptProduct) (last : Monomial) : Type 0 where
+  pub tracked : Each (IsMemberShown shared) ms
   pub rows_over : Each (IsRunRow shared (length base)) rows
   pub front : base ≡ take (length base) ms
   pub fewer : length base ≤ length ms
-  pub lcms : Each (HasLcm (variables shared.ring) shared.ring.weights base) pairs
+  pub lcms : Each (HasLcmOfMembers (variables shared.ring) shared.ring.weights base) pairs
   pub known : Each (λ t. IsMonomialOver shared.ring t.1) products
   pub outcome : IsOutcome (setting_of (variables shared.ring) shared) (vectors (members_of (variables shared.ring) base)) (pairs_of pairs) (rows_of (variables shared.ring) rows) (products_of (variables shared.ring) products)
   pub there : Contains rows row
   pub trail : IsRowTrail (variables shared.ring) shared.ring.weights ms row.vector chain last
 
 module _
-    (shared : Shared) (ms base : List Tracked) (rows : List CodeRow) (pairs : List CodePair) (products : List KeptProduct)
-    (row : CodeRow) (chain : List KeptProduct) (last : Monomial) (h : HasStoppedRow shared ms base rows pairs products row chain last) where
+    (shared : Shared) (ms base : List MemberShown) (rows : List CodeReduct) (pairs : List CodePair) (products : List KeptProduct)
+    (row : CodeReduct) (chain : List KeptProduct) (last : Monomial) (h : HasStoppedRow shared ms base rows pairs products row chain last) where
   abbrev n : ℕ
   n = variables shared.ring
 
@@ -188,7 +188,7 @@ module _
           ⊎ ((j : ℕ) × (j < i) × IsInProduct n vs (product_lead n vs (kept_at products i)) (kept_at products j))
       go (inl (x, some, e)) =
           let y = counted_pair x pairs some in
-          let lcm = (contained_each (HasLcm n shared.ring.weights base) pairs y.0 h.lcms y.1).lcm in
+          let lcm = (contained_each (HasLcmOfMembers n shared.ring.weights base) pairs y.0 h.lcms y.1).lcm in
           inl (y.0, (y.1, sym (lead_same i l) ∙ e ∙ ap (lcm_of G) (sym y.2) ∙ sym lcm))
       go (inr o) =
           let r = product_met i (plain.product_lead G (product_at (products_of n products) i)) o in
@@ -198,7 +198,7 @@ module _
   row_key : (k : Key n) → HasKey (sum_of n row.vector) k → (j : ℕ) × (j < length products) × IsInProduct n vs k (kept_at products j)
   row_key k there =
       let v = (contained_each (IsRunRow shared (length base)) rows row h.rows_over h.there).vector.vector in
-      let made = row_made p G (products_of n products) (row_of n row) (each_row (IsRow p G (products_of n products)) rows row (h.outcome).sums h.there) in
+      let made = row_made p G (products_of n products) (row_of n row) (each_row (IsReduct p G (products_of n products)) rows row (h.outcome).sums h.there) in
       let r = product_met (length (products_of n products)) k (made k (key_occurs (setting_of n shared) (ring_lawful shared) row.vector k v there)) in
       (r.0, r.2, r.3)
 

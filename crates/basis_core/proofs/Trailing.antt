@@ -27,9 +27,9 @@ use Rattle.basis_steps.specs.Outcomes.{AreJobProducts, IsOutcome, product_at, pr
 use Rattle.basis_steps.specs.Pairs.{count, is_same_pair}
 use Rattle.basis_steps.specs.States.{Product, Trail, vectors}
 use Rattle.basis_core.specs.Chains.{IsTracedTo}
-use Rattle.basis_core.specs.Jobs.{HasLcm, IsJobOver, pairs_of}
-use Rattle.basis_core.specs.Makings.{EndsAs}
-use Rattle.basis_core.specs.Members.{IsRunRow, IsTracked, Shared, Tracked, members_of, rows_of, setting_of}
+use Rattle.basis_core.specs.Jobs.{HasLcmOfMembers, IsJobOver, pairs_of}
+use Rattle.basis_core.specs.Makings.{TrailEndsAs}
+use Rattle.basis_core.specs.Members.{IsRunRow, IsMemberShown, Shared, MemberShown, members_of, rows_of, setting_of}
 use Rattle.basis_core.specs.Outcomes.{IsOutcomeOver, OutcomeShown, product_of, products_of}
 use Rattle.basis_core.specs.Rows.{IsRowTrail, vectors_in}
 use Rattle.basis_core.specs.Stops.{IsTrailBy, earlier_products, trail_by, trail_of, trail_over}
@@ -39,7 +39,7 @@ use Rattle.basis_core.proofs.Tracing.{HasStoppedRow, at_base, contained_each, li
 use Rattle.bases.proofs.Leading.{one_not_zero}
 use Rattle.residues.proofs.Congruences.{IsCongruent_sym}
 use Rattle.basis_steps.specs.Divisions.{IsMonicMember, Occurs}
-use Rattle.member_products.specs.declared.member.Row.{Row as CodeRow}
+use Rattle.member_products.specs.declared.member.Reduct.{Reduct as CodeReduct}
 use Rattle.basis_core.proofs.Tracking.{last_weighed, ring_lawful, vectors_of_members, vectors_over}
 
 -- ---- lists of products
@@ -81,7 +81,7 @@ each_last P s [] h = h.0
 each_last P s (t ∷ ss) h = each_last P t ss h.1
 
 -- what a trail has to hold
-record HoldsTrail (shared : Shared) (ms : List Tracked) (o : OutcomeShown) (w : Trail (variables shared.ring)) : Type 0 where
+record HoldsTrail (shared : Shared) (ms : List MemberShown) (o : OutcomeShown) (w : Trail (variables shared.ring)) : Type 0 where
   members : w.members ≡ vectors (members_of (variables shared.ring) ms)
   start : 0 < count w.start (pairs_of o.job.pairs)
   real : IsPair (vectors (members_of (variables shared.ring) ms)) w.start
@@ -90,7 +90,7 @@ record HoldsTrail (shared : Shared) (ms : List Tracked) (o : OutcomeShown) (w : 
   above : 65535 < weighted_degree shared.ring.weights w.last.1 + weighted_degree shared.ring.weights w.monomial
 
 module _
-    (shared : Shared) (ms : List Tracked) (o : OutcomeShown) (row : CodeRow) (taken : List KeptProduct) (last : Monomial)
+    (shared : Shared) (ms : List MemberShown) (o : OutcomeShown) (row : CodeReduct) (taken : List KeptProduct) (last : Monomial)
     (h : HasStoppedRow shared ms o.job.members o.rows o.job.pairs o.products row taken last) (chain : List KeptProduct) (i j : ℕ)
     (c : IsTracedTo (variables shared.ring) shared.ring.weights (vectors_in ms) o.job.pairs (o.products ++ taken) chain i j) where
   abbrev n : ℕ
@@ -144,7 +144,7 @@ module _
   }
 
   lcm_key : product_lead n vs first ≡ lcm_of base (i, j)
-  lcm_key = (c.lcm).1 ∙ (contained_each (HasLcm n shared.ring.weights o.job.members) o.job.pairs c.pair h.lcms (c.lcm).0).lcm ∙ ap (lcm_of base) c.indices
+  lcm_key = (c.lcm).1 ∙ (contained_each (HasLcmOfMembers n shared.ring.weights o.job.members) o.job.pairs c.pair h.lcms (c.lcm).0).lcm ∙ ap (lcm_of base) c.indices
 
   known : Each (IsKeptProduct n shared.ring.weights vs) (first ∷ later)
   known = (c.chain_is).known
@@ -300,7 +300,7 @@ module _
         above = all.above;
       })
 
-  pub ends_as : (t : KeptTrail) → t.products.items ≡ chain → t ≡ whole t → EndsAs n taken t
+  pub ends_as : (t : KeptTrail) → t.products.items ≡ chain → t ≡ whole t → TrailEndsAs n taken t
   ends_as t e w =
       let at : trail_of n (whole t) ≡ trail_by n (whole t) first later = ap (trail_over n (whole t)) (e ∙ (c.chain_is).products) in
       record {
@@ -312,24 +312,24 @@ module _
 
 -- ---- what the calls of a Put that stops have
 pub has_stopped_row :
-    (shared : Shared) (ms : List Tracked) (o : OutcomeShown) (taken : List KeptProduct) (last : Monomial)
-    → Each (IsTracked shared) ms → o.job.shared ≡ shared → IsOutcomeOver o → IsJobOver o.job
+    (shared : Shared) (ms : List MemberShown) (o : OutcomeShown) (taken : List KeptProduct) (last : Monomial)
+    → Each (IsMemberShown shared) ms → o.job.shared ≡ shared → IsOutcomeOver o → IsJobOver o.job
     → o.job.members ≡ take (length o.job.members) ms
-    → (r : (row : CodeRow) × Contains o.rows row × IsRowTrail (variables shared.ring) shared.ring.weights ms row.vector taken last)
+    → (r : (row : CodeReduct) × Contains o.rows row × IsRowTrail (variables shared.ring) shared.ring.weights ms row.vector taken last)
     → HasStoppedRow shared ms o.job.members o.rows o.job.pairs o.products r.0 taken last
 has_stopped_row shared ms o taken last tracked same outcome job front r = record {
   tracked = tracked;
   rows_over = subst (λ (sh : Shared). Each (IsRunRow sh (length o.job.members)) o.rows) same outcome.rows;
   front = front;
   fewer = omega (arith, ap length front, length-take (length o.job.members) ms);
-  lcms = subst (λ (sh : Shared). Each (HasLcm (variables sh.ring) sh.ring.weights o.job.members) o.job.pairs) same job.lcms;
+  lcms = subst (λ (sh : Shared). Each (HasLcmOfMembers (variables sh.ring) sh.ring.weights o.job.members) o.job.pairs) same job.lcms;
   known = subst (λ (sh : Shared). Each (λ t. IsMonomialOver sh.ring t.1) o.products) same outcome.weighed;
   outcome = subst (λ (sh : Shared). IsOutcome (setting_of (variables sh.ring) sh) (vectors (members_of (variables sh.ring) o.job.members)) (pairs_of o.job.pairs) (rows_of (variables sh.ring) o.rows) (products_of (variables sh.ring) o.products)) same outcome.outcome;
   there = r.1;
   trail = r.2;
 }
 
-pub members_nonzero : (shared : Shared) (ms : List Tracked)
+pub members_nonzero : (shared : Shared) (ms : List MemberShown)
     → Each (IsMonicMember (setting_of (variables shared.ring) shared)) (vectors (members_of (variables shared.ring) ms)) → Each (λ m. 0 < length m.vector) ms
 members_nonzero shared [] h = tt
 members_nonzero shared (m ∷ ms) h = (go m.vector h.0, members_nonzero shared ms h.1)
@@ -339,6 +339,6 @@ members_nonzero shared (m ∷ ms) h = (go m.vector h.0, members_nonzero shared m
     go (t ∷ v) h = omega arith
 
 pub lcm_weighed :
-    (n : ℕ) (ws : List ℕ) (ms : List Tracked) (xs : List CodePair) → Each (HasLcm n ws ms) xs → Each (λ x. IsWeighed n ws x.lcm.monomial) xs
+    (n : ℕ) (ws : List ℕ) (ms : List MemberShown) (xs : List CodePair) → Each (HasLcmOfMembers n ws ms) xs → Each (λ x. IsWeighed n ws x.lcm.monomial) xs
 lcm_weighed n ws ms [] h = tt
 lcm_weighed n ws ms (x ∷ xs) h = (h.0.weighed, lcm_weighed n ws ms xs h.1)

@@ -6,9 +6,9 @@ use Rattle.pair_queue.specs.Shown.{PairsShown}
 use Rattle.basis_core.specs.declared.event.Event.{Event}
 use Rattle.basis_core.specs.declared.state.BasisState.TheInside.{Inside}
 use Rattle.basis_core.specs.declared.stop.StopReason.{StopReason}
-use Rattle.basis_core.specs.Inside.{IsCoherent, IsRead, IsStopOver, all_left, shown}
+use Rattle.basis_core.specs.Inside.{IsCoherentState, IsEventRead, IsStopOver, all_left, shown}
 use Rattle.basis_core.specs.Jobs.{pairs_of}
-use Rattle.basis_core.specs.Leads.{leads_of}
+use Rattle.basis_core.specs.Leads.{leads_shown_of}
 use Rattle.basis_core.specs.Members.{MembersShown}
 use Rattle.basis_core.specs.Shown.{Shown}
 use Rattle.basis_core.specs.Views.{run_of, state_of, variables_of}
@@ -68,9 +68,9 @@ shown_by p = record {
 record AreKept (places : ℕ) (p : Items) : Type 0 where
   some : 0 < p.workers
   replays : Replays (run_of (variables_of (shown_by p)) (shown_by p)) (state_of (variables_of (shown_by p)) (shown_by p))
-  leads_are : p.pairs.leads ≡ leads_of p.members.shared p.members.list
+  leads_are : p.pairs.leads ≡ leads_shown_of p.members.shared p.members.list
   stop_over : IsStopOver (shown_by p) p.stop
-  read : Each (IsRead (length p.members.list) p.stop) p.history
+  read : Each (IsEventRead (length p.members.list) p.stop) p.history
   room : length p.history + all_left (state_of (variables_of (shown_by p)) (shown_by p)) p.workers ≤ places
 
 -- what contracts see is the same
@@ -91,7 +91,7 @@ same_shown i j h = λ t. record {
 }
 
 -- and what is kept is kept
-pub unchanged_kept : (i j : Inside) → IsCoherent i → IsUnchanged i j → IsCoherent j
+pub unchanged_kept : (i j : Inside) → IsCoherentState i → IsUnchanged i j → IsCoherentState j
 unchanged_kept i j k h =
     let there : AreKept (vec_capacity i.history) (items_of i) = record {
       some = k.some;

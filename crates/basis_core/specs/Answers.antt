@@ -7,18 +7,18 @@ use Rattle.module_vectors.specs.declared.trail.WorkStop.{WorkStop}
 use Rattle.module_vectors.specs.declared.trail.WorkStop.TheVariants.{Memory, Degree}
 use Rattle.formal_sums.specs.FormalSums.{FormalSum}
 use Rattle.queue_updates.specs.declared.Update.{Update}
-use Rattle.basis_steps.specs.Divisions.{AreReached, Makes}
+use Rattle.basis_steps.specs.Divisions.{AreReached, MakesMembers}
 use Rattle.basis_steps.specs.Pairs.{Pair, count}
 use Rattle.basis_steps.specs.States.{Member, job_of, vectors}
 use Rattle.basis_steps.specs.Steps.{FindsStop, Puts, Takes, generator_rows}
-use Rattle.basis_steps.specs.Trails.{HasGiven, IsTrail, row_at}
+use Rattle.basis_steps.specs.Trails.{HasGiven, IsHistoryTrail, row_at}
 use Rattle.basis_core.specs.declared.stop.StopReason.{StopReason}
 use Rattle.basis_core.specs.declared.stop.StopReason.TheVariants as reasons
 use Rattle.basis_core.specs.declared.taken.Taken.{Taken}
 use Rattle.basis_core.specs.declared.taken.Taken.TheVariants.{Job as TookJob, Empty, Stopped}
 use Rattle.basis_core.specs.Jobs.{pairs_of}
 use Rattle.basis_core.specs.Logs.{Adds, Put, Take}
-use Rattle.basis_core.specs.Members.{Shared, Tracked, members_of, rows_of, setting_of}
+use Rattle.basis_core.specs.Members.{Shared, MemberShown, members_of, rows_of, setting_of}
 use Rattle.basis_core.specs.Outcomes.{OutcomeShown, products_of}
 use Rattle.basis_core.specs.Shown.{Shown}
 use Rattle.basis_core.specs.Stops.{IsPairTrail, IsTrailOver, trail_members, trail_of}
@@ -39,7 +39,7 @@ pub record IsBeginningTrail (n : ℕ) (shared : Shared) (t : KeptTrail) : Type 0
   pub known : number < length shared.generators
   pub vector : t.vector ≡ get_or shared.generators number []
   pub made : List (Member n)
-  pub makes : Makes (setting_of n shared) [] (generator_rows 0 (take number (sums_of n shared.generators))) made
+  pub makes : MakesMembers (setting_of n shared) [] (generator_rows 0 (take number (sums_of n shared.generators))) made
   pub members : trail_members n t ≡ vectors made
 
 -- Degree comes with such a trail alone
@@ -50,7 +50,7 @@ BeginningStops n shared (Degree t) = IsBeginningTrail n shared t
 -- a trail of the state's members and of a job of its history, as a stop by the degree needs it
 pub record IsRunTrail (n : ℕ) (s : Shown) (t : KeptTrail) : Type 0 where
   pub pair : IsPairTrail s.shared t
-  pub way : IsTrail (run_of n s) (vectors (state_of n s).members) (state_of n s).history (trail_of n t)
+  pub way : IsHistoryTrail (run_of n s) (vectors (state_of n s).members) (state_of n s).history (trail_of n t)
 
 -- the reason is not the budget, which a Take alone keeps; a stop by the degree has such a trail
 abbrev pub IsReason : (n : ℕ) → Shown → StopReason → Type 0
@@ -90,7 +90,7 @@ pub record IsJobOut (s : Shown) (o : OutcomeShown) : Type 0 where
   pub members : o.job.members ≡ take (length o.job.members) s.members
 
 -- the Put of the outcome: its rows make these members, which stand behind the old ones and in the log
-pub record PutsOutcome (n : ℕ) (s : Shown) (o : OutcomeShown) (made : List Tracked) (t : Shown) : Type 0 where
+pub record PutsOutcome (n : ℕ) (s : Shown) (o : OutcomeShown) (made : List MemberShown) (t : Shown) : Type 0 where
   pub puts :
       Puts (run_of n s) (state_of n s) o.job.worker (length o.job.members) (rows_of n o.rows) (products_of n o.products) (members_of n made) (state_of n t)
   pub members : t.members ≡ s.members ++ made
@@ -103,7 +103,7 @@ pub record IsPutTrail (n : ℕ) (s : Shown) (o : OutcomeShown) (t : KeptTrail) :
   pub number : ℕ
   pub known : number < length o.rows
   pub made : List (Member n)
-  pub makes : Makes (setting_of n s.shared) (vectors (members_of n s.members)) (take number (rows_of n o.rows)) made
+  pub makes : MakesMembers (setting_of n s.shared) (vectors (members_of n s.members)) (take number (rows_of n o.rows)) made
   pub members : (trail_of n t).members ≡ vectors (members_of n s.members) ++ vectors made
   pub given : HasGiven (state_of n s).history (pairs_of o.job.pairs)
   -- the products of the row's division so far, the last of the trail behind them

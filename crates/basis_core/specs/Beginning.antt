@@ -5,14 +5,14 @@ use Rattle.module_vectors.specs.Rings.{variables}
 use Rattle.module_vectors.specs.Vectors.{StandsFor, sums_of}
 use Rattle.module_vectors.specs.declared.key.Key.{Key as CodeKey}
 use Rattle.module_vectors.specs.declared.ring.Ring.{Ring}
-use Rattle.basis_steps.specs.Divisions.{Makes}
+use Rattle.basis_steps.specs.Divisions.{MakesMembers}
 use Rattle.basis_steps.specs.Steps.{generator_rows}
-use Rattle.basis_core.specs.Members.{Shared, Tracked, members_of, setting_of}
+use Rattle.basis_core.specs.Members.{Shared, MemberShown, members_of, setting_of}
 
 -- these are the members that the first k generators make
-abbrev pub HaveMade : Shared → ℕ → List Tracked → Type 0
+abbrev pub HaveMade : Shared → ℕ → List MemberShown → Type 0
 HaveMade shared k ms =
-    Makes (setting_of (variables shared.ring) shared) [] (generator_rows 0 (take k (sums_of (variables shared.ring) shared.generators)))
+    MakesMembers (setting_of (variables shared.ring) shared) [] (generator_rows 0 (take k (sums_of (variables shared.ring) shared.generators)))
     (members_of (variables shared.ring) ms)
 
 -- a stands for 1 times generator i: the monomial 1 at position i

@@ -14,7 +14,7 @@ use Rattle.basis_core.specs.Jobs.{pairs_of}
 use Rattle.basis_core.specs.Shown.{Shown}
 use Rattle.basis_core.specs.Stops.{IsReasonOver}
 use Rattle.basis_core.specs.Views.{run_of, state_of, variables_of}
-use Rattle.basis_core.specs.Leads.{leads_of}
+use Rattle.basis_core.specs.Leads.{leads_shown_of}
 
 abbrev pub shown : Inside → Shown
 shown s = record {
@@ -59,11 +59,11 @@ HasReason (Some reason) None = ⊤
 HasReason None None = ⊥
 
 -- all that the event stands for is there: its members are among the first `count`, and its reason is known
-abbrev pub IsRead : (count : ℕ) → (kept : Option StopReason) → Event → Type 0
-IsRead count kept (Take w skipped job) = ⊤
-IsRead count kept (Put w first made) = first + made ≤ count
-IsRead count kept (End w ending) = ⊤
-IsRead count kept (Stop w reason) = HasReason kept reason
+abbrev pub IsEventRead : (count : ℕ) → (kept : Option StopReason) → Event → Type 0
+IsEventRead count kept (Take w skipped job) = ⊤
+IsEventRead count kept (Put w first made) = first + made ≤ count
+IsEventRead count kept (End w ending) = ⊤
+IsEventRead count kept (Stop w reason) = HasReason kept reason
 
 -- the kept reason, if there is one, is over these generators
 abbrev pub IsStopOver : (o : Shown) → Option StopReason → Type 0
@@ -72,10 +72,10 @@ IsStopOver o (Some reason) = IsReasonOver o.shared reason
 
 -- the state replays its history, of which all that its events stand for is there; its pairs know its members by their leads;
 -- and there is room for the Ends and Stops that may come
-pub record IsCoherent (s : Inside) : Type 0 where
+pub record IsCoherentState (s : Inside) : Type 0 where
   pub some : 0 < s.workers
   pub replays : Replays (run_of (variables_of (shown s)) (shown s)) (state_of (variables_of (shown s)) (shown s))
-  pub leads : s.pairs.leads ≡ leads_of s.members.shared s.members.list
+  pub leads : s.pairs.leads ≡ leads_shown_of s.members.shared s.members.list
   pub stop : IsStopOver (shown s) s.stop
-  pub read : Each (IsRead (length s.members.list) s.stop) s.history.items
+  pub read : Each (IsEventRead (length s.members.list) s.stop) s.history.items
   pub room : length s.history.items + all_left (state_of (variables_of (shown s)) (shown s)) s.workers ≤ vec_capacity s.history

@@ -8,18 +8,18 @@ use Rattle.pair_criteria.specs.declared.pair.Pair.{Pair as CodePair}
 use Rattle.basis_steps.specs.Criteria.{IsPair, lcm_of}
 use Rattle.basis_steps.specs.Divisions.{IsMonicMember}
 use Rattle.basis_steps.specs.States.{vectors}
-pub use Rattle.pair_queue.specs.Pairs.{pair_of, pairs_of}
-use Rattle.basis_core.specs.Members.{Shared, Tracked, members_of, setting_of}
+pub use Rattle.pair_updates.specs.Pairs.{pair_of, pairs_of}
+use Rattle.basis_core.specs.Members.{Shared, MemberShown, members_of, setting_of}
 
 -- what contracts see of a job
 pub record JobShown : Type 0 where
   pub shared : Shared
   pub worker : ℕ
-  pub members : List Tracked
+  pub members : List MemberShown
   pub pairs : List CodePair
 
 -- the pair keeps the least common multiple of its leads, by these weights
-pub record HasLcm (n : ℕ) (ws : List ℕ) (ms : List Tracked) (x : CodePair) : Type 0 where
+pub record HasLcmOfMembers (n : ℕ) (ws : List ℕ) (ms : List MemberShown) (x : CodePair) : Type 0 where
   pub weighed : IsWeighed n ws x.lcm.monomial
   pub lcm : key_of n x.lcm ≡ lcm_of (vectors (members_of n ms)) (pair_of x)
 
@@ -28,7 +28,7 @@ pub record IsJob (n : ℕ) (j : JobShown) : Type 0 where
   pub some : 0 < length j.pairs
   pub monic : Each (IsMonicMember (setting_of n j.shared)) (vectors (members_of n j.members))
   pub real : Each (IsPair (vectors (members_of n j.members))) (pairs_of j.pairs)
-  pub lcms : Each (HasLcm n j.shared.ring.weights j.members) j.pairs
+  pub lcms : Each (HasLcmOfMembers n j.shared.ring.weights j.members) j.pairs
 
 -- the same, in the number of variables of the job's ring
 abbrev pub IsJobOver : JobShown → Type 0

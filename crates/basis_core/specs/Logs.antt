@@ -5,7 +5,7 @@ use Rattle.basis_steps.specs.Pairs.{Pair}
 use Rattle.basis_steps.specs.States as plain
 use Rattle.basis_core.specs.declared.event.Event.{Event}
 use Rattle.basis_core.specs.declared.event.Event.TheVariants as events
-use Rattle.basis_core.specs.Members.{Shared, Tracked}
+use Rattle.basis_core.specs.Members.{Shared, MemberShown}
 use Rattle.basis_core.specs.Shown.{Shown}
 use Rattle.basis_core.specs.Views.{ending_of}
 
@@ -15,12 +15,12 @@ pub record Base : Type 0 where
   pub budget : ℕ
   pub workers : ℕ
   pub update : Update
-  pub first : List Tracked
+  pub first : List MemberShown
 
 -- an event of a worker: a Put with the members that it made
 pub data Noted : Type 0 where
   Take : (worker : ℕ) (skipped job : List Pair) → Noted
-  Put : (worker : ℕ) (made : List Tracked) → Noted
+  Put : (worker : ℕ) (made : List MemberShown) → Noted
   End : (worker : ℕ) (ending : plain.Ending) → Noted
   Stop : (worker : ℕ) → Noted
 
@@ -40,7 +40,7 @@ count_made (events.End w ending ∷ es) = count_made es
 count_made (events.Stop w reason ∷ es) = count_made es
 
 -- the notes of these events, before which there were k members
-abbrev pub notes_from : ℕ → List Tracked → List Event → List Noted
+abbrev pub notes_from : ℕ → List MemberShown → List Event → List Noted
 notes_from k ms [] = []
 notes_from k ms (events.Take w skipped job ∷ es) = Take w skipped.items job.items ∷ notes_from k ms es
 notes_from k ms (events.Put w first count ∷ es) = Put w (take count (drop k ms)) ∷ notes_from (k + count) ms es
@@ -70,7 +70,7 @@ abbrev pub workers : Base → ℕ
 workers b = b.workers
 
 -- the members that the Puts made, in their order
-abbrev pub made_in : List Noted → List Tracked
+abbrev pub made_in : List Noted → List MemberShown
 made_in [] = []
 made_in (Take w skipped job ∷ es) = made_in es
 made_in (Put w made ∷ es) = made ++ made_in es
@@ -78,7 +78,7 @@ made_in (End w ending ∷ es) = made_in es
 made_in (Stop w ∷ es) = made_in es
 
 -- the members after these events: those of the beginning and those that Puts made
-abbrev pub members_after : Base → List Noted → List Tracked
+abbrev pub members_after : Base → List Noted → List MemberShown
 members_after b es = b.first ++ made_in es
 
 -- the event e is added to the log, and what never changes is the same

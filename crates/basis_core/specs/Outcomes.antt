@@ -6,14 +6,14 @@ use Rattle.monomial_orders.specs.Kept.{IsWeighed, Monomial}
 use Rattle.module_vectors.specs.Rings.{variables}
 use Rattle.basis_steps.specs.Outcomes.{IsOutcome}
 use Rattle.basis_steps.specs.States.{Product, vectors}
-use Rattle.member_products.specs.declared.member.Row.{Row as CodeRow}
+use Rattle.member_products.specs.declared.member.Reduct.{Reduct as CodeReduct}
 use Rattle.basis_core.specs.Members.{IsRunRow, members_of, rows_of, setting_of}
 use Rattle.basis_core.specs.Jobs.{JobShown, pairs_of}
 
 -- what contracts see of an outcome
 pub record OutcomeShown : Type 0 where
   pub job : JobShown
-  pub rows : List CodeRow
+  pub rows : List CodeReduct
   pub products : List (ℕ × Monomial)
 
 -- a product of a monomial and a member

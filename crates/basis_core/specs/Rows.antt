@@ -7,14 +7,14 @@ use Rattle.module_vectors.specs.Vectors.{sum_of}
 use Rattle.module_vectors.specs.declared.key.Key.{Key as CodeKey}
 use Rattle.basis_core.specs.declared.row_division.RowStop.{RowStop}
 use Rattle.basis_core.specs.declared.row_division.RowStop.TheVariants.{Memory, Degree}
-use Rattle.basis_core.specs.Members.{Tracked}
+use Rattle.basis_core.specs.Members.{MemberShown}
 
 -- the terms of the members' vectors
-abbrev pub vectors_in : List Tracked → List (List (CodeKey × ℕ))
+abbrev pub vectors_in : List MemberShown → List (List (CodeKey × ℕ))
 vectors_in ms = map (λ m. m.vector) ms
 
 -- these products divide the vector by the members, and the last one's product with a monomial of its member is too great
-pub record IsRowTrail (n : ℕ) (ws : List ℕ) (ms : List Tracked) (v : List (CodeKey × ℕ)) (chain : List KeptProduct) (last : Monomial) : Type 0 where
+pub record IsRowTrail (n : ℕ) (ws : List ℕ) (ms : List MemberShown) (v : List (CodeKey × ℕ)) (chain : List KeptProduct) (last : Monomial) : Type 0 where
   pub first : KeptProduct
   pub later : List KeptProduct
   pub products : chain ≡ first ∷ later
@@ -26,6 +26,6 @@ pub record IsRowTrail (n : ℕ) (ws : List ℕ) (ms : List Tracked) (v : List (C
   pub too_great : 65535 < (last_product first later).1.degree + last.degree
 
 -- Degree comes with such a trail alone
-abbrev pub RowStops : (n : ℕ) (ws : List ℕ) → List Tracked → List (CodeKey × ℕ) → RowStop → Type 0
+abbrev pub RowStops : (n : ℕ) (ws : List ℕ) → List MemberShown → List (CodeKey × ℕ) → RowStop → Type 0
 RowStops n ws ms v Memory = ⊤
 RowStops n ws ms v (Degree t) = IsRowTrail n ws ms v t.products.items t.last

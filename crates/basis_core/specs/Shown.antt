@@ -2,7 +2,7 @@
 use Rattle.std.specs.Prelude.{Bool, List, Option, ℕ}
 use Rattle.queue_updates.specs.declared.Update.{Update}
 use Rattle.basis_steps.specs.Pairs.{Drop, Pair}
-use Rattle.basis_core.specs.Members.{Shared, Tracked}
+use Rattle.basis_core.specs.Members.{Shared, MemberShown}
 use Rattle.basis_core.specs.declared.event.Event.{Event}
 use Rattle.basis_core.specs.declared.stop.StopReason.{StopReason}
 
@@ -13,7 +13,7 @@ pub record Shown : Type 0 where
   pub budget : ℕ
   pub workers : ℕ
   pub update : Update
-  pub members : List Tracked
+  pub members : List MemberShown
   pub queue : List Pair
   pub dropped : List Drop
   pub out : List (Pair × ℕ)

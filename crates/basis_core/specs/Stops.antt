@@ -17,7 +17,7 @@ use Rattle.basis_steps.specs.States as plain
 use Rattle.basis_steps.specs.States.{Trail, vectors}
 use Rattle.basis_core.specs.declared.stop.StopReason.{StopReason}
 use Rattle.basis_core.specs.declared.stop.StopReason.TheVariants.{Pairs, Memory, Degree}
-use Rattle.basis_core.specs.Members.{Shared, Tracked, members_of}
+use Rattle.basis_core.specs.Members.{Shared, MemberShown, members_of}
 use Rattle.basis_core.specs.Outcomes.{product_of, products_of}
 
 -- the vectors of the trail's members
@@ -82,7 +82,7 @@ pub record IsPairTrail (shared : Shared) (t : KeptTrail) : Type 0 where
 
 -- such a trail by these members, which starts with one of the pairs: each product's lead is that pair's lcm or a monomial of an
 -- earlier product, and the last product of two monomials is too great
-pub record IsTrailBy (shared : Shared) (ms : List Tracked) (pairs : List Pair) (t : KeptTrail) : Type 0 where
+pub record IsTrailBy (shared : Shared) (ms : List MemberShown) (pairs : List Pair) (t : KeptTrail) : Type 0 where
   pub pair : IsPairTrail shared t
   pub members : (trail_of (variables shared.ring) t).members ≡ vectors (members_of (variables shared.ring) ms)
   pub start : 0 < count (trail_of (variables shared.ring) t).start pairs

@@ -9,8 +9,8 @@ use Rattle.basis_core.specs.declared.ending.Ending.TheVariants.{Ended, MoreWork}
 use Rattle.basis_core.specs.declared.event.Event.{Event}
 use Rattle.basis_core.specs.declared.event.Event.TheVariants.{Take, Put, End, Stop}
 use Rattle.basis_core.specs.declared.stop.StopReason.{StopReason}
-pub use Rattle.pair_queue.specs.Pairs.{outs_of}
-use Rattle.basis_core.specs.Members.{Tracked, members_of, setting_of}
+pub use Rattle.pair_queue.specs.Outs.{outs_of}
+use Rattle.basis_core.specs.Members.{MemberShown, members_of, setting_of}
 use Rattle.basis_core.specs.Shown.{Shown}
 use Rattle.basis_core.specs.Stops.{reason_of, stop_of}
 
@@ -26,14 +26,14 @@ reason_given n (Some reason) None = reason_of n reason
 reason_given n None None = plain.Memory
 
 -- an event, with the members that it made and the reason that it gave
-abbrev pub event_of : (n : ℕ) → List Tracked → Option StopReason → Event → plain.Event n
+abbrev pub event_of : (n : ℕ) → List MemberShown → Option StopReason → Event → plain.Event n
 event_of n ms kept (Take w skipped job) = plain.Take w skipped.items job.items
 event_of n ms kept (Put w first count) = plain.Put w (members_of n (take count (drop first ms)))
 event_of n ms kept (End w ending) = plain.End w (ending_of ending)
 event_of n ms kept (Stop w reason) = plain.Stop w (reason_given n kept reason)
 
 -- each event of a history
-abbrev pub history_of : (n : ℕ) → List Tracked → Option StopReason → List Event → List (plain.Event n)
+abbrev pub history_of : (n : ℕ) → List MemberShown → Option StopReason → List Event → List (plain.Event n)
 history_of n ms kept es = map (λ e. event_of n ms kept e) es
 
 -- what never changes

@@ -3,7 +3,7 @@ ghost use Rattle.std.specs.Prelude.{ℕ, ◌≡◌, ◌<◌, ◌∷◌, ◌↔�
 ghost use Rattle.basis_steps.specs.States.{job_of};
 ghost use Rattle.basis_steps.specs.Histories.{HasStopped, took_since};
 ghost use Rattle.basis_steps.specs.Steps.{MayEnd, MayTake};
-ghost use Rattle.basis_core.specs.Members.{Tracked};
+ghost use Rattle.basis_core.specs.Members.{MemberShown};
 ghost use Rattle.basis_core.specs.Views.{history_of, outs_of, run_of, state_of, variables_of};
 
 use crate::event::Event;
@@ -24,7 +24,7 @@ fn is_free(out: &[Out], worker: u32) -> bool
 
 // Has the worker a Take behind its last End, after this event, where it had or had not one before it?
 fn took_after(event: &Event, worker: u32, took: bool) -> bool
-    ensures { (n : ℕ) (ms : List Tracked) (kept : Option _) → result ≡ took_since worker (history_of n ms kept (event.now ∷ [])) took }
+    ensures { (n : ℕ) (ms : List MemberShown) (kept : Option _) → result ≡ took_since worker (history_of n ms kept (event.now ∷ [])) took }
 {
     match event {
         Event::Take(other, _, _) if *other == worker => true,
@@ -35,7 +35,7 @@ fn took_after(event: &Event, worker: u32, took: bool) -> bool
 
 /// Has the worker a Take behind its last End?
 fn took_since_end(history: &[Event], worker: u32) -> bool
-    ensures { (n : ℕ) (ms : List Tracked) (kept : Option _) → result ≡ took_since worker (history_of n ms kept history.now) false }
+    ensures { (n : ℕ) (ms : List MemberShown) (kept : Option _) → result ≡ took_since worker (history_of n ms kept history.now) false }
 {
     let mut took = false;
     for event in history {
@@ -46,7 +46,7 @@ fn took_since_end(history: &[Event], worker: u32) -> bool
 
 // Is the event a Stop of the worker?
 fn is_stop(event: &Event, worker: u32) -> bool
-    ensures { (n : ℕ) (ms : List Tracked) (kept : Option _) → IsTrue result ↔ HasStopped worker (history_of n ms kept (event.now ∷ [])) }
+    ensures { (n : ℕ) (ms : List MemberShown) (kept : Option _) → IsTrue result ↔ HasStopped worker (history_of n ms kept (event.now ∷ [])) }
 {
     match event {
         Event::Stop(other, _) => *other == worker,
@@ -56,7 +56,7 @@ fn is_stop(event: &Event, worker: u32) -> bool
 
 /// Has the worker a Stop?
 fn has_stopped(history: &[Event], worker: u32) -> bool
-    ensures { (n : ℕ) (ms : List Tracked) (kept : Option _) → IsTrue result ↔ HasStopped worker (history_of n ms kept history.now) }
+    ensures { (n : ℕ) (ms : List MemberShown) (kept : Option _) → IsTrue result ↔ HasStopped worker (history_of n ms kept history.now) }
 {
     for event in history {
         if is_stop(event, worker) {

@@ -10,7 +10,7 @@ ghost use Rattle.member_products.specs.Generators.{IsVectorOf};
 use crate::copies::trail_over;
 use crate::members::Members;
 use crate::row_division::{RowStop, RowTrail, make_member};
-use member_products::Row;
+use member_products::Reduct;
 use module_vectors::{KeptTrail, Key, NoMemory, Ring, TrailStart, Vect, WorkStop};
 use monomial_orders::Mono;
 use std::alloc::{AllocError, Global};
@@ -31,7 +31,7 @@ fn beginning_trail(
     alloc: Global,
     members: &Members,
     number: u64,
-    row: &Row,
+    row: &Reduct,
     trail: RowTrail,
 ) -> Result<KeptTrail, NoMemory>
     requires known { number < length members.now.shared.generators }
@@ -72,13 +72,13 @@ fn unit_multiple(alloc: Global, ring: &Ring, number: u64) -> Result<Vect, NoMemo
 }
 
 // The generator with this number as a row, of which no members are products.
-fn generator_row(alloc: Global, members: &Members, number: u64) -> Result<Row, NoMemory>
+fn generator_row(alloc: Global, members: &Members, number: u64) -> Result<Reduct, NoMemory>
     requires { number < length members.now.shared.generators }
     ensures vector { IfOk result (λ row. row.vector ≡ get_or members.now.shared.generators number []) }
     ensures products { IfOk result (λ row. row.products ≡ []) }
 {
     let generators = members.generators().as_slice();
-    Ok(Row {
+    Ok(Reduct {
         vector: generators[number as usize].try_copy(alloc)?,
         products: Vect::zero(alloc),
     })
@@ -89,7 +89,7 @@ fn beginning_stop(
     alloc: Global,
     members: &Members,
     number: u64,
-    row: &Row,
+    row: &Reduct,
     stop: RowStop,
 ) -> WorkStop
     requires known { number < length members.now.shared.generators }

@@ -7,7 +7,7 @@ ghost use Rattle.basis_steps.specs.Divisions.{IsMonicMember};
 ghost use Rattle.basis_steps.specs.Updates.{QueuesPairs};
 ghost use Rattle.basis_steps.specs.States.{vectors};
 ghost use Rattle.basis_core.specs.Jobs.{pairs_of};
-ghost use Rattle.basis_core.specs.Leads.{first_key, leads_of};
+ghost use Rattle.basis_core.specs.Leads.{first_key, leads_shown_of};
 ghost use Rattle.basis_core.specs.Members.{AreMonic, members_of, setting_of};
 
 use crate::members::Members;
@@ -33,7 +33,7 @@ pub(crate) fn lead_keys(
     requires first { first ≤ length members.now.list }
     requires monic { let n = variables members.now.shared.ring in Each (IsMonicMember (setting_of n members.now.shared)) (vectors (members_of n members.now.list)) }
     ensures weighed { IfOk result (λ keys. Each (λ k. IsMonomialOver members.now.shared.ring k.monomial) keys.items) }
-    ensures leads { IfOk result (λ keys. keys.items ≡ drop first (leads_of members.now.shared members.now.list).keys) }
+    ensures leads { IfOk result (λ keys. keys.items ≡ drop first (leads_shown_of members.now.shared members.now.list).keys) }
 {
     let mut keys = Vec::new(alloc);
     for index in first..members.len() {
@@ -50,7 +50,7 @@ pub(crate) fn first_pairs(
     update: Update,
 ) -> Result<PairQueue, NoMemory>
     requires { AreMonic members.now.shared members.now.list }
-    ensures leads { IfOk result (λ q. q.leads ≡ leads_of members.now.shared members.now.list) }
+    ensures leads { IfOk result (λ q. q.leads ≡ leads_shown_of members.now.shared members.now.list) }
     ensures queues { let n = variables members.now.shared.ring in IfOk result
         (λ q. QueuesPairs update (setting_of n members.now.shared) 0 (vectors (members_of n members.now.list)) [] [] (pairs_of q.queue) q.dropped) }
     ensures out { IfOk result (λ q. q.out ≡ []) }

@@ -3,10 +3,10 @@ ghost use Rattle.std.specs.Prelude.{◌≡◌, ◌<◌, map, get_or, length, tak
 ghost use Rattle.residues.specs.Residues.{IsDomain};
 ghost use Rattle.formal_sums.specs.FormalSums.{Each};
 ghost use Rattle.member_products.specs.Generators.{AreGenerators};
-ghost use Rattle.basis_core.specs.Members.{AreRunMembers, IsRunMember, IsTracked, shared_of};
+ghost use Rattle.basis_core.specs.Members.{AreRunMembers, IsRunMember, IsMemberShown, shared_of};
 ghost use Rattle.std.specs.Arc.{arc_value};
 
-use member_products::{Member, Shared};
+use member_products::{RunMember, Shared};
 use module_vectors::{NoMemory, Ring, Vect, VectList, Vectors};
 use std::alloc::Global;
 use std::marker::Model;
@@ -16,7 +16,7 @@ use std::sync::Arc;
 /// state and of its jobs. Contracts see ring, rank and generators, and the members.
 pub struct Members {
     shared: Arc<Shared, Global>,
-    handles: Vec<Arc<Member, Global>>,
+    handles: Vec<Arc<RunMember, Global>>,
 }
 
 // By hand, so that each drop of one is a call.
@@ -77,7 +77,7 @@ impl Members {
 
     /// What holds of each list of members: their vectors are of its ring and rank.
     pub fn kept(&self)
-        ensures { Each (IsTracked self.now.shared) self.now.list }
+        ensures { Each (IsMemberShown self.now.shared) self.now.list }
     {
         let _ = &self.handles;
     }
@@ -119,7 +119,7 @@ impl Members {
     }
 
     /// The member with this index.
-    pub fn get(&self, index: usize) -> &Member
+    pub fn get(&self, index: usize) -> &RunMember
         requires { index < length self.now.list }
         ensures over { IsRunMember self.now.shared index result.now }
         ensures terms { result.now ≡ get_or self.now.list index result.now }
@@ -128,7 +128,7 @@ impl Members {
     }
 
     /// Appends a member. After an error the list is as before.
-    pub(crate) fn push(&mut self, alloc: Global, member: Member) -> Result<(), NoMemory>
+    pub(crate) fn push(&mut self, alloc: Global, member: RunMember) -> Result<(), NoMemory>
         requires { IsRunMember self.old.shared (length self.old.list) member }
         ensures shared { self.new.shared ≡ self.old.shared }
         ensures ok { OnOk result (self.new.list ≡ self.old.list ++ member ∷ []) }

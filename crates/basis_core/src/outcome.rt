@@ -2,7 +2,7 @@
 ghost use Rattle.std.specs.Prelude.{◌≡◌};
 
 use crate::job::Job;
-use member_products::Row;
+use member_products::Reduct;
 use monomial_orders::Mono;
 use std::marker::Model;
 
@@ -11,7 +11,7 @@ use std::marker::Model;
 /// coefficients, that the outcome lists; each of these begins with a pair of the job or a monomial of an earlier one.
 pub struct Outcome {
     job: Job,
-    rows: Vec<Row>,
+    rows: Vec<Reduct>,
     products: Vec<(u64, Mono)>,
 }
 
@@ -40,7 +40,7 @@ impl Outcome {
     ghost use Rattle.basis_core.specs.Outcomes.{IsOutcomeOver};
 
     /// The outcome of a job, which must be one. It takes no memory.
-    pub fn new(job: Job, rows: Vec<Row>, products: Vec<(u64, Mono)>) -> Outcome
+    pub fn new(job: Job, rows: Vec<Reduct>, products: Vec<(u64, Mono)>) -> Outcome
         requires { IsOutcomeOver (record { job = job; rows = rows.items; products = products.items }) }
         ensures job { result.job ≡ job }
         ensures rows { result.rows ≡ rows.items }
@@ -68,7 +68,7 @@ impl Outcome {
     }
 
     /// Its rows.
-    pub fn rows(&self) -> &[Row]
+    pub fn rows(&self) -> &[Reduct]
         ensures { result.now ≡ self.now.rows }
     {
         &self.rows

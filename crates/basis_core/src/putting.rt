@@ -6,7 +6,7 @@ ghost use Rattle.module_vectors.specs.Rings.{variables};
 ghost use Rattle.basis_steps.specs.Updates.{QueuesPairs};
 ghost use Rattle.basis_steps.specs.States.{vectors};
 ghost use Rattle.basis_core.specs.Jobs.{pairs_of};
-ghost use Rattle.basis_core.specs.Leads.{leads_of};
+ghost use Rattle.basis_core.specs.Leads.{leads_shown_of};
 ghost use Rattle.basis_core.specs.Makings.{HaveMadeRows, StopsRow, StopsWork};
 ghost use Rattle.basis_core.specs.Members.{AreMonic, IsRunRow, members_of, setting_of};
 
@@ -16,7 +16,7 @@ use crate::members::Members;
 use crate::outcome::Outcome;
 use crate::row_division::{RowStop, make_member};
 use crate::trails::put_stop;
-use member_products::Row;
+use member_products::Reduct;
 use module_vectors::{NoMemory, Vect, WorkStop};
 use pair_queue::PairQueue;
 use std::alloc::Global;
@@ -26,7 +26,7 @@ use std::alloc::Global;
 pub(crate) fn make_members(
     alloc: Global,
     members: &mut Members,
-    rows: &[Row],
+    rows: &[Reduct],
 ) -> Result<(), RowStop>
     requires over { Each (IsRunRow members.old.shared (length members.old.list)) rows.now }
     requires monic { AreMonic members.old.shared members.old.list }
@@ -56,11 +56,11 @@ pub(crate) fn add_pairs(
 ) -> Result<(), NoMemory>
     requires first { first ≤ length members.now.list }
     requires monic { AreMonic members.now.shared members.now.list }
-    requires leads { pairs.old.leads ≡ leads_of members.now.shared (take first members.now.list) }
+    requires leads { pairs.old.leads ≡ leads_shown_of members.now.shared (take first members.now.list) }
     ensures history { history.new.items ≡ history.old.items }
     ensures history_kept { vec_capacity history.old ≤ vec_capacity history.new }
     ensures history_room { OnOk result (length history.old.items + (3 * workers + 1) ≤ vec_capacity history.new) }
-    ensures leads { OnOk result (pairs.new.leads ≡ leads_of members.now.shared members.now.list) }
+    ensures leads { OnOk result (pairs.new.leads ≡ leads_shown_of members.now.shared members.now.list) }
     ensures queues { let n = variables members.now.shared.ring in OnOk result
         (QueuesPairs pairs.old.update (setting_of n members.now.shared) first (vectors (members_of n members.now.list))
         (pairs_of pairs.old.queue) pairs.old.dropped (pairs_of pairs.new.queue) pairs.new.dropped) }
@@ -114,14 +114,14 @@ pub(crate) fn add_members(
     requires had { length outcome.now.job.members ≤ length members.old.list }
     requires base { outcome.now.job.members ≡ take (length outcome.now.job.members) members.old.list }
     requires monic { AreMonic members.old.shared members.old.list }
-    requires leads { pairs.old.leads ≡ leads_of members.old.shared members.old.list }
+    requires leads { pairs.old.leads ≡ leads_shown_of members.old.shared members.old.list }
     ensures shared { members.new.shared ≡ members.old.shared }
     ensures made { let n = variables members.old.shared.ring in OnOk result
         (HaveMadeRows n members.old.shared members.old.list outcome.now.rows members.new.list) }
     ensures history { history.new.items ≡ history.old.items }
     ensures history_kept { vec_capacity history.old ≤ vec_capacity history.new }
     ensures history_room { OnOk result (length history.old.items + (3 * workers + 1) ≤ vec_capacity history.new) }
-    ensures leads { OnOk result (pairs.new.leads ≡ leads_of members.old.shared members.new.list) }
+    ensures leads { OnOk result (pairs.new.leads ≡ leads_shown_of members.old.shared members.new.list) }
     ensures queues { let n = variables members.old.shared.ring in OnOk result
         (QueuesPairs pairs.old.update (setting_of n members.old.shared) (length members.old.list) (vectors (members_of n members.new.list))
         (pairs_of pairs.old.queue) pairs.old.dropped (pairs_of pairs.new.queue) pairs.new.dropped) }

@@ -1,18 +1,18 @@
 // A row divided by the members of a moment, and the member that it makes.
 ghost use Rattle.std.specs.Prelude.{◌≡◌, ◌<◌, ◌++◌, ◌∷◌, [], List, length, IfOk, IfErr, OnOk, OnErr};
 ghost use Rattle.module_vectors.specs.Rings.{variables};
-ghost use Rattle.basis_steps.specs.Divisions.{Makes};
+ghost use Rattle.basis_steps.specs.Divisions.{MakesMembers};
 ghost use Rattle.basis_steps.specs.States.{vectors};
 ghost use Rattle.member_products.specs.Generators.{IsRanked};
-ghost use Rattle.basis_core.specs.Members.{AreMonic, IsRunMember, IsRunRow, Tracked, member_of, members_of, setting_of};
-ghost use Rattle.basis_core.specs.RowDivision.{AreRowProducts, AreRowQuotients, IsLeft, IsLeftMember, IsRowRest, lead_residue, with_multiple};
+ghost use Rattle.basis_core.specs.Members.{AreMonic, IsRunMember, IsRunRow, MemberShown, member_of, members_of, setting_of};
+ghost use Rattle.basis_core.specs.RowDivision.{AreRowProducts, AreRowQuotients, IsMemberLeft, IsLeftMember, IsRowRest, lead_residue, with_multiple};
 ghost use Rattle.basis_core.specs.Rows.{RowStops};
 ghost use Rattle.basis_core.specs.declared.row_division.RowStop.TheVariants.{Memory};
 ghost use Rattle.zp_field.specs.Moduli.{IsInverse};
 
 use crate::members::Members;
 use crate::products::quotient_products;
-use member_products::{Member, Row};
+use member_products::{Reduct, RunMember};
 use module_vectors::{NoMemory, Vect, WorkStop};
 use monomial_orders::Mono;
 use std::alloc::{AllocError, Global};
@@ -71,7 +71,7 @@ fn divide_vector(alloc: Global, members: &Members, v: &Vect) -> Result<Reduction
 fn divide_products(
     alloc: Global,
     members: &Members,
-    row: &Row,
+    row: &Reduct,
     quotients: &[ScaledProduct],
 ) -> Result<Vect, NoMemory>
     requires over { IsRunRow members.now.shared (length members.now.list) row.now }
@@ -103,10 +103,10 @@ fn invert_lead(modulus: &Modulus, v: &Vect) -> u32
 fn monic_member(
     alloc: Global,
     members: &Members,
-    row: &Row,
+    row: &Reduct,
     multiple: &Vect,
     reduction: Reduction,
-) -> Result<Member, NoMemory>
+) -> Result<RunMember, NoMemory>
     requires over { IsRunMember members.now.shared (length members.now.list) (with_multiple row.now multiple.now) }
     requires monic { AreMonic members.now.shared members.now.list }
     requires some { 0 < length reduction.rest }
@@ -123,7 +123,7 @@ fn monic_member(
     vector.scale(ring, inverse);
     multiple.scale(ring, inverse);
     products.scale(ring, inverse);
-    Ok(Member {
+    Ok(RunMember {
         vector,
         multiple,
         products,
@@ -134,12 +134,12 @@ fn monic_member(
 fn divide_row(
     alloc: Global,
     members: &Members,
-    row: &Row,
+    row: &Reduct,
     multiple: &Vect,
-) -> Result<Option<Member>, RowStop>
+) -> Result<Option<RunMember>, RowStop>
     requires over { IsRunMember members.now.shared (length members.now.list) (with_multiple row.now multiple.now) }
     requires monic { AreMonic members.now.shared members.now.list }
-    ensures left { IfOk result (IsLeft members.now.shared members.now.list (with_multiple row.now multiple.now)) }
+    ensures left { IfOk result (IsMemberLeft members.now.shared members.now.list (with_multiple row.now multiple.now)) }
     ensures stop { let n = variables members.now.shared.ring in IfErr result (RowStops n members.now.shared.ring.weights members.now.list row.now.vector) }
 {
     members.kept();
@@ -159,15 +159,15 @@ fn divide_row(
 pub(crate) fn make_member(
     alloc: Global,
     members: &mut Members,
-    row: &Row,
+    row: &Reduct,
     multiple: &Vect,
 ) -> Result<(), RowStop>
     requires over { IsRunMember members.old.shared (length members.old.list) (with_multiple row.now multiple.now) }
     requires monic { AreMonic members.old.shared members.old.list }
     ensures shared { members.new.shared ≡ members.old.shared }
     ensures made { let n = variables members.old.shared.ring in OnOk result
-        ((made : List Tracked) × (members.new.list ≡ members.old.list ++ made)
-        × Makes (setting_of n members.old.shared) (vectors (members_of n members.old.list)) (member_of n (with_multiple row.now multiple.now) ∷ [])
+        ((made : List MemberShown) × (members.new.list ≡ members.old.list ++ made)
+        × MakesMembers (setting_of n members.old.shared) (vectors (members_of n members.old.list)) (member_of n (with_multiple row.now multiple.now) ∷ [])
         (members_of n made)) }
     ensures err { OnErr result (members.new ≡ members.old) }
     ensures stop { let n = variables members.old.shared.ring in IfErr result (RowStops n members.old.shared.ring.weights members.old.list row.now.vector) }

@@ -9,12 +9,12 @@ ghost use Rattle.basis_steps.specs.Histories.{HasStopped};
 ghost use Rattle.basis_steps.specs.Steps.{Begins, Ends, FindsStop, MayEnd, MayTake, Replays, Stops};
 ghost use Rattle.member_products.specs.Generators.{AreGenerators};
 ghost use Rattle.basis_core.specs.Answers.{AnswersTake, BeginningStops, IsJobOut, IsReason, IsRunOf, IsTaken, PutStops, PutsOutcome};
-ghost use Rattle.basis_core.specs.Members.{Tracked, shared_of};
+ghost use Rattle.basis_core.specs.Members.{MemberShown, shared_of};
 ghost use Rattle.basis_core.specs.Stops.{reason_of};
-ghost use Rattle.basis_core.specs.Inside.{IsRead, IsStopOver};
+ghost use Rattle.basis_core.specs.Inside.{IsEventRead, IsStopOver};
 ghost use Rattle.basis_core.specs.Logs.{Adds, End as EndNote, Stop as StopNote, Take as TakeNote};
-ghost use Rattle.basis_core.specs.Jobs.{HasLcm, pairs_of};
-ghost use Rattle.pair_queue.specs.Dropping.{drops_of};
+ghost use Rattle.basis_core.specs.Jobs.{HasLcmOfMembers, pairs_of};
+ghost use Rattle.pair_updates.specs.Dropping.{drops_of};
 ghost use Rattle.basis_core.specs.Pending.{HaveGrown};
 ghost use Rattle.basis_core.specs.Views.{ending_of, outs_of, run_of, state_of, variables_of, IsSameRun};
 
@@ -74,11 +74,11 @@ impl Model for BasisState {
 
     ghost Value = { Shown };
 
-    ghost use Rattle.basis_core.specs.Inside.{shown, IsCoherent};
+    ghost use Rattle.basis_core.specs.Inside.{shown, IsCoherentState};
 
     ghost view = { shown };
 
-    ghost invariant = { IsCoherent };
+    ghost invariant = { IsCoherentState };
 }
 
 impl BasisState {
@@ -88,7 +88,7 @@ impl BasisState {
         ensures replays { let n = variables_of self.now in Replays (run_of n self.now) (state_of n self.now) }
         ensures holds { let n = variables_of self.now in HoldsInvariant (run_of n self.now) (state_of n self.now) }
         ensures stop { IsStopOver self.now self.now.stop }
-        ensures read { Each (IsRead (length self.now.members) self.now.stop) self.now.history }
+        ensures read { Each (IsEventRead (length self.now.members) self.now.stop) self.now.history }
     {
         self.members.domain();
     }
@@ -213,7 +213,7 @@ impl BasisState {
         requires works { get_or self.old.ended outcome.job.worker true ≡ false }
         requires out { IsJobOut self.old outcome }
         ensures step { let n = variables_of self.old in OnOk result
-            ((made : List Tracked) × PutsOutcome n self.old outcome made self.new) }
+            ((made : List MemberShown) × PutsOutcome n self.old outcome made self.new) }
         ensures run { IsSameRun self.old self.new }
         ensures members { OnOk result (HaveGrown self.old.members self.new.members) }
         ensures err { OnErr result (self.new ≡ self.old) }
@@ -297,7 +297,7 @@ impl BasisState {
     /// earlier one.
     pub fn queued(&self) -> &[Pair]
         ensures pairs { pairs_of result.now ≡ self.now.queue }
-        ensures lcms { Each (HasLcm (variables_of self.now) self.now.shared.ring.weights self.now.members) result.now }
+        ensures lcms { Each (HasLcmOfMembers (variables_of self.now) self.now.shared.ring.weights self.now.members) result.now }
     {
         self.pairs.queued()
     }

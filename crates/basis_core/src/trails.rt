@@ -9,7 +9,7 @@ ghost use Rattle.pair_criteria.specs.declared.pair.Pair.{Pair as PairValue};
 ghost use Rattle.pair_criteria.specs.Traces.{AreTraced};
 ghost use Rattle.basis_core.specs.Chains.{IsTracedTo};
 ghost use Rattle.basis_core.specs.Jobs.{pairs_of};
-ghost use Rattle.basis_core.specs.Makings.{EndsAs, StopsAt, StopsOne};
+ghost use Rattle.basis_core.specs.Makings.{TrailEndsAs, StopsAt, StopsOne};
 ghost use Rattle.basis_core.specs.Members.{AreMonic};
 ghost use Rattle.basis_core.specs.Rows.{vectors_in};
 ghost use Rattle.basis_core.specs.Stops.{IsTrailBy};
@@ -226,7 +226,7 @@ fn put_trail(
     requires base { outcome.now.job.members ≡ take (length outcome.now.job.members) members.now.list }
     requires row { StopsOne (variables members.now.shared.ring) members.now.shared.ring.weights members.now.list outcome.now.rows (RowStop.Degree trail) }
     ensures trail { IfOk result (IsTrailBy members.now.shared members.now.list (pairs_of outcome.now.job.pairs)) }
-    ensures ends { IfOk result (EndsAs (variables members.now.shared.ring) trail.products.items) }
+    ensures ends { IfOk result (TrailEndsAs (variables members.now.shared.ring) trail.products.items) }
 {
     // What holds of members, outcome, job and rows: by it each product has its lead from a pair or an earlier product.
     members.kept();

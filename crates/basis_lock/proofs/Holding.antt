@@ -6,17 +6,17 @@ use Rattle.module_vectors.specs.declared.trail.WorkStop.TheVariants as works
 use Rattle.basis_steps.specs.States as plain
 use Rattle.basis_steps.specs.States.{vectors}
 use Rattle.basis_steps.specs.Steps as steps
-use Rattle.basis_steps.specs.Trails.{IsTrailOf}
+use Rattle.basis_steps.specs.Trails.{IsJobTrail}
 use Rattle.basis_core.specs.declared.ending.Ending.{Ending}
 use Rattle.basis_core.specs.declared.ending.Ending.TheVariants as endings
 use Rattle.basis_core.specs.Answers.{IsRunTrail, PutStops}
-use Rattle.basis_core.specs.Members.{Tracked, members_of}
+use Rattle.basis_core.specs.Members.{MemberShown, members_of}
 use Rattle.basis_core.specs.Outcomes.{OutcomeShown}
 use Rattle.basis_core.specs.Shown.{Shown}
 use Rattle.basis_core.specs.Stops.{trail_of}
 use Rattle.basis_core.specs.Views.{IsSameRun, ending_of, run_of, state_of, variables_of}
 use Rattle.ruled_lock.specs.declared.law.View.{View}
-use Rattle.ruled_lock.specs.Plays.{Makes, Sees, added, freed, held}
+use Rattle.ruled_lock.specs.Plays.{AddsEvent, Sees, added, freed, held}
 use Rattle.ruled_lock.proofs.Steps.{makes}
 use Rattle.basis_lock.specs.Acts.{acts_of, has_stop}
 use Rattle.basis_lock.specs.Calls.{IsHold, IsTrailSeen, IsWorkStopSeen}
@@ -32,7 +32,7 @@ pub hold_of :
     → w ≡ freed (added (held v (log s)) (log t)) → steps.Replays (run_of (variables_of t) t) (state_of (variables_of t) t)
     → IsHold b v e w s t
 hold_of b v e w s t sees at same more own is replays = record {
-  makes = subst (Makes by v e) (sym is) (makes by v e (log s) (log t) more.0 own sees);
+  makes = subst (AddsEvent by v e) (sym is) (makes by v e (log s) (log t) more.0 own sees);
   before = at;
   after = more.1 ∙ at;
   run = same;
@@ -47,7 +47,7 @@ trail_seen s t h = record {
   pair = h.pair;
   job = (h.way).job;
   given = given_seen (variables_of s) s (h.way).job (h.way).given;
-  way = subst (λ (ms : List Tracked). IsTrailOf (run_of (variables_of s) s) (vectors (members_of (variables_of s) ms)) (h.way).job (trail_of (variables_of s) t)) (sym (members_told s)) (h.way).way;
+  way = subst (λ (ms : List MemberShown). IsJobTrail (run_of (variables_of s) s) (vectors (members_of (variables_of s) ms)) (h.way).job (trail_of (variables_of s) t)) (sym (members_told s)) (h.way).way;
 }
 
 pub put_stops :
@@ -60,7 +60,7 @@ put_stops b seen s o (works.Degree t) at is h = subst (λ (z : Base × List Note
 pub ends_stopped :
     (s : Shown) (v : View Noted Base) (ending : Ending)
     → steps.Replays (run_of (variables_of s) s) (state_of (variables_of s) s) → Sees by v (log s) → has_stop (acts_of v.seen) ≡ true
-    → ending_of ending ≡ steps.ending_of (state_of (variables_of s) s) → ending ≡ endings.Ended
+    → ending_of ending ≡ steps.end_answer_of (state_of (variables_of s) s) → ending ≡ endings.Ended
 ends_stopped s v ending replays sees seen answers =
     let n : ℕ = variables_of s in
     let all : has_stop (acts_of (log s)) ≡ true = ap (λ l. has_stop (acts_of l)) sees.0.1 ∙ stop-append v.seen sees.0.0 seen in

@@ -9,13 +9,13 @@ use Rattle.basis_steps.specs.Pairs.{Pair}
 use Rattle.basis_steps.specs.States as plain
 use Rattle.basis_steps.specs.States.{job_of, vectors}
 use Rattle.basis_steps.specs.Steps as steps
-use Rattle.basis_steps.specs.Trails.{HasGiven, IsTrailOf}
+use Rattle.basis_steps.specs.Trails.{HasGiven, IsJobTrail}
 use Rattle.basis_core.specs.declared.event.Event.{Event}
 use Rattle.basis_core.specs.declared.event.Event.TheVariants as events
 use Rattle.basis_core.specs.declared.stop.StopReason.{StopReason}
 use Rattle.basis_core.specs.declared.stop.StopReason.TheVariants as reasons
 use Rattle.basis_core.specs.Answers.{IsJobOut, IsReason, IsRunTrail}
-use Rattle.basis_core.specs.Members.{Tracked, member_of, members_of}
+use Rattle.basis_core.specs.Members.{MemberShown, member_of, members_of}
 use Rattle.basis_core.specs.Outcomes.{OutcomeShown}
 use Rattle.basis_core.specs.Shown.{Shown}
 use Rattle.basis_core.specs.Stops.{trail_of}
@@ -30,7 +30,7 @@ use Rattle.basis_lock.proofs.Acting.{acts_of_events, nobody_ended, own_acts, run
 use Rattle.basis_core.proofs.Logging.{members_told}
 
 -- the notes tell the same acts as the events
-acts_same : (n k : ℕ) (ms : List Tracked) (kept : Option StopReason) (es : List Event) → acts_of (notes_from k ms es) ≡ acts_of_events (history_of n ms kept es)
+acts_same : (n k : ℕ) (ms : List MemberShown) (kept : Option StopReason) (es : List Event) → acts_of (notes_from k ms es) ≡ acts_of_events (history_of n ms kept es)
 acts_same n k ms kept [] = refl
 acts_same n k ms kept (events.Take w skipped job ∷ es) = ap (λ l. act_of (Take w skipped.items job.items) ∷ l) (acts_same n k ms kept es)
 acts_same n k ms kept (events.Put w first count ∷ es) = ap (λ l. act_of (Put w []) ∷ l) (acts_same n (k + count) ms kept es)
@@ -90,7 +90,7 @@ there_more (y ∷ xs) ys x (zero, l, e) = (zero, omega arith, e)
 there_more (y ∷ xs) ys x (suc i, l, e) = later_there y (xs ++ ys) x (there_more xs ys x (i, omega arith, e))
 
 -- and the jobs that were given
-given_event : (n k : ℕ) (ms : List Tracked) (kept : Option StopReason) (es : List Event) (w : ℕ) (skipped job : List Pair) → Contains (notes_from k ms es) (Take w skipped job) → Contains (history_of n ms kept es) (plain.Take w skipped job)
+given_event : (n k : ℕ) (ms : List MemberShown) (kept : Option StopReason) (es : List Event) (w : ℕ) (skipped job : List Pair) → Contains (notes_from k ms es) (Take w skipped job) → Contains (history_of n ms kept es) (plain.Take w skipped job)
 given_event n k ms kept [] w skipped job (i, l, e) = absurd (omega arith)
 given_event n k ms kept (events.Take v xs ys ∷ es) w skipped job (zero, l, e) = (zero, omega arith, ap (as_event n) e)
 given_event n k ms kept (events.Take v xs ys ∷ es) w skipped job (suc i, l, e) = later_there _ _ _ (given_event n k ms kept es w skipped job (i, omega arith, e))
@@ -101,7 +101,7 @@ given_event n k ms kept (events.End v ending ∷ es) w skipped job (suc i, l, e)
 given_event n k ms kept (events.Stop v reason ∷ es) w skipped job (zero, l, e) = absurd cc
 given_event n k ms kept (events.Stop v reason ∷ es) w skipped job (suc i, l, e) = later_there _ _ _ (given_event n k ms kept es w skipped job (i, omega arith, e))
 
-given_note : (n k : ℕ) (ms : List Tracked) (kept : Option StopReason) (es : List Event) (w : ℕ) (skipped job : List Pair) → Contains (history_of n ms kept es) (plain.Take w skipped job) → Contains (notes_from k ms es) (Take w skipped job)
+given_note : (n k : ℕ) (ms : List MemberShown) (kept : Option StopReason) (es : List Event) (w : ℕ) (skipped job : List Pair) → Contains (history_of n ms kept es) (plain.Take w skipped job) → Contains (notes_from k ms es) (Take w skipped job)
 given_note n k ms kept [] w skipped job (i, l, e) = absurd (omega arith)
 given_note n k ms kept (events.Take v xs ys ∷ es) w skipped job (zero, l, e) = (zero, omega arith, ap as_note e)
 given_note n k ms kept (events.Take v xs ys ∷ es) w skipped job (suc i, l, e) = later_there _ _ _ (given_note n k ms kept es w skipped job (i, omega arith, e))
@@ -143,7 +143,7 @@ front zero xs ys h = refl
 front (suc k) [] ys h = absurd (omega arith)
 front (suc k) (x ∷ xs) ys h = ap (λ l. x ∷ l) (front k xs ys (omega arith))
 
-map-front : (n : ℕ) (xs ys : List Tracked) → members_of n (xs ++ ys) ≡ members_of n xs ++ members_of n ys
+map-front : (n : ℕ) (xs ys : List MemberShown) → members_of n (xs ++ ys) ≡ members_of n xs ++ members_of n ys
 map-front n [] ys = refl
 map-front n (x ∷ xs) ys = ap (λ l. member_of n x ∷ l) (map-front n xs ys)
 
@@ -215,7 +215,7 @@ module _ (s : Shown) (v : View Noted Base) (replays : steps.Replays (run_of (var
     way = record {
       job = h.job;
       given = given_here n s h.job (subst (λ es. HasGivenSeen es h.job) (sym sees.0.1) (record { worker = h.given.worker; skipped = h.given.skipped; there = there_more v.seen sees.0.0 _ h.given.there }));
-      way = subst (λ G. IsTrailOf (run_of n s) G h.job (trail_of n t)) (sym (ap (λ ms. vectors (members_of n ms)) members_now ∙ ap vectors (map-front n (members_after (base s) v.seen) (made_in sees.0.0)) ∙ vectors-append (members_of n (members_after (base s) v.seen)) (members_of n (made_in sees.0.0))))
+      way = subst (λ G. IsJobTrail (run_of n s) G h.job (trail_of n t)) (sym (ap (λ ms. vectors (members_of n ms)) members_now ∙ ap vectors (map-front n (members_after (base s) v.seen) (made_in sees.0.0)) ∙ vectors-append (members_of n (members_after (base s) v.seen)) (members_of n (made_in sees.0.0))))
           (trail_of_more (run_of n s) (vectors (members_of n (members_after (base s) v.seen))) (vectors (members_of n (made_in sees.0.0))) h.job (trail_of n t) h.way);
     };
   }

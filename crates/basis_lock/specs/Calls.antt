@@ -9,20 +9,20 @@ use Rattle.basis_steps.specs.Invariant.{HoldsInvariant}
 use Rattle.basis_steps.specs.Pairs.{Pair}
 use Rattle.basis_steps.specs.States.{Run, vectors}
 use Rattle.basis_steps.specs.Steps as steps
-use Rattle.basis_steps.specs.Trails.{IsTrailOf}
+use Rattle.basis_steps.specs.Trails.{IsJobTrail}
 use Rattle.basis_core.specs.declared.ending.Ending.{Ending}
 use Rattle.basis_core.specs.declared.stop.StopReason.{StopReason}
 use Rattle.basis_core.specs.declared.stop.StopReason.TheVariants as reasons
 use Rattle.basis_core.specs.declared.taken.Taken.{Taken}
 use Rattle.basis_core.specs.Answers.{AnswersTake, IsTakeOf, pairs_given}
 use Rattle.basis_core.specs.Jobs.{pairs_of}
-use Rattle.basis_core.specs.Members.{Tracked, members_of, rows_of, setting_of}
+use Rattle.basis_core.specs.Members.{MemberShown, members_of, rows_of, setting_of}
 use Rattle.basis_core.specs.Outcomes.{OutcomeShown, products_of}
 use Rattle.basis_core.specs.Shown.{Shown}
 use Rattle.basis_core.specs.Stops.{IsPairTrail, reason_of, trail_of}
 use Rattle.basis_core.specs.Views.{IsSameRun, ending_of, run_of, state_of, variables_of}
 use Rattle.ruled_lock.specs.declared.law.View.{View}
-use Rattle.ruled_lock.specs.Plays.{Holds, Makes}
+use Rattle.ruled_lock.specs.Plays.{Holds, AddsEvent}
 use Rattle.basis_lock.specs.Acts.{Act, acts_of, has_ended, has_stop, held_after, took_after}
 use Rattle.basis_core.specs.Logs.{Base, End, Noted, Put, Stop, Take, base, by, log, members_after}
 
@@ -77,7 +77,7 @@ pub record IsTrailSeen (b : Base) (seen : List Noted) (t : KeptTrail) : Type 0 w
   pub given : HasGivenSeen seen job
   pub way :
       let n = variables b.shared.ring in
-      IsTrailOf (run_on n b) (vectors (members_of n (members_after b seen))) job (trail_of n t)
+      IsJobTrail (run_on n b) (vectors (members_of n (members_after b seen))) job (trail_of n t)
 
 -- the reason is not the budget; a stop by the degree has such a trail
 abbrev pub IsReasonSeen : Base → List Noted → StopReason → Type 0
@@ -99,7 +99,7 @@ pub record MayReport (b : Base) (v : View Noted Base) (reason : StopReason) : Ty
 -- One hold and one event: between the run's states before and after it, at one point of the one history. This begins with
 -- all that the seat had seen and ends with the event; of the worker's events it has just those of the seat
 pub record IsHold (b : Base) (v : View Noted Base) (e : Noted) (w : View Noted Base) (s t : Shown) : Type 0 where
-  pub makes : Makes by v e w
+  pub makes : AddsEvent by v e w
   pub before : base s ≡ b
   pub after : base t ≡ b
   pub run : IsSameRun s t
@@ -129,7 +129,7 @@ pub record TakesJob (b : Base) (v : View Noted Base) (most : ℕ) (answer : Take
 pub record HandsIn (b : Base) (v : View Noted Base) (o : OutcomeShown) (w : View Noted Base) : Type 0 where
   pub before : Shown
   pub after : Shown
-  pub made : List Tracked
+  pub made : List MemberShown
   pub members : after.members ≡ before.members ++ made
   pub hold : IsHold b v (Put v.worker made) w before after
   pub puts :
@@ -147,7 +147,7 @@ pub record Finishes (b : Base) (v : View Noted Base) (ending : Ending) (w : View
       steps.Ends (run_of n before) (state_of n before) v.worker (ending_of ending) (state_of n after)
 
 -- a Stop
-pub record Reports (b : Base) (v : View Noted Base) (reason : StopReason) (w : View Noted Base) : Type 0 where
+pub record ReportsStop (b : Base) (v : View Noted Base) (reason : StopReason) (w : View Noted Base) : Type 0 where
   pub before : Shown
   pub after : Shown
   pub hold : IsHold b v (Stop v.worker) w before after

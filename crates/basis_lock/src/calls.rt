@@ -2,7 +2,7 @@
 ghost use Rattle.std.specs.Prelude.{◌≡◌, IfOk, IfErr, OnErr, OnOk, true};
 ghost use Rattle.ruled_lock.specs.Plays.{IsIdle, Holds};
 ghost use Rattle.basis_lock.specs.Acts.{acts_of, has_stop};
-ghost use Rattle.basis_lock.specs.Calls.{Finishes, HandsIn, IsWorkStopSeen, MayFinish, MayHandIn, MayReport, MayTakeJob, Reports, TakesJob};
+ghost use Rattle.basis_lock.specs.Calls.{Finishes, HandsIn, IsWorkStopSeen, MayFinish, MayHandIn, MayReport, MayTakeJob, ReportsStop, TakesJob};
 ghost use Rattle.basis_core.specs.Logs.{base, by};
 
 use crate::note::{Note, RunBase};
@@ -112,7 +112,7 @@ pub fn report_stop<R: Wait>(rt: &R, lock: &BasisLock, seat: &mut BasisSeat, reas
     requires seat { IsIdle lock.now.table.shared.table_id (base lock.now.table.shared.key.value) seat.old.place }
     requires may { MayReport (base lock.now.table.shared.key.value) seat.old.place.me.0 reason }
     ensures seat { IsIdle lock.now.table.shared.table_id (base lock.now.table.shared.key.value) seat.new.place }
-    ensures stop { Reports (base lock.now.table.shared.key.value) seat.old.place.me.0 reason seat.new.place.me.0 }
+    ensures stop { ReportsStop (base lock.now.table.shared.key.value) seat.old.place.me.0 reason seat.new.place.me.0 }
 {
     let mut state = lock.take(rt, &mut seat.place);
     state.kept();

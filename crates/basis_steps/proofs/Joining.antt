@@ -12,7 +12,7 @@ use Rattle.basis_steps.proofs.Dropping.{followed_front}
 use Rattle.basis_steps.proofs.Growing.{leads_front, length-vectors, vectors-append}
 use Rattle.basis_steps.proofs.Updating.{IsBetween, IsQueue, all_updates, plain_queue, queue_of}
 use Rattle.basis_steps.specs.Criteria.{AreCovered, IsPair, IsRepresented, Skips, waiting}
-use Rattle.basis_steps.specs.Divisions.{IsMonicMember, Makes}
+use Rattle.basis_steps.specs.Divisions.{IsMonicMember, MakesMembers}
 use Rattle.basis_steps.specs.Drops.{AreCoveredBy, AreFollowed}
 use Rattle.basis_steps.specs.Pairs.{Drop, Pair, count, pairs_dropped}
 use Rattle.basis_steps.specs.Queues.{IsSorted, is_new_pair}
@@ -56,7 +56,7 @@ module _ {n : ℕ} (S : Setting n) (lawful : IsLawful S) (G : List (FormalSum n)
   take_covered job e skips real u none cov = subst (λ j. AreCoveredBy u S G (waiting (drop k left) (out ++ out_with w j)) drops) (sym e) (take_kept skips real u none cov)
 
 -- ---- a Put
-module _ {n : ℕ} (S : Setting n) (lawful : IsLawful S) (G rows made : List (Member n)) (base : ℕ) (makes : Makes S (vectors G) rows made) where
+module _ {n : ℕ} (S : Setting n) (lawful : IsLawful S) (G rows made : List (Member n)) (base : ℕ) (makes : MakesMembers S (vectors G) rows made) where
   abbrev H : List (FormalSum n)
   H = vectors (G ++ made)
 

@@ -17,15 +17,15 @@ use Rattle.basis_steps.proofs.Growing.{leads_front, length-vectors, vectors-appe
 use Rattle.basis_steps.proofs.Making.{makes_made, makes_members, makes_new_leads, module_more, rows_made}
 use Rattle.basis_steps.specs.Cofactors.{AreMade, IsMade}
 use Rattle.basis_steps.specs.Criteria.{IsPair, Skips}
-use Rattle.basis_steps.specs.Divisions.{IsMonicMember, Makes}
+use Rattle.basis_steps.specs.Divisions.{IsMonicMember, MakesMembers}
 use Rattle.basis_steps.specs.Invariant.{HasNewLeads, HoldsInvariant}
 use Rattle.basis_steps.proofs.JobProducts.{job_product_at}
 use Rattle.basis_steps.specs.Outcomes.{AreJobProducts, IsOutcome}
 use Rattle.basis_steps.specs.Pairs.{Pair, count}
 use Rattle.basis_steps.specs.Queues.{IsSorted, compare_pairs, share}
 use Rattle.basis_steps.specs.States.{Degree, End, Ended, Ending, Event, IsLawfulRun, Member, MoreWork, Pairs, Product, Put, Run, State, Stop, StopReason, Take, Trail, job_given, job_of, pairs_out, pairs_taken, vectors, with_others}
-use Rattle.basis_steps.specs.Steps.{Ends, FindsStop, MayTake, Puts, Step, Stops, Takes, ended_after, ending_of, first_stop, is_empty, is_stopped, out_with, stop_of_take}
-use Rattle.basis_steps.specs.Trails.{HasGiven, IsInJob, IsInPut, IsTrail, IsTrailOf}
+use Rattle.basis_steps.specs.Steps.{Ends, FindsStop, MayTake, Puts, Step, Stops, Takes, ended_after, end_answer_of, first_stop, is_empty, is_stopped, out_with, stop_of_take}
+use Rattle.basis_steps.specs.Trails.{HasGiven, IsInJob, IsInPut, IsHistoryTrail, IsJobTrail}
 
 taken-append : {n : ℕ} (es : List (Event n)) (e : Event n) → pairs_taken (es ++ (e ∷ [])) ≡ pairs_taken es ++ job_given e
 taken-append [] e = append-nil (job_given e)
@@ -117,7 +117,7 @@ given_more es more job h = record { worker = h.worker; skipped = h.skipped; ther
 -- a trail of a job stays one as members are added
 pub trail_of_more :
     {n : ℕ} (r : Run n) (G N : List (FormalSum n)) (job : List Pair) (way : Trail n)
-    → IsTrailOf r G job way → IsTrailOf r (G ++ N) job way
+    → IsJobTrail r G job way → IsJobTrail r (G ++ N) job way
 trail_of_more {n} r G N job way h = record {
   start = h.start;
   place = elim h.place [ inl q ↦ inl (in_job q) | inr q ↦ inr (in_put q) ];
@@ -148,7 +148,7 @@ trail_of_more {n} r G N job way h = record {
           failed = q.failed;
           within = q.within;
           made = q.made;
-          makes = subst (λ l. Makes r.setting l (take q.failed q.rows) q.made) (sym same) q.makes;
+          makes = subst (λ l. MakesMembers r.setting l (take q.failed q.rows) q.made) (sym same) q.makes;
           members = q.members ∙ ap (λ l. l ++ vectors q.made) (sym same);
           division = q.division;
           reached = q.reached;
@@ -157,14 +157,14 @@ trail_of_more {n} r G N job way h = record {
 -- a trail stays one as members and events are added
 pub trail_more :
     {n : ℕ} (r : Run n) (G N : List (FormalSum n)) (es more : List (Event n)) (way : Trail n)
-    → IsTrail r G es way → IsTrail r (G ++ N) (es ++ more) way
+    → IsHistoryTrail r G es way → IsHistoryTrail r (G ++ N) (es ++ more) way
 trail_more r G N es more way h = record { job = h.job; given = given_more es more h.job h.given; way = trail_of_more r G N h.job way h.way }
 
 -- the same with more events alone
 pub trail_events :
     {n : ℕ} (r : Run n) (G : List (FormalSum n)) (es more : List (Event n)) (way : Trail n)
-    → IsTrail r G es way → IsTrail r G (es ++ more) way
-trail_events r G es more way h = subst (λ l. IsTrail r l (es ++ more) way) (append-nil G) (trail_more r G [] es more way h)
+    → IsHistoryTrail r G es way → IsHistoryTrail r G (es ++ more) way
+trail_events r G es more way h = subst (λ l. IsHistoryTrail r l (es ++ more) way) (append-nil G) (trail_more r G [] es more way h)
 
 -- each product of a job is of a member
 pub known_products :
@@ -273,7 +273,7 @@ module _ {n : ℕ} (r : Run n) (ok : IsLawfulRun r) (s : State n) (inv : HoldsIn
         workers = inv.workers;
         at_work = λ e. others_each (λ e. get_or s.ended e.1 true ≡ false) w s.out (inv.at_work e);
         somebody = λ e p. (w, h.may.known, h.may.works);
-        trail = λ way e. subst (λ l. IsTrail r l (s.history ++ (Put w made ∷ [])) way) (sym vs) (trail_more r V (vectors made) s.history (Put w made ∷ []) way (inv.trail way e));
+        trail = λ way e. subst (λ l. IsHistoryTrail r l (s.history ++ (Put w made ∷ [])) way) (sym vs) (trail_more r V (vectors made) s.history (Put w made ∷ []) way (inv.trail way e));
       })
     where
       H : List (FormalSum n)
@@ -318,7 +318,7 @@ module _ {n : ℕ} (r : Run n) (ok : IsLawfulRun r) (s : State n) (inv : HoldsIn
   pub kept_end : (w : ℕ) (ending : Ending) (t : State n) → Ends r s w ending t → HoldsInvariant r t
   kept_end w ending t h = subst (HoldsInvariant r) (sym h.after) (go ending h.answers)
     where
-      go : (e : Ending) → e ≡ ending_of s → HoldsInvariant r (record s { ended = ended_after s w e; history = s.history ++ (End w e ∷ []) })
+      go : (e : Ending) → e ≡ end_answer_of s → HoldsInvariant r (record s { ended = ended_after s w e; history = s.history ++ (End w e ∷ []) })
       go MoreWork a = kept_note (End w MoreWork) refl
       go Ended a =
           let k = kept_note (End w Ended) refl in
@@ -377,7 +377,7 @@ module _ {n : ℕ} (r : Run n) (ok : IsLawfulRun r) (s : State n) (inv : HoldsIn
 
       kept :
           (o : Option (StopReason n)) → s.stop ≡ o → (way : Trail n) → first_stop o reason ≡ Some (Degree way)
-          → IsTrail r (vectors s.members) (s.history ++ (Stop w reason ∷ [])) way
+          → IsHistoryTrail r (vectors s.members) (s.history ++ (Stop w reason ∷ [])) way
       kept None d way e = trail_events r (vectors s.members) s.history (Stop w reason ∷ []) way (h.may.trail way (some reason (Degree way) e))
       kept (Some q) d way e = trail_events r (vectors s.members) s.history (Stop w reason ∷ []) way (inv.trail way (d ∙ e))
 

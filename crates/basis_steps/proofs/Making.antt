@@ -21,9 +21,9 @@ use Rattle.division_laws.specs.Standard.{HasStandardRepresentation}
 use Rattle.basis_steps.proofs.Carrying.{combination_more}
 use Rattle.basis_steps.proofs.Growing.{each_at, leads_front}
 use Rattle.basis_steps.specs.Cofactors.{AreMade, IsMade}
-use Rattle.basis_steps.specs.Divisions.{IsKeyAtMost, IsMonicMember, LeavesMember, Makes, difference}
+use Rattle.basis_steps.specs.Divisions.{IsKeyAtMost, IsMonicMember, LeavesMember, MakesMembers, difference}
 use Rattle.basis_steps.specs.Invariant.{HasNewLeads}
-use Rattle.basis_steps.specs.Outcomes.{IsRow}
+use Rattle.basis_steps.specs.Outcomes.{IsReduct}
 use Rattle.basis_steps.specs.States.{Member, Product, vectors}
 use Rattle.basis_steps.specs.Steps.{generator_rows}
 
@@ -31,7 +31,7 @@ module _ {n : ℕ} (S : Setting n) (lawful : IsLawful S) where
   -- ---- monic, of the rank
   pub makes_members :
       (G : List (FormalSum n)) (rows made : List (Member n))
-      → Makes S G rows made → Each (IsMonicMember S) G → Each (IsMonicMember S) (G ++ vectors made)
+      → MakesMembers S G rows made → Each (IsMonicMember S) G → Each (IsMonicMember S) (G ++ vectors made)
   makes_members G [] made e h = subst (λ m. Each (IsMonicMember S) (G ++ vectors m)) (sym e) (subst (Each (IsMonicMember S)) (sym (append-nil G)) h)
   makes_members G (row ∷ rows) made (inl (a, v, rest)) h = makes_members G rows made rest h
   makes_members G (row ∷ rows) made (inr (a, c, d, g, later, l, e, rest)) h =
@@ -63,7 +63,7 @@ module _ {n : ℕ} (S : Setting n) (lawful : IsLawful S) where
 
   pub makes_new_leads :
       (G : List (FormalSum n)) (rows made : List (Member n))
-      → Makes S G rows made → Each (IsMonicMember S) G → HasNewLeads G → HasNewLeads (G ++ vectors made)
+      → MakesMembers S G rows made → Each (IsMonicMember S) G → HasNewLeads G → HasNewLeads (G ++ vectors made)
   makes_new_leads G [] made e ms h = subst (λ m. HasNewLeads (G ++ vectors m)) (sym e) (subst HasNewLeads (sym (append-nil G)) h)
   makes_new_leads G (row ∷ rows) made (inl (a, v, rest)) ms h = makes_new_leads G rows made rest ms h
   makes_new_leads G (row ∷ rows) made (inr (a, c, d, g, later, l, e, rest)) ms h =
@@ -105,7 +105,7 @@ module _ {n : ℕ} (S : Setting n) (lawful : IsLawful S) where
     -- the members that rows make
     pub makes_made :
         (G : List (FormalSum n)) (rows made : List (Member n))
-        → Makes S G rows made → Each (IsMade S.modulus F G) rows → AreMade S.modulus F G made
+        → MakesMembers S G rows made → Each (IsMade S.modulus F G) rows → AreMade S.modulus F G made
     makes_made G [] made e h = subst (AreMade S.modulus F G) (sym e) tt
     makes_made G (row ∷ rows) made (inl (a, v, rest)) h = makes_made G rows made rest h.1
     makes_made G (row ∷ rows) made (inr (a, c, d, g, later, l, e, rest)) h =
@@ -118,7 +118,7 @@ module _ {n : ℕ} (S : Setting n) (lawful : IsLawful S) where
     pub rows_made :
         (B D : List (FormalSum n)) (rows : List (Member n)) (products : List (Product n))
         → ((t : Product n) → Contains products t → t.0 < length B)
-        → Each (IsRow S.modulus B products) rows → Each (IsMade S.modulus F (B ++ D)) rows
+        → Each (IsReduct S.modulus B products) rows → Each (IsMade S.modulus F (B ++ D)) rows
     rows_made B D [] products known h = tt
     rows_made B D (row ∷ rows) products known h = (
       made_more B D row (record {

@@ -34,8 +34,8 @@ abbrev pub OccursInProduct : {n : ℕ} → ℕ → List (FormalSum n) → Key n 
 OccursInProduct p G k t = Occurs p (scale 1 t.0.1 (get_or G t.0.0 [])) k
 
 -- k is a monomial of v, or of the product of a member of G by one of these quotients
-abbrev pub IsReached : {n : ℕ} → ℕ → List (FormalSum n) → FormalSum n → FormalSum n → Key n → Type 0
-IsReached p G v quotients k = IsMetBy (Occurs p v) (OccursInProduct p G) quotients k
+abbrev pub IsMonomialReached : {n : ℕ} → ℕ → List (FormalSum n) → FormalSum n → FormalSum n → Key n → Type 0
+IsMonomialReached p G v quotients k = IsMetBy (Occurs p v) (OccursInProduct p G) quotients k
 
 -- the products by the quotients a can be taken away one after another: the lead of each is a monomial of v or of a product before it
 abbrev pub AreReached : {n : ℕ} → ℕ → List (FormalSum n) → FormalSum n → FormalSum n → FormalSum n → Type 0
@@ -64,8 +64,8 @@ pub record LeavesNothing {n : ℕ} (S : Setting n) (G : List (FormalSum n)) (row
   pub vector : IsSame S.modulus row.vector (combination G a)
 
 -- each row in turn is divided by the members of that moment, older and newer ones and those that the rows before it made, and becomes a member where it is not 0
-abbrev pub Makes : {n : ℕ} → Setting n → List (FormalSum n) → List (Member n) → List (Member n) → Type 0
-Makes S G [] made = made ≡ []
-Makes {n} S G (row ∷ rows) made =
-    ((a : FormalSum n) × LeavesNothing S G row a × Makes S G rows made)
-    ⊎ ((a : FormalSum n) × (c : ℕ) × (d : ℕ) × (g : Member n) × (later : List (Member n)) × LeavesMember S G row a c d g × (made ≡ g ∷ later) × Makes S (G ++ (g.vector ∷ [])) rows later)
+abbrev pub MakesMembers : {n : ℕ} → Setting n → List (FormalSum n) → List (Member n) → List (Member n) → Type 0
+MakesMembers S G [] made = made ≡ []
+MakesMembers {n} S G (row ∷ rows) made =
+    ((a : FormalSum n) × LeavesNothing S G row a × MakesMembers S G rows made)
+    ⊎ ((a : FormalSum n) × (c : ℕ) × (d : ℕ) × (g : Member n) × (later : List (Member n)) × LeavesMember S G row a c d g × (made ≡ g ∷ later) × MakesMembers S (G ++ (g.vector ∷ [])) rows later)

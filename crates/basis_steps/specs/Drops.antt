@@ -15,12 +15,12 @@ pub record DividesProperly {n : ℕ} (k l : Key n) : Type 0 where
   pub other : k ≡ l → ⊥
 
 -- the later member, and then the earlier one, is below that of the other pair
-abbrev pub IsLower : Pair → Pair → Type 0
-IsLower x y = (x.1 < y.1) ⊎ ((x.1 ≡ y.1) × (x.0 < y.0))
+abbrev pub IsLowerPair : Pair → Pair → Type 0
+IsLowerPair x y = (x.1 < y.1) ⊎ ((x.1 ≡ y.1) × (x.0 < y.0))
 
 -- the lcm of the one pair properly divides that of the other; or both are one, and the one has lower members
 abbrev pub IsEarlier : {n : ℕ} → List (FormalSum n) → Pair → Pair → Type 0
-IsEarlier G x y = DividesProperly (lcm_of G x) (lcm_of G y) ⊎ ((lcm_of G x ≡ lcm_of G y) × IsLower x y)
+IsEarlier G x y = DividesProperly (lcm_of G x) (lcm_of G y) ⊎ ((lcm_of G x ≡ lcm_of G y) × IsLowerPair x y)
 
 -- the one pair is earlier than the other, or the product criterion applies to it
 abbrev pub IsSettledBefore : {n : ℕ} → Setting n → List (FormalSum n) → Pair → Pair → Type 0

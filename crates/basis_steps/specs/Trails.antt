@@ -3,7 +3,7 @@ use Rattle.std.specs.Prelude.{Contains, List, [], get_or, length, take, ℕ, ◌
 use Rattle.monomials.specs.Weights.{weighted_degree}
 use Rattle.formal_sums.specs.FormalSums.{FormalSum}
 use Rattle.basis_steps.specs.Criteria.{IsPair}
-use Rattle.basis_steps.specs.Divisions.{AreReached, Makes, Occurs}
+use Rattle.basis_steps.specs.Divisions.{AreReached, MakesMembers, Occurs}
 use Rattle.basis_steps.specs.Outcomes.{AreJobProducts, IsOutcome}
 use Rattle.basis_steps.specs.Pairs.{Pair, count}
 use Rattle.basis_steps.specs.States.{Event, Member, Product, Run, Take, Trail, vectors}
@@ -36,14 +36,14 @@ pub record IsInPut {n : ℕ} (r : Run n) (G : List (FormalSum n)) (job : List Pa
   pub failed : ℕ
   pub within : failed < length rows
   pub made : List (Member n)
-  pub makes : Makes r.setting (take first G) (take failed rows) made
+  pub makes : MakesMembers r.setting (take first G) (take failed rows) made
   pub members : t.members ≡ take first G ++ vectors made
   -- the products of the row's division so far, the last of the trail behind them
   pub division : FormalSum n
   pub reached : AreReached r.setting.modulus t.members (row_at rows failed).vector [] (division ++ ((t.last, 1) ∷ []))
 
 -- the trail is one of this job, whose members are vectors of G: it starts with a pair of the job, each product's lead is that pair's lcm or a monomial of an earlier product, and the last product of two monomials is above the limit
-pub record IsTrailOf {n : ℕ} (r : Run n) (G : List (FormalSum n)) (job : List Pair) (t : Trail n) : Type 0 where
+pub record IsJobTrail {n : ℕ} (r : Run n) (G : List (FormalSum n)) (job : List Pair) (t : Trail n) : Type 0 where
   pub start : 0 < count t.start job
   pub place : IsInJob G t ⊎ IsInPut r G job t
   pub pair : IsPair t.members t.start
@@ -52,7 +52,7 @@ pub record IsTrailOf {n : ℕ} (r : Run n) (G : List (FormalSum n)) (job : List 
   pub above : r.degree_limit < weighted_degree r.setting.weights t.last.1 + weighted_degree r.setting.weights t.monomial
 
 -- the trail is one of a job of the history
-pub record IsTrail {n : ℕ} (r : Run n) (G : List (FormalSum n)) (history : List (Event n)) (t : Trail n) : Type 0 where
+pub record IsHistoryTrail {n : ℕ} (r : Run n) (G : List (FormalSum n)) (history : List (Event n)) (t : Trail n) : Type 0 where
   pub job : List Pair
   pub given : HasGiven history job
-  pub way : IsTrailOf r G job t
+  pub way : IsJobTrail r G job t

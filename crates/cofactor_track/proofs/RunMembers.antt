@@ -17,7 +17,7 @@ use Rattle.basis_steps.specs.States.{vectors}
 use Rattle.member_products.specs.Generators.{IsRanked}
 use Rattle.member_products.specs.Members.{AreCofactors, members_of}
 use Rattle.basis_core.proofs.Tracking.{ring_lawful, vectors_of_members, vectors_ranked}
-use Rattle.basis_core.specs.Members.{IsTracked, Shared, Tracked, shared_of}
+use Rattle.basis_core.specs.Members.{IsMemberShown, Shared, MemberShown, shared_of}
 use Rattle.basis_core.specs.Rows.{vectors_in}
 use Rattle.cofactor_track.specs.Members.{IsCombined}
 use Rattle.cofactor_track.specs.declared.member.Member.{Member}
@@ -28,8 +28,8 @@ Terms = List (CodeKey × ℕ)
 
 -- the vector and the cofactors with one index
 pub combined_at :
-    (s : Shared) (ms : List Tracked) (cofs : List Terms) (i : ℕ)
-    → Each (IsTracked s) ms → Each (λ v. IsRanked s.ring (length s.generators) v) cofs
+    (s : Shared) (ms : List MemberShown) (cofs : List Terms) (i : ℕ)
+    → Each (IsMemberShown s) ms → Each (λ v. IsRanked s.ring (length s.generators) v) cofs
     → AreCombined s.ring.modulus.value (sums_of (variables s.ring) s.generators) (members_of (variables s.ring) ms)
     → AreCofactors s.ring ms cofs → i < length ms
     → IsCombined s.ring s.rank s.generators (get_or (vectors_in ms) i []) (get_or cofs i [])
@@ -54,7 +54,7 @@ combined_at s ms cofs i tracked ranked combined made lt = record {
     pos = let one : 1 < p = (ring_lawful s).domain.above_one in omega (arith, one)
 
     within : i < length (vectors_in ms)
-    within = omega (arith, lt, length-map ms (λ (m : Tracked). m.vector))
+    within = omega (arith, lt, length-map ms (λ (m : MemberShown). m.vector))
 
     there : i < length cofs
     there = omega (arith, lt, made.number)
@@ -66,12 +66,12 @@ combined_at s ms cofs i tracked ranked combined made lt = record {
     cof = get_or-map (sum_of n) cofs i [] [] there
 
 -- so far these members of the run, which have the first of the cofactors; the others are left
-pub record HaveCofactors (s : Shared) (ms : List Tracked) (cofs : List Terms) (list : List Member) (rest : List Terms) : Type 0 where
+pub record HaveCofactors (s : Shared) (ms : List MemberShown) (cofs : List Terms) (list : List Member) (rest : List Terms) : Type 0 where
   pub alike : Each (λ m. shared_of (arc_value m.shared) ≡ s) list
   pub vectors : map (λ m. m.vector) list ≡ take (length list) (vectors_in ms)
   pub cofactors : map (λ m. m.cof) list ++ rest ≡ cofs
 
-module _ {s : Shared} {ms : List Tracked} {cofs : List Terms} where
+module _ {s : Shared} {ms : List MemberShown} {cofs : List Terms} where
   pub none_yet : (list : List Member) (rest : List Terms) → list ≡ [] → rest ≡ cofs → HaveCofactors s ms cofs list rest
   none_yet list rest e f = rw e (record {
     alike = tt;
@@ -101,7 +101,7 @@ module _ {s : Shared} {ms : List Tracked} {cofs : List Terms} where
           map-append (λ (m : Member). m.vector) list (m ∷ [])
           ∙ ap (λ l. l ++ (m.vector ∷ [])) h.vectors
           ∙ ap (λ v. take (length list) (vectors_in ms) ++ (v ∷ [])) v
-          ∙ sym (take_more (vectors_in ms) (length list) [] (omega (arith, lt, length-map ms (λ (m : Tracked). m.vector))))
+          ∙ sym (take_more (vectors_in ms) (length list) [] (omega (arith, lt, length-map ms (λ (m : MemberShown). m.vector))))
           ∙ ap (λ k. take k (vectors_in ms)) (sym (length-append list (m ∷ [])));
       cofactors =
           ap (λ l. l ++ rest) (map-append (λ (m : Member). m.cof) list (m ∷ []))
@@ -118,4 +118,4 @@ module _ {s : Shared} {ms : List Tracked} {cofs : List Terms} where
     all_vectors l =
         h.vectors
         ∙ take_all (length list) (vectors_in ms)
-        (omega (arith, l, ap length all_cofactors, length-map list (λ (m : Member). m.cof), length-map ms (λ (m : Tracked). m.vector)))
+        (omega (arith, l, ap length all_cofactors, length-map list (λ (m : Member). m.cof), length-map ms (λ (m : MemberShown). m.vector)))

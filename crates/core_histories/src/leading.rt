@@ -5,7 +5,7 @@ ghost use Rattle.member_products.specs.Generators.{IsVectorOf};
 
 use basis_core::{BasisState, Members};
 use check_texts::{NoValue, Sheet};
-use member_products::Member;
+use member_products::RunMember;
 use module_vectors::{Key, Ring, Vect};
 use std::alloc::Global;
 
@@ -17,7 +17,7 @@ fn divides(left: &Key, right: &Key) -> bool {
 }
 
 // Does the first member's lead divide the second's?
-fn leads_divide(left: &Member, right: &Member) -> bool {
+fn leads_divide(left: &RunMember, right: &RunMember) -> bool {
     match (left.vector.lead(), right.vector.lead()) {
         (Some(left), Some(right)) => divides(left.key, right.key),
         _ => false,

@@ -10,7 +10,7 @@ use Rattle.bases.specs.Settings.{IsLawful, Setting}
 use Rattle.homogeneous_laws.proofs.Alike.{elimination_alike, grevlex_alike, lex_alike, pot_alike, top_alike}
 use Rattle.homogeneous_laws.proofs.Ends.{weighted_degree-last}
 use Rattle.homogeneous_laws.proofs.Leading.{basis_at_one}
-use Rattle.homogeneous_laws.specs.Homogeneous.{AreAlike, IsHomogeneous, MonomialsAreAlike, dehomogenised, setting_with_last}
+use Rattle.homogeneous_laws.specs.Homogeneous.{AreAlike, IsOfOneDegree, MonomialsAreAlike, dehomogenised, setting_with_last}
 use Rattle.monomials.specs.Exponents.{exponents_of}
 use Rattle.monomial_orders.specs.Comparisons.{comparison, key_comparison}
 use Rattle.monomial_orders.specs.declared.order.ModOrder.{ModOrder}
@@ -51,7 +51,7 @@ keys_alike {n} Top order ws count = top_alike ws (comparison order ws n) (compar
 -- the degrees that are kept are those with the last variable
 terms_homogeneous :
     (n : ℕ) (ws : List ℕ) (p d : ℕ) (v : List (CodeKey × ℕ)) → length ws ≡ n
-    → Each (IsTerm (suc n) (ws ++ 1 ∷ []) p) v → Each (λ t. t.0.monomial.degree ≡ d) v → IsHomogeneous ws d (sum_of (suc n) v)
+    → Each (IsTerm (suc n) (ws ++ 1 ∷ []) p) v → Each (λ t. t.0.monomial.degree ≡ d) v → IsOfOneDegree ws d (sum_of (suc n) v)
 terms_homogeneous n ws p d [] count h same = tt
 terms_homogeneous n ws p d (t ∷ v) count h same = (
   sym (weighted_degree-last ws (exponents_of (suc n) t.0.monomial.exponents) count) ∙ sym h.0.weighed.degree ∙ same.0,
@@ -61,7 +61,7 @@ terms_homogeneous n ws p d (t ∷ v) count h same = (
 lists_homogeneous :
     (n : ℕ) (ws : List ℕ) (p : ℕ) (list : List (List (CodeKey × ℕ))) → length ws ≡ n
     → Each (λ v. Each (IsTerm (suc n) (ws ++ 1 ∷ []) p) v) list → Each HasOneDegree list
-    → Each (λ g. (d : ℕ) × IsHomogeneous ws d g) (sums_of (suc n) list)
+    → Each (λ g. (d : ℕ) × IsOfOneDegree ws d g) (sums_of (suc n) list)
 lists_homogeneous n ws p [] count h same = tt
 lists_homogeneous n ws p (v ∷ list) count h same =
     ((same.0.degree, terms_homogeneous n ws p same.0.degree v count h.0 same.0.each), lists_homogeneous n ws p list count h.1 same.1)
@@ -98,7 +98,7 @@ module _ (ring more : Ring) (rank : ℕ) (last : IsWithLast ring more) where
 
   homogeneous :
       (list : List (List (CodeKey × ℕ))) → AreVectorsOver more (ring_comparison more) list → Each HasOneDegree list
-      → Each (λ g. (d : ℕ) × IsHomogeneous ring.weights d g) (sums_of (suc n) list)
+      → Each (λ g. (d : ℕ) × IsOfOneDegree ring.weights d g) (sums_of (suc n) list)
   homogeneous list h same =
       lists_homogeneous n ring.weights ring.modulus.value list ring.weighted
       (said (λ m T. Each (λ v. Each (IsTerm m T.weights T.modulus) v) list) (terms_of more list h)) same

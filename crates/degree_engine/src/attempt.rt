@@ -38,12 +38,6 @@ impl From<NoMemory> for Unanswered {
     }
 }
 
-impl From<monomial_orders::NoMemory> for Unanswered {
-    fn from(_error: monomial_orders::NoMemory) -> Unanswered {
-        Unanswered::Memory
-    }
-}
-
 impl From<MonoStop> for Unanswered {
     fn from(stop: MonoStop) -> Unanswered {
         match stop {

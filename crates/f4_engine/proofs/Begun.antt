@@ -12,7 +12,7 @@ use Rattle.basis_core.specs.declared.event.Event.{Event}
 use Rattle.basis_core.specs.declared.stop.StopReason.{StopReason}
 use Rattle.basis_core.specs.declared.stop.StopReason.TheVariants as reasons
 use Rattle.basis_core.specs.Answers.{IsRunOf}
-use Rattle.basis_core.specs.Members.{Shared, Tracked}
+use Rattle.basis_core.specs.Members.{Shared, MemberShown}
 use Rattle.basis_core.specs.Shown.{Shown}
 use Rattle.basis_core.specs.Stops.{stop_of}
 use Rattle.basis_core.specs.Views.{history_of, run_of, state_of, variables_of}
@@ -25,15 +25,15 @@ use Rattle.run_endings.specs.Endings.{IsBudgetStop}
 use Rattle.run_endings.specs.Stops.{IsRunBy, OfState, RunStops}
 use Rattle.run_endings.specs.declared.stop.RunStop.{RunStop}
 use Rattle.run_endings.specs.declared.stop.RunStop.TheVariants as run_stops
-use Rattle.f4_engine.specs.Runs.{IsNew}
+use Rattle.f4_engine.specs.Runs.{IsFreshState}
 use Rattle.f4_engine.specs.Workers.{EachDone, EachTook}
 
-no_events : (n : ℕ) (ms : List Tracked) (kept : Option StopReason) (es : List Event) → history_of n ms kept es ≡ [] → es ≡ []
+no_events : (n : ℕ) (ms : List MemberShown) (kept : Option StopReason) (es : List Event) → history_of n ms kept es ≡ [] → es ≡ []
 no_events n ms kept [] h = refl
 no_events n ms kept (e ∷ es) h = absurd cc
 
 -- a run at its beginning has an empty log
-new_at_beginning : (shared : Shared) (budget workers : ℕ) (update : Update) (s : Shown) → 0 < workers → IsRunOf shared budget workers update s → Begins (run_of (variables shared.ring) s) (state_of (variables shared.ring) s) → IsNew s
+new_at_beginning : (shared : Shared) (budget workers : ℕ) (update : Update) (s : Shown) → 0 < workers → IsRunOf shared budget workers update s → Begins (run_of (variables shared.ring) s) (state_of (variables shared.ring) s) → IsFreshState s
 new_at_beginning shared budget workers update s some run begins = record {
   empty = ap (λ es. notes_from (number_at_beginning s) s.members es) (no_events (variables shared.ring) s.members s.stop s.history begins.history);
   some = subst (λ k. 0 < k) (sym run.number) some;
@@ -43,7 +43,7 @@ pub begins_new :
     (ring : Ring) (rank : ℕ) (generators : List (List (CodeKey × ℕ))) (budget workers : ℕ) (update : Update) (r : Result Shown WorkStop) → 0 < workers
     → IfOk r (IsRunOf (record { ring = ring; rank = rank; generators = generators }) budget workers update)
     → IfOk r (λ s. Begins (run_of (variables ring) s) (state_of (variables ring) s))
-    → IfOk r IsNew
+    → IfOk r IsFreshState
 begins_new ring rank generators budget workers update (Ok s) some run begins = new_at_beginning (record { ring = ring; rank = rank; generators = generators }) budget workers update s some run begins
 begins_new ring rank generators budget workers update (Err e) some run begins = tt
 

@@ -20,7 +20,7 @@ use Rattle.s_vectors.specs.Trails.{JobStops}
 use Rattle.ruled_lock.specs.declared.law.View.{View}
 use Rattle.ruled_lock.specs.Plays.{Holds}
 use Rattle.basis_lock.specs.Acts.{Act, Asked, HandedIn, Stopped, Took, act_of, acts_of, has_ended, has_stop, has_take, held_after, took_after}
-use Rattle.basis_lock.specs.Calls.{Finishes, HandsIn, HasGivenSeen, IsHold, IsWorkStopSeen, MayFinish, MayHandIn, Reports, TakesJob, own}
+use Rattle.basis_lock.specs.Calls.{Finishes, HandsIn, HasGivenSeen, IsHold, IsWorkStopSeen, MayFinish, MayHandIn, ReportsStop, TakesJob, own}
 use Rattle.basis_core.specs.Logs.{Base, End, Noted, Put, Stop, Take, by, log, members_after}
 use Rattle.basis_core.proofs.Logging.{members_told, take_whole}
 use Rattle.f4_engine.specs.Workers.{AreDone, HasDone, HasJob, HasNone, IsFresh, IsSameWorker, IsWorking, MayGiveUp, RoundEnds}
@@ -214,7 +214,7 @@ ends_with_more b v w has h =
 
 -- after a Stop of its own a worker may end, and then is done
 pub may_finish_stopped :
-    (b : Base) (v w : View Noted Base) (reason : StopReason) (stop : WorkStop) → MayGiveUp b v stop → Reports b v reason w
+    (b : Base) (v w : View Noted Base) (reason : StopReason) (stop : WorkStop) → MayGiveUp b v stop → ReportsStop b v reason w
     → MayFinish b w × (has_stop (acts_of w.seen) ≡ true) × (has_ended (own w) ≡ false) × (has_stop (own w) ≡ true) × IsSameWorker v w
 may_finish_stopped b v w reason stop may h =
     let e : Noted = Stop v.worker in

@@ -13,7 +13,7 @@ use Rattle.ruled_lock.specs.Law.{without, parted, joined, newcomer, opener, old_
 use Rattle.ruled_lock.specs.Plays.{AllBack, Tallied}
 use Rattle.basis_lock.specs.Acts.{acts_of}
 use Rattle.basis_core.specs.Logs.{Base, Noted, by, workers}
-use Rattle.f4_engine.specs.Workers.{AllDone, AreDone, EachDone, HasDone, IsFresh, IsReady, OldIsDone}
+use Rattle.f4_engine.specs.Workers.{AllWorkersDone, AreDone, EachDone, HasDone, IsFresh, IsFirstView, OldIsDone}
 
 none : (x : ℕ) → Contains [] x → ⊥
 none x (k, l, e) = omega arith
@@ -41,13 +41,13 @@ in_range a zero x l m = absurd (omega arith)
 in_range a (suc n) x l m = dite (ℕ_discrete a x) (λ e. subst (λ (w : ℕ). Contains (a ∷ range_with_len (a + 1) n) w) e (head_of a (range_with_len (a + 1) n)))
     (λ ne. Contains-append_right (a ∷ []) (range_with_len (a + 1) n) x (in_range (a + 1) n x (omega arith) (omega arith)))
 
-pub opener_ready : (b : Base) → IsReady b.workers (opener workers b)
+pub opener_ready : (b : Base) → IsFirstView b.workers (opener workers b)
 opener_ready b = record {
   fresh = record { number = refl; mine = refl; olds = refl };
   gives = λ x l m. in_range 1 (b.workers - 1) x (omega arith) (omega arith);
 }
 
-pub parted_ready : (n last : ℕ) (v : View Noted Base) → last < n → IsReady n v → IsReady last (parted last v)
+pub parted_ready : (n last : ℕ) (v : View Noted Base) → last < n → IsFirstView n v → IsFirstView last (parted last v)
 parted_ready n last v l r = record {
   fresh = record { number = r.fresh.number; mine = r.fresh.mine; olds = r.fresh.olds };
   gives = λ x p m. contains_without last x (λ e. omega arith) v.give (r.gives x p (omega arith));
@@ -57,7 +57,7 @@ pub newcomer_fresh : (last : ℕ) (v : View Noted Base) → IsFresh last (newcom
 newcomer_fresh last v = record { number = refl; mine = refl; olds = refl }
 
 -- a seat that works alone
-pub worked_alone : (n x : ℕ) (w : View Noted Base) → n ≤ 1 → x ≡ 0 → HasDone x w → AllDone n w
+pub worked_alone : (n x : ℕ) (w : View Noted Base) → n ≤ 1 → x ≡ 0 → HasDone x w → AllWorkersDone n w
 worked_alone n x w l is k = record {
   back = λ y m. inl (let number = k.number in omega arith);
   number = k.number ∙ is;
@@ -65,7 +65,7 @@ worked_alone n x w l is k = record {
   olds = subst (All OldIsDone) (sym k.olds) (All-nil OldIsDone);
 }
 
-pub worked_joined : (n last : ℕ) (v w : View Noted Base) → last + 1 ≡ n → AllDone last v → HasDone last w → AllDone n (joined v w)
+pub worked_joined : (n last : ℕ) (v w : View Noted Base) → last + 1 ≡ n → AllWorkersDone last v → HasDone last w → AllWorkersDone n (joined v w)
 worked_joined n last v w is a k =
     let number : w.worker ≡ last = k.number in
     let names : map (λ (q : Old Noted). q.worker) (v.olds ++ (old_of w ∷ w.olds)) ≡ map (λ (q : Old Noted). q.worker) v.olds ++ (w.worker ∷ map (λ (q : Old Noted). q.worker) w.olds) = map-append (λ (q : Old Noted). q.worker) v.olds (old_of w ∷ w.olds) in record {
@@ -78,10 +78,10 @@ worked_joined n last v w is a k =
       olds = All-append OldIsDone v.olds (old_of w ∷ w.olds) a.olds (All-cons OldIsDone (old_of w) w.olds k.done (subst (All OldIsDone) (sym k.olds) (All-nil OldIsDone)));
     }
 
-pub all_back : (n : ℕ) (v : View Noted Base) → AllDone n v → AllBack n v
+pub all_back : (n : ℕ) (v : View Noted Base) → AllWorkersDone n v → AllBack n v
 all_back n v a x l = ⊎_elim (λ (e : x ≡ v.worker). inl e) (λ (c : Contains (map (λ (q : Old Noted). q.worker) v.olds) x). inr (inr c)) (a.back x l)
 
-pub each_done : (n : ℕ) (v : View Noted Base) (log : List Noted) → AllDone n v → Tallied by n v log → EachDone n log
+pub each_done : (n : ℕ) (v : View Noted Base) (log : List Noted) → AllWorkersDone n v → Tallied by n v log → EachDone n log
 each_done n v log a t x l = ⊎_elim
     (λ (e : x ≡ v.worker). subst (λ (y : ℕ). AreDone (acts_of (calls_by by y log))) (sym e) (subst (λ (es : List Noted). AreDone (acts_of es)) (sym t.own.1) a.done))
     (λ (c : Contains (map (λ (q : Old Noted). q.worker) v.olds) x). All-contains (λ y. AreDone (acts_of (calls_by by y log))) (map (λ (q : Old Noted). q.worker) v.olds) x

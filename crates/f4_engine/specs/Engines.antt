@@ -12,7 +12,7 @@ use Rattle.f4_engine.specs.Runs.{IsLastRun, IsWorkedByAll}
 
 -- its budget of pairs, its number of workers, that of helpers for one job, and what its runs queue as members come; how often it ran,
 -- and how many runs stopped; the state and the trail that are kept of the last one of them; and the state of the last one that answered
-pub record EngineShown : Type 0 where
+pub record F4Shown : Type 0 where
   pub pairs : ℕ
   pub workers : ℕ
   pub helpers : ℕ
@@ -24,7 +24,7 @@ pub record EngineShown : Type 0 where
   pub last : Option Shown
 
 -- what is kept is of runs of this engine, each with an End of each worker; and those that stopped are counted
-pub record IsKeptBy (e : EngineShown) : Type 0 where
+pub record IsKeptByF4 (e : F4Shown) : Type 0 where
   pub some : 0 < e.workers
   pub helped : 0 < e.helpers
   pub stop : IsStop e.pairs e.workers e.update e.state e.trail
@@ -33,11 +33,11 @@ pub record IsKeptBy (e : EngineShown) : Type 0 where
   pub last : IsLastRun e.pairs e.workers e.update e.last
 
 -- the engine with one run more
-abbrev pub with_run : EngineShown → EngineShown
+abbrev pub with_run : F4Shown → F4Shown
 with_run e = record e { runs = next_count e.runs }
 
 -- one more run that stopped is counted, up to 2 ^ 64 - 1; all else is the same
-pub record Counts (old new : EngineShown) : Type 0 where
+pub record CountsF4Stop (old new : F4Shown) : Type 0 where
   pub pairs : new.pairs ≡ old.pairs
   pub workers : new.workers ≡ old.workers
   pub helpers : new.helpers ≡ old.helpers
@@ -48,12 +48,12 @@ pub record Counts (old new : EngineShown) : Type 0 where
   pub later : old.stops ≤ new.stops
 
 -- a run that answered is kept; all else is the same
-pub record Answers (old new : EngineShown) (shared : Shared) : Type 0 where
+pub record KeepsAnswered (old new : F4Shown) (shared : Shared) : Type 0 where
   pub same : new ≡ record old { last = new.last }
   pub last : (s : Shown) × (new.last ≡ Some s) × (s.shared ≡ shared)
 
 -- Memory leaves the engine as it was; Pairs and Degree are counted, and the run on these is kept with the answer
-abbrev pub EngineStops : (old new : EngineShown) → Shared → Stop → Type 0
-EngineStops old new shared Memory = new ≡ old
-EngineStops old new shared Pairs = Counts old new × (stopped_run new.state new.trail ≡ Some (stopped_on shared Pairs))
-EngineStops old new shared Degree = Counts old new × (stopped_run new.state new.trail ≡ Some (stopped_on shared Degree))
+abbrev pub F4Stops : (old new : F4Shown) → Shared → Stop → Type 0
+F4Stops old new shared Memory = new ≡ old
+F4Stops old new shared Pairs = CountsF4Stop old new × (stopped_run new.state new.trail ≡ Some (stopped_on shared Pairs))
+F4Stops old new shared Degree = CountsF4Stop old new × (stopped_run new.state new.trail ≡ Some (stopped_on shared Degree))

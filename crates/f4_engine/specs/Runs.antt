@@ -12,7 +12,7 @@ use Rattle.f4_engine.specs.declared.runs.Ended.TheVariants as ends
 use Rattle.f4_engine.specs.Workers.{EachDone, EachTook}
 
 -- no event has happened, and there is a worker
-pub record IsNew (s : Shown) : Type 0 where
+pub record IsFreshState (s : Shown) : Type 0 where
   pub empty : log s ≡ []
   pub some : 0 < s.workers
 

@@ -70,7 +70,7 @@ pub record IsFresh (x : ℕ) (v : View Noted Base) : Type 0 where
   pub olds : v.olds ≡ []
 
 -- the first worker's, which can give the numbers below n
-pub record IsReady (n : ℕ) (v : View Noted Base) : Type 0 where
+pub record IsFirstView (n : ℕ) (v : View Noted Base) : Type 0 where
   pub fresh : IsFresh 0 v
   pub gives : CanGive n v
 
@@ -84,7 +84,7 @@ abbrev pub OldIsDone : Old Noted → Type 0
 OldIsDone o = AreDone (acts_of o.mine)
 
 -- the workers below n are back, and each is done
-pub record AllDone (n : ℕ) (v : View Noted Base) : Type 0 where
+pub record AllWorkersDone (n : ℕ) (v : View Noted Base) : Type 0 where
   pub back : (x : ℕ) → x < n → IsBack v x
   pub number : v.worker ≡ 0
   pub done : AreDone (own v)

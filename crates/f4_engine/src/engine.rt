@@ -7,7 +7,7 @@ ghost use Rattle.basis_core.specs.Members.{Shared};
 ghost use Rattle.groebner_iface.specs.Runs.{IsReducedBasisOf, StoppedRun};
 ghost use Rattle.risen_counts.specs.Counts.{next_count};
 ghost use Rattle.run_endings.specs.Stops.{IsRunBy, IsStop, OfState, RunStops, shared_on, stopped_run};
-ghost use Rattle.f4_engine.specs.Engines.{Answers, Counts, EngineStops, IsKeptBy, with_run};
+ghost use Rattle.f4_engine.specs.Engines.{KeepsAnswered, CountsF4Stop, F4Stops, IsKeptByF4, with_run};
 ghost use Rattle.f4_engine.specs.Runs.{IsFinished, IsWorkedByAll};
 
 use crate::runs::run;
@@ -60,9 +60,9 @@ impl Drop for F4Engine {
 }
 
 impl Model for F4Engine {
-    ghost use Rattle.f4_engine.specs.Engines.{EngineShown, IsKeptBy};
+    ghost use Rattle.f4_engine.specs.Engines.{F4Shown, IsKeptByF4};
 
-    ghost Value = { EngineShown };
+    ghost Value = { F4Shown };
 
     ghost view = { λ e. record {
       pairs = e.pairs;
@@ -76,7 +76,7 @@ impl Model for F4Engine {
       last = e.last;
     } };
 
-    ghost invariant = { λ e. IsKeptBy (record {
+    ghost invariant = { λ e. IsKeptByF4 (record {
       pairs = e.pairs;
       workers = e.workers;
       helpers = e.helpers;
@@ -185,7 +185,7 @@ impl F4Engine {
     /// The state of the last run that answered a basis, if there was one.
     pub fn last_run(&self) -> Option<&BasisState>
         ensures state { MatchOption result (self.now.last ≡ None) (λ s. self.now.last ≡ Some s.now) }
-        ensures kept { IsKeptBy self.now }
+        ensures kept { IsKeptByF4 self.now }
     {
         self.last.as_ref()
     }
@@ -195,7 +195,7 @@ impl F4Engine {
     pub fn last_stop(&self) -> (Option<&BasisState>, Option<&KeptTrail>)
         ensures state { MatchOption result.0 (self.now.state ≡ None) (λ s. self.now.state ≡ Some s.now) }
         ensures trail { MatchOption result.1 (self.now.trail ≡ None) (λ t. self.now.trail ≡ Some t.now) }
-        ensures kept { IsKeptBy self.now }
+        ensures kept { IsKeptByF4 self.now }
     {
         (self.state.as_ref(), self.trail.as_ref())
     }
@@ -204,7 +204,7 @@ impl F4Engine {
     pub fn into_stop(self) -> (Option<BasisState>, Option<KeptTrail>)
         ensures state { result.0 ≡ self.state }
         ensures trail { result.1 ≡ self.trail }
-        ensures kept { IsKeptBy self }
+        ensures kept { IsKeptByF4 self }
     {
         let F4Engine {
             pairs: _,
@@ -234,7 +234,7 @@ impl F4Engine {
         requires some { (run : StoppedRun) × (stopped_run state trail ≡ Some run) }
         requires stop { IsStop self.old.pairs self.old.workers self.old.update state trail }
         requires by_all { IfSome state IsWorkedByAll }
-        ensures counts { Counts self.old self.new }
+        ensures counts { CountsF4Stop self.old self.new }
         ensures state { self.new.state ≡ state }
         ensures trail { self.new.trail ≡ trail }
     {
@@ -247,7 +247,7 @@ impl F4Engine {
     fn keep_stop(&mut self, stop: RunStop) -> Stop
         requires stop { (shared : Shared) × RunStops self.old.pairs self.old.workers self.old.update shared stop }
         requires by_all { OfState IsWorkedByAll stop }
-        ensures stop { (shared : Shared) → RunStops self.old.pairs self.old.workers self.old.update shared stop → EngineStops self.old self.new shared result }
+        ensures stop { (shared : Shared) → RunStops self.old.pairs self.old.workers self.old.update shared stop → F4Stops self.old self.new shared result }
         ensures runs { self.new.runs ≡ self.old.runs }
     {
         match stop {
@@ -271,7 +271,7 @@ impl F4Engine {
     fn keep_last(&mut self, state: BasisState)
         requires by { IsRunBy self.old.pairs self.old.workers self.old.update state × IsWorkedByAll state }
         requires finished { IsFinished state }
-        ensures { Answers self.old self.new state.shared }
+        ensures { KeepsAnswered self.old self.new state.shared }
     {
         drop(replace(&mut self.last, Some(state)));
     }
@@ -289,8 +289,8 @@ impl F4Engine {
         requires vectors { AreVectorsOver ring.now (ring_comparison ring.now) list.now }
         requires positions { Each (HasPositions rank) list.now }
         ensures basis { IfOk result (IsReducedBasisOf ring.now rank list.now) }
-        ensures answers { OnOk result (Answers (with_run self.old) self.new (shared_on ring.now rank list.now)) }
-        ensures stop { IfErr result (EngineStops (with_run self.old) self.new (shared_on ring.now rank list.now)) }
+        ensures answers { OnOk result (KeepsAnswered (with_run self.old) self.new (shared_on ring.now rank list.now)) }
+        ensures stop { IfErr result (F4Stops (with_run self.old) self.new (shared_on ring.now rank list.now)) }
         ensures run { self.new.runs ≡ next_count self.old.runs }
     {
         self.count_run();

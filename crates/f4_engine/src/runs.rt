@@ -6,9 +6,9 @@ ghost use Rattle.module_vectors.specs.Vectors.{AreVectorsOver, HasPositions};
 ghost use Rattle.basis_core.specs.Answers.{BeginningStops, IsRunOf};
 ghost use Rattle.groebner_iface.specs.Runs.{IsReducedBasisOf};
 ghost use Rattle.run_endings.specs.Stops.{IsRunBy, OfState, RunStops, shared_on};
-ghost use Rattle.f4_engine.specs.Runs.{EndsAs, IsFinished, IsLeft, IsNew, IsWorkedByAll};
+ghost use Rattle.f4_engine.specs.Runs.{EndsAs, IsFinished, IsLeft, IsFreshState, IsWorkedByAll};
 
-use crate::work::Turn;
+use crate::work::LongJob;
 use crate::workers::work_all;
 use basis_core::{BasisState, StopReason};
 use module_vectors::{KeptTrail, Ring, Vect, VectList, WorkStop};
@@ -35,7 +35,7 @@ fn begin(
     requires vectors { AreVectorsOver ring.now (ring_comparison ring.now) list.now }
     requires positions { Each (HasPositions rank) list.now }
     ensures run { IfOk result (IsRunOf (shared_on ring.now rank list.now) pairs workers update) }
-    ensures new { IfOk result IsNew }
+    ensures new { IfOk result IsFreshState }
     ensures stop { IfErr result (BeginningStops (variables ring.now) (shared_on ring.now rank list.now)) }
 {
     let ring = ring.try_copy(alloc)?;
@@ -90,7 +90,7 @@ fn let_work<R: Threads + Wait + Sync>(
     gate: &SharedGate,
     state: BasisState,
 ) -> Option<BasisState>
-    requires new { IsNew state }
+    requires new { IsFreshState state }
     requires helpers { 0 < helpers }
     ensures { IfSome result (IsLeft state) }
 {
@@ -98,12 +98,12 @@ fn let_work<R: Threads + Wait + Sync>(
     let threads = threads_for(&state);
     match Lock::new(alloc, state) {
         Ok((lock, seat)) => {
-            let turns = Mutex::new(Turn {
+            let long = Mutex::new(LongJob {
                 degree: 0,
                 gave_rows: true,
             });
             let seat = work_all(
-                rt, alloc, &lock, helpers, thread, gate, &turns, seat, workers, threads,
+                rt, alloc, &lock, helpers, thread, gate, &long, seat, workers, threads,
             );
             let state = lock.close(seat);
             state.kept();

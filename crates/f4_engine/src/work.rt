@@ -19,14 +19,15 @@ use worker_gate::{Gate, Point, SharedGate};
 // run makes.
 const PAIRS: u64 = 512;
 
-// From so many pairs on a job is long. A worker keeps its turn to take while its job is long, and the others wait for its rows,
-// since jobs of one degree that are out together find the same ones. Where the last long job of the degree gave no rows, the
-// others are likely to give none, and nobody waits.
+// From so many pairs on a job is long. While a worker has a long job no other takes one, and the others wait for its rows, since
+// jobs of one degree that are out together find the same ones. Where the last long job of the degree gave no rows, the others are
+// likely to give none, and nobody waits.
 const LONG: usize = 8;
 
-/// What a worker knows that has the turn to take: the degree of the last long job that was handed in, and whether it gave rows.
+/// The last long job that was handed in: its degree, and whether it gave rows. A worker locks it while it takes a job, and as long
+/// as its own is long.
 #[derive(Clone, Copy)]
-pub(crate) struct Turn {
+pub(crate) struct LongJob {
     pub(crate) degree: u128,
     pub(crate) gave_rows: bool,
 }
@@ -114,17 +115,17 @@ fn do_job<R: Threads + Wait + Sync>(
     }
 }
 
-// Solves a job and hands it in, or gives up. The turn is kept meanwhile where the job is long, unless the last long job of its degree
-// gave no rows. Is the worker done?
-fn do_job_in_turn<R: Threads + Wait + Sync>(
+// Solves a job and hands it in, or gives up. Nobody takes a job meanwhile where this one is long, unless the last long job of its
+// degree gave no rows. Is the worker done?
+fn do_taken_job<R: Threads + Wait + Sync>(
     rt: &R,
     alloc: Global,
     lock: &BasisLock,
     helpers: u32,
     thread: usize,
     gate: &SharedGate,
-    turns: &Mutex<Turn>,
-    mut turn: MutexGuard<'_, Turn>,
+    long: &Mutex<LongJob>,
+    mut last_long: MutexGuard<'_, LongJob>,
     seat: &mut BasisSeat,
     job: Job,
 ) -> bool
@@ -135,18 +136,18 @@ fn do_job_in_turn<R: Threads + Wait + Sync>(
     ensures ends { RoundEnds (base lock.now.table.shared.key.value) seat.old.place.me.0 seat.new.place.me.0 result }
 {
     let degree = degree_of(&job);
-    let last = *turn;
+    let last = *last_long;
     if job.pairs().len() < LONG || (last.degree == degree && !last.gave_rows) {
-        drop(turn);
+        drop(last_long);
         let (done, gave_rows) = do_job(rt, alloc, lock, helpers, thread, gate, seat, job);
         if gave_rows && !last.gave_rows {
-            *turns.lock(rt) = Turn { degree, gave_rows };
+            *long.lock(rt) = LongJob { degree, gave_rows };
         }
         return done;
     }
     let (done, gave_rows) = do_job(rt, alloc, lock, helpers, thread, gate, seat, job);
-    *turn = Turn { degree, gave_rows };
-    drop(turn);
+    *last_long = LongJob { degree, gave_rows };
+    drop(last_long);
     done
 }
 
@@ -158,7 +159,7 @@ fn do_round<R: Threads + Wait + Sync>(
     helpers: u32,
     thread: usize,
     gate: &SharedGate,
-    turns: &Mutex<Turn>,
+    long: &Mutex<LongJob>,
     seat: &mut BasisSeat,
 ) -> bool
     requires idle { IsIdle lock.now.table.shared.table_id (base lock.now.table.shared.key.value) seat.old.place }
@@ -167,21 +168,21 @@ fn do_round<R: Threads + Wait + Sync>(
     ensures idle { IsIdle lock.now.table.shared.table_id (base lock.now.table.shared.key.value) seat.new.place }
     ensures ends { RoundEnds (base lock.now.table.shared.key.value) seat.old.place.me.0 seat.new.place.me.0 result }
 {
-    let turn = turns.lock(rt);
+    let last_long = long.lock(rt);
     match take_job(rt, alloc, lock, seat, PAIRS) {
-        Ok(Taken::Job(job)) => do_job_in_turn(
-            rt, alloc, lock, helpers, thread, gate, turns, turn, seat, job,
+        Ok(Taken::Job(job)) => do_taken_job(
+            rt, alloc, lock, helpers, thread, gate, long, last_long, seat, job,
         ),
         Ok(Taken::Empty) => {
-            drop(turn);
+            drop(last_long);
             ask_to_end(rt, lock, seat)
         }
         Ok(Taken::Stopped) => {
-            drop(turn);
+            drop(last_long);
             ask_to_end(rt, lock, seat)
         }
         Err(_) => {
-            drop(turn);
+            drop(last_long);
             give_up(rt, lock, seat, WorkStop::Memory);
             true
         }
@@ -196,7 +197,7 @@ pub(crate) fn work<R: Threads + Wait + Sync>(
     helpers: u32,
     thread: usize,
     gate: &SharedGate,
-    turns: &Mutex<Turn>,
+    long: &Mutex<LongJob>,
     seat: BasisSeat,
 ) -> BasisSeat
     requires idle { IsIdle lock.now.table.shared.table_id (base lock.now.table.shared.key.value) seat.place }
@@ -208,7 +209,7 @@ pub(crate) fn work<R: Threads + Wait + Sync>(
 {
     let mut seat = seat;
     for _ in rt.forever() {
-        if do_round(rt, alloc, lock, helpers, thread, gate, turns, &mut seat) {
+        if do_round(rt, alloc, lock, helpers, thread, gate, long, &mut seat) {
             return seat;
         }
     }

@@ -2,7 +2,7 @@
 use Rattle.std.proofs.Common.{List, [], ap, ap₂, arith, map, refl, subst, sym, ℕ, ◌-◌, ◌∙◌, ◌∷◌, ◌≡◌, ◌++◌}
 use Rattle.monomials.specs.Exponents.{Exponents, cons, exponents_of, head, nil, quotient, tail}
 use Rattle.monomial_orders.specs.Kept.{Monomial}
-use Rattle.hilbert_series.specs.Generators.{AreApart, IsApart, monomials}
+use Rattle.hilbert_series.specs.Generators.{AreCoprimeToAll, IsCoprimeToAll, monomials}
 
 -- what has no variable in common with k has none with a quotient of k
 quotient_less : {n : ℕ} (s k p : Exponents n) → quotient s k ≡ s → quotient s (quotient k p) ≡ s
@@ -18,31 +18,31 @@ first_of x y xs ys e = cc
 rest_of : {n : ℕ} (x y : Exponents n) (xs ys : List (Exponents n)) → ◌≡◌ {A = List (Exponents n)} (x ∷ xs) (y ∷ ys) → xs ≡ ys
 rest_of x y xs ys e = cc
 
-apart_quotient : {n : ℕ} (ms : List (Exponents n)) (k p : Exponents n) → IsApart ms k → IsApart ms (quotient k p)
+apart_quotient : {n : ℕ} (ms : List (Exponents n)) (k p : Exponents n) → IsCoprimeToAll ms k → IsCoprimeToAll ms (quotient k p)
 apart_quotient [] k p e = refl
 apart_quotient (s ∷ ms) k p e = ap₂ ◌∷◌ (quotient_less s k p (first_of _ _ _ _ e)) (apart_quotient ms k p (rest_of _ _ _ _ e))
 
 pub apart_quotients :
     (n : ℕ) (ms : List (Exponents n)) (p : Exponents n) (gs qs : List Monomial) → monomials n qs ≡ map (λ s. quotient s p) (monomials n gs)
-    → AreApart n ms gs → AreApart n ms qs
+    → AreCoprimeToAll n ms gs → AreCoprimeToAll n ms qs
 apart_quotients n ms p [] [] e h = tt
 apart_quotients n ms p [] (q ∷ qs) e h = let bad : ⊥ = cc in absurd bad
 apart_quotients n ms p (g ∷ gs) [] e h = let bad : ⊥ = cc in absurd bad
 apart_quotients n ms p (g ∷ gs) (q ∷ qs) e h = (
-  subst (IsApart ms) (sym (first_of _ _ _ _ e)) (apart_quotient ms (exponents_of n g.exponents) p h.0),
+  subst (IsCoprimeToAll ms) (sym (first_of _ _ _ _ e)) (apart_quotient ms (exponents_of n g.exponents) p h.0),
   apart_quotients n ms p gs qs (rest_of _ _ _ _ e) h.1,
 )
 
-pub apart_append : {n : ℕ} (ms ks : List (Exponents n)) (m : Exponents n) → IsApart ms m → IsApart ks m → IsApart (ms ++ ks) m
+pub apart_append : {n : ℕ} (ms ks : List (Exponents n)) (m : Exponents n) → IsCoprimeToAll ms m → IsCoprimeToAll ks m → IsCoprimeToAll (ms ++ ks) m
 apart_append [] ks m e f = f
 apart_append (s ∷ ms) ks m e f = ap₂ ◌∷◌ (first_of _ _ _ _ e) (apart_append ms ks m (rest_of _ _ _ _ e) f)
 
 pub are_apart_append :
-    (n : ℕ) (ms ks : List (Exponents n)) (gs : List Monomial) → AreApart n ms gs → AreApart n ks gs → AreApart n (ms ++ ks) gs
+    (n : ℕ) (ms ks : List (Exponents n)) (gs : List Monomial) → AreCoprimeToAll n ms gs → AreCoprimeToAll n ks gs → AreCoprimeToAll n (ms ++ ks) gs
 are_apart_append n ms ks [] a b = tt
 are_apart_append n ms ks (g ∷ gs) a b = (apart_append ms ks (exponents_of n g.exponents) a.0 b.0, are_apart_append n ms ks gs a.1 b.1)
 
-pub apart_nothing : (n : ℕ) (gs : List Monomial) → AreApart n [] gs
+pub apart_nothing : (n : ℕ) (gs : List Monomial) → AreCoprimeToAll n [] gs
 apart_nothing n [] = tt
 apart_nothing n (g ∷ gs) = (refl, apart_nothing n gs)
 
@@ -52,6 +52,6 @@ quotients_append p (x ∷ xs) ys = ap (λ z. quotient x p ∷ z) (quotients_appe
 
 -- dividing by what has no variable in common with ms
 pub quotients_with :
-    (n : ℕ) (ms : List (Exponents n)) (p : Exponents n) (gs qs : List Monomial) → IsApart ms p → monomials n qs ≡ map (λ s. quotient s p) (monomials n gs)
+    (n : ℕ) (ms : List (Exponents n)) (p : Exponents n) (gs qs : List Monomial) → IsCoprimeToAll ms p → monomials n qs ≡ map (λ s. quotient s p) (monomials n gs)
     → ms ++ monomials n qs ≡ map (λ s. quotient s p) (ms ++ monomials n gs)
 quotients_with n ms p gs qs a e = ap₂ ◌++◌ (sym a) e ∙ sym (quotients_append p ms (monomials n gs))

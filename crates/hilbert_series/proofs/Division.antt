@@ -9,7 +9,7 @@ use Rattle.hilbert_laws.proofs.Recurrence.{partial_sums-first, series-divided, s
 use Rattle.hilbert_laws.proofs.Steps.{partial_sums_ext, partial_sums_nothing}
 use Rattle.hilbert_laws.specs.Dimensions.{HasDimension, IsZero, nothing, of_order}
 use Rattle.hilbert_laws.specs.Numerators.{divided_by, partial_sums, series, value_at_one}
-use Rattle.hilbert_series.specs.Division.{AreSums, IsDivided, IsSummed, SumStops, sum_before}
+use Rattle.hilbert_series.specs.Division.{AreSums, IsDividedByPowers, IsSummed, SumStops, sum_before}
 use Rattle.hilbert_series.specs.Large.{DimensionStops, IsLarge}
 use Rattle.hilbert_series.specs.declared.stop.HilbertStop.{HilbertStop}
 use Rattle.hilbert_series.specs.declared.stop.HilbertStop.TheVariants.{Memory, Leads, Large}
@@ -25,7 +25,7 @@ value_at (a ∷ []) zero le = omega (arith, ints)
 value_at (a ∷ b ∷ K) zero le = absurd (omega (arith, le))
 value_at (a ∷ K) (suc d) le = partial_sums-first a K d ∙ ap (λ x. a +ℤ x) (value_at K d (omega (arith, le)))
 
-pub division_begins : (K : List ℤ) → ((d : ℕ) → nat_abs (get_or K d (pos 0)) < 2 ^ 127) → IsDivided K K 0
+pub division_begins : (K : List ℤ) → ((d : ℕ) → nat_abs (get_or K d (pos 0)) < 2 ^ 127) → IsDividedByPowers K K 0
 division_begins K h = record {
   vanishes = λ i lt. absurd (omega (arith, lt));
   quotient = λ d. refl;
@@ -34,7 +34,7 @@ division_begins K h = record {
       let r = h d in omega (arith, q, r);
 }
 
-module _ (K rest : List ℤ) (z : ℕ) (s : IsDivided K rest z) where
+module _ (K rest : List ℤ) (z : ℕ) (s : IsDividedByPowers K rest z) where
   next_series : (d : ℕ) → series [] K (suc z) d ≡ partial_sums (λ e. get_or rest e (pos 0)) d
   next_series d = partial_sums_ext (series [] K z) (λ e. get_or rest e (pos 0)) (λ e. sym (s.quotient e)) d
 
@@ -61,12 +61,12 @@ zero_not_large K h l = l.at_one.nonzero (sym ((dimension_one 0 K K (negsuc 0) (p
     (of_order l.order l.value l.at_one)).1))
 
 pub zero_dimension :
-    (n : ℕ) (K rest : List ℤ) (z : ℕ) → IsDivided K rest z → length rest ≡ 0 → HasDimension n K (negsuc 0) (pos 0) × (IsLarge K → ⊥)
+    (n : ℕ) (K rest : List ℤ) (z : ℕ) → IsDividedByPowers K rest z → length rest ≡ 0 → HasDimension n K (negsuc 0) (pos 0) × (IsLarge K → ⊥)
 zero_dimension n K rest z s e = (nothing (nothing_left K rest z s e), zero_not_large K (nothing_left K rest z s e))
 
 -- a sum that is large
 pub large_sum :
-    (K rest : List ℤ) (z d : ℕ) → IsDivided K rest z → 2 ^ 127 ≤ nat_abs (partial_sums (λ e. get_or rest e (pos 0)) d) → IsLarge K
+    (K rest : List ℤ) (z d : ℕ) → IsDividedByPowers K rest z → 2 ^ 127 ≤ nat_abs (partial_sums (λ e. get_or rest e (pos 0)) d) → IsLarge K
 large_sum K rest z d s large = elim (order_exists (length K) K (λ i le. get_or_past K i (pos 0) le)) [
   | inl none ↦
       let v : partial_sums (λ e. get_or rest e (pos 0)) d ≡ pos 0 =
@@ -121,7 +121,7 @@ length_more : (init : List ℤ) (a : ℤ) → length (init ++ (a ∷ [])) ≡ su
 length_more [] a = refl
 length_more (x ∷ init) a = ap suc (length_more init a)
 
-module _ (K rest init : List ℤ) (a : ℤ) (z : ℕ) (s : IsDivided K rest z) (t : AreSums rest (init ++ (a ∷ []))) where
+module _ (K rest init : List ℤ) (a : ℤ) (z : ℕ) (s : IsDividedByPowers K rest z) (t : AreSums rest (init ++ (a ∷ []))) where
   rest_long : length rest ≡ suc (length init)
   rest_long = sym t.long ∙ length_more init a
 
@@ -159,8 +159,8 @@ module _ (K rest init : List ℤ) (a : ℤ) (z : ℕ) (s : IsDivided K rest z) (
   ]
 
 pub division_goes_on :
-    (K rest init : List ℤ) (a : ℤ) (z : ℕ) → IsDivided K rest z → AreSums rest (init ++ (a ∷ [])) → a ≡ pos 0
-    → IsDivided K init (z + 1) × (length init + 1 ≡ length rest)
+    (K rest init : List ℤ) (a : ℤ) (z : ℕ) → IsDividedByPowers K rest z → AreSums rest (init ++ (a ∷ [])) → a ≡ pos 0
+    → IsDividedByPowers K init (z + 1) × (length init + 1 ≡ length rest)
 division_goes_on K rest init a z s t e = (
   record {
     vanishes = λ i lt. elim (cases_lt i z) [
@@ -184,7 +184,7 @@ division_goes_on K rest init a z s t e = (
 
 -- the last sum is not 0: it is the degree
 pub division_ends :
-    (n : ℕ) (K rest init : List ℤ) (a : ℤ) (z : ℕ) → IsDivided K rest z → AreSums rest (init ++ (a ∷ [])) → (a ≡ pos 0 → ⊥)
+    (n : ℕ) (K rest init : List ℤ) (a : ℤ) (z : ℕ) → IsDividedByPowers K rest z → AreSums rest (init ++ (a ∷ [])) → (a ≡ pos 0 → ⊥)
     → HasDimension n K (pos n -ℤ pos z) a × (IsLarge K → ⊥)
 division_ends n K rest init a z s t ne = (
   of_order z a (order_of_division K z a (record { vanishes = s.vanishes; value = v; nonzero = ne })),
@@ -267,7 +267,7 @@ last_narrow rest init a s =
     omega (arith, r, e)
 
 pub stops_on :
-    (K rest slice : List ℤ) (z : ℕ) (stop : HilbertStop) → slice ≡ rest → IsDivided K rest z → SumStops slice stop → DimensionStops K stop
+    (K rest slice : List ℤ) (z : ℕ) (stop : HilbertStop) → slice ≡ rest → IsDividedByPowers K rest z → SumStops slice stop → DimensionStops K stop
 stops_on K rest slice z Memory e s h = tt
 stops_on K rest slice z (Leads k) e s h = h
 stops_on K rest slice z Large e s h =

@@ -15,8 +15,8 @@ use Rattle.hilbert_laws.specs.Shifting.{minus, shifted}
 use Rattle.monomial_orders.specs.Kept.{IsWeighed, Monomial}
 use Rattle.hilbert_series.proofs.Same.{IsNumerator_coprime, IsNumerator_same, has_divisor-append}
 use Rattle.hilbert_series.proofs.Apart.{apart_append, apart_quotients, quotients_with}
-use Rattle.hilbert_series.specs.Generators.{AreApart, AreGenerators, HaveSameCoefficients, HaveSameMultiples, IsApart, IsNumeratorOf, IsNumeratorWith}
-use Rattle.hilbert_series.specs.Generators.{IsParted, IsShorter, IsSplit, monomials}
+use Rattle.hilbert_series.specs.Generators.{AreCoprimeToAll, AreMonomialGenerators, HaveSameCoefficients, HaveSameMultiples, IsCoprimeToAll, IsNumeratorOf, IsNumeratorWith}
+use Rattle.hilbert_series.specs.Generators.{IsParted, IsShorter, IsNumeratorSplit, monomials}
 
 pub monomials-append : (n : ℕ) (xs ys : List Monomial) → monomials n (xs ++ ys) ≡ monomials n xs ++ monomials n ys
 monomials-append n [] ys = refl
@@ -79,7 +79,7 @@ with_same_multiples n ms ks ls h v = has_divisor-append ms ks v ∙ ap (λ b. ha
 -- the last generator, coprime to the others
 pub numerator_apart :
     (n : ℕ) (ws : List ℕ) (ms : List (Exponents n)) (init : List Monomial) (last : Monomial) (K V : List ℤ) → IsWeighed n ws last
-    → IsApart ms (exponents_of n last.exponents) → IsApart (monomials n init) (exponents_of n last.exponents)
+    → IsCoprimeToAll ms (exponents_of n last.exponents) → IsCoprimeToAll (monomials n init) (exponents_of n last.exponents)
     → IsNumeratorWith n ws ms init K → HaveSameCoefficients V (minus K (shifted last.degree K)) → IsNumeratorWith n ws ms (init ++ (last ∷ [])) V
 numerator_apart n ws ms init last K V w a e hk same =
     let ks = ms ++ monomials n init in
@@ -94,7 +94,7 @@ numerator_apart n ws ms init last K V w a e hk same =
 -- the last generator
 pub numerator_last :
     (n : ℕ) (ws : List ℕ) (ms : List (Exponents n)) (init qs : List Monomial) (last : Monomial) (K L V : List ℤ) → IsWeighed n ws last
-    → IsApart ms (exponents_of n last.exponents)
+    → IsCoprimeToAll ms (exponents_of n last.exponents)
     → monomials n qs ≡ map (λ s. quotient s (exponents_of n last.exponents)) (monomials n init)
     → IsNumeratorWith n ws ms init K → IsNumeratorWith n ws ms qs L → HaveSameCoefficients V (minus K (shifted last.degree L))
     → IsNumeratorWith n ws ms (init ++ (last ∷ [])) V
@@ -111,22 +111,22 @@ numerator_last n ws ms init qs last K L V w a e hk hl same =
 -- the last generator and those before it
 pub record IsLast (n : ℕ) (ws : List ℕ) (ms : List (Exponents n)) (list rest : List Monomial) (last : Monomial) : Type 0 where
   pub items : list ≡ rest ++ (last ∷ [])
-  pub rest_generators : AreGenerators n ws rest
+  pub rest_generators : AreMonomialGenerators n ws rest
   pub weighed : IsWeighed n ws last
   pub long : length list ≡ length rest + 1
-  pub rest_apart : AreApart n ms rest
-  pub apart : IsApart ms (exponents_of n last.exponents)
+  pub rest_apart : AreCoprimeToAll n ms rest
+  pub apart : IsCoprimeToAll ms (exponents_of n last.exponents)
 
 pub last_generator :
     (n : ℕ) (ws : List ℕ) (ms : List (Exponents n)) (list rest : List Monomial) (last : Monomial) → list ≡ rest ++ (last ∷ [])
-    → AreGenerators n ws list → AreApart n ms list → IsLast n ws ms list rest last
+    → AreMonomialGenerators n ws list → AreCoprimeToAll n ms list → IsLast n ws ms list rest last
 last_generator n ws ms list rest last e g a = record {
   items = e;
-  rest_generators = Each_front (IsWeighed n ws) rest (last ∷ []) (subst (AreGenerators n ws) e g);
-  weighed = (Each_back (IsWeighed n ws) rest (last ∷ []) (subst (AreGenerators n ws) e g)).0;
+  rest_generators = Each_front (IsWeighed n ws) rest (last ∷ []) (subst (AreMonomialGenerators n ws) e g);
+  weighed = (Each_back (IsWeighed n ws) rest (last ∷ []) (subst (AreMonomialGenerators n ws) e g)).0;
   long = ap length e ∙ longer rest;
-  rest_apart = Each_front (λ x. IsApart ms (exponents_of n x.exponents)) rest (last ∷ []) (subst (AreApart n ms) e a);
-  apart = (Each_back (λ x. IsApart ms (exponents_of n x.exponents)) rest (last ∷ []) (subst (AreApart n ms) e a)).0;
+  rest_apart = Each_front (λ x. IsCoprimeToAll ms (exponents_of n x.exponents)) rest (last ∷ []) (subst (AreCoprimeToAll n ms) e a);
+  apart = (Each_back (λ x. IsCoprimeToAll ms (exponents_of n x.exponents)) rest (last ∷ []) (subst (AreCoprimeToAll n ms) e a)).0;
 }
   where
     longer : (xs : List Monomial) → length (xs ++ (last ∷ [])) ≡ length xs + 1
@@ -135,12 +135,12 @@ last_generator n ws ms list rest last e g a = record {
 
 pub by_last_apart :
     (n : ℕ) (ws : List ℕ) (ms : List (Exponents n)) (list rest slice : List Monomial) (last : Monomial) (d : ℕ) (K S R V : List ℤ)
-    → IsLast n ws ms list rest last → d ≡ last.degree → slice ≡ rest → IsApart (monomials n slice) (exponents_of n last.exponents)
+    → IsLast n ws ms list rest last → d ≡ last.degree → slice ≡ rest → IsCoprimeToAll (monomials n slice) (exponents_of n last.exponents)
     → IsNumeratorWith n ws ms rest K → S ≡ K → R ≡ K → HaveSameCoefficients V (minus S (shifted d R)) → IsNumeratorWith n ws ms list V
 by_last_apart n ws ms list rest slice last d K S R V l e r a h s q same =
     subst (λ gs. IsNumeratorWith n ws ms gs V) (sym l.items)
     (numerator_apart n ws ms rest last K V l.weighed l.apart
-    (subst (λ gs. IsApart (monomials n gs) (exponents_of n last.exponents)) r a) h
+    (subst (λ gs. IsCoprimeToAll (monomials n gs) (exponents_of n last.exponents)) r a) h
     (λ x. same x ∙ ap₂ (λ y z. get_or (minus y (shifted d z)) x (pos 0)) s q ∙ ap (λ y. get_or (minus K (shifted y K)) x (pos 0)) e))
 
 pub by_last :
@@ -158,9 +158,9 @@ by_last n ws ms list rest slice qs last d K L S R V l e r q h g s o same =
 -- the quotients by the last generator have no variable in common with ms
 pub last_quotients_apart :
     (n : ℕ) (ws : List ℕ) (ms : List (Exponents n)) (list rest slice qs : List Monomial) (last : Monomial) → IsLast n ws ms list rest last → slice ≡ rest
-    → monomials n qs ≡ map (λ s. quotient s (exponents_of n last.exponents)) (monomials n slice) → AreApart n ms qs
+    → monomials n qs ≡ map (λ s. quotient s (exponents_of n last.exponents)) (monomials n slice) → AreCoprimeToAll n ms qs
 last_quotients_apart n ws ms list rest slice qs last l r q =
-    apart_quotients n ms (exponents_of n last.exponents) slice qs q (subst (AreApart n ms) (sym r) l.rest_apart)
+    apart_quotients n ms (exponents_of n last.exponents) slice qs q (subst (AreCoprimeToAll n ms) (sym r) l.rest_apart)
 
 append_nothing : {n : ℕ} (ms : List (Exponents n)) → ms ≡ ms ++ []
 append_nothing [] = refl
@@ -184,9 +184,9 @@ with_nothing_done n ws done gs small K e s h =
 -- a pivot
 pub split_by_pivot :
     (n : ℕ) (ws : List ℕ) (ms : List (Exponents n)) (gs with qs least : List Monomial) (p : Monomial) (d : ℕ) → IsWeighed n ws p → d ≡ p.degree
-    → AreGenerators n ws with → HaveSameMultiples (monomials n with) (exponents_of n p.exponents ∷ monomials n gs) → length with ≤ length gs
+    → AreMonomialGenerators n ws with → HaveSameMultiples (monomials n with) (exponents_of n p.exponents ∷ monomials n gs) → length with ≤ length gs
     → length qs ≡ length gs → monomials n qs ≡ map (λ s. quotient s (exponents_of n p.exponents)) (monomials n gs)
-    → IsShorter n ws qs least → IsApart ms (exponents_of n p.exponents) → AreApart n ms gs → AreApart n ms with → IsSplit n ws ms gs with least d
+    → IsShorter n ws qs least → IsCoprimeToAll ms (exponents_of n p.exponents) → AreCoprimeToAll n ms gs → AreCoprimeToAll n ms with → IsNumeratorSplit n ws ms gs with least d
 split_by_pivot n ws ms gs with qs least p d w deg generators same fewer long e s a apart with_apart = record {
   left_generators = generators;
   right_generators = s.generators;
@@ -214,7 +214,7 @@ split_by_pivot n ws ms gs with qs least p d w deg generators same fewer long e s
         ∙ ap (λ b. is_divisor (exponents_of n p.exponents) v || b) (sym (has_divisor-append ms (monomials n gs) v))
 
 pub numerator_split :
-    (n : ℕ) (ws : List ℕ) (ms : List (Exponents n)) (gs left right : List Monomial) (d : ℕ) (K L S R V : List ℤ) → IsSplit n ws ms gs left right d
+    (n : ℕ) (ws : List ℕ) (ms : List (Exponents n)) (gs left right : List Monomial) (d : ℕ) (K L S R V : List ℤ) → IsNumeratorSplit n ws ms gs left right d
     → IsNumeratorWith n ws ms left K → IsNumeratorWith n ws ms right L → S ≡ K → R ≡ L → HaveSameCoefficients V (plus S (shifted d R))
     → IsNumeratorWith n ws ms gs V
 numerator_split n ws ms gs left right d K L S R V s hk hl e f same =
@@ -307,9 +307,9 @@ some_holds P o a e h = subst (λ x. IfSome x P) e h
 
 pub split_of_slice :
     (n : ℕ) (ws : List ℕ) (done gs some slice left right : List Monomial) (d : ℕ) → some ≡ done → slice ≡ gs
-    → IsSplit n ws (monomials n some) slice left right d → IsSplit n ws (monomials n done) gs left right d
+    → IsNumeratorSplit n ws (monomials n some) slice left right d → IsNumeratorSplit n ws (monomials n done) gs left right d
 split_of_slice n ws done gs some slice left right d f e s =
-    subst (λ x. IsSplit n ws (monomials n x) gs left right d) f (subst (λ x. IsSplit n ws (monomials n some) x left right d) e s)
+    subst (λ x. IsNumeratorSplit n ws (monomials n x) gs left right d) f (subst (λ x. IsNumeratorSplit n ws (monomials n some) x left right d) e s)
 
 pub parted_of_slice :
     (n : ℕ) (ws : List ℕ) (done gs some slice first both other : List Monomial) → some ≡ done → slice ≡ gs

@@ -14,7 +14,7 @@ use Rattle.formal_sums.specs.FormalSums.{Each}
 use Rattle.module_vectors.proofs.Gathers.{Each_permutation}
 use Rattle.hilbert_series.proofs.Lists.{Each_append, Each_back, Each_front, has_divisor-last, monomials-append, quotient_apart, quotient_lcm}
 use Rattle.hilbert_series.proofs.Same.{has_divisor_redundant}
-use Rattle.hilbert_series.specs.Generators.{AreApart, AreGenerators, HaveSameMultiples, IsApart, IsShorter, monomials}
+use Rattle.hilbert_series.specs.Generators.{AreCoprimeToAll, AreMonomialGenerators, HaveSameMultiples, IsCoprimeToAll, IsShorter, monomials}
 
 -- the exponents of a generator
 abbrev monomial : (n : ℕ) → Monomial → Exponents n
@@ -25,25 +25,25 @@ take_item xs i x lt e =
     ap (λ k. take k xs) (let q : i + 1 ≡ suc i = omega arith in q) ∙ take-suc xs i x lt ∙ ap (λ y. take i xs ++ (y ∷ [])) (sym e)
 
 pub each_item :
-    (n : ℕ) (ws : List ℕ) (xs : List Monomial) (i : ℕ) (x : Monomial) → AreGenerators n ws xs → i < length xs → x ≡ get_or xs i x → IsWeighed n ws x
+    (n : ℕ) (ws : List ℕ) (xs : List Monomial) (i : ℕ) (x : Monomial) → AreMonomialGenerators n ws xs → i < length xs → x ≡ get_or xs i x → IsWeighed n ws x
 each_item n ws [] i x h lt e = absurd (omega (arith, lt))
 each_item n ws (y ∷ xs) zero x h lt e = subst (IsWeighed n ws) (sym e) h.0
 each_item n ws (y ∷ xs) (suc i) x h lt e = each_item n ws xs i x h.1 (omega (arith, lt)) e
 
 pub item_apart :
-    (n : ℕ) (ms : List (Exponents n)) (xs : List Monomial) (i : ℕ) (x : Monomial) → AreApart n ms xs → i < length xs → x ≡ get_or xs i x
-    → IsApart ms (exponents_of n x.exponents)
+    (n : ℕ) (ms : List (Exponents n)) (xs : List Monomial) (i : ℕ) (x : Monomial) → AreCoprimeToAll n ms xs → i < length xs → x ≡ get_or xs i x
+    → IsCoprimeToAll ms (exponents_of n x.exponents)
 item_apart n ms [] i x h lt e = absurd (omega (arith, lt))
-item_apart n ms (y ∷ xs) zero x h lt e = subst (λ z. IsApart ms (exponents_of n z.exponents)) (sym e) h.0
+item_apart n ms (y ∷ xs) zero x h lt e = subst (λ z. IsCoprimeToAll ms (exponents_of n z.exponents)) (sym e) h.0
 item_apart n ms (y ∷ xs) (suc i) x h lt e = item_apart n ms xs i x h.1 (omega (arith, lt)) e
 
 -- a copy of an item more
 pub apart_more :
     (n : ℕ) (ms : List (Exponents n)) (xs kept more : List Monomial) (i : ℕ) (x m : Monomial) → i < length xs → x ≡ get_or xs i x → m ≡ x
-    → more ≡ kept ++ (m ∷ []) → AreApart n ms xs → AreApart n ms kept → AreApart n ms more
+    → more ≡ kept ++ (m ∷ []) → AreCoprimeToAll n ms xs → AreCoprimeToAll n ms kept → AreCoprimeToAll n ms more
 apart_more n ms xs kept more i x m lt e c grown f h =
-    subst (AreApart n ms) (sym grown) (Each_append (λ y. IsApart ms (exponents_of n y.exponents)) kept (m ∷ []) h
-    (subst (λ y. IsApart ms (exponents_of n y.exponents)) (sym c) (item_apart n ms xs i x f lt e), tt))
+    subst (AreCoprimeToAll n ms) (sym grown) (Each_append (λ y. IsCoprimeToAll ms (exponents_of n y.exponents)) kept (m ∷ []) h
+    (subst (λ y. IsCoprimeToAll ms (exponents_of n y.exponents)) (sym c) (item_apart n ms xs i x f lt e), tt))
 
 -- the code's test of divisibility
 pub divides_true :
@@ -141,9 +141,9 @@ with_drops n p xs kept i x lt e d h v =
 
 -- the loop: those that are kept so far
 pub record IsWith (n : ℕ) (ws : List ℕ) (p : Monomial) (xs kept : List Monomial) (i : ℕ) : Type 0 where
-  pub generators : AreGenerators n ws kept
+  pub generators : AreMonomialGenerators n ws kept
   pub same : HaveSameMultiples (monomials n kept) (exponents_of n p.exponents ∷ monomials n (take i xs))
-  pub apart : (ms : List (Exponents n)) → IsApart ms (exponents_of n p.exponents) → AreApart n ms xs → AreApart n ms kept
+  pub apart : (ms : List (Exponents n)) → IsCoprimeToAll ms (exponents_of n p.exponents) → AreCoprimeToAll n ms xs → AreCoprimeToAll n ms kept
 
 pub with_begins :
     (n : ℕ) (ws : List ℕ) (p m : Monomial) (xs kept : List Monomial) → kept ≡ m ∷ [] → m ≡ p → IsWeighed n ws p → IsWith n ws p xs kept 0
@@ -155,9 +155,9 @@ with_begins n ws p m xs kept e f w = subst (λ k. IsWith n ws p xs k 0) (sym (e 
 
 pub with_next :
     (n : ℕ) (ws : List ℕ) (p : Monomial) (xs kept more : List Monomial) (i : ℕ) (x m : Monomial) → i < length xs → x ≡ get_or xs i x
-    → AreGenerators n ws xs → m ≡ x → more ≡ kept ++ (m ∷ []) → IsWith n ws p xs kept i → IsWith n ws p xs more (i + 1)
+    → AreMonomialGenerators n ws xs → m ≡ x → more ≡ kept ++ (m ∷ []) → IsWith n ws p xs kept i → IsWith n ws p xs more (i + 1)
 with_next n ws p xs kept more i x m lt e g c grown h = record {
-  generators = subst (AreGenerators n ws) (sym grown)
+  generators = subst (AreMonomialGenerators n ws) (sym grown)
       (Each_append (IsWeighed n ws) kept (m ∷ []) h.generators (subst (IsWeighed n ws) (sym c) (each_item n ws xs i x g lt e), tt));
   same = λ v.
       ap (λ z. has_divisor (monomials n z) v) (grown ∙ ap (λ y. kept ++ (y ∷ [])) c) ∙ with_keeps n p xs kept i x lt e h.same v;
@@ -168,9 +168,9 @@ pub with_same :
     (n : ℕ) (ws : List ℕ) (p : Monomial) (xs kept more : List Monomial) (i : ℕ) (x : Monomial) → i < length xs → x ≡ get_or xs i x
     → is_divisor (exponents_of n p.exponents) (exponents_of n x.exponents) ≡ true → more ≡ kept → IsWith n ws p xs kept i → IsWith n ws p xs more (i + 1)
 with_same n ws p xs kept more i x lt e d same h = record {
-  generators = subst (AreGenerators n ws) (sym same) h.generators;
+  generators = subst (AreMonomialGenerators n ws) (sym same) h.generators;
   same = λ v. ap (λ z. has_divisor (monomials n z) v) same ∙ with_drops n p xs kept i x lt e d h.same v;
-  apart = λ ms a f. subst (AreApart n ms) (sym same) (h.apart ms a f);
+  apart = λ ms a f. subst (AreCoprimeToAll n ms) (sym same) (h.apart ms a f);
 }
 
 -- ---- the quotients, one more
@@ -200,15 +200,15 @@ apart_next n xs i x p lt e long apart h =
 
 -- ---- leaving out multiples: kept, and those that are not looked at yet
 pub record Sifting (n : ℕ) (ws : List ℕ) (gs rest kept : List Monomial) : Type 0 where
-  pub kept_generators : AreGenerators n ws kept
-  pub rest_generators : AreGenerators n ws rest
+  pub kept_generators : AreMonomialGenerators n ws kept
+  pub rest_generators : AreMonomialGenerators n ws rest
   pub fewer : length kept + length rest ≤ length gs
   pub same : (v : Exponents n) → has_divisor (monomials n kept) v || has_divisor (monomials n rest) v ≡ has_divisor (monomials n gs) v
-  pub kept_apart : (ms : List (Exponents n)) → AreApart n ms gs → AreApart n ms kept
-  pub rest_apart : (ms : List (Exponents n)) → AreApart n ms gs → AreApart n ms rest
+  pub kept_apart : (ms : List (Exponents n)) → AreCoprimeToAll n ms gs → AreCoprimeToAll n ms kept
+  pub rest_apart : (ms : List (Exponents n)) → AreCoprimeToAll n ms gs → AreCoprimeToAll n ms rest
 
 -- at the beginning nothing is kept
-pub sifting_begins : (n : ℕ) (ws : List ℕ) (gs kept : List Monomial) → kept ≡ [] → AreGenerators n ws gs → Sifting n ws gs gs kept
+pub sifting_begins : (n : ℕ) (ws : List ℕ) (gs kept : List Monomial) → kept ≡ [] → AreMonomialGenerators n ws gs → Sifting n ws gs gs kept
 sifting_begins n ws gs kept e g = subst (Sifting n ws gs gs) (sym e) (record {
   kept_generators = tt;
   rest_generators = g;
@@ -222,11 +222,11 @@ length_last : (xs : List Monomial) (m : Monomial) → length (xs ++ (m ∷ [])) 
 length_last [] m = refl
 length_last (x ∷ xs) m = ap suc (length_last xs m)
 
-pub front : (n : ℕ) (ws : List ℕ) (xs : List Monomial) (m : Monomial) → AreGenerators n ws (xs ++ (m ∷ [])) → AreGenerators n ws xs
+pub front : (n : ℕ) (ws : List ℕ) (xs : List Monomial) (m : Monomial) → AreMonomialGenerators n ws (xs ++ (m ∷ [])) → AreMonomialGenerators n ws xs
 front n ws [] m h = tt
 front n ws (x ∷ xs) m h = (h.0, front n ws xs m h.1)
 
-pub last_weighed : (n : ℕ) (ws : List ℕ) (xs : List Monomial) (m : Monomial) → AreGenerators n ws (xs ++ (m ∷ [])) → IsWeighed n ws m
+pub last_weighed : (n : ℕ) (ws : List ℕ) (xs : List Monomial) (m : Monomial) → AreMonomialGenerators n ws (xs ++ (m ∷ [])) → IsWeighed n ws m
 last_weighed n ws [] m h = h.0
 last_weighed n ws (x ∷ xs) m h = last_weighed n ws xs m h.1
 
@@ -240,9 +240,9 @@ sifting_keeps n ws gs rest kept m s = record {
       ap (λ b. b || has_divisor (monomials n rest) v) (has_divisor-last n kept m v)
       ∙ swap_or (has_divisor (monomials n kept) v) (is_divisor (monomial n m) v) (has_divisor (monomials n rest) v)
       ∙ ap (λ b. has_divisor (monomials n kept) v || b) (sym (has_divisor-last n rest m v)) ∙ s.same v;
-  kept_apart = λ ms h. Each_append (λ y. IsApart ms (exponents_of n y.exponents)) kept (m ∷ []) (s.kept_apart ms h)
-      (Each_back (λ y. IsApart ms (exponents_of n y.exponents)) rest (m ∷ []) (s.rest_apart ms h));
-  rest_apart = λ ms h. Each_front (λ y. IsApart ms (exponents_of n y.exponents)) rest (m ∷ []) (s.rest_apart ms h);
+  kept_apart = λ ms h. Each_append (λ y. IsCoprimeToAll ms (exponents_of n y.exponents)) kept (m ∷ []) (s.kept_apart ms h)
+      (Each_back (λ y. IsCoprimeToAll ms (exponents_of n y.exponents)) rest (m ∷ []) (s.rest_apart ms h));
+  rest_apart = λ ms h. Each_front (λ y. IsCoprimeToAll ms (exponents_of n y.exponents)) rest (m ∷ []) (s.rest_apart ms h);
 }
 
 pub sifting_drops :
@@ -257,7 +257,7 @@ sifting_drops n ws gs rest kept m s d = record {
       ∙ swap_or (has_divisor (monomials n kept) v) (is_divisor (monomial n m) v) (has_divisor (monomials n rest) v)
       ∙ ap (λ b. has_divisor (monomials n kept) v || b) (sym (has_divisor-last n rest m v)) ∙ s.same v;
   kept_apart = s.kept_apart;
-  rest_apart = λ ms h. Each_front (λ y. IsApart ms (exponents_of n y.exponents)) rest (m ∷ []) (s.rest_apart ms h);
+  rest_apart = λ ms h. Each_front (λ y. IsCoprimeToAll ms (exponents_of n y.exponents)) rest (m ∷ []) (s.rest_apart ms h);
 }
 
 or_nothing : (b : Bool) → b || false ≡ b
@@ -302,14 +302,14 @@ same_bool false true f g = sym (f refl)
 same_bool false false f g = refl
 
 pub shorter_permuted :
-    (n : ℕ) (ws : List ℕ) (gs sorted : List Monomial) → IsPermutation gs sorted → AreGenerators n ws gs → IsShorter n ws gs sorted
+    (n : ℕ) (ws : List ℕ) (gs sorted : List Monomial) → IsPermutation gs sorted → AreMonomialGenerators n ws gs → IsShorter n ws gs sorted
 shorter_permuted n ws gs sorted p g = record {
   generators = Each_permutation (IsWeighed n ws) gs sorted p g;
   fewer = let q = length_permutation gs sorted p in omega (arith, q);
   same = λ v. same_bool (has_divisor (monomials n sorted) v) (has_divisor (monomials n gs) v)
       (λ e. none_divides n gs v (Each_permutation (λ m. is_divisor (exponents_of n m.exponents) v ≡ false) sorted gs (IsPermutation-sym gs sorted p) (divides_none n sorted v e)))
       (λ e. none_divides n sorted v (Each_permutation (λ m. is_divisor (exponents_of n m.exponents) v ≡ false) gs sorted p (divides_none n gs v e)));
-  apart = λ ms h. Each_permutation (λ y. IsApart ms (exponents_of n y.exponents)) gs sorted p h;
+  apart = λ ms h. Each_permutation (λ y. IsCoprimeToAll ms (exponents_of n y.exponents)) gs sorted p h;
 }
 
 pub ok_more : {A F : Type 0} (P Q : A → Type 0) (r : Result A F) → ((v : A) → P v → Q v) → IfOk r P → IfOk r Q

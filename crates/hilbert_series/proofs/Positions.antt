@@ -17,7 +17,7 @@ use Rattle.monomial_orders.specs.Kept.{IsWeighed, Monomial}
 use Rattle.module_vectors.specs.Vectors.{key_of}
 use Rattle.module_vectors.specs.declared.key.Key.{Key as CodeKey}
 use Rattle.hilbert_series.proofs.Lists.{Each_append, length_monomials, monomials-append}
-use Rattle.hilbert_series.specs.Generators.{AreGenerators, HaveSameCoefficients, IsNumeratorOf, monomials}
+use Rattle.hilbert_series.specs.Generators.{AreMonomialGenerators, HaveSameCoefficients, IsNumeratorOf, monomials}
 use Rattle.hilbert_series.specs.Leads.{AreLeads, IsFirstOver, keys_of}
 
 -- ---- one lead more
@@ -93,7 +93,7 @@ each_lead n ws (k ∷ ks) (suc j) x h lt e = each_lead n ws ks j x h.1 (omega (a
 
 -- the monomials of the leads at position i, of the first j leads
 pub record AreFound (n : ℕ) (ws : List ℕ) (i : ℕ) (ks : List CodeKey) (found : List Monomial) (j : ℕ) : Type 0 where
-  pub generators : AreGenerators n ws found
+  pub generators : AreMonomialGenerators n ws found
   pub items : monomials n found ≡ leads_at i (keys_of n (take j ks))
 
 pub found_more :
@@ -101,7 +101,7 @@ pub found_more :
     → x ≡ get_or ks j x → AreLeads n ws ks → x.position ≡ i → m ≡ x.monomial → more ≡ found ++ (m ∷ []) → AreFound n ws i ks found j
     → AreFound n ws i ks more (j + 1)
 found_more n ws i ks found more j x m lt e g q c grown h = record {
-  generators = subst (AreGenerators n ws) (sym grown)
+  generators = subst (AreMonomialGenerators n ws) (sym grown)
       (Each_append (IsWeighed n ws) found (m ∷ []) h.generators (subst (IsWeighed n ws) (sym c) (each_lead n ws ks j x g lt e), tt));
   items =
       ap (monomials n) grown ∙ monomials-append n found (m ∷ []) ∙ ap (λ z. z ++ monomials n (m ∷ [])) h.items
@@ -112,7 +112,7 @@ pub found_same :
     (n : ℕ) (ws : List ℕ) (i : ℕ) (ks : List CodeKey) (found more : List Monomial) (j : ℕ) (x : CodeKey) → j < length ks
     → x ≡ get_or ks j x → (x.position ≡ i → ⊥) → more ≡ found → AreFound n ws i ks found j → AreFound n ws i ks more (j + 1)
 found_same n ws i ks found more j x lt e ne same h = record {
-  generators = subst (AreGenerators n ws) (sym same) h.generators;
+  generators = subst (AreMonomialGenerators n ws) (sym same) h.generators;
   items = ap (monomials n) same ∙ h.items ∙ sym (leads_elsewhere n i ks j x lt e ne);
 }
 

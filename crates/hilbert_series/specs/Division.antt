@@ -5,7 +5,7 @@ use Rattle.hilbert_series.specs.declared.stop.HilbertStop.{HilbertStop}
 use Rattle.hilbert_series.specs.declared.stop.HilbertStop.TheVariants.{Memory, Leads, Large}
 
 -- `rest` is K / (1 - t)^z, up to zeros at its end, and no coefficient of K / (1 - t)^j is large for j up to z
-pub record IsDivided (K rest : List ℤ) (z : ℕ) : Type 0 where
+pub record IsDividedByPowers (K rest : List ℤ) (z : ℕ) : Type 0 where
   pub vanishes : (i : ℕ) → i < z → value_at_one (divided_by i K) ≡ pos 0
   pub quotient : (d : ℕ) → get_or rest d (pos 0) ≡ series [] K z d
   pub narrow : (j d : ℕ) → j ≤ z → nat_abs (series [] K j d) < 2 ^ 127

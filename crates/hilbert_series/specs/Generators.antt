@@ -12,8 +12,8 @@ abbrev pub monomials : (n : ℕ) → List Monomial → List (Exponents n)
 monomials n gs = map (λ g. exponents_of n g.exponents) gs
 
 -- each generator is a monomial in n variables of these weights
-abbrev pub AreGenerators : ℕ → List ℕ → List Monomial → Type 0
-AreGenerators n ws gs = Each (IsWeighed n ws) gs
+abbrev pub AreMonomialGenerators : ℕ → List ℕ → List Monomial → Type 0
+AreMonomialGenerators n ws gs = Each (IsWeighed n ws) gs
 
 -- the lists have the same multiples
 abbrev pub HaveSameMultiples : {n : ℕ} → List (Exponents n) → List (Exponents n) → Type 0
@@ -32,47 +32,47 @@ abbrev pub IsNumeratorWith : (n : ℕ) → List ℕ → List (Exponents n) → L
 IsNumeratorWith n ws ms gs K = IsNumerator ws n K (standard_count ws (ms ++ monomials n gs))
 
 -- m has no variable in common with the monomials: dividing by it leaves each as it is
-abbrev pub IsApart : {n : ℕ} → List (Exponents n) → Exponents n → Type 0
-IsApart ms m = map (λ s. quotient s m) ms ≡ ms
+abbrev pub IsCoprimeToAll : {n : ℕ} → List (Exponents n) → Exponents n → Type 0
+IsCoprimeToAll ms m = map (λ s. quotient s m) ms ≡ ms
 
 -- no generator has a variable in common with the monomials
-abbrev pub AreApart : (n : ℕ) → List (Exponents n) → List Monomial → Type 0
-AreApart n ms gs = Each (λ g. IsApart ms (exponents_of n g.exponents)) gs
+abbrev pub AreCoprimeToAll : (n : ℕ) → List (Exponents n) → List Monomial → Type 0
+AreCoprimeToAll n ms gs = Each (λ g. IsCoprimeToAll ms (exponents_of n g.exponents)) gs
 
 -- `small` has the same multiples, and not more generators; what has no variable in common with these has none with those
 pub record IsShorter (n : ℕ) (ws : List ℕ) (gs small : List Monomial) : Type 0 where
-  pub generators : AreGenerators n ws small
+  pub generators : AreMonomialGenerators n ws small
   pub fewer : length small ≤ length gs
   pub same : HaveSameMultiples (monomials n small) (monomials n gs)
-  pub apart : (ms : List (Exponents n)) → AreApart n ms gs → AreApart n ms small
+  pub apart : (ms : List (Exponents n)) → AreCoprimeToAll n ms gs → AreCoprimeToAll n ms small
 
 -- with ms, the numerator of the generators is that of `left` and t^d times that of `right`, which have not more generators
-pub record IsSplit (n : ℕ) (ws : List ℕ) (ms : List (Exponents n)) (gs left right : List Monomial) (d : ℕ) : Type 0 where
-  pub left_generators : AreGenerators n ws left
-  pub right_generators : AreGenerators n ws right
+pub record IsNumeratorSplit (n : ℕ) (ws : List ℕ) (ms : List (Exponents n)) (gs left right : List Monomial) (d : ℕ) : Type 0 where
+  pub left_generators : AreMonomialGenerators n ws left
+  pub right_generators : AreMonomialGenerators n ws right
   pub left_fewer : length left ≤ length gs
   pub right_fewer : length right ≤ length gs
-  pub left_apart : AreApart n ms left
-  pub right_apart : AreApart n ms right
+  pub left_apart : AreCoprimeToAll n ms left
+  pub right_apart : AreCoprimeToAll n ms right
   pub sum : (K L : List ℤ) → IsNumeratorWith n ws ms left K → IsNumeratorWith n ws ms right L → IsNumeratorWith n ws ms gs (plus K (shifted d L))
 
 -- the generators are those of `first` and of `other`, which have no variable in common; `both` are ms and those of `first`
 pub record IsParted (n : ℕ) (ws : List ℕ) (ms : List (Exponents n)) (gs first both other : List Monomial) : Type 0 where
-  pub first_generators : AreGenerators n ws first
-  pub both_generators : AreGenerators n ws both
-  pub other_generators : AreGenerators n ws other
+  pub first_generators : AreMonomialGenerators n ws first
+  pub both_generators : AreMonomialGenerators n ws both
+  pub other_generators : AreMonomialGenerators n ws other
   pub long : length first + length other ≡ length gs
   pub both_long : length both ≡ length ms + length first
   pub both_items : monomials n both ≡ ms ++ monomials n first
-  pub first_apart : AreApart n ms first
-  pub other_apart : AreApart n (monomials n both) other
+  pub first_apart : AreCoprimeToAll n ms first
+  pub other_apart : AreCoprimeToAll n (monomials n both) other
   pub same : HaveSameMultiples (monomials n both ++ monomials n other) (ms ++ monomials n gs)
 
 -- the generators are those of `first` and of `other`
 pub record IsSieved (n : ℕ) (ws : List ℕ) (gs first other : List Monomial) : Type 0 where
-  pub first_generators : AreGenerators n ws first
-  pub other_generators : AreGenerators n ws other
+  pub first_generators : AreMonomialGenerators n ws first
+  pub other_generators : AreMonomialGenerators n ws other
   pub long : length first + length other ≡ length gs
-  pub first_apart : (ms : List (Exponents n)) → AreApart n ms gs → AreApart n ms first
-  pub other_apart : (ms : List (Exponents n)) → AreApart n ms gs → AreApart n ms other
+  pub first_apart : (ms : List (Exponents n)) → AreCoprimeToAll n ms gs → AreCoprimeToAll n ms first
+  pub other_apart : (ms : List (Exponents n)) → AreCoprimeToAll n ms gs → AreCoprimeToAll n ms other
   pub same : (v : Exponents n) → has_divisor (monomials n first) v || has_divisor (monomials n other) v ≡ has_divisor (monomials n gs) v

@@ -3,14 +3,14 @@ ghost use Rattle.std.specs.Prelude.{◌≡◌, ◌≤◌, ◌++◌, ◌∷◌, [
 ghost use Rattle.monomials.specs.Exponents.{Exponents, exponents_of, quotient};
 ghost use Rattle.monomial_counts.specs.Counts.{has_divisor};
 ghost use Rattle.monomial_orders.specs.Kept.{IsWeighed};
-ghost use Rattle.hilbert_series.specs.Generators.{AreApart, AreGenerators, HaveSameMultiples, IsApart, IsShorter, monomials};
+ghost use Rattle.hilbert_series.specs.Generators.{AreCoprimeToAll, AreMonomialGenerators, HaveSameMultiples, IsCoprimeToAll, IsShorter, monomials};
 
 use monomial_orders::{Mono, MonoStop, NoMemory, Weights};
 use std::alloc::Global;
 
 /// Does one of the list divide m?
 fn is_multiple(weights: &Weights, list: &[Mono], m: &Mono) -> bool
-    requires generators { AreGenerators (length weights.now) weights.now list.now }
+    requires generators { AreMonomialGenerators (length weights.now) weights.now list.now }
     requires monomial { IsWeighed (length weights.now) weights.now m.now }
     ensures { let n = length weights.now in result ≡ has_divisor (monomials n list.now) (exponents_of n m.now.exponents) }
 {
@@ -28,7 +28,7 @@ fn without_earlier_multiples(
     weights: &Weights,
     mut list: Vec<Mono>,
 ) -> Result<Vec<Mono>, NoMemory>
-    requires generators { AreGenerators (length weights.now) weights.now list.items }
+    requires generators { AreMonomialGenerators (length weights.now) weights.now list.items }
     ensures shorter { IfOk result (λ v. IsShorter (length weights.now) weights.now list.items v.items) }
 {
     let mut kept = Vec::with_capacity(alloc, list.len())?;
@@ -46,7 +46,7 @@ pub(crate) fn without_multiples(
     weights: &Weights,
     mut list: Vec<Mono>,
 ) -> Result<Vec<Mono>, NoMemory>
-    requires generators { AreGenerators (length weights.now) weights.now list.items }
+    requires generators { AreMonomialGenerators (length weights.now) weights.now list.items }
     ensures shorter { IfOk result (λ v. IsShorter (length weights.now) weights.now list.items v.items) }
 {
     // A divisor has the lower degree, so it is kept before its multiples are looked at.
@@ -69,13 +69,13 @@ pub(crate) fn with_generator(
     list: &[Mono],
     p: &Mono,
 ) -> Result<Vec<Mono>, NoMemory>
-    requires generators { AreGenerators (length weights.now) weights.now list.now }
+    requires generators { AreMonomialGenerators (length weights.now) weights.now list.now }
     requires monomial { IsWeighed (length weights.now) weights.now p.now }
-    ensures generators { IfOk result (λ v. AreGenerators (length weights.now) weights.now v.items) }
+    ensures generators { IfOk result (λ v. AreMonomialGenerators (length weights.now) weights.now v.items) }
     ensures same { let n = length weights.now in
         IfOk result (λ v. HaveSameMultiples (monomials n v.items) (exponents_of n p.now.exponents ∷ monomials n list.now)) }
-    ensures apart { let n = length weights.now in IfOk result (λ v. (ms : List (Exponents n)) → IsApart ms (exponents_of n p.now.exponents)
-        → AreApart n ms list.now → AreApart n ms v.items) }
+    ensures apart { let n = length weights.now in IfOk result (λ v. (ms : List (Exponents n)) → IsCoprimeToAll ms (exponents_of n p.now.exponents)
+        → AreCoprimeToAll n ms list.now → AreCoprimeToAll n ms v.items) }
 {
     let mut all = Vec::with_capacity(alloc, list.len())?;
     push_copy(alloc, &mut all, p)?;
@@ -109,9 +109,9 @@ pub(crate) fn quotients(
     list: &[Mono],
     p: &Mono,
 ) -> Result<Vec<Mono>, NoMemory>
-    requires generators { AreGenerators (length weights.now) weights.now list.now }
+    requires generators { AreMonomialGenerators (length weights.now) weights.now list.now }
     requires monomial { IsWeighed (length weights.now) weights.now p.now }
-    ensures generators { IfOk result (λ v. AreGenerators (length weights.now) weights.now v.items) }
+    ensures generators { IfOk result (λ v. AreMonomialGenerators (length weights.now) weights.now v.items) }
     ensures long { IfOk result (λ v. length v.items ≡ length list.now) }
     ensures items { let n = length weights.now in IfOk result
         (λ v. monomials n v.items ≡ map (λ s. quotient s (exponents_of n p.now.exponents)) (monomials n list.now)) }
@@ -125,7 +125,7 @@ pub(crate) fn quotients(
 
 /// Has p no variable in common with any generator?
 pub(crate) fn is_apart(weights: &Weights, list: &[Mono], p: &Mono) -> bool
-    requires generators { AreGenerators (length weights.now) weights.now list.now }
+    requires generators { AreMonomialGenerators (length weights.now) weights.now list.now }
     requires monomial { IsWeighed (length weights.now) weights.now p.now }
     ensures { let n = length weights.now in IsTrue result
         → map (λ s. quotient s (exponents_of n p.now.exponents)) (monomials n list.now) ≡ monomials n list.now }

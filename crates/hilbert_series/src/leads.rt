@@ -2,7 +2,7 @@
 ghost use Rattle.std.specs.Prelude.{ℕ, ◌≡◌, ◌<◌, ◌≤◌, IfErr, IfOk, None, OnOk, Some, Err, length};
 ghost use Rattle.hilbert_laws.specs.Numerators.{IsNumerator, leads_at, module_count};
 ghost use Rattle.hilbert_series.specs.declared.stop.HilbertStop.TheVariants.{Leads};
-ghost use Rattle.hilbert_series.specs.Generators.{AreGenerators, HaveSameCoefficients, monomials};
+ghost use Rattle.hilbert_series.specs.Generators.{AreMonomialGenerators, HaveSameCoefficients, monomials};
 ghost use Rattle.hilbert_series.specs.Leads.{AreLeads, EndsInNonzero, IsFirstOver, NumeratorStops, keys_of};
 
 use crate::HilbertStop;
@@ -69,7 +69,7 @@ fn generators_at(
     i: u64,
 ) -> Result<Vec<Mono>, NoMemory>
     requires leads { AreLeads (length weights.now) weights.now leads.now }
-    ensures generators { IfOk result (λ v. AreGenerators (length weights.now) weights.now v.items) }
+    ensures generators { IfOk result (λ v. AreMonomialGenerators (length weights.now) weights.now v.items) }
     ensures items { let n = length weights.now in IfOk result (λ v. monomials n v.items ≡ leads_at i (keys_of n leads.now)) }
 {
     let mut found = Vec::new(alloc);

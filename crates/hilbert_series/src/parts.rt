@@ -1,6 +1,6 @@
 // Parts of a list of generators that have no variable in common.
 ghost use Rattle.std.specs.Prelude.{◌++◌, ◌∷◌, ◌≡◌, [], IfOk, IfSome, IsTrue, OnOk, if◌then◌else◌, length};
-ghost use Rattle.hilbert_series.specs.Generators.{AreApart, AreGenerators, IsParted, IsSieved, monomials};
+ghost use Rattle.hilbert_series.specs.Generators.{AreCoprimeToAll, AreMonomialGenerators, IsParted, IsSieved, monomials};
 
 use crate::generators::{is_apart, push_copy};
 use monomial_orders::{Mono, NoMemory, Weights};
@@ -110,7 +110,7 @@ fn sieve(
     first: &mut Vec<Mono>,
     other: &mut Vec<Mono>,
 ) -> Result<(), NoMemory>
-    requires generators { AreGenerators (length weights.now) weights.now list.now }
+    requires generators { AreMonomialGenerators (length weights.now) weights.now list.now }
     requires first { first.old.items ≡ [] }
     requires other { other.old.items ≡ [] }
     ensures ok { OnOk result (IsSieved (length weights.now) weights.now list.now first.new.items other.new.items) }
@@ -128,9 +128,9 @@ fn sieve(
 
 /// Has no monomial of the one list a variable in common with one of the other?
 fn are_apart(weights: &Weights, first: &[Mono], other: &[Mono]) -> bool
-    requires first { AreGenerators (length weights.now) weights.now first.now }
-    requires other { AreGenerators (length weights.now) weights.now other.now }
-    ensures { let n = length weights.now in IsTrue result → AreApart n (monomials n first.now) other.now }
+    requires first { AreMonomialGenerators (length weights.now) weights.now first.now }
+    requires other { AreMonomialGenerators (length weights.now) weights.now other.now }
+    ensures { let n = length weights.now in IsTrue result → AreCoprimeToAll n (monomials n first.now) other.now }
 {
     for m in other {
         if !is_apart(weights, first, m) {
@@ -155,9 +155,9 @@ pub(crate) fn parted(
     done: &[Mono],
     list: &[Mono],
 ) -> Result<Option<Parts>, NoMemory>
-    requires done { AreGenerators (length weights.now) weights.now done.now }
-    requires generators { AreGenerators (length weights.now) weights.now list.now }
-    requires apart { let n = length weights.now in AreApart n (monomials n done.now) list.now }
+    requires done { AreMonomialGenerators (length weights.now) weights.now done.now }
+    requires generators { AreMonomialGenerators (length weights.now) weights.now list.now }
+    requires apart { let n = length weights.now in AreCoprimeToAll n (monomials n done.now) list.now }
     ensures parted { let n = length weights.now in IfOk result (λ o. IfSome o
         (λ p. IsParted n weights.now (monomials n done.now) list.now p.first.items p.both.items p.other.items)) }
 {

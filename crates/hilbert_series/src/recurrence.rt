@@ -1,7 +1,7 @@
 // The recurrence for numerators.
 ghost use Rattle.std.specs.Prelude.{◌+◌, ◌≡◌, ◌≤◌, IfOk, IfSome, length};
 ghost use Rattle.monomial_orders.specs.Kept.{IsWeighed};
-ghost use Rattle.hilbert_series.specs.Generators.{AreApart, AreGenerators, IsNumeratorOf, IsNumeratorWith, IsSplit, monomials};
+ghost use Rattle.hilbert_series.specs.Generators.{AreCoprimeToAll, AreMonomialGenerators, IsNumeratorOf, IsNumeratorWith, IsNumeratorSplit, monomials};
 
 use crate::coefficients::{minus_shifted, plus_shifted};
 use crate::generators::{is_apart, pivot, quotients, with_generator, without_multiples};
@@ -40,12 +40,12 @@ fn split_by(
     list: &[Mono],
     p: &Mono,
 ) -> Result<Option<Branches>, NoMemory>
-    requires done { AreGenerators (length weights.now) weights.now done.now }
-    requires generators { AreGenerators (length weights.now) weights.now list.now }
+    requires done { AreMonomialGenerators (length weights.now) weights.now done.now }
+    requires generators { AreMonomialGenerators (length weights.now) weights.now list.now }
     requires monomial { IsWeighed (length weights.now) weights.now p.now }
-    requires apart { let n = length weights.now in AreApart n (monomials n done.now) list.now }
+    requires apart { let n = length weights.now in AreCoprimeToAll n (monomials n done.now) list.now }
     ensures split { let n = length weights.now in IfOk result (λ o. IfSome o
-        (λ s. IsSplit n weights.now (monomials n done.now) list.now s.left.items s.right.items s.degree)) }
+        (λ s. IsNumeratorSplit n weights.now (monomials n done.now) list.now s.left.items s.right.items s.degree)) }
 {
     if !is_apart(weights, done, p) {
         return Ok(None);
@@ -71,11 +71,11 @@ fn split(
     done: &[Mono],
     list: &[Mono],
 ) -> Result<Option<Branches>, NoMemory>
-    requires done { AreGenerators (length weights.now) weights.now done.now }
-    requires generators { AreGenerators (length weights.now) weights.now list.now }
-    requires apart { let n = length weights.now in AreApart n (monomials n done.now) list.now }
+    requires done { AreMonomialGenerators (length weights.now) weights.now done.now }
+    requires generators { AreMonomialGenerators (length weights.now) weights.now list.now }
+    requires apart { let n = length weights.now in AreCoprimeToAll n (monomials n done.now) list.now }
     ensures split { let n = length weights.now in IfOk result (λ o. IfSome o
-        (λ s. IsSplit n weights.now (monomials n done.now) list.now s.left.items s.right.items s.degree)) }
+        (λ s. IsNumeratorSplit n weights.now (monomials n done.now) list.now s.left.items s.right.items s.degree)) }
 {
     match pivot(alloc, weights, list)? {
         Some(p) => split_by(alloc, weights, done, list, &p),
@@ -91,9 +91,9 @@ fn by_generators(
     start: &Vec<i128>,
     mut list: Vec<Mono>,
 ) -> Result<Vec<i128>, NoMemory>
-    requires generators { AreGenerators (length weights.now) weights.now list.items }
+    requires generators { AreMonomialGenerators (length weights.now) weights.now list.items }
     requires few { length done.now.items + length list.items ≤ 120 }
-    requires apart { let n = length weights.now in AreApart n (monomials n done.now.items) list.items }
+    requires apart { let n = length weights.now in AreCoprimeToAll n (monomials n done.now.items) list.items }
     requires start { IsNumeratorOf (length weights.now) weights.now done.now.items start.now.items }
     ensures numerator { let n = length weights.now in
         IfOk result (λ v. IsNumeratorWith n weights.now (monomials n done.now.items) list.items v.items) }
@@ -123,10 +123,10 @@ fn by_steps(
     start: &Vec<i128>,
     list: Vec<Mono>,
 ) -> Result<Vec<i128>, NoMemory>
-    requires done { AreGenerators (length weights.now) weights.now done.now.items }
-    requires generators { AreGenerators (length weights.now) weights.now list.items }
+    requires done { AreMonomialGenerators (length weights.now) weights.now done.now.items }
+    requires generators { AreMonomialGenerators (length weights.now) weights.now list.items }
     requires few { length done.now.items + length list.items ≤ 120 }
-    requires apart { let n = length weights.now in AreApart n (monomials n done.now.items) list.items }
+    requires apart { let n = length weights.now in AreCoprimeToAll n (monomials n done.now.items) list.items }
     requires start { IsNumeratorOf (length weights.now) weights.now done.now.items start.now.items }
     ensures numerator { let n = length weights.now in
         IfOk result (λ v. IsNumeratorWith n weights.now (monomials n done.now.items) list.items v.items) }
@@ -153,7 +153,7 @@ pub(crate) fn ideal_numerator(
     weights: &Weights,
     generators: Vec<Mono>,
 ) -> Result<Vec<i128>, NoMemory>
-    requires generators { AreGenerators (length weights.now) weights.now generators.items }
+    requires generators { AreMonomialGenerators (length weights.now) weights.now generators.items }
     requires few { length generators.items ≤ 120 }
     ensures numerator { IfOk result (λ v. IsNumeratorOf (length weights.now) weights.now generators.items v.items) }
 {

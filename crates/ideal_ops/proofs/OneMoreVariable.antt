@@ -31,7 +31,7 @@ use Rattle.module_vectors.specs.declared.stop.VectStop.TheVariants.{Memory, Degr
 use Rattle.module_vectors.specs.declared.trail.KeptTrail.{KeptTrail}
 use Rattle.syzygy_engine.proofs.Standing.{Terms}
 use Rattle.ideal_ops.specs.Components.{placed}
-use Rattle.ideal_ops.specs.FrontSteps.{IsFrontMonomial, IsRestOf}
+use Rattle.ideal_ops.specs.FrontSteps.{IsFrontMonomial, IsBehindFactor}
 use Rattle.ideal_ops.specs.FrontVariable.{IsFrontTrail, IsFrontVector, front_polynomial, rest_polynomial}
 use Rattle.ideal_ops.specs.Products.{IsProductTrail}
 use Rattle.ideal_ops.specs.Runs.{AreVectorsFor}
@@ -131,7 +131,7 @@ variable_front ring r t b e ht h is = record {
 
 pub rest_front :
     (ring r : Ring) (t : Monomial) (b : Terms) → r ≡ front_ring ring → IsFrontMonomial ring t → IsVectorOver r (ring_comparison r) b
-    → IsRestOf ring t b → IsFrontVector ring (rest_polynomial (variables ring) ring.modulus.value) b
+    → IsBehindFactor ring t b → IsFrontVector ring (rest_polynomial (variables ring) ring.modulus.value) b
 rest_front ring r t b e ht h is =
     let n = variables ring in
     let p = ring.modulus.value in
@@ -188,7 +188,7 @@ rest_over ring r t one c e ht above ec is weighed =
 
 pub rest_is :
     (ring r : Ring) (t one : Monomial) (c : ℕ) (b : Terms) → r ≡ front_ring ring → c ≡ ring.modulus.value - 1 → IsMonomial (length r.vars) (unit (length r.vars)) one.exponents
-    → b ≡ (record { position = 0; monomial = t }, c) ∷ (record { position = 0; monomial = one }, 1) ∷ [] → IsRestOf ring t b
+    → b ≡ (record { position = 0; monomial = t }, c) ∷ (record { position = 0; monomial = one }, 1) ∷ [] → IsBehindFactor ring t b
 rest_is ring r t one c b e ec is whole = record {
   one = one;
   exponents = (subst (λ q. IsMonomial (length q.vars) (unit (length q.vars)) one.exponents) e is).exponents;
@@ -231,7 +231,7 @@ pub moved_count : (ring : Ring) (list moved : List Terms) → AreVectorsFor (fro
 moved_count ring list moved h =
     h.stand.count ∙ length-map (sums_of (variables ring) list) with_first ∙ length-map list (λ v. sum_of (variables ring) v)
 
-pub rest_low : (ring : Ring) (t : Monomial) (b : Terms) → IsRestOf ring t b → HasPositions 1 b
+pub rest_low : (ring : Ring) (t : Monomial) (b : Terms) → IsBehindFactor ring t b → HasPositions 1 b
 rest_low ring t b is = subst (HasPositions 1) (sym is.terms_are) (omega arith, (omega arith, tt))
 
 pub one_low : (t : Monomial) (b : Terms) → b ≡ (record { position = 0; monomial = t }, 1) ∷ [] → HasPositions 1 b
@@ -242,7 +242,7 @@ variable_stops t u Memory h = h
 variable_stops t u (Degree a b) h = ((record { position = 0; monomial = t }, 1), (0, omega arith, refl), h.1, h.2, h.3)
 
 pub rest_stops :
-    (ring : Ring) (t : Monomial) (b u : Terms) (c : ℕ) (stop : VectStop) → IsRestOf ring t b → ScaledStops c t u stop → CombinationStops b (u ∷ []) stop
+    (ring : Ring) (t : Monomial) (b u : Terms) (c : ℕ) (stop : VectStop) → IsBehindFactor ring t b → ScaledStops c t u stop → CombinationStops b (u ∷ []) stop
 rest_stops ring t b u c Memory is h = h
 rest_stops ring t b u c (Degree x y) is h =
     subst (λ v. CombinationStops v (u ∷ []) (Degree x y)) (sym is.terms_are)

@@ -17,7 +17,7 @@ pub record IsFrontMonomial (ring : Ring) (t : Monomial) : Type 0 where
   pub exponents : exponents_of (suc (variables ring)) t.exponents ≡ first_variable (variables ring)
 
 -- the terms -t and 1
-pub record IsRestOf (ring : Ring) (t : Monomial) (terms : List (CodeKey × ℕ)) : Type 0 where
+pub record IsBehindFactor (ring : Ring) (t : Monomial) (terms : List (CodeKey × ℕ)) : Type 0 where
   pub one : Monomial
   pub exponents : exponents_of (suc (variables ring)) one.exponents ≡ unit (suc (variables ring))
   pub terms_are :

@@ -7,7 +7,7 @@ ghost use Rattle.module_vectors.specs.FrontVariables.{front_ring};
 ghost use Rattle.module_vectors.specs.Rings.{ring_comparison, variables};
 ghost use Rattle.module_vectors.specs.Stops.{CombinationStops, ScaledStops};
 ghost use Rattle.module_vectors.specs.Vectors.{AreTermsOver, AreVectorsOver, HasPositions, IsMonomialOver, IsVectorOver, sum_of, sums_of};
-ghost use Rattle.ideal_ops.specs.FrontSteps.{IsFrontMonomial, IsRestOf};
+ghost use Rattle.ideal_ops.specs.FrontSteps.{IsFrontMonomial, IsBehindFactor};
 ghost use Rattle.ideal_ops.specs.FrontVariable.{IsFrontTrail, IsFrontTrailOf, IsFrontVector, front_polynomial, rest_polynomial};
 ghost use Rattle.ideal_ops.specs.Products.{IsProductTrail, WorkStops};
 ghost use Rattle.ideal_ops.specs.Runs.{AreVectorsFor};
@@ -132,7 +132,7 @@ fn rest_vector(alloc: Global, _ring: &Ring, front: &Ring, t: &Mono) -> Result<Ve
     requires front { front.now ≡ front_ring _ring.now }
     requires variable { IsFrontMonomial _ring.now t.now }
     ensures vector { IfOk result (IsVectorOver front.now (ring_comparison front.now)) }
-    ensures terms { IfOk result (IsRestOf _ring.now t.now) }
+    ensures terms { IfOk result (IsBehindFactor _ring.now t.now) }
 {
     front.modulus.domain();
     let first = t.try_copy(alloc)?;

@@ -14,7 +14,7 @@ use Rattle.module_vectors.specs.declared.stop.VectStop.TheVariants.{Memory, Degr
 use Rattle.basis_steps.proofs.Carrying.{from_append, length-from}
 use Rattle.basis_steps.specs.Cofactors.{cofactor_lists, cofactors_by}
 use Rattle.member_products.specs.Members.{AreCofactors, AreMembersOver, CofactorsStop, IsMemberOver, member_of, members_of}
-use Rattle.member_products.specs.declared.member.Member.{Member as CodeMember}
+use Rattle.member_products.specs.declared.member.RunMember.{RunMember as CodeMember}
 
 -- the member with an index has that many before it
 pub member_at :

@@ -11,8 +11,8 @@ use Rattle.module_vectors.specs.declared.stop.VectStop.TheVariants.{Memory, Degr
 use Rattle.basis_steps.specs.Cofactors.{cofactor_lists}
 use Rattle.basis_steps.specs.States.{Member}
 use Rattle.member_products.specs.Generators.{IsRanked}
-use Rattle.member_products.specs.declared.member.Member.{Member as CodeMember}
-use Rattle.member_products.specs.declared.member.Row.{Row as CodeRow}
+use Rattle.member_products.specs.declared.member.RunMember.{RunMember as CodeMember}
+use Rattle.member_products.specs.declared.member.Reduct.{Reduct as CodeReduct}
 
 -- a member, in n variables
 abbrev pub member_of : (n : ℕ) → CodeMember → Member n
@@ -23,15 +23,15 @@ abbrev pub members_of : (n : ℕ) → List CodeMember → List (Member n)
 members_of n ms = map (λ m. member_of n m) ms
 
 -- a row: it has no multiple of a generator
-abbrev pub row_of : (n : ℕ) → CodeRow → Member n
+abbrev pub row_of : (n : ℕ) → CodeReduct → Member n
 row_of n row = record { vector = sum_of n row.vector; multiple = []; products = sum_of n row.products }
 
 -- each of them
-abbrev pub rows_of : (n : ℕ) → List CodeRow → List (Member n)
+abbrev pub rows_of : (n : ℕ) → List CodeReduct → List (Member n)
 rows_of n rows = map (λ row. row_of n row) rows
 
 -- the row is of vectors of the ring: its vector of the rank, its products of the first k members
-pub record IsRowOver (ring : Ring) (rank k : ℕ) (row : CodeRow) : Type 0 where
+pub record IsRowOver (ring : Ring) (rank k : ℕ) (row : CodeReduct) : Type 0 where
   pub vector : IsRanked ring rank row.vector
   pub products : IsRanked ring k row.products
 

@@ -6,6 +6,6 @@ mod member;
 mod multiplying;
 mod shared;
 
-pub use member::{Member, Row};
+pub use member::{Reduct, RunMember};
 pub use multiplying::{cofactors, push_cofactors};
 pub use shared::Shared;

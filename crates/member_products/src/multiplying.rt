@@ -4,9 +4,9 @@ ghost use Rattle.formal_sums.specs.FormalSums.{Each};
 ghost use Rattle.module_vectors.specs.Stops.{CombinationStops};
 ghost use Rattle.member_products.specs.Generators.{IsRanked};
 ghost use Rattle.member_products.specs.Members.{AreCofactors, AreMembersOver, CofactorsStop, IsMemberOver};
-ghost use Rattle.member_products.specs.declared.member.Member.{Member as MemberValue};
+ghost use Rattle.member_products.specs.declared.member.RunMember.{RunMember as MemberValue};
 
-use crate::{Member, Shared};
+use crate::{RunMember, Shared};
 use module_vectors::{Vect, VectList, VectStop};
 use std::alloc::Global;
 
@@ -18,7 +18,7 @@ use std::alloc::Global;
 pub fn push_cofactors(
     alloc: Global,
     shared: &Shared,
-    member: &Member,
+    member: &RunMember,
     list: &mut VectList,
 ) -> Result<(), VectStop>
     requires list { Each (λ v. IsRanked shared.now.ring (length shared.now.generators) v) list.old }
@@ -45,7 +45,11 @@ pub fn push_cofactors(
 /// earlier members.
 ///
 /// `Degree` where such a product is above degree 65,535; it carries the two monomials. `Memory` where there is none.
-pub fn cofactors(alloc: Global, shared: &Shared, members: &[Member]) -> Result<VectList, VectStop>
+pub fn cofactors(
+    alloc: Global,
+    shared: &Shared,
+    members: &[RunMember],
+) -> Result<VectList, VectStop>
     requires { AreMembersOver shared.now.ring shared.now.rank (length shared.now.generators) 0 members.now }
     ensures vectors { IfOk result (λ list. Each (λ v. IsRanked shared.now.ring (length shared.now.generators) v) list) }
     ensures cofactors { IfOk result (λ list. AreCofactors shared.now.ring members.now list) }

@@ -43,7 +43,7 @@ use Rattle.order_change.specs.Changing.{AreNewMembers, AreNewStandard}
 use Rattle.order_change.specs.Forms.{AreResidues, IsRowForm, monomial_vector}
 use Rattle.order_change.specs.Lists.{AreMonomials, monomials}
 use Rattle.order_change.specs.Products.{IsAscending}
-use Rattle.order_change.specs.Rows.{AreRows, AreSame, IsCleared, IsRow}
+use Rattle.order_change.specs.Rows.{AreRows, AreSame, IsCleared, IsPivotRow}
 use Rattle.order_change.specs.declared.rows.Row.{Row}
 
 -- a row that no list has
@@ -121,7 +121,7 @@ module _ (n : ℕ) (ring : Ring) (F : List (FormalSum n)) (B : List (Exponents n
       itself : (l : ℕ) → l < length rows → get_or rows l (row l) ≡ row l
       itself l lt = get_or_default rows l (row l) no_row lt
 
-      good : (l : ℕ) → l < length (monomials n monos) → IsRow ring.modulus.value (length B) (length monos) (row l)
+      good : (l : ℕ) → l < length (monomials n monos) → IsPivotRow ring.modulus.value (length B) (length monos) (row l)
       good l lt = h.rows_are.each l (row l) (in_rows l lt) (itself l (in_rows l lt))
 
   -- there are not more standard monomials than those of the other order
@@ -177,7 +177,7 @@ module _ (n : ℕ) (ring : Ring) (F : List (FormalSum n)) (B : List (Exponents n
         k (omega (arith, lt, length-append monos (m ∷ [])));
     rows_long = length-append rows (row ∷ []) ∙ ap (λ z. z + 1) h.rows_long ∙ sym (length-append monos (m ∷ []));
     rows_are = record {
-      each = push_cases (λ k r. IsRow p (length B) (length (monos ++ m ∷ [])) r) rows row
+      each = push_cases (λ k r. IsPivotRow p (length B) (length (monos ++ m ∷ [])) r) rows row
           (λ k r lt e. let g = h.rows_are.each k r lt e in record { form = g.form; small = g.small; short = (let s = g.short in omega (arith, s, grown)); pivot = g.pivot; one = g.one })
           (record {
             form = record { long = fl ∙ lr.long; small = fs };

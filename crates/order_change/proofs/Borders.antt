@@ -23,7 +23,7 @@ use Rattle.order_change.proofs.Orders.{less_not_back, less_not_itself, less_of_n
 use Rattle.order_change.specs.Forms.{AreProductsOf, AreResidues, IsRowForm}
 use Rattle.order_change.specs.Lists.{monomials}
 use Rattle.order_change.specs.Products.{IsAscending, IsCandidate, IsLeast, product_at}
-use Rattle.order_change.specs.Tables.{AreFormsOver, IsFormOver, IsGiven, IsNormalForm, IsSmaller, IsSpare}
+use Rattle.order_change.specs.Tables.{AreFormsOver, IsFormOver, IsBasisGiven, IsRowNormalForm, IsSmaller, IsSpare}
 use Rattle.order_change.specs.declared.products.Candidate.{Candidate}
 
 -- a multiple of two variables
@@ -134,7 +134,7 @@ module _ {n : ℕ} (compare : Exponents n → Exponents n → Ordering) (o : IsM
 
   -- the monomials in the form of q are below q
   under :
-      (q : Exponents n) (row : List ℕ) → (IsStandard L q → ⊥) → IsNormalForm compare p F B q row → (t : ℕ) → t < length B → 0 < slice_index row t
+      (q : Exponents n) (row : List ℕ) → (IsStandard L q → ⊥) → IsRowNormalForm compare p F B q row → (t : ℕ) → t < length B → 0 < slice_index row t
       → compare (get_or B t (unit n)) q ≡ Less
   under q row free form t lt some =
       less_of_not compare o (get_or B t (unit n)) q (form.below t lt some)
@@ -142,7 +142,7 @@ module _ {n : ℕ} (compare : Exponents n → Exponents n → Ordering) (o : IsM
 
   -- so their products by the variable j are known
   pub border_covered :
-      (q m : Exponents n) (row : List ℕ) (j filled : ℕ) → times (power n j 1) q ≡ m → (IsStandard L q → ⊥) → IsNormalForm compare p F B q row
+      (q m : Exponents n) (row : List ℕ) (j filled : ℕ) → times (power n j 1) q ≡ m → (IsStandard L q → ⊥) → IsRowNormalForm compare p F B q row
       → (filled < length B → compare (product_at n B j filled) m ≡ Less → ⊥)
       → (t : ℕ) → 0 < slice_index row t → t < filled
   border_covered q m row j filled e free form least t some = go (cases_lt t filled)
@@ -163,13 +163,13 @@ module _ {n : ℕ} (compare : Exponents n → Exponents n → Ordering) (o : IsM
 
   -- the form of m, where it is the variable j times q
   pub border_form :
-      (q m : Exponents n) (row out : List ℕ) (j : ℕ) (rows : List (List ℕ)) → times (power n j 1) q ≡ m → (IsStandard L q → ⊥) → IsNormalForm compare p F B q row
-      → ((t : ℕ) → t < length rows → IsNormalForm compare p F B (product_at n B j t) (get_or rows t []))
+      (q m : Exponents n) (row out : List ℕ) (j : ℕ) (rows : List (List ℕ)) → times (power n j 1) q ≡ m → (IsStandard L q → ⊥) → IsRowNormalForm compare p F B q row
+      → ((t : ℕ) → t < length rows → IsRowNormalForm compare p F B (product_at n B j t) (get_or rows t []))
       → ((t : ℕ) → 0 < slice_index row t → t < length rows)
       → AreResidues p (length B) out
       → ((t : ℕ) → ((s : ℕ) → 0 < slice_index row s → slice_index (get_or rows s []) t ≡ 0) → slice_index out t ≡ 0)
       → (AreProductsOf p F B (power n j 1) rows row → IsRowForm p F B (scale 1 (power n j 1) (expansion B (slice_index row))) out)
-      → IsNormalForm compare p F B m out
+      → IsRowNormalForm compare p F B m out
   border_form q m row out j rows e free form forms covered residues zeros product = record {
     residues = residues;
     same = modulo_trans F (subst (λ z. IsSameModulo p F z (scale 1 (power n j 1) (expansion B (slice_index row)))) (ap₂ (λ x c. ((0, x), c) ∷ []) e refl) (modulo_scale F pos 1 (power n j 1) form.same))
@@ -197,7 +197,7 @@ IsProductWhere p rows row out =
     → IsRowForm p F B (scale 1 x (expansion B (slice_index row))) out
 
 -- a candidate that is not standard and no lead
-module _ (n : ℕ) (ring : Ring) (basis : List (List (CodeKey × ℕ))) (heads standard : List Monomial) (h : IsGiven n ring basis heads standard) (table : List (List (List ℕ))) (forms : AreFormsOver n ring basis standard table) (c : Candidate) (candidate : IsCandidate n ring.weights standard (λ v. length (get_or table v [])) c) (least : IsLeast n (comparison ring.order ring.weights n) (monomials n standard) (λ v. length (get_or table v [])) n (exponents_of n c.monomial.exponents)) (j : ℕ) (spare : IsSpare n (monomials n heads) (exponents_of n c.monomial.exponents) j) where
+module _ (n : ℕ) (ring : Ring) (basis : List (List (CodeKey × ℕ))) (heads standard : List Monomial) (h : IsBasisGiven n ring basis heads standard) (table : List (List (List ℕ))) (forms : AreFormsOver n ring basis standard table) (c : Candidate) (candidate : IsCandidate n ring.weights standard (λ v. length (get_or table v [])) c) (least : IsLeast n (comparison ring.order ring.weights n) (monomials n standard) (λ v. length (get_or table v [])) n (exponents_of n c.monomial.exponents)) (j : ℕ) (spare : IsSpare n (monomials n heads) (exponents_of n c.monomial.exponents) j) where
   spare_product : IsSpare n (monomials n heads) (product_at n (monomials n standard) c.variable c.parent) j
   spare_product = subst (λ z. IsSpare n (monomials n heads) z j) candidate.product spare
 

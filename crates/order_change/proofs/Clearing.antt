@@ -12,7 +12,7 @@ use Rattle.change_laws.proofs.Expansions.{expansion_linear}
 use Rattle.change_laws.proofs.Modulo.{modulo_append, modulo_same, modulo_scale, modulo_trans}
 use Rattle.change_laws.specs.Combinations.{IsSameModulo, expansion}
 use Rattle.order_change.specs.Forms.{AreResidues}
-use Rattle.order_change.specs.Rows.{AreRows, AreSame, IsClearedModulo, IsRow}
+use Rattle.order_change.specs.Rows.{AreRows, AreSame, IsClearedModulo, IsPivotRow}
 use Rattle.order_change.specs.declared.rows.Row.{Row}
 
 -- after the first i rows
@@ -83,7 +83,7 @@ clearing_more p rows form0 combination0 i form combination form' combination' ro
   kept = λ k none. IsCongruent_trans (unchanged_at p m row.combination combination combination' k ca (none i row lt is)) (h.kept k none);
 }
   where
-    good : IsRow p (length form0) (length combination0) row
+    good : IsPivotRow p (length form0) (length combination0) row
     good = are.each i row lt is
 
     pos : 0 < p

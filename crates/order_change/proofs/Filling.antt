@@ -17,7 +17,7 @@ use Rattle.order_change.proofs.Orders.{less_not_itself}
 use Rattle.order_change.specs.Forms.{AreResidues}
 use Rattle.order_change.specs.Lists.{monomials}
 use Rattle.order_change.specs.Products.{HadAllItems, IsCandidate, IsLeast, product_at}
-use Rattle.order_change.specs.Tables.{IsFilling, IsNormalForm, IsTable}
+use Rattle.order_change.specs.Tables.{IsFilling, IsRowNormalForm, IsNormalFormTable}
 use Rattle.order_change.specs.declared.products.Candidate.{Candidate}
 
 pub eq_or : (j k : ℕ) → (j ≡ k) ⊎ (j ≡ k → ⊥)
@@ -55,7 +55,7 @@ filling_first compare p F B turns table tl zeros long none = record {
 -- one more row
 pub filling_more :
     {n : ℕ} (compare : Exponents n → Exponents n → Ordering) (p : ℕ) (F : List (FormalSum n)) (B : List (Exponents n)) (turns turns' : List ℕ) (table table' : List (List (List ℕ))) (v k : ℕ) (m : Exponents n) (form : List ℕ)
-    → IsFilling compare p F B turns table → v < n → k < length B → slice_index turns v ≡ k → m ≡ product_at n B v k → IsNormalForm compare p F B m form
+    → IsFilling compare p F B turns table → v < n → k < length B → slice_index turns v ≡ k → m ≡ product_at n B v k → IsRowNormalForm compare p F B m form
     → length table' ≡ length table → get_or table' v [] ≡ get_or table v [] ++ form ∷ [] → ((w : ℕ) → (w ≡ v → ⊥) → get_or table' w [] ≡ get_or table w [])
     → length turns' ≡ length turns → slice_index turns' v ≡ slice_index turns v + 1 → ((w : ℕ) → (w ≡ v → ⊥) → slice_index turns' w ≡ slice_index turns w)
     → IsFilling compare p F B turns' table'
@@ -81,24 +81,24 @@ filling_more {n} compare p F B turns turns' table table' v k m form h vn kl turn
     most w wn (inl e) = subst (λ z. slice_index turns' z ≤ length B) (sym e) (omega (arith, tat, turn, kl))
     most w wn (inr ne) = subst (λ z. z ≤ length B) (sym (tothers w ne)) (h.most w wn)
 
-    row : (j : ℕ) → j < length (get_or table v []) + 1 → IsNormalForm compare p F B (product_at n B v j) (get_or (get_or table v [] ++ form ∷ []) j [])
-    row = one_more (λ j. IsNormalForm compare p F B (product_at n B v j) (get_or (get_or table v [] ++ form ∷ []) j [])) (length (get_or table v []))
-        (λ j jl. subst (IsNormalForm compare p F B (product_at n B v j)) (sym (get_or_append_left (get_or table v []) (form ∷ []) [] j jl)) (h.forms v j vn jl))
-        (subst (IsNormalForm compare p F B (product_at n B v (length (get_or table v [])))) (sym (get_or-append_seam (get_or table v []) form [] []))
-        (subst (λ z. IsNormalForm compare p F B (product_at n B v z) form) (sym known) (subst (λ z. IsNormalForm compare p F B z form) is normal)))
+    row : (j : ℕ) → j < length (get_or table v []) + 1 → IsRowNormalForm compare p F B (product_at n B v j) (get_or (get_or table v [] ++ form ∷ []) j [])
+    row = one_more (λ j. IsRowNormalForm compare p F B (product_at n B v j) (get_or (get_or table v [] ++ form ∷ []) j [])) (length (get_or table v []))
+        (λ j jl. subst (IsRowNormalForm compare p F B (product_at n B v j)) (sym (get_or_append_left (get_or table v []) (form ∷ []) [] j jl)) (h.forms v j vn jl))
+        (subst (IsRowNormalForm compare p F B (product_at n B v (length (get_or table v [])))) (sym (get_or-append_seam (get_or table v []) form [] []))
+        (subst (λ z. IsRowNormalForm compare p F B (product_at n B v z) form) (sym known) (subst (λ z. IsRowNormalForm compare p F B z form) is normal)))
 
-    forms : (w j : ℕ) → w < n → j < length (get_or table' w []) → (w ≡ v) ⊎ (w ≡ v → ⊥) → IsNormalForm compare p F B (product_at n B w j) (get_or (get_or table' w []) j [])
+    forms : (w j : ℕ) → w < n → j < length (get_or table' w []) → (w ≡ v) ⊎ (w ≡ v → ⊥) → IsRowNormalForm compare p F B (product_at n B w j) (get_or (get_or table' w []) j [])
     forms w j wn jl (inl e) =
         let jl' : j < length (get_or table v []) + 1 = let l : j < length (get_or table' v []) = subst (λ z. j < length (get_or table' z [])) e jl in omega (arith, l, grown) in
-        subst (λ z. IsNormalForm compare p F B (product_at n B z j) (get_or (get_or table' z []) j [])) (sym e)
-        (subst (λ z. IsNormalForm compare p F B (product_at n B v j) (get_or z j [])) (sym at) (row j jl'))
+        subst (λ z. IsRowNormalForm compare p F B (product_at n B z j) (get_or (get_or table' z []) j [])) (sym e)
+        (subst (λ z. IsRowNormalForm compare p F B (product_at n B v j) (get_or z j [])) (sym at) (row j jl'))
     forms w j wn jl (inr ne) =
-        subst (λ z. IsNormalForm compare p F B (product_at n B w j) (get_or z j [])) (sym (others w ne)) (h.forms w j wn (subst (λ z. j < length z) (others w ne) jl))
+        subst (λ z. IsRowNormalForm compare p F B (product_at n B w j) (get_or z j [])) (sym (others w ne)) (h.forms w j wn (subst (λ z. j < length z) (others w ne) jl))
 
 -- all rows
 pub filling_all :
     {n : ℕ} (compare : Exponents n → Exponents n → Ordering) (p : ℕ) (F : List (FormalSum n)) (B : List (Exponents n)) (turns : List ℕ) (table : List (List (List ℕ)))
-    → IsFilling compare p F B turns table → HadAllItems (slice_index turns) n (length B) → IsTable compare p F B table
+    → IsFilling compare p F B turns table → HadAllItems (slice_index turns) n (length B) → IsNormalFormTable compare p F B table
 filling_all compare p F B turns table h over = record {
   long = h.long;
   full = λ v vn. let a = over v vn in let b = h.most v vn in let c = h.counted v vn in omega (arith, a, b, c);
@@ -109,9 +109,9 @@ filling_all compare p F B turns table h over = record {
 pub standard_normal :
     {n : ℕ} (compare : Exponents n → Exponents n → Ordering) → IsMonomialOrder compare → (p : ℕ) (F : List (FormalSum n)) (B : List (Exponents n)) (m : Exponents n) (k : ℕ) (row : List ℕ)
     → k < length B → get_or B k (unit n) ≡ m → AreResidues p (length B) row → slice_index row k ≡ 1 → ((j : ℕ) → (j ≡ k → ⊥) → slice_index row j ≡ 0)
-    → IsNormalForm compare p F B m row
+    → IsRowNormalForm compare p F B m row
 standard_normal {n} compare o p F B m k row kl is residues one zeros =
-    subst (λ z. IsNormalForm compare p F B z row) is (record {
+    subst (λ z. IsRowNormalForm compare p F B z row) is (record {
       residues = residues;
       same = modulo_sym F (modulo_same F _ _ (expansion_one B (slice_index row) k kl (IsCongruent_of p _ 1 one) (λ j jl ne. IsCongruent_of p _ 0 (zeros j ne))));
       below = λ j jl some up. go j some up (eq_or j k);

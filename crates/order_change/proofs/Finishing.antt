@@ -32,11 +32,11 @@ use Rattle.order_change.proofs.Items.{length_monomials}
 use Rattle.order_change.proofs.Sorting.{ascending_distinct}
 use Rattle.order_change.proofs.Stepping.{table_products}
 use Rattle.order_change.proofs.Tails.{count, key_compared, lead_at, lead_position}
-use Rattle.order_change.specs.Changing.{AreProducts, HasDivisor, IsChanged, IsFormOf}
+use Rattle.order_change.specs.Changing.{AreVariableProducts, HasDivisor, IsChanged, IsFormModulo}
 use Rattle.order_change.specs.Lists.{AreMonomials, monomials}
 use Rattle.order_change.specs.Products.{HaveRoom, IsAscending, product_at}
 use Rattle.order_change.specs.Reordered.{with_order}
-use Rattle.order_change.specs.Tables.{IsFormOver, IsGiven, IsTableOver}
+use Rattle.order_change.specs.Tables.{IsFormOver, IsBasisGiven, IsTableOver}
 
 -- a polynomial has rank 1
 polynomial_rank : (n p : ℕ) (v : List (CodeKey × ℕ)) → HasPositions 1 v → IsOfRank p 1 (sum_of n v)
@@ -48,7 +48,7 @@ polynomial_rank n p v h = IsOfRank_of p 1 (sum_of n v) (go v h)
 
 -- the standard monomials of a basis are independent
 given_independent :
-    (n : ℕ) (ring : Ring) (basis : List (List (CodeKey × ℕ))) (heads standard : List Monomial) → IsGiven n ring basis heads standard
+    (n : ℕ) (ring : Ring) (basis : List (List (CodeKey × ℕ))) (heads standard : List Monomial) → IsBasisGiven n ring basis heads standard
     → AreIndependent ring.modulus.value (sums_of n basis) (monomials n standard)
 given_independent n ring basis heads standard h =
     uncovered_independent (setting ring n (ring_comparison ring n) 1) h.lawful (sums_of n basis) (sums_of n basis) h.reduced.basis (monomials n standard) h.are_standard.distinct free
@@ -123,13 +123,13 @@ module _ (n : ℕ) (ring : Ring) (F : List (FormalSum n)) (B : List (Exponents n
 pub ready :
     (n : ℕ) (ring : Ring) (basis : List (List (CodeKey × ℕ))) (standard : List Monomial) (order : Order) (form : List ℕ) (table : List (List (List ℕ)))
     → IsFormOver n ring basis standard (unit n) form → IsTableOver n ring basis standard table
-    → IsFormOf n (with_order order ring) (sums_of n basis) (monomials n standard) (unit n) form × AreProducts n ring.modulus.value (sums_of n basis) (monomials n standard) table
+    → IsFormModulo n (with_order order ring) (sums_of n basis) (monomials n standard) (unit n) form × AreVariableProducts n ring.modulus.value (sums_of n basis) (monomials n standard) table
 ready n ring basis standard order form table f t =
     (record { residues = f.residues; is = f.same }, table_products (comparison ring.order ring.weights n) ring.modulus.value (sums_of n basis) (monomials n standard) table t)
 
 -- the answer
 pub answer :
-    (n : ℕ) (ring : Ring) (order : Order) (basis members : List (List (CodeKey × ℕ))) (heads standard : List Monomial) → variables ring ≡ n → IsGiven n ring basis heads standard
+    (n : ℕ) (ring : Ring) (order : Order) (basis members : List (List (CodeKey × ℕ))) (heads standard : List Monomial) → variables ring ≡ n → IsBasisGiven n ring basis heads standard
     → IsLawful (setting (with_order order ring) n (ring_comparison (with_order order ring) n) 1)
     → IsChanged n (with_order order ring) (sums_of n basis) (monomials n standard) members
     → IsReducedBasisOf (with_order order ring) 1 basis members
@@ -148,7 +148,7 @@ pub given :
     → IsLawful (setting ring (variables ring) (ring_comparison ring (variables ring)) 1) → IsReducedBasisOf ring 1 basis basis
     → AreMonomials (variables ring) ring.weights heads → monomials (variables ring) heads ≡ lead_monomials (sums_of (variables ring) basis)
     → AreMonomials n ring.weights standard → AreStandard (monomials n heads) (monomials n standard) → IsAscending (comparison ring.order ring.weights n) (monomials n standard)
-    → HaveRoom standard → length standard ≤ 256 → IsGiven n ring basis heads standard
+    → HaveRoom standard → length standard ≤ 256 → IsBasisGiven n ring basis heads standard
 given n ring basis heads standard same lawful h heads_of heads_are standard_of are_standard rise room few = record {
   lawful = subst (λ z. IsLawful (setting ring z (ring_comparison ring z) 1)) same lawful;
   vectors = subst (λ z. Each (IsVector z ring.weights ring.modulus.value (ring_comparison ring z)) basis) same h.vectors;

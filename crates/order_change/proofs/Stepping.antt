@@ -30,12 +30,12 @@ use Rattle.order_change.proofs.Items.{has_or_not, length_monomials, monomials_pu
 use Rattle.order_change.proofs.Orders.{less_not_back, less_not_itself, less_of_not, variable_above}
 use Rattle.order_change.proofs.Tails.{sum_push}
 use Rattle.order_change.proofs.Turning.{divisor_more, divisor_new, turns_passed}
-use Rattle.order_change.specs.Changing.{AreNewMembers, AreNewStandard, AreProducts, AreTurns, HasDivisor, IsAdded, IsChanging, IsFormOf, IsKnown, IsNext, IsRest}
+use Rattle.order_change.specs.Changing.{AreNewMembers, AreNewStandard, AreVariableProducts, AreTurns, HasDivisor, IsMonomialAdded, IsChanging, IsFormModulo, IsKnownSoFar, IsNextMonomial, IsRest}
 use Rattle.order_change.specs.Forms.{AreResidues, IsRowForm, monomial_vector}
 use Rattle.order_change.specs.Lists.{HaveDegrees, IsNew, monomials}
 use Rattle.order_change.specs.Products.{HaveRoom, IsCandidate, IsLeast, product_at}
 use Rattle.order_change.specs.Rows.{AreSame, IsCleared}
-use Rattle.order_change.specs.Tables.{IsTable}
+use Rattle.order_change.specs.Tables.{IsNormalFormTable}
 use Rattle.order_change.specs.declared.rows.Row.{Row}
 use Rattle.order_change.specs.declared.change.Change.{Change}
 use Rattle.order_change.specs.declared.products.Candidate.{Candidate}
@@ -57,7 +57,7 @@ zero_row (x ∷ row) h zero = h 0 (omega arith)
 zero_row (x ∷ row) h (suc k) = zero_row row (λ j lt. h (suc j) (omega (arith, lt))) k
 
 -- a table without its order
-pub table_products : {n : ℕ} (compare : Exponents n → Exponents n → Ordering) (p : ℕ) (F : List (FormalSum n)) (B : List (Exponents n)) (table : List (List (List ℕ))) → IsTable compare p F B table → AreProducts n p F B table
+pub table_products : {n : ℕ} (compare : Exponents n → Exponents n → Ordering) (p : ℕ) (F : List (FormalSum n)) (B : List (Exponents n)) (table : List (List (List ℕ))) → IsNormalFormTable compare p F B table → AreVariableProducts n p F B table
 table_products compare p F B table h = record {
   long = h.long;
   full = h.full;
@@ -66,7 +66,7 @@ table_products compare p F B table h = record {
 }
 
 -- the product of a variable and a monomial by its form
-module _ (n : ℕ) (ring : Ring) (F : List (FormalSum n)) (B : List (Exponents n)) (table : List (List (List ℕ))) (products : AreProducts n ring.modulus.value F B table) (v : ℕ) (vn : v < n) (row : List ℕ) (residues : AreResidues ring.modulus.value (length B) row) where
+module _ (n : ℕ) (ring : Ring) (F : List (FormalSum n)) (B : List (Exponents n)) (table : List (List (List ℕ))) (products : AreVariableProducts n ring.modulus.value F B table) (v : ℕ) (vn : v < n) (row : List ℕ) (residues : AreResidues ring.modulus.value (length B) row) where
   pub variable_covered : (k : ℕ) → 0 < slice_index row k → k < length (get_or table v [])
   variable_covered k some = let a = within (length B) ring.modulus.value row k residues some in let b = products.full v vn in omega (arith, a, b)
 
@@ -77,7 +77,7 @@ module _ (n : ℕ) (ring : Ring) (F : List (FormalSum n)) (B : List (Exponents n
   pub variable_form :
       (b y : Exponents n) (out : List ℕ) → 0 < ring.modulus.value → IsRowForm ring.modulus.value F B (monomial_vector b) row → y ≡ times (power n v 1) b
       → AreResidues ring.modulus.value (length row) out → IsProductWhere ring.modulus.value (get_or table v []) row out
-      → IsFormOf n ring F B y out
+      → IsFormModulo n ring F B y out
   variable_form b y out pos form is small product = record {
     residues = subst (λ d. AreResidues ring.modulus.value d out) residues.long small;
     is = modulo_trans F
@@ -125,7 +125,7 @@ few_room ms h few k m lt e = let d = h k m lt e in omega (arith, d, lt, few)
 -- what the rows leave is the rest
 pub rest_is :
     (n : ℕ) (ring : Ring) (F : List (FormalSum n)) (B : List (Exponents n)) (lawful : IsLawful (setting ring n (ring_comparison ring n) 1)) (change : Change) (m : Monomial) (form : List ℕ) (rows : List Row) (left combination : List ℕ)
-    → IsKnown n ring F B change → rows ≡ change.rows.items → IsFormOf n ring F B (exponents_of n m.exponents) form
+    → IsKnownSoFar n ring F B change → rows ≡ change.rows.items → IsFormModulo n ring F B (exponents_of n m.exponents) form
     → AreResidues ring.modulus.value (length form) left → AreResidues ring.modulus.value (length rows + 1) combination
     → slice_index combination (length rows) ≡ 1 → IsCleared rows left (length rows)
     → ((N : List (Exponents n)) → length rows < length N → AreSame ring.modulus.value F B N rows → IsRowForm ring.modulus.value F B (monomial_vector (get_or N (length rows) (unit n))) form
@@ -150,7 +150,7 @@ rest_is n ring F B lawful change m form rows left combination h same is lr cr on
     last = ap (λ z. get_or (monomials n change.monomials.items ++ exponents_of n m.exponents ∷ []) z (unit n)) (count ∙ sym (length_monomials n change.monomials.items)) ∙ at_new (monomials n change.monomials.items) (exponents_of n m.exponents)
 
 -- nothing is known at first
-pub nothing_known : (n : ℕ) (ring : Ring) (F : List (FormalSum n)) (B : List (Exponents n)) (change : Change) → change.monomials.items ≡ [] → change.forms.items ≡ [] → change.rows.items ≡ [] → change.leads.items ≡ [] → change.members.items ≡ [] → IsKnown n ring F B change
+pub nothing_known : (n : ℕ) (ring : Ring) (F : List (FormalSum n)) (B : List (Exponents n)) (change : Change) → change.monomials.items ≡ [] → change.forms.items ≡ [] → change.rows.items ≡ [] → change.leads.items ≡ [] → change.members.items ≡ [] → IsKnownSoFar n ring F B change
 nothing_known n ring F B change a b d e g = record {
   standard = subst (λ z. AreNewStandard n ring F B z change.forms.items change.rows.items) (sym a) (subst (λ z. AreNewStandard n ring F B [] z change.rows.items) (sym b) (subst (λ z. AreNewStandard n ring F B [] [] z) (sym d) none));
   members = subst (λ z. AreNewMembers n ring F (monomials n z) change.leads.items change.members.items) (sym a)
@@ -186,7 +186,7 @@ nothing_known n ring F B change a b d e g = record {
     }
 
 -- 1 comes first
-pub first_next : (n : ℕ) (ring : Ring) (change : Change) (one : Monomial) → change.monomials.items ≡ [] → change.leads.items ≡ [] → IsWeighed n ring.weights one → one.degree ≡ 0 → IsNext n ring change one
+pub first_next : (n : ℕ) (ring : Ring) (change : Change) (one : Monomial) → change.monomials.items ≡ [] → change.leads.items ≡ [] → IsWeighed n ring.weights one → one.degree ≡ 0 → IsNextMonomial n ring change one
 first_next n ring change one a e weighed degree = record {
   weighed = weighed;
   degree = omega (arith, degree);
@@ -197,7 +197,7 @@ first_next n ring change one a e weighed degree = record {
 
 pub first_turns :
     (n : ℕ) (ring : Ring) (old new : Change) (one : Monomial) → length old.turns ≡ n → ((v : ℕ) → slice_index old.turns v ≡ 0)
-    → old.monomials.items ≡ [] → old.leads.items ≡ [] → exponents_of n one.exponents ≡ unit n → IsAdded old new one
+    → old.monomials.items ≡ [] → old.leads.items ≡ [] → exponents_of n one.exponents ≡ unit n → IsMonomialAdded old new one
     → AreTurns n ring (monomials n new.monomials.items) (monomials n new.leads.items) new.turns
 first_turns n ring old new one long zeros a e is added = go added.one
   where
@@ -291,7 +291,7 @@ module _ (n : ℕ) (ring : Ring) (F : List (FormalSum n)) (B : List (Exponents n
   leads_low : (i : ℕ) → i < length (monomials n change.leads.items) → comparison ring.order ring.weights n (exponents_of n c.monomial.exponents) (get_or (monomials n change.leads.items) i (unit n)) ≡ Less → ⊥
   leads_low i il below = h.turns.above_leads c.variable i candidate.variable here_lt il (ap (λ z. comparison ring.order ring.weights n z (get_or (monomials n change.leads.items) i (unit n))) (sym here) ∙ below)
 
-  pub candidate_next : IsNew (monomials n change.leads.items) (monomials n change.monomials.items) (exponents_of n c.monomial.exponents) → IsNext n ring change c.monomial
+  pub candidate_next : IsNew (monomials n change.leads.items) (monomials n change.monomials.items) (exponents_of n c.monomial.exponents) → IsNextMonomial n ring change c.monomial
   candidate_next (free, absent) = record {
     weighed = candidate.weighed;
     degree =
@@ -360,7 +360,7 @@ module _ (n : ℕ) (ring : Ring) (F : List (FormalSum n)) (B : List (Exponents n
 
     -- whichever it is
     pub turns_added :
-        (mid new : Change) → mid.monomials.items ≡ change.monomials.items → mid.leads.items ≡ change.leads.items → mid.turns ≡ turns' → IsAdded mid new c.monomial
+        (mid new : Change) → mid.monomials.items ≡ change.monomials.items → mid.leads.items ≡ change.leads.items → mid.turns ≡ turns' → IsMonomialAdded mid new c.monomial
         → AreTurns n ring (monomials n new.monomials.items) (monomials n new.leads.items) new.turns
     turns_added mid new em el et added =
         subst (λ z. AreTurns n ring (monomials n new.monomials.items) (monomials n new.leads.items) z) (sym (added.turns ∙ et)) (go added.one)

@@ -35,7 +35,7 @@ use Rattle.order_change.proofs.Items.{length_monomials}
 use Rattle.order_change.proofs.VariableProducts.{spot, spot_other, spot_same}
 use Rattle.order_change.specs.Forms.{AreResidues, monomial_vector}
 use Rattle.order_change.specs.Lists.{monomials}
-use Rattle.order_change.specs.Tables.{AreTailTerms, IsFormOver, IsGiven, IsSupported, IsTailTerm}
+use Rattle.order_change.specs.Tables.{AreTailTerms, IsFormOver, IsBasisGiven, IsSupported, IsTailTerm}
 
 -- minus the sum of the first i terms
 pub record IsNegating (n p d : ℕ) (B : List (Exponents n)) (terms : List (CodeKey × ℕ)) (i : ℕ) (form : List ℕ) : Type 0 where
@@ -175,7 +175,7 @@ pub lead_position : (n : ℕ) (v : List (CodeKey × ℕ)) → HasPositions 1 v �
 lead_position n [] h = refl
 lead_position n (t ∷ v) h = let lt = h.0 in omega (arith, lt)
 
-module _ (n : ℕ) (ring : Ring) (basis : List (List (CodeKey × ℕ))) (heads standard : List Monomial) (h : IsGiven n ring basis heads standard) where
+module _ (n : ℕ) (ring : Ring) (basis : List (List (CodeKey × ℕ))) (heads standard : List Monomial) (h : IsBasisGiven n ring basis heads standard) where
   pub given_positive : 0 < ring.modulus.value
   given_positive = let above = h.lawful.domain.above_one in omega (arith, above)
 

@@ -85,17 +85,17 @@ pub record AreTurns (n : ℕ) (ring : Ring) (N H : List (Exponents n)) (turns : 
   pub first : Has N (unit n) ⊎ HasDivisor H (unit n)
 
 -- the standard monomials and the members
-pub record IsKnown (n : ℕ) (ring : Ring) (F : List (FormalSum n)) (B : List (Exponents n)) (change : Change) : Type 0 where
+pub record IsKnownSoFar (n : ℕ) (ring : Ring) (F : List (FormalSum n)) (B : List (Exponents n)) (change : Change) : Type 0 where
   pub standard : AreNewStandard n ring F B change.monomials.items change.forms.items change.rows.items
   pub members : AreNewMembers n ring F (monomials n change.monomials.items) change.leads.items change.members.items
 
 -- and the turns
 pub record IsChanging (n : ℕ) (ring : Ring) (F : List (FormalSum n)) (B : List (Exponents n)) (change : Change) : Type 0 where
-  pub known : IsKnown n ring F B change
+  pub known : IsKnownSoFar n ring F B change
   pub turns : AreTurns n ring (monomials n change.monomials.items) (monomials n change.leads.items) change.turns
 
 -- m can be the next: it is above the standard monomials, not below the leads, and none of these divides it
-pub record IsNext (n : ℕ) (ring : Ring) (change : Change) (m : Monomial) : Type 0 where
+pub record IsNextMonomial (n : ℕ) (ring : Ring) (change : Change) (m : Monomial) : Type 0 where
   pub weighed : IsWeighed n ring.weights m
   pub degree : m.degree ≤ 255 * length change.monomials.items
   pub above :
@@ -109,7 +109,7 @@ pub record IsNext (n : ℕ) (ring : Ring) (change : Change) (m : Monomial) : Typ
   pub free : IsStandard (monomials n change.leads.items) (exponents_of n m.exponents)
 
 -- m is one more standard monomial, or one more lead
-pub record IsAdded (old new : Change) (m : Monomial) : Type 0 where
+pub record IsMonomialAdded (old new : Change) (m : Monomial) : Type 0 where
   pub turns : new.turns ≡ old.turns
   pub one :
       ((new.monomials.items ≡ old.monomials.items ++ m ∷ []) × (new.leads.items ≡ old.leads.items))
@@ -128,7 +128,7 @@ pub record IsRest
       (expansion (monomials n change.monomials.items ++ exponents_of n m.exponents ∷ []) (slice_index combination))
 
 -- modulo the ideal of F, m is the combination of B by the form
-pub record IsFormOf (n : ℕ) (ring : Ring) (F : List (FormalSum n)) (B : List (Exponents n)) (m : Exponents n) (form : List ℕ) : Type 0 where
+pub record IsFormModulo (n : ℕ) (ring : Ring) (F : List (FormalSum n)) (B : List (Exponents n)) (m : Exponents n) (form : List ℕ) : Type 0 where
   pub residues : AreResidues ring.modulus.value (length B) form
   pub is : IsRowForm ring.modulus.value F B (monomial_vector m) form
 
@@ -145,7 +145,7 @@ pub record IsChanged (n : ℕ) (ring : Ring) (F : List (FormalSum n)) (B : List 
   pub over : HadAllItems (slice_index turns) n (length monos)
 
 -- the rows of each variable are forms of its products with the monomials B
-pub record AreProducts (n p : ℕ) (F : List (FormalSum n)) (B : List (Exponents n)) (table : List (List (List ℕ))) : Type 0 where
+pub record AreVariableProducts (n p : ℕ) (F : List (FormalSum n)) (B : List (Exponents n)) (table : List (List (List ℕ))) : Type 0 where
   pub long : length table ≡ n
   pub full : (v : ℕ) → v < n → length (get_or table v []) ≡ length B
   pub residues : (v k : ℕ) → v < n → k < length B → AreResidues p (length B) (get_or (get_or table v []) k [])

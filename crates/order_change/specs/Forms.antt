@@ -10,7 +10,7 @@ pub record AreResidues (p d : ℕ) (row : List ℕ) : Type 0 where
   pub small : (k : ℕ) → slice_index row k < p
 
 -- the residues stand from `low` on and before `high`; the others are 0
-pub record IsWithin (low high : ℕ) (residues : List ℕ) : Type 0 where
+pub record IsFormWithin (low high : ℕ) (residues : List ℕ) : Type 0 where
   pub within : high ≤ length residues
   pub before : (j : ℕ) → j < low → slice_index residues j ≡ 0
   pub behind : (j : ℕ) → high ≤ j → slice_index residues j ≡ 0

@@ -8,7 +8,7 @@ use Rattle.order_change.specs.Forms.{AreResidues}
 use Rattle.order_change.specs.declared.rows.Row.{Row}
 
 -- d residues of p, 1 at the pivot, and the residues of at most m monomials
-pub record IsRow (p d m : ℕ) (row : Row) : Type 0 where
+pub record IsPivotRow (p d m : ℕ) (row : Row) : Type 0 where
   pub form : AreResidues p d row.form
   pub small : (k : ℕ) → slice_index row.combination k < p
   pub short : length row.combination ≤ m
@@ -17,7 +17,7 @@ pub record IsRow (p d m : ℕ) (row : Row) : Type 0 where
 
 -- each row is such, and later rows are 0 at its pivot
 pub record AreRows (p d m : ℕ) (rows : List Row) : Type 0 where
-  pub each : (l : ℕ) (row : Row) → l < length rows → get_or rows l row ≡ row → IsRow p d m row
+  pub each : (l : ℕ) (row : Row) → l < length rows → get_or rows l row ≡ row → IsPivotRow p d m row
   pub later :
       (l i : ℕ) (row other : Row)
       → l < i → i < length rows → get_or rows l row ≡ row → get_or rows i other ≡ other → slice_index other.form row.pivot ≡ 0

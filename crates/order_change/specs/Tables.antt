@@ -18,7 +18,7 @@ use Rattle.order_change.specs.Lists.{AreMonomials, monomials}
 use Rattle.order_change.specs.Products.{HaveRoom, IsAscending, product_at}
 
 -- modulo the ideal of F, m is the combination of the monomials B by the row, and none of those in it is above m
-pub record IsNormalForm {n : ℕ}
+pub record IsRowNormalForm {n : ℕ}
     (compare : Exponents n → Exponents n → Ordering) (p : ℕ) (F : List (FormalSum n)) (B : List (Exponents n))
     (m : Exponents n) (row : List ℕ) : Type 0 where
   pub residues : AreResidues p (length B) row
@@ -28,10 +28,10 @@ pub record IsNormalForm {n : ℕ}
 -- the rows of each variable are the normal forms of its products with the first monomials of B
 abbrev pub AreForms : {n : ℕ} → (Exponents n → Exponents n → Ordering) → ℕ → List (FormalSum n) → List (Exponents n) → List (List (List ℕ)) → Type 0
 AreForms {n} compare p F B table =
-    (v k : ℕ) → v < n → k < length (get_or table v []) → IsNormalForm compare p F B (product_at n B v k) (get_or (get_or table v []) k [])
+    (v k : ℕ) → v < n → k < length (get_or table v []) → IsRowNormalForm compare p F B (product_at n B v k) (get_or (get_or table v []) k [])
 
 -- with all monomials of B
-pub record IsTable {n : ℕ}
+pub record IsNormalFormTable {n : ℕ}
     (compare : Exponents n → Exponents n → Ordering) (p : ℕ) (F : List (FormalSum n)) (B : List (Exponents n))
     (table : List (List (List ℕ))) : Type 0 where
   pub long : length table ≡ n
@@ -49,7 +49,7 @@ pub record IsFilling {n : ℕ}
   pub forms : AreForms compare p F B table
 
 -- a reduced basis of an ideal, its leads, and its standard monomials, these ascending
-pub record IsGiven (n : ℕ) (ring : Ring) (basis : List (List (CodeKey × ℕ))) (leads standard : List Monomial) : Type 0 where
+pub record IsBasisGiven (n : ℕ) (ring : Ring) (basis : List (List (CodeKey × ℕ))) (leads standard : List Monomial) : Type 0 where
   pub lawful : IsLawful (setting ring n (ring_comparison ring n) 1)
   pub vectors : Each (IsVector n ring.weights ring.modulus.value (ring_comparison ring n)) basis
   pub positions : Each (HasPositions 1) basis
@@ -65,7 +65,7 @@ pub record IsGiven (n : ℕ) (ring : Ring) (basis : List (List (CodeKey × ℕ))
 -- the row is the normal form of m by a basis and its standard monomials
 abbrev pub IsFormOver : (n : ℕ) → Ring → List (List (CodeKey × ℕ)) → (standard : List Monomial) → Exponents n → List ℕ → Type 0
 IsFormOver n ring basis standard m row =
-    IsNormalForm (comparison ring.order ring.weights n) ring.modulus.value (sums_of n basis) (monomials n standard) m row
+    IsRowNormalForm (comparison ring.order ring.weights n) ring.modulus.value (sums_of n basis) (monomials n standard) m row
 
 -- so are the rows of each variable of its products
 abbrev pub AreFormsOver : (n : ℕ) → Ring → List (List (CodeKey × ℕ)) → (standard : List Monomial) → List (List (List ℕ)) → Type 0
@@ -75,7 +75,7 @@ AreFormsOver n ring basis standard table =
 -- and these are all
 abbrev pub IsTableOver : (n : ℕ) → Ring → List (List (CodeKey × ℕ)) → (standard : List Monomial) → List (List (List ℕ)) → Type 0
 IsTableOver n ring basis standard table =
-    IsTable (comparison ring.order ring.weights n) ring.modulus.value (sums_of n basis) (monomials n standard) table
+    IsNormalFormTable (comparison ring.order ring.weights n) ring.modulus.value (sums_of n basis) (monomials n standard) table
 
 -- m is the multiple by the variable j of a monomial that is not standard
 abbrev pub IsSpare : (n : ℕ) → List (Exponents n) → Exponents n → (j : ℕ) → Type 0

@@ -7,12 +7,12 @@ ghost use Rattle.module_vectors.specs.Rings.{ring_comparison};
 ghost use Rattle.module_vectors.specs.Vectors.{IsVector, sum_of, sums_of};
 ghost use Rattle.change_laws.specs.Combinations.{IsSameModulo, expansion};
 ghost use Rattle.change_laws.specs.Standard.{Has};
-ghost use Rattle.order_change.specs.Changing.{AreProducts, IsAdded, IsChanged, IsChanging, IsFormOf, IsKnown, IsNext, IsRest};
+ghost use Rattle.order_change.specs.Changing.{AreVariableProducts, IsMonomialAdded, IsChanged, IsChanging, IsFormModulo, IsKnownSoFar, IsNextMonomial, IsRest};
 ghost use Rattle.order_change.specs.Forms.{AreResidues, IsRowForm, monomial_vector};
 ghost use Rattle.order_change.specs.Lists.{AreMonomials, monomials};
 ghost use Rattle.order_change.specs.Products.{HadAllItems, product_at};
 ghost use Rattle.order_change.specs.Rows.{AreRows, AreSame, IsCleared};
-ghost use Rattle.order_change.specs.Tables.{IsGiven, IsTableOver};
+ghost use Rattle.order_change.specs.Tables.{IsBasisGiven, IsTableOver};
 ghost use Rattle.order_change.specs.declared.rows.Row.{Row as RowValue};
 
 use crate::enumeration::is_new;
@@ -164,13 +164,13 @@ impl Change {
         m: Mono,
         rest: &Rest,
     ) -> Result<(), NoMemory>
-        requires known { let n = length ring.now.weights in IsKnown n ring.now (sums_of n _basis.now) (monomials n _standard.now) self.old }
-        requires next { IsNext (length ring.now.weights) ring.now self.old m }
+        requires known { let n = length ring.now.weights in IsKnownSoFar n ring.now (sums_of n _basis.now) (monomials n _standard.now) self.old }
+        requires next { IsNextMonomial (length ring.now.weights) ring.now self.old m }
         requires rest { let n = length ring.now.weights in
             IsRest n ring.now (sums_of n _basis.now) (monomials n _standard.now) self.old m rest.now.form rest.now.combination }
         requires zero { (k : ℕ) → k < length rest.now.form → slice_index rest.now.form k ≡ 0 }
-        ensures known { let n = length ring.now.weights in OnOk result (IsKnown n ring.now (sums_of n _basis.now) (monomials n _standard.now) self.new) }
-        ensures added { OnOk result (IsAdded self.old self.new m) }
+        ensures known { let n = length ring.now.weights in OnOk result (IsKnownSoFar n ring.now (sums_of n _basis.now) (monomials n _standard.now) self.new) }
+        ensures added { OnOk result (IsMonomialAdded self.old self.new m) }
     {
         lawful_setting(ring);
         let vector = member(alloc, ring, &self.monomials, &m, &rest.combination)?;
@@ -191,16 +191,16 @@ impl Change {
         rest: &Rest,
         pivot: usize,
     ) -> Result<(), NoMemory>
-        requires known { let n = length ring.now.weights in IsKnown n ring.now (sums_of n _basis.now) (monomials n _standard.now) self.old }
-        requires next { IsNext (length ring.now.weights) ring.now self.old m }
+        requires known { let n = length ring.now.weights in IsKnownSoFar n ring.now (sums_of n _basis.now) (monomials n _standard.now) self.old }
+        requires next { IsNextMonomial (length ring.now.weights) ring.now self.old m }
         requires form { let n = length ring.now.weights in
-            IsFormOf n ring.now (sums_of n _basis.now) (monomials n _standard.now) (exponents_of n m.exponents) form }
+            IsFormModulo n ring.now (sums_of n _basis.now) (monomials n _standard.now) (exponents_of n m.exponents) form }
         requires rest { let n = length ring.now.weights in
             IsRest n ring.now (sums_of n _basis.now) (monomials n _standard.now) self.old m rest.now.form rest.now.combination }
         requires pivot { pivot < length rest.now.form }
         requires nonzero { 0 < slice_index rest.now.form pivot }
-        ensures known { let n = length ring.now.weights in OnOk result (IsKnown n ring.now (sums_of n _basis.now) (monomials n _standard.now) self.new) }
-        ensures added { OnOk result (IsAdded self.old self.new m) }
+        ensures known { let n = length ring.now.weights in OnOk result (IsKnownSoFar n ring.now (sums_of n _basis.now) (monomials n _standard.now) self.new) }
+        ensures added { OnOk result (IsMonomialAdded self.old self.new m) }
     {
         lawful_setting(ring);
         let modulus = &ring.modulus;
@@ -229,13 +229,13 @@ impl Change {
         m: Mono,
         form: Form,
     ) -> Result<(), NoMemory>
-        requires known { let n = length ring.now.weights in IsKnown n ring.now (sums_of n basis.now) (monomials n standard.now) self.old }
+        requires known { let n = length ring.now.weights in IsKnownSoFar n ring.now (sums_of n basis.now) (monomials n standard.now) self.old }
         requires few { length standard.now ≤ 256 }
-        requires next { IsNext (length ring.now.weights) ring.now self.old m }
+        requires next { IsNextMonomial (length ring.now.weights) ring.now self.old m }
         requires form { let n = length ring.now.weights in
-            IsFormOf n ring.now (sums_of n basis.now) (monomials n standard.now) (exponents_of n m.exponents) form }
-        ensures known { let n = length ring.now.weights in OnOk result (IsKnown n ring.now (sums_of n basis.now) (monomials n standard.now) self.new) }
-        ensures added { OnOk result (IsAdded self.old self.new m) }
+            IsFormModulo n ring.now (sums_of n basis.now) (monomials n standard.now) (exponents_of n m.exponents) form }
+        ensures known { let n = length ring.now.weights in OnOk result (IsKnownSoFar n ring.now (sums_of n basis.now) (monomials n standard.now) self.new) }
+        ensures added { OnOk result (IsMonomialAdded self.old self.new m) }
     {
         lawful_setting(ring);
         let rest = rest_of(alloc, &ring.modulus, &self.rows, &form)?;
@@ -255,16 +255,16 @@ impl Change {
         table: &Table,
         candidate: Candidate,
     ) -> Result<(), NoMemory>
-        requires known { let n = length ring.now.weights in IsKnown n ring.now (sums_of n basis.now) (monomials n standard.now) self.old }
+        requires known { let n = length ring.now.weights in IsKnownSoFar n ring.now (sums_of n basis.now) (monomials n standard.now) self.old }
         requires few { length standard.now ≤ 256 }
-        requires table { let n = length ring.now.weights in AreProducts n ring.now.modulus.value (sums_of n basis.now) (monomials n standard.now) table.now }
-        requires next { IsNext (length ring.now.weights) ring.now self.old candidate.monomial }
+        requires table { let n = length ring.now.weights in AreVariableProducts n ring.now.modulus.value (sums_of n basis.now) (monomials n standard.now) table.now }
+        requires next { IsNextMonomial (length ring.now.weights) ring.now self.old candidate.monomial }
         requires variable { candidate.variable < length ring.now.weights }
         requires parent { candidate.parent < length self.old.monomials.items }
         requires product { let n = length ring.now.weights in exponents_of n candidate.monomial.exponents
             ≡ product_at n (monomials n self.old.monomials.items) candidate.variable candidate.parent }
-        ensures known { let n = length ring.now.weights in OnOk result (IsKnown n ring.now (sums_of n basis.now) (monomials n standard.now) self.new) }
-        ensures added { OnOk result (IsAdded self.old self.new candidate.monomial) }
+        ensures known { let n = length ring.now.weights in OnOk result (IsKnownSoFar n ring.now (sums_of n basis.now) (monomials n standard.now) self.new) }
+        ensures added { OnOk result (IsMonomialAdded self.old self.new candidate.monomial) }
     {
         let rows = table.of_variable(candidate.variable);
         let form = times_variable(alloc, &ring.modulus, rows, &self.forms[candidate.parent])?;
@@ -280,7 +280,7 @@ impl Change {
         form: Form,
     ) -> Result<Change, NoMemory>
         requires few { length standard.now ≤ 256 }
-        requires form { let n = length ring.now.weights in IsFormOf n ring.now (sums_of n basis.now) (monomials n standard.now) (unit n) form }
+        requires form { let n = length ring.now.weights in IsFormModulo n ring.now (sums_of n basis.now) (monomials n standard.now) (unit n) form }
         ensures { let n = length ring.now.weights in IfOk result (IsChanging n ring.now (sums_of n basis.now) (monomials n standard.now)) }
     {
         let one = Mono::unit(alloc, ring.weights.len())?;
@@ -301,7 +301,7 @@ impl Change {
     ) -> Result<bool, NoMemory>
         requires changing { let n = length ring.now.weights in IsChanging n ring.now (sums_of n basis.now) (monomials n standard.now) self.old }
         requires few { length standard.now ≤ 256 }
-        requires table { let n = length ring.now.weights in AreProducts n ring.now.modulus.value (sums_of n basis.now) (monomials n standard.now) table.now }
+        requires table { let n = length ring.now.weights in AreVariableProducts n ring.now.modulus.value (sums_of n basis.now) (monomials n standard.now) table.now }
         ensures changing { let n = length ring.now.weights in OnOk result (IsChanging n ring.now (sums_of n basis.now) (monomials n standard.now) self.new) }
         ensures more { IfOk result (λ more. more ≡ true → (sum self.new.turns ≡ sum self.old.turns + 1)
             × (sum self.old.turns < length self.old.turns * length standard.now) × (length self.new.turns ≡ length self.old.turns)) }
@@ -346,8 +346,8 @@ pub(crate) fn changed(
     form: Form,
 ) -> Result<Vec<Vect>, NoMemory>
     requires few { length standard.now ≤ 256 }
-    requires form { let n = length ring.now.weights in IsFormOf n ring.now (sums_of n basis.now) (monomials n standard.now) (unit n) form }
-    requires table { let n = length ring.now.weights in AreProducts n ring.now.modulus.value (sums_of n basis.now) (monomials n standard.now) table.now }
+    requires form { let n = length ring.now.weights in IsFormModulo n ring.now (sums_of n basis.now) (monomials n standard.now) (unit n) form }
+    requires table { let n = length ring.now.weights in AreVariableProducts n ring.now.modulus.value (sums_of n basis.now) (monomials n standard.now) table.now }
     ensures { let n = length ring.now.weights in
         IfOk result (λ members. IsChanged n ring.now (sums_of n basis.now) (monomials n standard.now) members.items) }
 {

@@ -6,7 +6,7 @@ ghost use Rattle.module_vectors.specs.Vectors.{sums_of};
 ghost use Rattle.change_laws.specs.Standard.{lead_monomials};
 ghost use Rattle.order_change.specs.Stops.{AreFew, OrderChangeStops};
 ghost use Rattle.order_change.specs.Reordered.{with_order};
-ghost use Rattle.order_change.specs.Tables.{IsGiven};
+ghost use Rattle.order_change.specs.Tables.{IsBasisGiven};
 
 use crate::ChangeStop;
 use crate::ascending::ascending;
@@ -40,7 +40,7 @@ fn converted(
     standard: &[Mono],
     order: Order,
 ) -> Result<VectList, NoMemory>
-    requires { IsGiven (length ring.now.weights) ring.now basis.now leads.now standard.now }
+    requires { IsBasisGiven (length ring.now.weights) ring.now basis.now leads.now standard.now }
     ensures { IfOk result (IsReducedBasisOf (with_order order ring.now) 1 basis.now) }
 {
     let table = product_forms(alloc, ring, basis, leads, standard)?;

@@ -33,13 +33,13 @@ impl Drop for Form {
 
 impl Model for Form {
     ghost use Rattle.std.specs.Prelude.{ℕ, List};
-    ghost use Rattle.order_change.specs.Forms.{IsWithin};
+    ghost use Rattle.order_change.specs.Forms.{IsFormWithin};
 
     ghost Value = { List ℕ };
 
     ghost view = { λ f. f.residues.items };
 
-    ghost invariant = { λ f. IsWithin f.low f.high f.residues.items };
+    ghost invariant = { λ f. IsFormWithin f.low f.high f.residues.items };
 }
 
 // How many residues in front are 0.

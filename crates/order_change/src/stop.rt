@@ -46,13 +46,3 @@ impl From<NoMemory> for ChangeStop {
         ChangeStop::Memory
     }
 }
-
-impl From<monomial_orders::NoMemory> for ChangeStop {
-    ghost use Rattle.order_change.specs.declared.stop.ChangeStop.TheVariants.{Memory};
-
-    ghost from_gives = { λ _ stop. stop ≡ Memory };
-
-    fn from(_error: monomial_orders::NoMemory) -> ChangeStop {
-        ChangeStop::Memory
-    }
-}

@@ -10,7 +10,7 @@ ghost use Rattle.change_laws.specs.Standard.{Has, IsStandard};
 ghost use Rattle.order_change.specs.Forms.{AreResidues};
 ghost use Rattle.order_change.specs.Lists.{AreMonomials, monomials};
 ghost use Rattle.order_change.specs.Products.{HadAllItems, IsCandidate, IsLeast};
-ghost use Rattle.order_change.specs.Tables.{AreFormsOver, AreTailTerms, IsFillingOver, IsFormOver, IsGiven, IsSmaller, IsSpare, IsSupported, IsTableOver};
+ghost use Rattle.order_change.specs.Tables.{AreFormsOver, AreTailTerms, IsFillingOver, IsFormOver, IsBasisGiven, IsSmaller, IsSpare, IsSupported, IsTableOver};
 
 use crate::forms::{Form, times_variable};
 use crate::leads::position;
@@ -156,7 +156,7 @@ fn lead_form(
     standard: &[Mono],
     g: usize,
 ) -> Result<Form, NoMemory>
-    requires given { IsGiven (length ring.now.weights) ring.now basis.now leads.now standard.now }
+    requires given { IsBasisGiven (length ring.now.weights) ring.now basis.now leads.now standard.now }
     requires index { g < length leads.now }
     ensures { let n = length ring.now.weights in
         IfOk result (IsFormOver n ring.now basis.now standard.now (get_or (monomials n leads.now) g (unit n))) }
@@ -176,7 +176,7 @@ fn known_form(
     standard: &[Mono],
     m: &Mono,
 ) -> Result<Option<Form>, NoMemory>
-    requires given { IsGiven (length ring.now.weights) ring.now basis.now leads.now standard.now }
+    requires given { IsBasisGiven (length ring.now.weights) ring.now basis.now leads.now standard.now }
     requires monomial { IsWeighed (length ring.now.weights) ring.now.weights m.now }
     ensures some { let n = length ring.now.weights in
         IfOk result (λ answer. IfSome answer (IsFormOver n ring.now basis.now standard.now (exponents_of n m.now.exponents))) }
@@ -299,7 +299,7 @@ fn border_form(
     table: &Table,
     candidate: &Candidate,
 ) -> Result<Form, NoMemory>
-    requires given { IsGiven (length ring.now.weights) ring.now basis.now leads.now standard.now }
+    requires given { IsBasisGiven (length ring.now.weights) ring.now basis.now leads.now standard.now }
     requires table { length table.now ≡ length ring.now.weights }
     requires forms { AreFormsOver (length ring.now.weights) ring.now basis.now standard.now table.now }
     requires candidate { IsCandidate (length ring.now.weights) ring.now.weights standard.now (λ v. length (get_or table.now v [])) candidate.now }
@@ -332,7 +332,7 @@ fn product_form(
     table: &Table,
     candidate: &Candidate,
 ) -> Result<Form, NoMemory>
-    requires given { IsGiven (length ring.now.weights) ring.now basis.now leads.now standard.now }
+    requires given { IsBasisGiven (length ring.now.weights) ring.now basis.now leads.now standard.now }
     requires table { length table.now ≡ length ring.now.weights }
     requires forms { AreFormsOver (length ring.now.weights) ring.now basis.now standard.now table.now }
     requires candidate { IsCandidate (length ring.now.weights) ring.now.weights standard.now (λ v. length (get_or table.now v [])) candidate.now }
@@ -357,7 +357,7 @@ fn fill_next(
     table: &mut Table,
     turns: &mut Turns,
 ) -> Result<bool, NoMemory>
-    requires given { IsGiven (length ring.now.weights) ring.now basis.now leads.now standard.now }
+    requires given { IsBasisGiven (length ring.now.weights) ring.now basis.now leads.now standard.now }
     requires filling { IsFillingOver (length ring.now.weights) ring.now basis.now standard.now turns.old table.old }
     ensures filling { OnOk result (IsFillingOver (length ring.now.weights) ring.now basis.now standard.now turns.new table.new) }
     ensures more { IfOk result (λ more. more ≡ true
@@ -385,7 +385,7 @@ pub(crate) fn product_forms(
     leads: &[Mono],
     standard: &[Mono],
 ) -> Result<Table, NoMemory>
-    requires { IsGiven (length ring.now.weights) ring.now basis.now leads.now standard.now }
+    requires { IsBasisGiven (length ring.now.weights) ring.now basis.now leads.now standard.now }
     ensures { IfOk result (IsTableOver (length ring.now.weights) ring.now basis.now standard.now) }
 {
     let mut table = Table::empty(alloc, ring.weights.len())?;
@@ -402,7 +402,7 @@ pub(crate) fn form_of_one(
     leads: &[Mono],
     standard: &[Mono],
 ) -> Result<Form, NoMemory>
-    requires { IsGiven (length ring.now.weights) ring.now basis.now leads.now standard.now }
+    requires { IsBasisGiven (length ring.now.weights) ring.now basis.now leads.now standard.now }
     ensures { let n = length ring.now.weights in IfOk result (IsFormOver n ring.now basis.now standard.now (unit n)) }
 {
     let one = Mono::unit(alloc, ring.weights.len())?;

@@ -7,7 +7,7 @@ use Rattle.module_vectors.specs.declared.trail.WorkStop.TheVariants as works
 use Rattle.basis_core.proofs.JobTrails.{trail_of_job}
 use Rattle.basis_core.specs.Answers.{IsRunTrail, PutStops}
 use Rattle.basis_core.specs.Jobs.{JobShown, pairs_of}
-use Rattle.basis_core.specs.Members.{Shared, Tracked}
+use Rattle.basis_core.specs.Members.{Shared, MemberShown}
 use Rattle.basis_core.specs.Outcomes.{OutcomeShown}
 use Rattle.basis_core.specs.Shown.{Shown}
 use Rattle.basis_core.specs.Stops.{IsTrailBy}
@@ -18,7 +18,7 @@ use Rattle.plain_buchberger.specs.Rounds.{IsOut, StateStops}
 -- the trail of a job that is out is one of the run
 pub run_trail_of_job : (s : Shown) (job : JobShown) (t : KeptTrail) → IsOut s job → IsTrailBy job.shared job.members (pairs_of job.pairs) t → IsRunTrail (variables_of s) s t
 run_trail_of_job s job t out h =
-    let by : IsTrailBy s.shared s.members (pairs_of job.pairs) t = subst (λ (z : Shared × List Tracked). IsTrailBy z.0 z.1 (pairs_of job.pairs) t) (λ i. (out.shared i, out.members i)) h in
+    let by : IsTrailBy s.shared s.members (pairs_of job.pairs) t = subst (λ (z : Shared × List MemberShown). IsTrailBy z.0 z.1 (pairs_of job.pairs) t) (λ i. (out.shared i, out.members i)) h in
     record {
       pair = by.pair;
       way = record {

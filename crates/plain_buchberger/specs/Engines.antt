@@ -12,7 +12,7 @@ use Rattle.plain_buchberger.specs.Runs.{KeptLeaves}
 
 -- its budget of pairs, and what its runs queue as members come; how often it ran, and how many runs stopped; the state and the trail
 -- that are kept of the last one of them
-pub record EngineShown : Type 0 where
+pub record PlainShown : Type 0 where
   pub pairs : ℕ
   pub update : Update
   pub runs : ℕ
@@ -21,17 +21,17 @@ pub record EngineShown : Type 0 where
   pub trail : Option KeptTrail
 
 -- what is kept is of a run of this engine that stopped, and it is counted; one by the budget leaves a pair
-pub record IsKeptBy (e : EngineShown) : Type 0 where
+pub record IsKeptByPlain (e : PlainShown) : Type 0 where
   pub stop : IsStop e.pairs 1 e.update e.state e.trail
   pub counted : IsKeptWhereCounted e.stops (stopped_run e.state e.trail)
   pub left : KeptLeaves e.state e.trail
 
 -- the engine with one run more
-abbrev pub with_run : EngineShown → EngineShown
+abbrev pub with_run : PlainShown → PlainShown
 with_run e = record e { runs = next_count e.runs }
 
 -- one more run that stopped is counted, up to 2 ^ 64 - 1; budget, update and the count of runs are the same
-pub record Counts (old new : EngineShown) : Type 0 where
+pub record CountsPlainStop (old new : PlainShown) : Type 0 where
   pub pairs : new.pairs ≡ old.pairs
   pub update : new.update ≡ old.update
   pub runs : new.runs ≡ old.runs
@@ -39,7 +39,7 @@ pub record Counts (old new : EngineShown) : Type 0 where
   pub later : old.stops ≤ new.stops
 
 -- Memory leaves the engine as it was; Pairs and Degree are counted, and the run on these is kept with the answer
-abbrev pub EngineStops : (old new : EngineShown) → Shared → Stop → Type 0
-EngineStops old new shared Memory = new ≡ old
-EngineStops old new shared Pairs = Counts old new × (stopped_run new.state new.trail ≡ Some (stopped_on shared Pairs))
-EngineStops old new shared Degree = Counts old new × (stopped_run new.state new.trail ≡ Some (stopped_on shared Degree))
+abbrev pub PlainStops : (old new : PlainShown) → Shared → Stop → Type 0
+PlainStops old new shared Memory = new ≡ old
+PlainStops old new shared Pairs = CountsPlainStop old new × (stopped_run new.state new.trail ≡ Some (stopped_on shared Pairs))
+PlainStops old new shared Degree = CountsPlainStop old new × (stopped_run new.state new.trail ≡ Some (stopped_on shared Degree))

@@ -6,7 +6,7 @@ ghost use Rattle.module_vectors.specs.Vectors.{AreVectorsOver, HasPositions};
 ghost use Rattle.basis_core.specs.Members.{Shared};
 ghost use Rattle.groebner_iface.specs.Runs.{IsReducedBasisOf, StoppedRun};
 ghost use Rattle.risen_counts.specs.Counts.{next_count};
-ghost use Rattle.plain_buchberger.specs.Engines.{Counts, EngineStops, IsKeptBy, with_run};
+ghost use Rattle.plain_buchberger.specs.Engines.{CountsPlainStop, PlainStops, IsKeptByPlain, with_run};
 ghost use Rattle.plain_buchberger.specs.Runs.{KeptLeaves, StopLeaves};
 ghost use Rattle.run_endings.specs.Stops.{IsStop, RunStops, shared_on, stopped_run};
 
@@ -48,13 +48,13 @@ impl Drop for PlainEngine {
 }
 
 impl Model for PlainEngine {
-    ghost use Rattle.plain_buchberger.specs.Engines.{EngineShown, IsKeptBy};
+    ghost use Rattle.plain_buchberger.specs.Engines.{PlainShown, IsKeptByPlain};
 
-    ghost Value = { EngineShown };
+    ghost Value = { PlainShown };
 
     ghost view = { λ e. record { pairs = e.pairs; update = e.update; runs = e.runs; stops = e.stops; state = e.state; trail = e.trail } };
 
-    ghost invariant = { λ e. IsKeptBy (record { pairs = e.pairs; update = e.update; runs = e.runs; stops = e.stops; state = e.state; trail = e.trail }) };
+    ghost invariant = { λ e. IsKeptByPlain (record { pairs = e.pairs; update = e.update; runs = e.runs; stops = e.stops; state = e.state; trail = e.trail }) };
 }
 
 impl PlainEngine {
@@ -110,7 +110,7 @@ impl PlainEngine {
     pub fn last_stop(&self) -> (Option<&BasisState>, Option<&KeptTrail>)
         ensures state { MatchOption result.0 (self.now.state ≡ None) (λ s. self.now.state ≡ Some s.now) }
         ensures trail { MatchOption result.1 (self.now.trail ≡ None) (λ t. self.now.trail ≡ Some t.now) }
-        ensures kept { IsKeptBy self.now }
+        ensures kept { IsKeptByPlain self.now }
     {
         (self.state.as_ref(), self.trail.as_ref())
     }
@@ -119,7 +119,7 @@ impl PlainEngine {
     pub fn into_stop(self) -> (Option<BasisState>, Option<KeptTrail>)
         ensures state { result.0 ≡ self.state }
         ensures trail { result.1 ≡ self.trail }
-        ensures kept { IsKeptBy self }
+        ensures kept { IsKeptByPlain self }
     {
         let PlainEngine {
             pairs: _,
@@ -147,7 +147,7 @@ impl PlainEngine {
         requires positions { Each (HasPositions rank) list.now }
         ensures basis { IfOk result (IsReducedBasisOf ring.now rank list.now) }
         ensures same { OnOk result (self.new ≡ with_run self.old) }
-        ensures stop { IfErr result (EngineStops (with_run self.old) self.new (shared_on ring.now rank list.now)) }
+        ensures stop { IfErr result (PlainStops (with_run self.old) self.new (shared_on ring.now rank list.now)) }
         ensures run { self.new.runs ≡ next_count self.old.runs }
     {
         self.count_run();
@@ -169,7 +169,7 @@ impl PlainEngine {
         requires some { (run : StoppedRun) × (stopped_run state trail ≡ Some run) }
         requires stop { IsStop self.old.pairs 1 self.old.update state trail }
         requires left { KeptLeaves state trail }
-        ensures counts { Counts self.old self.new }
+        ensures counts { CountsPlainStop self.old self.new }
         ensures state { self.new.state ≡ state }
         ensures trail { self.new.trail ≡ trail }
     {
@@ -182,7 +182,7 @@ impl PlainEngine {
     fn keep_stop(&mut self, stop: RunStop) -> Stop
         requires stop { (shared : Shared) × RunStops self.old.pairs 1 self.old.update shared stop }
         requires left { StopLeaves stop }
-        ensures stop { (shared : Shared) → RunStops self.old.pairs 1 self.old.update shared stop → EngineStops self.old self.new shared result }
+        ensures stop { (shared : Shared) → RunStops self.old.pairs 1 self.old.update shared stop → PlainStops self.old self.new shared result }
         ensures runs { self.new.runs ≡ self.old.runs }
     {
         match stop {

@@ -3,14 +3,14 @@ use Rattle.std.proofs.Common.{◌≡◌, ℕ, ◌+◌, ◌*◌, ◌≤◌, max, 
 use Rattle.std.proofs.lemmas.Bool.{leb-true}
 use Rattle.std.specs.declared.alloc.AllocError.{AllocError}
 use Rattle.script_tokens.specs.declared.token.Token.{Token}
-use Rattle.poly_grammar.specs.declared.step.Step.{Step}
+use Rattle.poly_grammar.specs.declared.step.PolyStep.{PolyStep}
 use Rattle.poly_grammar.specs.Algebras.{◌>>=◌, worth_of_steps, worth, terms_worth, term_worth, factors_worth, factor_worth, atom_worth, signed}
 use Rattle.poly_grammar.specs.Degrees.{bounded, degrees, formal_degree}
 use Rattle.poly_grammar.specs.Steps.{steps}
 use Rattle.poly_grammar.specs.Trees.{Lead, bare, positive, negative, Poly, poly, Terms, last, plus_term, minus_term, Term, term, Factors, alone, times, Factor, plain, power, Atom, numeral, letter, group}
 use Rattle.poly_grammar.proofs.Worths.{worth_is_left}
 
-pub as_degree : (weight value : Token → ℕ) (xs : List Step) (r : Result (Option ℕ) AllocError) → IfOk r (λ found. found ≡ worth_of_steps (degrees weight value) xs) → (p : Poly) → xs ≡ steps p → IfOk r (λ found. found ≡ formal_degree weight value p)
+pub as_degree : (weight value : Token → ℕ) (xs : List PolyStep) (r : Result (Option ℕ) AllocError) → IfOk r (λ found. found ≡ worth_of_steps (degrees weight value) xs) → (p : Poly) → xs ≡ steps p → IfOk r (λ found. found ≡ formal_degree weight value p)
 as_degree weight value xs (Ok found) h p e = h ∙ ap (worth_of_steps (degrees weight value)) e ∙ worth_is_left (degrees weight value) p
 as_degree weight value xs (Err x) h p e = tt
 

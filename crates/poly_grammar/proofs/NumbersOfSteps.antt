@@ -1,8 +1,8 @@
 -- A tree's steps have the numbers of its tokens.
 use Rattle.std.proofs.Common.{◌≡◌, List, [], ◌∷◌, ◌++◌, refl, sym, ap, ap₂, ◌∙◌}
 use Rattle.std.proofs.lemmas.List.{append-nil}
-use Rattle.poly_grammar.specs.declared.step.Step.{Step}
-use Rattle.poly_grammar.specs.declared.step.Step.TheVariants as acts
+use Rattle.poly_grammar.specs.declared.step.PolyStep.{PolyStep}
+use Rattle.poly_grammar.specs.declared.step.PolyStep.TheVariants as acts
 use Rattle.poly_grammar.specs.Lexemes.{Lexeme, caret, number, closed, numbers_in}
 use Rattle.poly_grammar.specs.Steps.{steps, lead_steps, terms_steps, term_steps, factors_steps, factor_steps, atom_steps, numbers_of_steps}
 use Rattle.poly_grammar.specs.Trees.{Lead, bare, positive, negative, Poly, poly, Terms, last, plus_term, minus_term, Term, term, Factors, alone, times, Factor, plain, power, Atom, numeral, letter, group, lead, spelling, terms_spelling, term_spelling, factors_spelling, factor_spelling, atom_spelling}
@@ -12,14 +12,14 @@ in_both [] b = refl
 in_both (number t ∷ a) b = ap (λ l. t ∷ l) (in_both a b)
 in_both (_ ∷ a) b = in_both a b
 
-of_both : (a b : List Step) → numbers_of_steps (a ++ b) ≡ numbers_of_steps a ++ numbers_of_steps b
+of_both : (a b : List PolyStep) → numbers_of_steps (a ++ b) ≡ numbers_of_steps a ++ numbers_of_steps b
 of_both [] b = refl
 of_both (acts.Number t ∷ a) b = ap (λ l. t ∷ l) (of_both a b)
 of_both (acts.Power t ∷ a) b = ap (λ l. t ∷ l) (of_both a b)
 of_both (_ ∷ a) b = of_both a b
 
 -- two parts, one behind the other
-joined : (a b : List Step) (x y : List Lexeme) → numbers_of_steps a ≡ numbers_in x → numbers_of_steps b ≡ numbers_in y → numbers_of_steps (a ++ b) ≡ numbers_in (x ++ y)
+joined : (a b : List PolyStep) (x y : List Lexeme) → numbers_of_steps a ≡ numbers_in x → numbers_of_steps b ≡ numbers_in y → numbers_of_steps (a ++ b) ≡ numbers_in (x ++ y)
 joined a b x y e f = of_both a b ∙ ap₂ (λ l m. l ++ m) e f ∙ sym (in_both x y)
 
 no_lead : (sign : Lead) (x : List Lexeme) → numbers_in (lead sign ++ x) ≡ numbers_in x

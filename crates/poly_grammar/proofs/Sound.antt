@@ -7,8 +7,8 @@ use Rattle.poly_grammar.specs.declared.reader.Pending.{Pending}
 use Rattle.poly_grammar.specs.Lexemes.{Lexeme, caret, closed, minus, name, number, opened, plus, star}
 use Rattle.poly_grammar.specs.Trees.{Atom, Factor, Factors, Lead, Poly, Terms, alone, atom_spelling, bare, factor_spelling, factors_spelling, group, last, lead, letter, minus_term, negative, numeral, plain, plus_term, poly, positive, power, spelling, term, term_spelling, terms_spelling, times}
 use Rattle.script_tokens.specs.declared.token.Token.{Token}
-use Rattle.poly_grammar.specs.declared.step.Step.{Step}
-use Rattle.poly_grammar.specs.Reading.{State, outcome, begun}
+use Rattle.poly_grammar.specs.declared.step.PolyStep.{PolyStep}
+use Rattle.poly_grammar.specs.Reading.{ParserState, outcome, begun}
 
 abbrev exponent_spelling : Option Token → List Lexeme
 exponent_spelling None = []
@@ -129,13 +129,13 @@ group_on o outer xs r =
     let e : opened ∷ xs ≡ atom_spelling (group r.p) ++ r.rest.0 = ap (λ l. opened ∷ l) (r.is ∙ ap (λ l. spelling r.p ++ l) r.rest.1 ∙ sym (append_assoc (spelling r.p) (closed ∷ []) r.rest.0)) in
     subst (λ l. AtOperand (Closes outer) l) (sym e) (to_operand (Closes outer) r.rest.0 (group r.p) r.rest.2)
 
-abbrev state : Phase → Pending → List Pending → List Step → State
+abbrev state : Phase → Pending → List Pending → List PolyStep → ParserState
 state phase pending outer done = record { phase = phase; pending = pending; outer = outer; done = done }
 
-refused : {A : Type 0} {x : List Step} → None ≡ Some x → A
+refused : {A : Type 0} {x : List PolyStep} → None ≡ Some x → A
 refused h = absurd cc
 
-is_spelled : (xs : List Lexeme) (phase : Phase) (pending : Pending) (outer : List Pending) (done found : List Step) → outcome xs (state phase pending outer done) ≡ Some found → RestAt phase (Closes outer) xs
+is_spelled : (xs : List Lexeme) (phase : Phase) (pending : Pending) (outer : List Pending) (done found : List PolyStep) → outcome xs (state phase pending outer done) ≡ Some found → RestAt phase (Closes outer) xs
 is_spelled [] phases.Base pending [] done found h = no_power _ _ (ends_here _ _ refl)
 is_spelled [] phases.Factor pending [] done found h = ends_here _ _ refl
 is_spelled [] phases.Base pending (o ∷ outer) done found h = refused h
@@ -170,7 +170,7 @@ is_spelled (closed ∷ xs) phases.Base pending (o ∷ outer) done found h = no_p
 is_spelled (_ ∷ xs) phases.Base pending outer done found h = refused h
 
 -- what is read is the spelling of a tree
-pub read_is_spelled : (xs : List Lexeme) (found : List Step) → outcome xs begun ≡ Some found → (p : Poly) × (xs ≡ spelling p)
+pub read_is_spelled : (xs : List Lexeme) (found : List PolyStep) → outcome xs begun ≡ Some found → (p : Poly) × (xs ≡ spelling p)
 read_is_spelled xs found h =
     let r = is_spelled xs phases.Start _ [] [] found h in
     (r.p, r.is ∙ ap (λ l. spelling r.p ++ l) r.rest ∙ append-nil (spelling r.p))

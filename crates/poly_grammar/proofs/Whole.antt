@@ -1,6 +1,6 @@
 -- Reading and the grammar
 use Rattle.std.proofs.Common.{◌≡◌, true, false, List, Vec, Global, Result, Ok, Err, ap, sym, ◌∙◌}
-use Rattle.poly_grammar.specs.declared.step.Step.{Step}
+use Rattle.poly_grammar.specs.declared.step.PolyStep.{PolyStep}
 use Rattle.poly_grammar.specs.declared.stop.ReadStop.{ReadStop}
 use Rattle.poly_grammar.specs.declared.stop.ReadStop.TheVariants.{Memory, Syntax}
 use Rattle.poly_grammar.specs.Lexemes.{Lexeme}
@@ -12,7 +12,7 @@ use Rattle.poly_grammar.proofs.Complete.{spelling_is_read}
 use Rattle.poly_grammar.proofs.Nesting.{nests_is_depth}
 use Rattle.poly_grammar.proofs.Sound.{read_is_spelled}
 
-pub is_poly : (xs : List Lexeme) (r : Result (Vec Step Global) ReadStop) → nests 0 xs ≡ true → Gives (λ found. found.items) r (outcome xs begun) → IsPolyOf xs r
+pub is_poly : (xs : List Lexeme) (r : Result (Vec PolyStep Global) ReadStop) → nests 0 xs ≡ true → Gives (λ found. found.items) r (outcome xs begun) → IsPolyOf xs r
 is_poly xs (Ok found) nested h =
     let r = read_is_spelled xs found.items h in
     let again = spelling_is_read r.0 in

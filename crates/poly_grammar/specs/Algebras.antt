@@ -1,8 +1,8 @@
 -- What a tree is worth, in whatever its numbers and names stand for; and the same by steps on a stack
 use Rattle.std.specs.Prelude.{List, [], ◌∷◌, Option, Some, None, option_and_then}
 use Rattle.script_tokens.specs.declared.token.Token.{Token}
-use Rattle.poly_grammar.specs.declared.step.Step.{Step}
-use Rattle.poly_grammar.specs.declared.step.Step.TheVariants.{Number, Name, Power, Multiply, Add, Subtract, Negate}
+use Rattle.poly_grammar.specs.declared.step.PolyStep.{PolyStep}
+use Rattle.poly_grammar.specs.declared.step.PolyStep.TheVariants.{Number, Name, Power, Multiply, Add, Subtract, Negate}
 use Rattle.poly_grammar.specs.Trees.{Atom, Factor, Factors, Lead, Poly, Term, Terms, alone, bare, group, last, letter, minus_term, negative, numeral, plain, plus_term, poly, positive, power, term, times}
 
 -- an answer, and what is made of it
@@ -58,7 +58,7 @@ push stack None = None
 push stack (Some a) = Some (a ∷ stack)
 
 -- one step on a stack, the last operand on top
-abbrev pub worth_step : {A : Type 0} → Algebra A → Step → List A → Option (List A)
+abbrev pub worth_step : {A : Type 0} → Algebra A → PolyStep → List A → Option (List A)
 worth_step g (Number token) stack = push stack (g.number token)
 worth_step g (Name token) stack = push stack (g.name token)
 worth_step g (Power token) (a ∷ stack) = push stack (g.raised a token)
@@ -69,7 +69,7 @@ worth_step g Negate (a ∷ stack) = push stack (g.opposite a)
 worth_step g _ _ = None
 
 -- steps on a stack
-abbrev pub worths : {A : Type 0} → Algebra A → List Step → List A → Option (List A)
+abbrev pub worths : {A : Type 0} → Algebra A → List PolyStep → List A → Option (List A)
 worths g [] stack = Some stack
 worths g (step ∷ more) stack = worth_step g step stack >>= worths g more
 
@@ -79,5 +79,5 @@ top [] = None
 top (a ∷ stack) = Some a
 
 -- what steps leave on top of an empty stack
-abbrev pub worth_of_steps : {A : Type 0} → Algebra A → List Step → Option A
+abbrev pub worth_of_steps : {A : Type 0} → Algebra A → List PolyStep → Option A
 worth_of_steps g steps = worths g steps [] >>= top

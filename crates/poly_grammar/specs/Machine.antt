@@ -1,12 +1,12 @@
 -- What the reader's calls give
 use Rattle.std.specs.Prelude.{Bool, Err, List, None, Ok, Option, Result, Some, false, max, reverse, true, ℕ, ◌∷◌, ◌≡◌}
-use Rattle.poly_grammar.specs.Reading.{State}
+use Rattle.poly_grammar.specs.Reading.{ParserState}
 use Rattle.poly_grammar.specs.declared.reader.Reader.{Reader}
 use Rattle.poly_grammar.specs.declared.stop.ReadStop.{ReadStop}
 use Rattle.poly_grammar.specs.declared.stop.ReadStop.TheVariants.{Memory, Syntax}
 
 -- what a reader has read
-abbrev pub state_of : Reader → State
+abbrev pub state_of : Reader → ParserState
 state_of reader = record { phase = reader.phase; pending = reader.pending; outer = reverse reader.outer.items; done = reader.steps.items }
 
 -- what a call returned is the answer, seen by view, unless memory ran out

@@ -9,7 +9,7 @@ ghost use Rattle.poly_grammar.specs.Steps.{steps as steps_of};
 ghost use Rattle.poly_grammar.specs.Trees.{Poly};
 
 use crate::numeral::{number, text};
-use crate::step::Step;
+use crate::step::PolyStep;
 use std::alloc::{AllocError, Global};
 
 /// The weights of names: of each the degree of the variable that it stands for.
@@ -60,21 +60,21 @@ fn push_greater(stack: &mut Vec<u32>) -> Result<bool, AllocError>
 fn step_degree<N: NameWeights>(
     names: &N,
     line: &[u8],
-    step: Step,
+    step: PolyStep,
     stack: &mut Vec<u32>,
 ) -> Result<bool, AllocError>
     ensures { IfOk result (λ done. left_by done stack.new.items
         ≡ worth_step (degrees (λ t. N.weight names.now (text_of line.now t)) (value_of line.now)) step (reverse stack.old.items)) }
 {
     match step {
-        Step::Number(_) => stack.push(0)?,
-        Step::Name(name) => {
+        PolyStep::Number(_) => stack.push(0)?,
+        PolyStep::Name(name) => {
             let Some(weight) = bounded(u64::from(names.weight(text(line, name)))) else {
                 return Ok(false);
             };
             stack.push(weight)?;
         }
-        Step::Power(exponent) => {
+        PolyStep::Power(exponent) => {
             let Some(base) = stack.pop() else {
                 return Ok(false);
             };
@@ -83,7 +83,7 @@ fn step_degree<N: NameWeights>(
             };
             stack.push(power)?;
         }
-        Step::Multiply => {
+        PolyStep::Multiply => {
             let (Some(right), Some(left)) = (stack.pop(), stack.pop()) else {
                 return Ok(false);
             };
@@ -92,8 +92,8 @@ fn step_degree<N: NameWeights>(
             };
             stack.push(product)?;
         }
-        Step::Add | Step::Subtract => return push_greater(stack),
-        Step::Negate => return Ok(!stack.is_empty()),
+        PolyStep::Add | PolyStep::Subtract => return push_greater(stack),
+        PolyStep::Negate => return Ok(!stack.is_empty()),
     }
     Ok(true)
 }
@@ -103,7 +103,7 @@ fn degree_left<N: NameWeights>(
     alloc: Global,
     names: &N,
     line: &[u8],
-    steps: &[Step],
+    steps: &[PolyStep],
 ) -> Result<Option<u32>, AllocError>
     ensures { IfOk result (λ found. found ≡ worth_of_steps (degrees (λ t. N.weight names.now (text_of line.now t)) (value_of line.now)) steps.now) }
 {
@@ -125,7 +125,7 @@ pub fn formal_degree<N: NameWeights>(
     alloc: Global,
     names: &N,
     line: &[u8],
-    steps: &[Step],
+    steps: &[PolyStep],
 ) -> Result<Option<u32>, AllocError>
     ensures { (p : Poly) → steps.now ≡ steps_of p
         → IfOk result (λ found. found ≡ formal_degree (λ t. N.weight names.now (text_of line.now t)) (value_of line.now) p) }

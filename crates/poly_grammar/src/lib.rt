@@ -15,5 +15,5 @@ pub use degree::{NameWeights, formal_degree};
 pub use grammar_laws::{formal_degrees, one_tree, tokens_of_steps, worths_of_steps};
 pub use numeral::{number, numerals_fit, text};
 pub use reader::read_polynomial;
-pub use step::Step;
+pub use step::PolyStep;
 pub use stop::ReadStop;

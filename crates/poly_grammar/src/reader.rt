@@ -6,7 +6,7 @@ ghost use Rattle.poly_grammar.specs.Reading.{nests, after_sum, after_product, ne
 ghost use Rattle.poly_grammar.specs.Answers.{IsPolyOf};
 ghost use Rattle.poly_grammar.specs.Machine.{state_of, Gives};
 
-use crate::step::Step;
+use crate::step::PolyStep;
 use crate::stop::ReadStop;
 use script_tokens::{Token, TokenKind};
 use std::alloc::{AllocError, Global};
@@ -58,29 +58,29 @@ pub struct Reader {
     /// What waits outside each parenthesis that is open, the innermost last.
     pub outer: Vec<Pending>,
     /// The steps of what has been read.
-    pub steps: Vec<Step>,
+    pub steps: Vec<PolyStep>,
 }
 
 /// Writes what waited for the end of a factor.
-fn end_factor(steps: &mut Vec<Step>, pending: Pending) -> Result<(), AllocError>
+fn end_factor(steps: &mut Vec<PolyStep>, pending: Pending) -> Result<(), AllocError>
     ensures { OnOk result (steps.new.items ≡ steps.old.items ++ after_product pending.product) }
 {
     if pending.product {
-        steps.push(Step::Multiply)?;
+        steps.push(PolyStep::Multiply)?;
     }
     Ok(())
 }
 
 /// Writes what waited for the end of a term.
-fn end_term(steps: &mut Vec<Step>, pending: Pending) -> Result<(), AllocError>
+fn end_term(steps: &mut Vec<PolyStep>, pending: Pending) -> Result<(), AllocError>
     ensures { OnOk result (steps.new.items ≡ (steps.old.items ++ after_product pending.product) ++ after_sum pending.sum) }
 {
     end_factor(steps, pending)?;
     match pending.sum {
         Sum::Nothing => {}
-        Sum::Negation => steps.push(Step::Negate)?,
-        Sum::Addition => steps.push(Step::Add)?,
-        Sum::Subtraction => steps.push(Step::Subtract)?,
+        Sum::Negation => steps.push(PolyStep::Negate)?,
+        Sum::Addition => steps.push(PolyStep::Add)?,
+        Sum::Subtraction => steps.push(PolyStep::Subtract)?,
     }
     Ok(())
 }
@@ -107,11 +107,11 @@ impl Reader {
     {
         match token.kind {
             TokenKind::Number => {
-                self.steps.push(Step::Number(token))?;
+                self.steps.push(PolyStep::Number(token))?;
                 self.phase = Phase::Base;
             }
             TokenKind::Name => {
-                self.steps.push(Step::Name(token))?;
+                self.steps.push(PolyStep::Name(token))?;
                 self.phase = Phase::Base;
             }
             TokenKind::Open => {
@@ -206,7 +206,7 @@ impl Reader {
                 Ok(())
             }
             (Phase::Exponent, TokenKind::Number) => {
-                self.steps.push(Step::Power(token))?;
+                self.steps.push(PolyStep::Power(token))?;
                 self.phase = Phase::Factor;
                 Ok(())
             }
@@ -216,7 +216,7 @@ impl Reader {
     }
 
     /// The steps, if a polynomial may end here.
-    fn finish(self) -> Result<Vec<Step>, ReadStop>
+    fn finish(self) -> Result<Vec<PolyStep>, ReadStop>
         ensures { Gives (λ steps. steps.items) result (ended (state_of self)) }
     {
         let mut steps = self.steps;
@@ -234,7 +234,7 @@ impl Reader {
 }
 
 /// The steps of a polynomial, however deep it nests.
-fn any_depth(alloc: Global, tokens: &[Token]) -> Result<Vec<Step>, ReadStop>
+fn any_depth(alloc: Global, tokens: &[Token]) -> Result<Vec<PolyStep>, ReadStop>
     ensures { Gives (λ steps. steps.items) result (outcome (map lexeme tokens.now) begun) }
 {
     let mut reader = Reader::new(alloc);
@@ -267,7 +267,7 @@ fn nests(tokens: &[Token]) -> bool
 ///
 /// Answers `Syntax` exactly where the tokens are not in the grammar or parentheses nest more than 64 deep, and `Memory`
 /// where a growth was refused. No tree is made, and no call goes deeper where the text nests deeper or is longer.
-pub fn read_polynomial(alloc: Global, tokens: &[Token]) -> Result<Vec<Step>, ReadStop>
+pub fn read_polynomial(alloc: Global, tokens: &[Token]) -> Result<Vec<PolyStep>, ReadStop>
     ensures { IsPolyOf (map lexeme tokens.now) result }
 {
     if !nests(tokens) {

@@ -4,7 +4,7 @@ use script_tokens::Token;
 
 /// One step of working out a polynomial on a stack.
 #[derive(Clone, Copy, Debug)]
-pub enum Step {
+pub enum PolyStep {
     /// Puts the number of the token.
     Number(Token),
     /// Puts what the name of the token stands for.

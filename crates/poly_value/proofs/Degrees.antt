@@ -14,8 +14,8 @@ use Rattle.monomial_orders.specs.Monomials.{variable}
 use Rattle.poly_grammar.specs.Algebras.{push, worth_step}
 use Rattle.poly_grammar.specs.Degrees.{bounded}
 use Rattle.poly_grammar.specs.Numerals.{text_of, value_of}
-use Rattle.poly_grammar.specs.declared.step.Step.{Step}
-use Rattle.poly_grammar.specs.declared.step.Step.TheVariants.{Add, Multiply, Name, Negate, Number, Power, Subtract}
+use Rattle.poly_grammar.specs.declared.step.PolyStep.{PolyStep}
+use Rattle.poly_grammar.specs.declared.step.PolyStep.TheVariants.{Add, Multiply, Name, Negate, Number, Power, Subtract}
 use Rattle.module_vectors.specs.Rings.{variables}
 use Rattle.module_vectors.specs.declared.ring.Ring.{Ring}
 use Rattle.sparse_poly.proofs.Bounding.{HasDegreeWithin_constant, HasDegreeWithin_power, HasDegreeWithin_product}
@@ -74,7 +74,7 @@ module _ (ring : Ring) (line : List ℕ) where
 
   -- a step keeps the bounds
   pub within_step :
-      (step : Step) (vs left : List (FormalSum (variables ring))) (ds lower : List ℕ) → worth_step (polynomials_of ring line) step vs ≡ Some left
+      (step : PolyStep) (vs left : List (FormalSum (variables ring))) (ds lower : List ℕ) → worth_step (polynomials_of ring line) step vs ≡ Some left
       → worth_step (degrees_of ring line) step ds ≡ Some lower → HaveDegreesWithin ring.weights ring.modulus.value vs ds
       → HaveDegreesWithin ring.weights ring.modulus.value left lower
   within_step (Number t) vs left ds lower e f h =

@@ -10,8 +10,8 @@ use Rattle.formal_sums.specs.FormalSums.{FormalSum, scale}
 use Rattle.poly_grammar.specs.Algebras.{Algebra, ◌>>=◌, top, worth_of_steps, worth_step, worths}
 use Rattle.poly_grammar.specs.Numerals.{value_of}
 use Rattle.poly_grammar.specs.Steps.{numbers_of_steps}
-use Rattle.poly_grammar.specs.declared.step.Step.{Step}
-use Rattle.poly_grammar.specs.declared.step.Step.TheVariants.{Add, Multiply, Name, Negate, Number, Power, Subtract}
+use Rattle.poly_grammar.specs.declared.step.PolyStep.{PolyStep}
+use Rattle.poly_grammar.specs.declared.step.PolyStep.TheVariants.{Add, Multiply, Name, Negate, Number, Power, Subtract}
 use Rattle.module_vectors.specs.Rings.{variables}
 use Rattle.module_vectors.specs.Vectors.{StandsFor, sum_of}
 use Rattle.module_vectors.specs.declared.key.Key.{Key}
@@ -19,7 +19,7 @@ use Rattle.module_vectors.specs.declared.ring.Ring.{Ring}
 use Rattle.sparse_poly.proofs.Bounding.{HasDegreeWithin_same}
 use Rattle.sparse_poly.specs.Degrees.{HasDegreeWithin}
 use Rattle.poly_value.proofs.Degrees.{allowed, within_step}
-use Rattle.poly_value.specs.Parts.{Advances, AreParts, HaveDegreesWithin, IsPart, IsReady, PowerFits, ProductFitsBounds}
+use Rattle.poly_value.specs.Parts.{Advances, AreParts, HaveDegreesWithin, IsOperandPart, IsStepReady, PowerFits, ProductFitsBounds}
 use Rattle.poly_value.specs.declared.operands.Operand.{Operand}
 use Rattle.poly_value.specs.Values.{degrees_of, polynomials_of}
 
@@ -30,11 +30,11 @@ minus ring v = scale (ring.modulus.value - 1) (unit (variables ring)) v
 -- sum is the sum of two operands
 abbrev pub Joins : (ring : Ring) → Operand → Operand → Operand → Type 0
 Joins ring left right sum = (v w : FormalSum (variables ring))
-    → IsPart ring v left.terms.items → IsPart ring w right.terms.items → IsPart ring (v ++ w) sum.terms.items
+    → IsOperandPart ring v left.terms.items → IsOperandPart ring w right.terms.items → IsOperandPart ring (v ++ w) sum.terms.items
 
 -- opposite is minus the terms
 abbrev pub Opposes : (ring : Ring) → List (Key × ℕ) → List (Key × ℕ) → Type 0
-Opposes ring terms opposite = (v : FormalSum (variables ring)) → IsPart ring v terms → IsPart ring (minus ring v) opposite
+Opposes ring terms opposite = (v : FormalSum (variables ring)) → IsOperandPart ring v terms → IsOperandPart ring (minus ring v) opposite
 
 add_advances :
     (ring : Ring) (line : List ℕ) (rest : List Operand) (left right sum : Operand)
@@ -61,14 +61,14 @@ negate_advances ring line rest operand opposite o (a ∷ vs) out h w =
 
 -- the same where one was taken from a stack, and one was put
 moved_one :
-    {E : Type 0} (ring : Ring) (line : List ℕ) (step : Step) (old rest new : List Operand) (x y : Operand) (r : Result (Unit {0}) E)
+    {E : Type 0} (ring : Ring) (line : List ℕ) (step : PolyStep) (old rest new : List Operand) (x y : Operand) (r : Result (Unit {0}) E)
     → old ≡ x ∷ rest → Advances ring line step (x ∷ rest) (y ∷ rest) → OnOk r (new ≡ y ∷ rest) → OnOk r (Advances ring line step old new)
 moved_one ring line step old rest new x y (Ok u) e h n = subst (λ s. Advances ring line step s new) (sym e) (subst (λ s. Advances ring line step (x ∷ rest) s) (sym n) h)
 moved_one ring line step old rest new x y (Err stop) e h n = tt
 
 -- where two were taken
 moved_two :
-    {E : Type 0} (ring : Ring) (line : List ℕ) (step : Step) (old mid rest new : List Operand) (left right sum : Operand) (r : Result (Unit {0}) E)
+    {E : Type 0} (ring : Ring) (line : List ℕ) (step : PolyStep) (old mid rest new : List Operand) (left right sum : Operand) (r : Result (Unit {0}) E)
     → old ≡ right ∷ mid → mid ≡ left ∷ rest → Advances ring line step (right ∷ left ∷ rest) (sum ∷ rest) → OnOk r (new ≡ sum ∷ rest)
     → OnOk r (Advances ring line step old new)
 moved_two ring line step old mid rest new left right sum (Ok u) e f h n =
@@ -97,7 +97,7 @@ negated ring line old rest new operand opposite r e o n =
     moved_one ring line Negate old rest new operand opposite r e (negate_advances ring line rest operand opposite o) n
 
 -- the numbers among the first of steps and among the others
-first_numerals : (P : Token → Type 0) (step : Step) (more : List Step) → AllByRecursion P (numbers_of_steps (step ∷ more)) → AllByRecursion P (numbers_of_steps (step ∷ []))
+first_numerals : (P : Token → Type 0) (step : PolyStep) (more : List PolyStep) → AllByRecursion P (numbers_of_steps (step ∷ more)) → AllByRecursion P (numbers_of_steps (step ∷ []))
 first_numerals P (Number t) more h = (h.0, tt)
 first_numerals P (Power t) more h = (h.0, tt)
 first_numerals P (Name t) more h = tt
@@ -106,7 +106,7 @@ first_numerals P Add more h = tt
 first_numerals P Subtract more h = tt
 first_numerals P Negate more h = tt
 
-other_numerals : (P : Token → Type 0) (step : Step) (more : List Step) → AllByRecursion P (numbers_of_steps (step ∷ more)) → AllByRecursion P (numbers_of_steps more)
+other_numerals : (P : Token → Type 0) (step : PolyStep) (more : List PolyStep) → AllByRecursion P (numbers_of_steps (step ∷ more)) → AllByRecursion P (numbers_of_steps more)
 other_numerals P (Number t) more h = h.1
 other_numerals P (Power t) more h = h.1
 other_numerals P (Name t) more h = h
@@ -116,7 +116,7 @@ other_numerals P Subtract more h = h
 other_numerals P Negate more h = h
 
 -- where all steps have a worth, the first of them has one
-has_worth : {A : Type 0} (g : Algebra A) (step : Step) (more : List Step) (stack : List A) (all : Option A) (x : A) → all ≡ Some x
+has_worth : {A : Type 0} (g : Algebra A) (step : PolyStep) (more : List PolyStep) (stack : List A) (all : Option A) (x : A) → all ≡ Some x
     → (worths g (step ∷ more) stack >>= top) ≡ all → (left : List A) × (worth_step g step stack ≡ Some left) × ((worths g more left >>= top) ≡ all)
 has_worth {A} g step more stack all x w h = go (worth_step g step stack) refl h
   where
@@ -126,7 +126,7 @@ has_worth {A} g step more stack all x w h = go (worth_step g step stack) refl h
     go (Some left) e r = (left, e, r)
 
 -- The stack stands for values from which the steps that are left give what all of them give, and so it is with the degrees.
-pub record IsWorking (ring : Ring) (line : List ℕ) (all left : List Step) (stack : List Operand) : Type 0 where
+pub record IsWorking (ring : Ring) (line : List ℕ) (all left : List PolyStep) (stack : List Operand) : Type 0 where
   pub values : List (FormalSum (variables ring))
   pub parts : AreParts ring stack values
   pub worth_is : (worths (polynomials_of ring line) left values >>= top) ≡ worth_of_steps (polynomials_of ring line) all
@@ -135,18 +135,18 @@ pub record IsWorking (ring : Ring) (line : List ℕ) (all left : List Step) (sta
   pub degree_is : (worths (degrees_of ring line) left bounds >>= top) ≡ worth_of_steps (degrees_of ring line) all
   pub numerals : AllByRecursion (λ t. value_of line t < 2 ^ 128) (numbers_of_steps left)
 
-module _ (ring : Ring) (line : List ℕ) (all : List Step) (x : FormalSum (variables ring)) (d : ℕ)
+module _ (ring : Ring) (line : List ℕ) (all : List PolyStep) (x : FormalSum (variables ring)) (d : ℕ)
     (w : worth_of_steps (polynomials_of ring line) all ≡ Some x) (low : worth_of_steps (degrees_of ring line) all ≡ Some d) where
   pub starts : AllByRecursion (λ t. value_of line t < 2 ^ 128) (numbers_of_steps all) → IsWorking ring line all all []
   starts h = record { values = []; parts = tt; worth_is = refl; bounds = []; within = tt; degree_is = refl; numerals = h }
 
-  ready : (more : List Step) (step : Step) (old : List Operand) → IsWorking ring line all (step ∷ more) old → IsReady ring line step old
+  ready : (more : List PolyStep) (step : PolyStep) (old : List Operand) → IsWorking ring line all (step ∷ more) old → IsStepReady ring line step old
   ready more step old h =
       let one = has_worth (polynomials_of ring line) step more h.values _ x w h.worth_is in
       let other = has_worth (degrees_of ring line) step more h.bounds _ d low h.degree_is in
       record { values = h.values; parts = h.parts; worth = (one.0, one.1); bounds = h.bounds; within = h.within; degree = (other.0, other.1); numerals = first_numerals _ step more h.numerals }
 
-  working_step : (more : List Step) (step : Step) (old new : List Operand) → IsWorking ring line all (step ∷ more) old → Advances ring line step old new → IsWorking ring line all more new
+  working_step : (more : List PolyStep) (step : PolyStep) (old new : List Operand) → IsWorking ring line all (step ∷ more) old → Advances ring line step old new → IsWorking ring line all more new
   working_step more step old new h advances =
       let one = has_worth (polynomials_of ring line) step more h.values _ x w h.worth_is in
       let other = has_worth (degrees_of ring line) step more h.bounds _ d low h.degree_is in
@@ -160,7 +160,7 @@ module _ (ring : Ring) (line : List ℕ) (all : List Step) (x : FormalSum (varia
         numerals = other_numerals _ step more h.numerals;
       }
 
-  module _ (i : ℕ) (step other : Step) (old : List Operand) (lt : i < length all) (e : step ≡ get_or all i other) (h : IsWorking ring line all (drop i all) old) where
+  module _ (i : ℕ) (step other : PolyStep) (old : List Operand) (lt : i < length all) (e : step ≡ get_or all i other) (h : IsWorking ring line all (drop i all) old) where
     here : IsWorking ring line all (step ∷ drop (i + 1) all) old
     here =
         let s : suc i ≡ i + 1 = omega arith in
@@ -168,21 +168,21 @@ module _ (ring : Ring) (line : List ℕ) (all : List Step) (x : FormalSum (varia
         subst (λ l. IsWorking ring line all l old) first h
 
     -- one step of the loop can be done
-    pub is_ready : IsReady ring line step old
+    pub is_ready : IsStepReady ring line step old
     is_ready = ready (drop (i + 1) all) step old here
 
     -- and leads on
     pub working_on : (new : List Operand) → Advances ring line step old new → IsWorking ring line all (drop (i + 1) all) new
     working_on new advances = working_step (drop (i + 1) all) step old new here advances
 
-sum_within : (ring : Ring) (d : ℕ) (v : FormalSum (variables ring)) (terms : List (Key × ℕ)) → IsPart ring v terms → HasDegreeWithin ring.weights ring.modulus.value d v
+sum_within : (ring : Ring) (d : ℕ) (v : FormalSum (variables ring)) (terms : List (Key × ℕ)) → IsOperandPart ring v terms → HasDegreeWithin ring.weights ring.modulus.value d v
     → HasDegreeWithin ring.weights ring.modulus.value d (sum_of (variables ring) terms)
 sum_within ring d v terms h g = HasDegreeWithin_same (IsSame_sym h.stands) g
 
 -- the degrees of a product and a power that can be worked out
 pub product_fits :
     (ring : Ring) (line : List ℕ) (stack mid rest : List Operand) (right left : Operand)
-    → IsReady ring line Multiply stack → stack ≡ right ∷ mid → mid ≡ left ∷ rest → ProductFitsBounds ring left.terms.items right.terms.items
+    → IsStepReady ring line Multiply stack → stack ≡ right ∷ mid → mid ≡ left ∷ rest → ProductFitsBounds ring left.terms.items right.terms.items
 product_fits ring line stack mid rest right left h e f = go h.values h.bounds (subst (λ l. AreParts ring l h.values) (e ∙ ap (λ l. right ∷ l) f) h.parts) h.within h.degree.1
   where
     go :
@@ -198,7 +198,7 @@ product_fits ring line stack mid rest right left h e f = go h.values h.bounds (s
 
 pub power_fits :
     (ring : Ring) (line : List ℕ) (token : Token) (stack rest : List Operand) (base : Operand) (n : ℕ)
-    → IsReady ring line (Power token) stack → stack ≡ base ∷ rest → n ≡ value_of line token → PowerFits ring base.terms.items n
+    → IsStepReady ring line (Power token) stack → stack ≡ base ∷ rest → n ≡ value_of line token → PowerFits ring base.terms.items n
 power_fits ring line token stack rest base n h e is = go h.values h.bounds (subst (λ l. AreParts ring l h.values) e h.parts) h.within h.degree.1
   where
     go :
@@ -214,7 +214,7 @@ power_fits ring line token stack rest base n h e is = go h.values h.bounds (subs
 
 -- at the end there is something on top
 pub working_has_top :
-    (ring : Ring) (line : List ℕ) (all left : List Step) (stack : List Operand) (x : FormalSum (variables ring))
+    (ring : Ring) (line : List ℕ) (all left : List PolyStep) (stack : List Operand) (x : FormalSum (variables ring))
     → left ≡ [] → stack ≡ [] → worth_of_steps (polynomials_of ring line) all ≡ Some x → IsWorking ring line all left stack → ⊥
 working_has_top ring line all left stack x n s w h =
     go h.values (subst (λ l. AreParts ring l h.values) s h.parts) (sym (ap (λ l. worths (polynomials_of ring line) l h.values >>= top) n) ∙ h.worth_is ∙ w)
@@ -225,19 +225,19 @@ working_has_top ring line all left stack x n s w h =
 
 -- what is left on top at the end
 pub working_ends :
-    (ring : Ring) (line : List ℕ) (all left : List Step) (stack rest : List Operand) (operand : Operand) (x : FormalSum (variables ring))
+    (ring : Ring) (line : List ℕ) (all left : List PolyStep) (stack rest : List Operand) (operand : Operand) (x : FormalSum (variables ring))
     → left ≡ [] → stack ≡ operand ∷ rest → worth_of_steps (polynomials_of ring line) all ≡ Some x
-    → IsWorking ring line all left stack → IsPart ring x operand.terms.items
+    → IsWorking ring line all left stack → IsOperandPart ring x operand.terms.items
 working_ends ring line all left stack rest operand x n s w h =
     go h.values (subst (λ l. AreParts ring l h.values) s h.parts) (sym (ap (λ l. worths (polynomials_of ring line) l h.values >>= top) n) ∙ h.worth_is ∙ w)
   where
-    go : (vs : List (FormalSum (variables ring))) → AreParts ring (operand ∷ rest) vs → top vs ≡ Some x → IsPart ring x operand.terms.items
+    go : (vs : List (FormalSum (variables ring))) → AreParts ring (operand ∷ rest) vs → top vs ≡ Some x → IsOperandPart ring x operand.terms.items
     go [] p e = absurd p
-    go (v ∷ vs) p e = subst (λ y. IsPart ring y operand.terms.items) (same_Some v x e) p.0
+    go (v ∷ vs) p e = subst (λ y. IsOperandPart ring y operand.terms.items) (same_Some v x e) p.0
 
 -- the normal form of a part
 pub normal_stands :
     {E A : Type 0} (view : A → List (Key × ℕ)) (ring : Ring) (x : FormalSum (variables ring)) (terms : List (Key × ℕ)) (r : Result A E)
-    → IsPart ring x terms → IfOk r (λ v. StandsFor ring (view v) (sum_of (variables ring) terms)) → IfOk r (λ v. StandsFor ring (view v) x)
+    → IsOperandPart ring x terms → IfOk r (λ v. StandsFor ring (view v) (sum_of (variables ring) terms)) → IfOk r (λ v. StandsFor ring (view v) x)
 normal_stands view ring x terms (Ok v) part same = IsSame_trans same part.stands
 normal_stands view ring x terms (Err stop) part same = tt

@@ -20,7 +20,7 @@ use Rattle.sparse_poly.proofs.Bounding.{HasDegreeWithin_same}
 use Rattle.sparse_poly.proofs.Terms.{HasPositions_of, IsPolynomial_of, IsWithinDegree_of}
 use Rattle.sparse_poly.specs.Degrees.{HasDegreeWithin, IsWithinDegree}
 use Rattle.sparse_poly.specs.Powers.{power}
-use Rattle.poly_value.specs.Parts.{IsPart, IsSum}
+use Rattle.poly_value.specs.Parts.{IsOperandPart, IsSum}
 use Rattle.poly_value.specs.Values.{variable_sum}
 
 terms_over :
@@ -33,7 +33,7 @@ terms_over n ws p (t ∷ terms) h = ((h.0.weighed, h.0.reduced), terms_over n ws
 vector_sum : (ring : Ring) (compare : (n : ℕ) → KeyOf n → KeyOf n → Ordering) (v : List (Key × ℕ)) → IsVectorOver ring compare v → HasPositions 1 v → IsSum ring v
 vector_sum ring compare v h positions = record { over = terms_over (variables ring) ring.weights ring.modulus.value v h.each; positions = positions }
 
-pub vector_part : (ring : Ring) (compare : (n : ℕ) → KeyOf n → KeyOf n → Ordering) (v : List (Key × ℕ)) (x : FormalSum (variables ring)) → IsVectorOver ring compare v → HasPositions 1 v → StandsFor ring v x → IsPart ring x v
+pub vector_part : (ring : Ring) (compare : (n : ℕ) → KeyOf n → KeyOf n → Ordering) (v : List (Key × ℕ)) (x : FormalSum (variables ring)) → IsVectorOver ring compare v → HasPositions 1 v → StandsFor ring v x → IsOperandPart ring x v
 vector_part ring compare v x h positions stands = record { sum = vector_sum ring compare v h positions; stands = stands }
 
 pub normal_positions :
@@ -70,7 +70,7 @@ power_stands ring a base out v k pos hv ha h = IsSame_trans h (IsSame_power (pos
 -- two sums, one behind the other
 pub joined_part :
     (ring : Ring) (v w : FormalSum (variables ring)) (left right : List (Key × ℕ))
-    → IsPart ring v left → IsPart ring w right → IsPart ring (v ++ w) (left ++ right)
+    → IsOperandPart ring v left → IsOperandPart ring w right → IsOperandPart ring (v ++ w) (left ++ right)
 joined_part ring v w left right hl hr = record {
   sum = record {
     over = Each_append _ left right hl.sum.over hr.sum.over;
@@ -92,7 +92,7 @@ rescaled_positions p c (t ∷ terms) h = (h.0, rescaled_positions p c terms h.1)
 -- a multiple by a residue
 pub rescaled_part :
     (ring : Ring) (c : ℕ) (v : FormalSum (variables ring)) (terms : List (Key × ℕ))
-    → 1 < ring.modulus.value → IsPart ring v terms → IsPart ring (scale c (unit (variables ring)) v) (rescaled ring.modulus.value c terms)
+    → 1 < ring.modulus.value → IsOperandPart ring v terms → IsOperandPart ring (scale c (unit (variables ring)) v) (rescaled ring.modulus.value c terms)
 rescaled_part ring c v terms pos h = record {
   sum = record {
     over = rescaled_over (variables ring) ring.weights ring.modulus.value c terms (positive ring.modulus.value pos) h.sum.over;
@@ -106,7 +106,7 @@ pub variable_term :
     (ring : Ring) (i : ℕ) (key : Key) (terms : List (Key × ℕ))
     → 1 < ring.modulus.value → terms ≡ (key, 1) ∷ [] → key.position ≡ 0 → IsMonomialOver ring key.monomial
     → IsMonomial (variables ring) (variable (variables ring) i) key.monomial.exponents
-    → IsPart ring (variable_sum (variables ring) i) terms
+    → IsOperandPart ring (variable_sum (variables ring) i) terms
 variable_term ring i key terms pos e z w m = record {
   sum = record {
     over = subst (AreTermsOver ring) (sym e) ((w, pos), tt);

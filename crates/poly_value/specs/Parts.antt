@@ -4,7 +4,7 @@ use Rattle.std.specs.List.{AllByRecursion}
 use Rattle.poly_grammar.specs.Algebras.{worth_step}
 use Rattle.poly_grammar.specs.Numerals.{value_of}
 use Rattle.poly_grammar.specs.Steps.{numbers_of_steps}
-use Rattle.poly_grammar.specs.declared.step.Step.{Step}
+use Rattle.poly_grammar.specs.declared.step.PolyStep.{PolyStep}
 use Rattle.formal_sums.specs.FormalSums.{FormalSum}
 use Rattle.module_vectors.specs.Rings.{variables}
 use Rattle.module_vectors.specs.Vectors.{AreTermsOver, HasPositions, StandsFor, sum_of}
@@ -20,7 +20,7 @@ pub record IsSum (ring : Ring) (terms : List (Key × ℕ)) : Type 0 where
   pub positions : HasPositions 1 terms
 
 -- such terms that stand for v
-pub record IsPart (ring : Ring) (v : FormalSum (variables ring)) (terms : List (Key × ℕ)) : Type 0 where
+pub record IsOperandPart (ring : Ring) (v : FormalSum (variables ring)) (terms : List (Key × ℕ)) : Type 0 where
   pub sum : IsSum ring terms
   pub stands : StandsFor ring terms v
 
@@ -36,7 +36,7 @@ PowerFits ring base n = (d : ℕ) × HasDegreeWithin ring.weights ring.modulus.v
 -- the sums of a stack, the top first, are parts of these values
 abbrev pub AreParts : (ring : Ring) → List (Operand) → List (FormalSum (variables ring)) → Type 0
 AreParts ring [] [] = Unit {0}
-AreParts ring (operand ∷ stack) (v ∷ vs) = IsPart ring v operand.terms.items × AreParts ring stack vs
+AreParts ring (operand ∷ stack) (v ∷ vs) = IsOperandPart ring v operand.terms.items × AreParts ring stack vs
 AreParts ring _ _ = ⊥
 
 -- the values have degrees of at most these
@@ -47,7 +47,7 @@ HaveDegreesWithin ws p _ _ = ⊥
 
 -- the step can be done on a stack of sums, the top first: it has a worth for their values, a formal degree for theirs, and
 -- its number is below 2^128
-pub record IsReady (ring : Ring) (line : List ℕ) (step : Step) (stack : List (Operand)) : Type 0 where
+pub record IsStepReady (ring : Ring) (line : List ℕ) (step : PolyStep) (stack : List (Operand)) : Type 0 where
   pub values : List (FormalSum (variables ring))
   pub parts : AreParts ring stack values
   pub worth : (left : List (FormalSum (variables ring))) × (worth_step (polynomials_of ring line) step values ≡ Some left)
@@ -57,6 +57,6 @@ pub record IsReady (ring : Ring) (line : List ℕ) (step : Step) (stack : List (
   pub numerals : AllByRecursion (λ t. value_of line t < 2 ^ 128) (numbers_of_steps (step ∷ []))
 
 -- the step leads from one stack of sums, the top first, to the other
-abbrev pub Advances : Ring → List ℕ → Step → List (Operand) → List (Operand) → Type 0
+abbrev pub Advances : Ring → List ℕ → PolyStep → List (Operand) → List (Operand) → Type 0
 Advances ring line step old new = (vs left : List (FormalSum (variables ring)))
     → AreParts ring old vs → worth_step (polynomials_of ring line) step vs ≡ Some left → AreParts ring new left

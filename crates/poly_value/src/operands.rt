@@ -4,7 +4,7 @@
 ghost use Rattle.std.specs.Prelude.{◌≡◌, ◌++◌, IfOk};
 ghost use Rattle.formal_sums.specs.FormalSums.{FormalSum};
 ghost use Rattle.module_vectors.specs.Rings.{variables};
-ghost use Rattle.poly_value.specs.Parts.{IsPart, IsSum};
+ghost use Rattle.poly_value.specs.Parts.{IsOperandPart, IsSum};
 
 use crate::parts::normal;
 use module_vectors::{Frame, Key, NoMemory};
@@ -37,8 +37,8 @@ pub fn joined<F: Frame>(
 ) -> Result<Operand, NoMemory>
     requires left { IsSum (F.over frame.now) left.terms.items }
     requires right { IsSum (F.over frame.now) right.terms.items }
-    ensures { (v w : FormalSum (variables (F.over frame.now))) → IsPart (F.over frame.now) v left.terms.items → IsPart (F.over frame.now) w right.terms.items
-        → IfOk result (λ sum. IsPart (F.over frame.now) (v ++ w) sum.terms.items) }
+    ensures { (v w : FormalSum (variables (F.over frame.now))) → IsOperandPart (F.over frame.now) v left.terms.items → IsOperandPart (F.over frame.now) w right.terms.items
+        → IfOk result (λ sum. IsOperandPart (F.over frame.now) (v ++ w) sum.terms.items) }
 {
     let settled = left.settled.max(right.settled);
     let mut terms = left.terms;
@@ -50,8 +50,8 @@ pub fn joined<F: Frame>(
 /// The operand, in normal form where its terms have more than doubled since it last was.
 fn merged<F: Frame>(alloc: Global, frame: &F, operand: Operand) -> Result<Operand, NoMemory>
     requires { IsSum (F.over frame.now) operand.terms.items }
-    ensures { (v : FormalSum (variables (F.over frame.now))) → IsPart (F.over frame.now) v operand.terms.items
-        → IfOk result (λ sum. IsPart (F.over frame.now) v sum.terms.items) }
+    ensures { (v : FormalSum (variables (F.over frame.now))) → IsOperandPart (F.over frame.now) v operand.terms.items
+        → IfOk result (λ sum. IsOperandPart (F.over frame.now) v sum.terms.items) }
 {
     let count = operand.terms.len();
     if count <= FEW || count <= operand.settled.saturating_mul(2) {

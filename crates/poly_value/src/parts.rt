@@ -10,7 +10,7 @@ ghost use Rattle.module_vectors.specs.Rings.{variables};
 ghost use Rattle.module_vectors.specs.Vectors.{HasPositions, IsVectorOver, StandsFor, sum_of};
 ghost use Rattle.module_vectors.specs.declared.stop.VectStop.TheVariants.{Memory};
 ghost use Rattle.sparse_poly.specs.Powers.{constant, power};
-ghost use Rattle.poly_value.specs.Parts.{IsPart, IsSum, PowerFits, ProductFitsBounds};
+ghost use Rattle.poly_value.specs.Parts.{IsOperandPart, IsSum, PowerFits, ProductFitsBounds};
 ghost use Rattle.poly_value.specs.Values.{variable_sum};
 
 use module_vectors::{Frame, Key, NoMemory, Vect, VectStop};
@@ -45,8 +45,8 @@ fn negate(modulus: &Modulus, terms: &mut Vec<(Key, u32)>)
 /// Turns the sign of a sum.
 pub fn oppose<F: Frame>(frame: &F, terms: &mut Vec<(Key, u32)>)
     requires { IsSum (F.over frame.now) terms.old.items }
-    ensures { (v : FormalSum (variables (F.over frame.now))) → IsPart (F.over frame.now) v terms.old.items
-        → IsPart (F.over frame.now) (scale ((F.over frame.now).modulus.value - 1) (unit (variables (F.over frame.now))) v) terms.new.items }
+    ensures { (v : FormalSum (variables (F.over frame.now))) → IsOperandPart (F.over frame.now) v terms.old.items
+        → IsOperandPart (F.over frame.now) (scale ((F.over frame.now).modulus.value - 1) (unit (variables (F.over frame.now))) v) terms.new.items }
 {
     let modulus = &frame.ring().modulus;
     modulus.domain();
@@ -69,7 +69,7 @@ pub fn constant_part<F: Frame>(
     frame: &F,
     n: u128,
 ) -> Result<Vec<(Key, u32)>, NoMemory>
-    ensures { IfOk result (λ terms. IsPart (F.over frame.now) (constant (variables (F.over frame.now)) n) terms.items) }
+    ensures { IfOk result (λ terms. IsOperandPart (F.over frame.now) (constant (variables (F.over frame.now)) n) terms.items) }
 {
     match formal_constant(alloc, frame, n) {
         Ok(v) => Ok(v.into_terms()),
@@ -84,7 +84,7 @@ pub fn variable_part<F: Frame>(
     i: usize,
 ) -> Result<Vec<(Key, u32)>, NoMemory>
     requires { i < variables (F.over frame.now) }
-    ensures { IfOk result (λ terms. IsPart (F.over frame.now) (variable_sum (variables (F.over frame.now)) i) terms.items) }
+    ensures { IfOk result (λ terms. IsOperandPart (F.over frame.now) (variable_sum (variables (F.over frame.now)) i) terms.items) }
 {
     let ring = frame.ring();
     ring.modulus.domain();
@@ -110,8 +110,8 @@ pub fn product_part<F: Frame>(
     requires left { IsSum (F.over frame.now) left.items }
     requires right { IsSum (F.over frame.now) right.items }
     requires fits { ProductFitsBounds (F.over frame.now) left.items right.items }
-    ensures { (v w : FormalSum (variables (F.over frame.now))) → IsPart (F.over frame.now) v left.items → IsPart (F.over frame.now) w right.items
-        → IfOk result (λ terms. IsPart (F.over frame.now) (product v w) terms.items) }
+    ensures { (v w : FormalSum (variables (F.over frame.now))) → IsOperandPart (F.over frame.now) v left.items → IsOperandPart (F.over frame.now) w right.items
+        → IfOk result (λ terms. IsOperandPart (F.over frame.now) (product v w) terms.items) }
 {
     frame.ring().modulus.domain();
     let left = normal(alloc, frame, left)?;
@@ -131,8 +131,8 @@ pub fn power_part<F: Frame>(
 ) -> Result<Vec<(Key, u32)>, NoMemory>
     requires base { IsSum (F.over frame.now) base.items }
     requires fits { PowerFits (F.over frame.now) base.items n }
-    ensures { (v : FormalSum (variables (F.over frame.now))) → IsPart (F.over frame.now) v base.items
-        → IfOk result (λ terms. IsPart (F.over frame.now) (power v n) terms.items) }
+    ensures { (v : FormalSum (variables (F.over frame.now))) → IsOperandPart (F.over frame.now) v base.items
+        → IfOk result (λ terms. IsOperandPart (F.over frame.now) (power v n) terms.items) }
 {
     frame.ring().modulus.domain();
     let base = normal(alloc, frame, base)?;

@@ -4,14 +4,14 @@
 //! of variables. Answers `NoMemory` where a growth was refused, and leaves the stack to be dropped.
 
 ghost use Rattle.std.specs.Prelude.{◌≡◌, ◌∷◌, [], reverse, MatchOption, OnOk};
-ghost use Rattle.poly_grammar.specs.declared.step.Step.TheVariants as steps;
-ghost use Rattle.poly_value.specs.Parts.{Advances, IsReady};
+ghost use Rattle.poly_grammar.specs.declared.step.PolyStep.TheVariants as steps;
+ghost use Rattle.poly_value.specs.Parts.{Advances, IsStepReady};
 
 use crate::names::place;
 use crate::operands::{Operand, joined, operand_of};
 use crate::parts::{constant_part, oppose, power_part, product_part, variable_part};
 use module_vectors::{Frame, NoMemory};
-use poly_grammar::{Step, number, text};
+use poly_grammar::{PolyStep, number, text};
 use script_tokens::Token;
 use std::alloc::Global;
 
@@ -38,7 +38,7 @@ fn put_number<F: Frame>(
     token: Token,
     stack: &mut Vec<Operand>,
 ) -> Result<(), NoMemory>
-    requires { IsReady (F.over frame.now) line.now (steps.Number token) (reverse stack.old.items) }
+    requires { IsStepReady (F.over frame.now) line.now (steps.Number token) (reverse stack.old.items) }
     ensures { OnOk result (Advances (F.over frame.now) line.now (steps.Number token) (reverse stack.old.items) (reverse stack.new.items)) }
 {
     let Some(n) = number(text(line, token)) else {
@@ -56,7 +56,7 @@ fn put_name<F: Frame>(
     token: Token,
     stack: &mut Vec<Operand>,
 ) -> Result<(), NoMemory>
-    requires { IsReady (F.over frame.now) line.now (steps.Name token) (reverse stack.old.items) }
+    requires { IsStepReady (F.over frame.now) line.now (steps.Name token) (reverse stack.old.items) }
     ensures { OnOk result (Advances (F.over frame.now) line.now (steps.Name token) (reverse stack.old.items) (reverse stack.new.items)) }
 {
     let Some(i) = place(&frame.ring().vars, text(line, token)) else {
@@ -74,7 +74,7 @@ fn raise_top<F: Frame>(
     token: Token,
     stack: &mut Vec<Operand>,
 ) -> Result<(), NoMemory>
-    requires { IsReady (F.over frame.now) line.now (steps.Power token) (reverse stack.old.items) }
+    requires { IsStepReady (F.over frame.now) line.now (steps.Power token) (reverse stack.old.items) }
     ensures { OnOk result (Advances (F.over frame.now) line.now (steps.Power token) (reverse stack.old.items) (reverse stack.new.items)) }
 {
     let Some(base) = take_top(stack) else {
@@ -94,7 +94,7 @@ fn multiply_top<F: Frame>(
     line: &[u8],
     stack: &mut Vec<Operand>,
 ) -> Result<(), NoMemory>
-    requires { IsReady (F.over frame.now) line.now steps.Multiply (reverse stack.old.items) }
+    requires { IsStepReady (F.over frame.now) line.now steps.Multiply (reverse stack.old.items) }
     ensures { OnOk result (Advances (F.over frame.now) line.now steps.Multiply (reverse stack.old.items) (reverse stack.new.items)) }
 {
     let Some(right) = take_top(stack) else {
@@ -114,7 +114,7 @@ fn add_top<F: Frame>(
     line: &[u8],
     stack: &mut Vec<Operand>,
 ) -> Result<(), NoMemory>
-    requires { IsReady (F.over frame.now) line.now steps.Add (reverse stack.old.items) }
+    requires { IsStepReady (F.over frame.now) line.now steps.Add (reverse stack.old.items) }
     ensures { OnOk result (Advances (F.over frame.now) line.now steps.Add (reverse stack.old.items) (reverse stack.new.items)) }
 {
     let _line = line;
@@ -135,7 +135,7 @@ fn subtract_top<F: Frame>(
     line: &[u8],
     stack: &mut Vec<Operand>,
 ) -> Result<(), NoMemory>
-    requires { IsReady (F.over frame.now) line.now steps.Subtract (reverse stack.old.items) }
+    requires { IsStepReady (F.over frame.now) line.now steps.Subtract (reverse stack.old.items) }
     ensures { OnOk result (Advances (F.over frame.now) line.now steps.Subtract (reverse stack.old.items) (reverse stack.new.items)) }
 {
     let _line = line;
@@ -152,7 +152,7 @@ fn subtract_top<F: Frame>(
 
 /// Turns the sign of the top.
 fn negate_top<F: Frame>(frame: &F, line: &[u8], stack: &mut Vec<Operand>) -> Result<(), NoMemory>
-    requires { IsReady (F.over frame.now) line.now steps.Negate (reverse stack.old.items) }
+    requires { IsStepReady (F.over frame.now) line.now steps.Negate (reverse stack.old.items) }
     ensures { OnOk result (Advances (F.over frame.now) line.now steps.Negate (reverse stack.old.items) (reverse stack.new.items)) }
 {
     let _line = line;
@@ -168,19 +168,19 @@ pub fn do_step<F: Frame>(
     alloc: Global,
     frame: &F,
     line: &[u8],
-    step: Step,
+    step: PolyStep,
     stack: &mut Vec<Operand>,
 ) -> Result<(), NoMemory>
-    requires { IsReady (F.over frame.now) line.now step (reverse stack.old.items) }
+    requires { IsStepReady (F.over frame.now) line.now step (reverse stack.old.items) }
     ensures { OnOk result (Advances (F.over frame.now) line.now step (reverse stack.old.items) (reverse stack.new.items)) }
 {
     match step {
-        Step::Number(token) => put_number(alloc, frame, line, token, stack),
-        Step::Name(token) => put_name(alloc, frame, line, token, stack),
-        Step::Power(token) => raise_top(alloc, frame, line, token, stack),
-        Step::Multiply => multiply_top(alloc, frame, line, stack),
-        Step::Add => add_top(alloc, frame, line, stack),
-        Step::Subtract => subtract_top(alloc, frame, line, stack),
-        Step::Negate => negate_top(frame, line, stack),
+        PolyStep::Number(token) => put_number(alloc, frame, line, token, stack),
+        PolyStep::Name(token) => put_name(alloc, frame, line, token, stack),
+        PolyStep::Power(token) => raise_top(alloc, frame, line, token, stack),
+        PolyStep::Multiply => multiply_top(alloc, frame, line, stack),
+        PolyStep::Add => add_top(alloc, frame, line, stack),
+        PolyStep::Subtract => subtract_top(alloc, frame, line, stack),
+        PolyStep::Negate => negate_top(frame, line, stack),
     }
 }

@@ -13,7 +13,7 @@ ghost use Rattle.poly_value.specs.Values.{degrees_of, polynomials_of};
 use crate::parts::normal;
 use crate::stack::{do_step, take_top};
 use module_vectors::{Frame, NoMemory, Vect};
-use poly_grammar::Step;
+use poly_grammar::PolyStep;
 use std::alloc::Global;
 
 /// The vector of rank 1 that steps are worth, in the order of the frame, where tokens are those of the line.
@@ -24,7 +24,7 @@ pub fn polynomial_value<F: Frame>(
     alloc: Global,
     frame: &F,
     line: &[u8],
-    steps: &[Step],
+    steps: &[PolyStep],
 ) -> Result<Vect, NoMemory>
     requires worth { (x : FormalSum (variables (F.over frame.now))) × (worth_of_steps (polynomials_of (F.over frame.now) line.now) steps.now ≡ Some x) }
     requires degree { (d : ℕ) × (worth_of_steps (degrees_of (F.over frame.now) line.now) steps.now ≡ Some d) }

@@ -17,7 +17,7 @@ pub record IsGraphBasis (ring : Ring) (images list : List (List (CodeKey × ℕ)
   pub reduced : IsReducedBasisOf over 1 listed basis
 
 -- `rest` is what a division of u by the list leaves: u is a combination of the list and the rest, and no lead of the list divides a key of that
-pub record IsDivided (over : Ring) (list : List (List (CodeKey × ℕ))) (u rest : List (CodeKey × ℕ)) : Type 0 where
+pub record IsGraphDivision (over : Ring) (list : List (List (CodeKey × ℕ))) (u rest : List (CodeKey × ℕ)) : Type 0 where
   pub cofactors : FormalSum (variables over)
   pub ranks : HasRank (length list) cofactors
   pub sum : StandsFor over u (combination (sums_of (variables over) list) cofactors ++ sum_of (variables over) rest)

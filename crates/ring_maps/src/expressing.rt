@@ -9,7 +9,7 @@ ghost use Rattle.groebner_iface.specs.Calls.{CallStops};
 ghost use Rattle.ideal_ops.specs.Products.{WorkStops};
 ghost use Rattle.ring_maps.specs.Maps.{IsExpressionAnswer};
 ghost use Rattle.ring_maps.specs.Graphs.{IsExpressionTrail, IsGraphRun};
-ghost use Rattle.ring_maps.specs.GraphSteps.{IsDivided, IsGraphBasis};
+ghost use Rattle.ring_maps.specs.GraphSteps.{IsGraphDivision, IsGraphBasis};
 
 use crate::first_variables::first_vector;
 use crate::graph::graph_basis;
@@ -35,7 +35,7 @@ fn remainder(alloc: Global, graph: &Ring, u: &Vect, basis: &VectList) -> Result<
     requires vector { IsVectorOver graph.now (ring_comparison graph.now) u.now }
     requires basis { AreVectorsOver graph.now (ring_comparison graph.now) basis.now }
     ensures rest { IfOk result (IsVectorOver graph.now (ring_comparison graph.now)) }
-    ensures remainder { IfOk result (IsDivided graph.now basis.now u.now) }
+    ensures remainder { IfOk result (IsGraphDivision graph.now basis.now u.now) }
     ensures stop { IfErr result (DivisionStops graph.now u.now basis.now) }
 {
     let divisors = divisors_from_last(alloc, basis)?;

@@ -14,8 +14,8 @@ use Rattle.atomic_table.proofs.Lists.{at_set, set_here, set_else, at_longer}
 use Rattle.ruled_lock.specs.declared.law.Old.{Old}
 use Rattle.ruled_lock.specs.declared.law.View.{View}
 use Rattle.ruled_lock.specs.Events.{calls_by, StartsWith}
-use Rattle.ruled_lock.specs.Law.{Owns, OwnsOld, Knows, Kept, opener, spent, parted, newcomer, old_of, joined}
-use Rattle.ruled_lock.specs.Plays.{Sat, held, freed, seeing, added, Sees, Won, tried, carried, appended, released, OldSees, looked, Makes, Holds, AllBack, Tallied}
+use Rattle.ruled_lock.specs.Law.{Owns, OwnsOld, Knows, LockKept, opener, spent, parted, newcomer, old_of, joined}
+use Rattle.ruled_lock.specs.Plays.{Sat, held, freed, seeing, added, Sees, Won, tried, carried, appended, released, OldSees, looked, AddsEvent, Holds, AllBack, Tallied}
 use Rattle.ruled_lock.proofs.Hands.{one_hand}
 use Rattle.ruled_lock.proofs.Lists.{within, drop_front, calls_by-other, calls_by-own, starts_self, starts_longer, at_snoc_place, all_without, range_all}
 
@@ -30,7 +30,7 @@ module _ {C N B : Type 0} (base_of : C → B) (log_of : C → List N) (by : N �
   M = Sat C N B
 
   abbrev Rule : St → Type 0
-  Rule = Kept base_of log_of by workers base
+  Rule = LockKept base_of log_of by workers base
 
   abbrev turn : St → ℕ
   turn s = get_or s.words 0 0
@@ -400,7 +400,7 @@ module _ {C N B : Type 0} (base_of : C → B) (log_of : C → List N) (by : N �
 
 module _ {N B : Type 0} (by : N → ℕ) where
   -- a whole hold: the turn is won at this history, the event is added, and the turn is given up
-  pub makes : (v : View N B) (e : N) (log log' : List N) → log' ≡ log ++ e ∷ [] → by e ≡ v.worker → Sees by v log → Makes by v e (freed (added (held v log) log'))
+  pub makes : (v : View N B) (e : N) (log log' : List N) → log' ≡ log ++ e ∷ [] → by e ≡ v.worker → Sees by v log → AddsEvent by v e (freed (added (held v log) log'))
   makes v e log log' longer own sees = let between = sees.0.0 in let tail : drop (length log) log' ≡ e ∷ [] = ap (drop (length log)) longer ∙ drop_front log (e ∷ []) in
       let more : v.mine ++ drop (length log) log' ≡ v.mine ++ e ∷ [] = ap (λ (l : List N). v.mine ++ l) tail in (
         between,
@@ -423,12 +423,12 @@ module _ {C N B : Type 0} (base_of : C → B) (log_of : C → List N) (by : N �
 
 module _ {C N B : Type 0} (base_of : C → B) (log_of : C → List N) (by : N → ℕ) (workers : B → ℕ) (base : B) where
   -- what comes out of the slot at the end is a core
-  pub closes_as : (id : ℕ) (v : View N B) (words : List ℕ) (slots : List (Option C)) (x : Option C) → v.live ≡ true → v.turn ≡ false → AllBack (workers base) v → Final (Seen (Kept base_of log_of by workers base) id v) words slots
+  pub closes_as : (id : ℕ) (v : View N B) (words : List ℕ) (slots : List (Option C)) (x : Option C) → v.live ≡ true → v.turn ≡ false → AllBack (workers base) v → Final (Seen (LockKept base_of log_of by workers base) id v) words slots
       → get_elem? slots 0 ≡ maybe.some x → (b : C) × (x ≡ Some b) × (base_of b ≡ base) × Tallied by (workers base) v (log_of b)
   closes_as id v words slots x live idle back final at = let t = closes base_of log_of by workers base id v words slots live idle back final in
       (t.0, maybe.some-injective x (Some t.0) (sym at ∙ t.1), t.2, t.3)
 
-  pub closes_to : (id : ℕ) (v : View N B) (words : List ℕ) (slots : List (Option C)) (x : Option C) (y : C) → v.live ≡ true → v.turn ≡ false → AllBack (workers base) v → Final (Seen (Kept base_of log_of by workers base) id v) words slots
+  pub closes_to : (id : ℕ) (v : View N B) (words : List ℕ) (slots : List (Option C)) (x : Option C) (y : C) → v.live ≡ true → v.turn ≡ false → AllBack (workers base) v → Final (Seen (LockKept base_of log_of by workers base) id v) words slots
       → get_elem? slots 0 ≡ maybe.some x → x ≡ Some y → (base_of y ≡ base) × Tallied by (workers base) v (log_of y)
   closes_to id v words slots x y live idle back final at is = let t = closes_as id v words slots x live idle back final at in
       let both : Some t.0 ≡ Some y = sym t.1 ∙ is in let same : t.0 ≡ y = cc in

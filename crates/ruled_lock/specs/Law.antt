@@ -36,7 +36,7 @@ module _ {C N B : Type 0} (base_of : C → B) (log_of : C → List N) (by : N �
   HasTurn views j = (v : View N B) × (get_elem? views j ≡ maybe.some v) × (v.live ≡ true) × (v.turn ≡ true)
 
   -- what holds between any two steps: the history; the seat and the kind of each number; who has the turn while the word is not 0
-  pub record Kept (s : State (Option C) (View N B)) : Type 0 where
+  pub record LockKept (s : State (Option C) (View N B)) : Type 0 where
     pub log : List N
     pub seat : ℕ → ℕ
     pub kind : ℕ → ℕ

@@ -72,8 +72,8 @@ module _ {N B : Type 0} (by : N → ℕ) where
 
   -- one hold and one event: the history begins with all that the seat had seen, and ends with the event e, which is one
   -- more of the worker's. It has no other of the worker's than the seat's own
-  abbrev pub Makes : View N B → N → View N B → Type 0
-  Makes v e w =
+  abbrev pub AddsEvent : View N B → N → View N B → Type 0
+  AddsEvent v e w =
       (between : List N) × (w.seen ≡ (v.seen ++ between) ++ e ∷ []) × (w.mine ≡ v.mine ++ e ∷ [])
       × (calls_by by w.worker w.seen ≡ w.mine) × IsSameSeat v w × (w.holds ≡ v.holds + 1)
 

@@ -35,9 +35,9 @@ pub struct View<N, B> {
 pub struct Law;
 
 impl<C: Core<N, B>, N, B> TableRule<Option<C>, View<N, B>, Snapshot<C>> for Law {
-    ghost use Rattle.ruled_lock.specs.Law.{Kept, opener};
+    ghost use Rattle.ruled_lock.specs.Law.{LockKept, opener};
 
-    ghost holds = { λ key. Kept C.base C.log C.by C.workers (C.base key.value) };
+    ghost holds = { λ key. LockKept C.base C.log C.by C.workers (C.base key.value) };
 
     ghost first = { λ key. opener C.workers (C.base key.value) };
 }

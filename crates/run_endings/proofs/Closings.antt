@@ -10,7 +10,7 @@ use Rattle.member_products.specs.Generators.{AreGenerators}
 use Rattle.basis_steps.specs.Invariant.{HoldsInvariant}
 use Rattle.basis_steps.specs.States.{IsLawfulRun, vectors}
 use Rattle.basis_steps.proofs.Closing.{members_basis}
-use Rattle.basis_core.specs.Members.{IsTracked, Shared, Tracked, members_of}
+use Rattle.basis_core.specs.Members.{IsMemberShown, Shared, MemberShown, members_of}
 use Rattle.basis_core.specs.Rows.{vectors_in}
 use Rattle.basis_core.specs.Shown.{Shown}
 use Rattle.basis_core.specs.Stops.{stop_of}
@@ -19,7 +19,7 @@ use Rattle.groebner_iface.specs.Runs.{IsReducedBasisOf}
 use Rattle.run_endings.specs.Endings.{IsClosed}
 
 -- the vectors of the members
-pub sums_of_vectors : (n : ℕ) (ms : List Tracked) → sums_of n (vectors_in ms) ≡ vectors (members_of n ms)
+pub sums_of_vectors : (n : ℕ) (ms : List MemberShown) → sums_of n (vectors_in ms) ≡ vectors (members_of n ms)
 sums_of_vectors n [] = refl
 sums_of_vectors n (m ∷ ms) = ap (λ vs. sum_of n m.vector ∷ vs) (sums_of_vectors n ms)
 
@@ -39,7 +39,7 @@ are_generators ring rank [] v p = tt
 are_generators ring rank (x ∷ list) v p = (record { vector = v.0; positions = p.0 }, are_generators ring rank list v.1 p.1)
 
 -- vectors of members are of the rank
-pub members_positions : (shared : Shared) (ms : List Tracked) → Each (IsTracked shared) ms → Each (HasPositions shared.rank) (vectors_in ms)
+pub members_positions : (shared : Shared) (ms : List MemberShown) → Each (IsMemberShown shared) ms → Each (HasPositions shared.rank) (vectors_in ms)
 members_positions shared [] h = tt
 members_positions shared (m ∷ ms) h = (h.0.vector.positions, members_positions shared ms h.1)
 

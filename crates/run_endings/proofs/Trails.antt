@@ -6,7 +6,7 @@ use Rattle.module_vectors.specs.Vectors.{AreVectorsOver, sums_of}
 use Rattle.module_vectors.specs.declared.trail.KeptTrail.{KeptTrail}
 use Rattle.basis_steps.specs.States.{vectors}
 use Rattle.basis_steps.specs.Invariant.{HoldsInvariant}
-use Rattle.basis_steps.specs.Trails.{IsTrail}
+use Rattle.basis_steps.specs.Trails.{IsHistoryTrail}
 use Rattle.basis_core.specs.declared.stop.StopReason.TheVariants as reasons
 use Rattle.basis_core.specs.Answers.{IsRunTrail}
 use Rattle.basis_core.specs.Inside.{IsStopOver}
@@ -85,7 +85,7 @@ module _ (t u : KeptTrail) (same : IsSameTrail t u) where
       vector = same.vector ∙ h.pair.vector;
       start = (h.pair.start.0, h.pair.start.1, same.start ∙ h.pair.start.2);
     };
-    way = subst (IsTrail (run_of n s) (vectors (state_of n s).members) (state_of n s).history) (sym (trail_of_same n)) h.way;
+    way = subst (IsHistoryTrail (run_of n s) (vectors (state_of n s).members) (state_of n s).history) (sym (trail_of_same n)) h.way;
   }
 
   -- the stop that a state keeps, with a copy of its trail

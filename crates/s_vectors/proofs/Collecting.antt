@@ -6,7 +6,7 @@ use Rattle.monomial_orders.specs.Kept.{IsWeighed}
 use Rattle.module_vectors.proofs.Scaling.{take_item}
 use Rattle.module_vectors.specs.Rings.{variables}
 use Rattle.module_vectors.specs.Trails.{KeptProduct}
-use Rattle.member_products.specs.declared.member.Row.{Row as CodeRow}
+use Rattle.member_products.specs.declared.member.Reduct.{Reduct as CodeReduct}
 use Rattle.pair_criteria.specs.declared.pair.Pair.{Pair as CodePair}
 use Rattle.basis_steps.specs.Criteria.{IsPair}
 use Rattle.basis_steps.specs.States.{vectors}
@@ -34,7 +34,7 @@ pairs_take (suc i) [] P h = tt
 pairs_take (suc i) (x ∷ xs) P h = (h.0, pairs_take i xs P h.1)
 
 pub solved_step :
-    (j : JobShown) (i : ℕ) (x : CodePair) (rows more new_rows : List CodeRow) (a b new_products : List KeptProduct)
+    (j : JobShown) (i : ℕ) (x : CodePair) (rows more new_rows : List CodeReduct) (a b new_products : List KeptProduct)
     → IsJob (variables j.shared.ring) j → i < length j.pairs → x ≡ get_or j.pairs i x → new_rows ≡ rows ++ more → new_products ≡ a ++ b
     → IsSolved (setting_of (variables j.shared.ring) j.shared) (vectors (members_of (variables j.shared.ring) j.members)) (pairs_of (take i j.pairs))
     (rows_of (variables j.shared.ring) rows) (products_of (variables j.shared.ring) a)
@@ -56,7 +56,7 @@ solved_step j i x rows more new_rows a b new_products h lt e e_rows e_products b
     (pairs_take i j.pairs (IsPair G) h.real) ((job_pair j i x h lt e).real, tt) before one)))
 
 pub solved_job :
-    (j : JobShown) (i : ℕ) (rows : List CodeRow) (products : List KeptProduct)
+    (j : JobShown) (i : ℕ) (rows : List CodeReduct) (products : List KeptProduct)
     → IsJob (variables j.shared.ring) j → length j.pairs ≤ i → Each (IsRunRow j.shared (length j.members)) rows → Each (λ t. IsWeighed (variables j.shared.ring) j.shared.ring.weights t.1) products
     → IsSolved (setting_of (variables j.shared.ring) j.shared) (vectors (members_of (variables j.shared.ring) j.members)) (pairs_of (take i j.pairs))
     (rows_of (variables j.shared.ring) rows) (products_of (variables j.shared.ring) products)

@@ -23,8 +23,8 @@ use Rattle.basis_steps.specs.Outcomes.{AreJobProducts}
 use Rattle.basis_steps.specs.Pairs.{Pair, count}
 use Rattle.basis_steps.specs.States.{Trail, vectors}
 use Rattle.basis_core.proofs.Tracking.{vectors_over}
-use Rattle.basis_core.specs.Jobs.{HasLcm, IsJob, JobShown, pair_of, pairs_of}
-use Rattle.basis_core.specs.Members.{IsTracked, MembersShown, members_of, setting_of}
+use Rattle.basis_core.specs.Jobs.{HasLcmOfMembers, IsJob, JobShown, pair_of, pairs_of}
+use Rattle.basis_core.specs.Members.{IsMemberShown, MembersShown, members_of, setting_of}
 use Rattle.basis_core.specs.Outcomes.{product_of, products_of}
 use Rattle.basis_core.specs.Rows.{vectors_in}
 use Rattle.basis_core.specs.Stops.{IsPairTrail, IsTrailBy, earlier_products, start_pair, trail_by, trail_members, trail_over}
@@ -68,7 +68,7 @@ record HoldsTrail (n : ℕ) (ws : List ℕ) (p : ℕ) (G : List (FormalSum n)) (
   monomial : (i : ℕ) × Occurs p (get_or G w.last.0 []) (i, w.monomial)
   above : 65535 < weighted_degree ws w.last.1 + weighted_degree ws w.monomial
 
-module _ (m : MembersShown) (x : CodePair) (of : AreOfPair m x) (tracked : Each (IsTracked m.shared) m.list) (t : KeptTrail) (pairs : List Pair)
+module _ (m : MembersShown) (x : CodePair) (of : AreOfPair m x) (tracked : Each (IsMemberShown m.shared) m.list) (t : KeptTrail) (pairs : List Pair)
     (chain : IsPairChain (variables m.shared.ring) m.shared.ring.weights m.list (key_of (variables m.shared.ring) x.lcm) t.products.items t.last)
     (ring_is : t.ring ≡ m.shared.ring) (rank_is : t.rank ≡ m.shared.rank) (generators_are : t.generators ≡ m.shared.generators)
     (below_none : t.below.items ≡ []) (start_is : t.start ≡ starts.Pair x.i x.j) (vector_is : t.vector ≡ [])
@@ -186,7 +186,7 @@ pub job_pair :
 job_pair j i x h lt e = record {
   monic = h.monic;
   real = pair_real j.pairs i x h.real lt e;
-  lcm = Each_at (HasLcm (variables j.shared.ring) j.shared.ring.weights j.members) j.pairs i x h.lcms lt e;
+  lcm = Each_at (HasLcmOfMembers (variables j.shared.ring) j.shared.ring.weights j.members) j.pairs i x h.lcms lt e;
 }
   where
     pair_real :
@@ -200,7 +200,7 @@ job_pair j i x h lt e = record {
 -- the chain of a pair of the job
 pub job_trail :
     (j : JobShown) (i : ℕ) (x : CodePair) (t : KeptTrail)
-    → IsJob (variables j.shared.ring) j → Each (IsTracked j.shared) j.members → i < length j.pairs → x ≡ get_or j.pairs i x
+    → IsJob (variables j.shared.ring) j → Each (IsMemberShown j.shared) j.members → i < length j.pairs → x ≡ get_or j.pairs i x
     → IsPairChain (variables j.shared.ring) j.shared.ring.weights j.members (key_of (variables j.shared.ring) x.lcm) t.products.items t.last
     → t.ring ≡ j.shared.ring → t.rank ≡ j.shared.rank → t.generators ≡ j.shared.generators → t.below.items ≡ []
     → t.start ≡ starts.Pair x.i x.j → t.vector ≡ [] → t.members ≡ vectors_in j.members

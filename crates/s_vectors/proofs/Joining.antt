@@ -15,7 +15,7 @@ use Rattle.basis_steps.proofs.Growing.{vectors-append}
 use Rattle.basis_steps.proofs.JobProducts.{IsJobProductAt, job_product_at, job_products_from}
 use Rattle.basis_steps.specs.Criteria.{IsPair, IsRepresented, lcm_of}
 use Rattle.basis_steps.specs.Divisions.{Occurs}
-use Rattle.basis_steps.specs.Outcomes.{AreJobProducts, HasLeadBelowJob, IsOutcome, IsRow, OccursBefore, product_at, product_lead, product_vector}
+use Rattle.basis_steps.specs.Outcomes.{AreJobProducts, HasLeadBelowJob, IsOutcome, IsReduct, OccursBefore, product_at, product_lead, product_vector}
 use Rattle.basis_steps.specs.Pairs.{Pair, count}
 use Rattle.basis_steps.specs.States.{Member, Product, vectors}
 use Rattle.s_vectors.specs.Solutions.{IsSolved}
@@ -35,10 +35,10 @@ module _ {n : ℕ} (p : ℕ) (G : List (FormalSum n)) where
   before_right a b m k (i, low, lt, o) = (length a + i, omega arith, omega (arith, length-append a b), subst (λ t. Occurs p (product_vector G t) k) (sym (at_right a b i)) o)
 
   -- rows of more products
-  pub row_left : (a b : List (Product n)) (m : Member n) → IsRow p G a m → IsRow p G (a ++ b) m
+  pub row_left : (a b : List (Product n)) (m : Member n) → IsReduct p G a m → IsReduct p G (a ++ b) m
   row_left a b m h = record { alone = h.alone; listed = Each_map _ _ m.products (λ t c. Contains-append_left a b t.0 c) h.listed; sums = h.sums }
 
-  pub row_right : (a b : List (Product n)) (m : Member n) → IsRow p G b m → IsRow p G (a ++ b) m
+  pub row_right : (a b : List (Product n)) (m : Member n) → IsReduct p G b m → IsReduct p G (a ++ b) m
   row_right a b m h = record { alone = h.alone; listed = Each_map _ _ m.products (λ t c. Contains-append_right a b t.0 c) h.listed; sums = h.sums }
 
   -- ---- more pairs

@@ -15,7 +15,7 @@ use Rattle.vector_division.proofs.Members.{sums_at}
 use Rattle.vector_division.proofs.Occurring.{Contains_here, Contains_later, key_of_sum, scaled_key}
 use Rattle.vector_division.specs.Reductions.{AreMetFrom, cofactors_of, unscaled}
 use Rattle.vector_division.specs.declared.reduction.ScaledProduct.{ScaledProduct}
-use Rattle.s_vectors.specs.PairProducts.{AreLinked, ArePairProducts}
+use Rattle.s_vectors.specs.PairProducts.{AreProductsLinked, ArePairProducts}
 
 module _ (n : ℕ) (list : List (List (CodeKey × ℕ))) where
   -- ---- keys of sums of parts
@@ -86,7 +86,7 @@ module _ (n : ℕ) (list : List (List (CodeKey × ℕ))) where
     linked = go xs h.linked;
   }
     where
-      go : (zs : List KeptProduct) → AreLinked n list k (zs ++ ys) → AreLinked n list k zs
+      go : (zs : List KeptProduct) → AreProductsLinked n list k (zs ++ ys) → AreProductsLinked n list k zs
       go [] l = tt
       go (s ∷ zs) l = (l.0, met_front [] (s ∷ []) zs ys l.1)
 

@@ -16,7 +16,7 @@ use Rattle.vector_division.specs.Reductions.{cofactors_of, unscaled}
 use Rattle.vector_division.specs.declared.reduction.ScaledProduct.{ScaledProduct}
 use Rattle.pair_criteria.specs.declared.pair.Pair.{Pair as CodePair}
 use Rattle.basis_core.proofs.Tracking.{vectors_rank}
-use Rattle.basis_core.specs.Members.{IsTracked, MembersShown, Shared, setting_of}
+use Rattle.basis_core.specs.Members.{IsMemberShown, MembersShown, Shared, setting_of}
 use Rattle.basis_core.specs.Outcomes.{product_of, products_of}
 use Rattle.s_vectors.proofs.TopParts.{shared_lawful}
 use Rattle.s_vectors.specs.Divided.{IsDivided}
@@ -49,5 +49,5 @@ module _ (shared : Shared) (parts : List ScaledProduct) (products : List (CodeKe
 -- what is left of an S-vector has the rank
 pub divided_ranked :
     (m : MembersShown) (x : CodePair) (parts : List ScaledProduct) (v : List (CodeKey × ℕ))
-    → Each (IsTracked m.shared) m.list → IsDivided m x parts v → IsRanked m.shared.ring m.shared.rank v
+    → Each (IsMemberShown m.shared) m.list → IsDivided m x parts v → IsRanked m.shared.ring m.shared.rank v
 divided_ranked m x parts v tracked d = ranked_by m.shared.ring m.shared.rank v _ d.vector d.sum (vectors_rank m.shared m.list tracked (cofactors_of (variables m.shared.ring) parts))

@@ -4,14 +4,14 @@ use Rattle.std.proofs.lemmas.Bool.Decides.{nat_tests}
 use Rattle.std.proofs.lemmas.List.{length-map}
 use Rattle.module_vectors.specs.Vectors.{sum_of, sums_of}
 use Rattle.basis_steps.specs.States.{vectors}
-use Rattle.basis_core.specs.Members.{Tracked, members_of}
+use Rattle.basis_core.specs.Members.{MemberShown, members_of}
 use Rattle.basis_core.specs.Rows.{vectors_in}
 
-pub vectors_are : (n : ℕ) (ms : List Tracked) → vectors (members_of n ms) ≡ sums_of n (vectors_in ms)
+pub vectors_are : (n : ℕ) (ms : List MemberShown) → vectors (members_of n ms) ≡ sums_of n (vectors_in ms)
 vectors_are n [] = refl
 vectors_are n (m ∷ ms) = ap (λ l. sum_of n m.vector ∷ l) (vectors_are n ms)
 
-pub length-vectors_in : (ms : List Tracked) → length (vectors_in ms) ≡ length ms
+pub length-vectors_in : (ms : List MemberShown) → length (vectors_in ms) ≡ length ms
 length-vectors_in ms = length-map ms (λ m. m.vector)
 
 -- a list without items, and one with some

@@ -22,7 +22,7 @@ use Rattle.basis_steps.specs.States.{vectors}
 use Rattle.member_products.specs.Generators.{IsVectorOf}
 use Rattle.basis_core.proofs.Tracking.{vectors_over}
 use Rattle.basis_core.specs.Jobs.{pair_of}
-use Rattle.basis_core.specs.Members.{IsTracked, MembersShown, members_of, row_of, setting_of}
+use Rattle.basis_core.specs.Members.{IsMemberShown, MembersShown, members_of, row_of, setting_of}
 use Rattle.basis_core.specs.Outcomes.{products_of}
 use Rattle.basis_core.specs.Rows.{vectors_in}
 use Rattle.s_vectors.proofs.Listed.{row_listed}
@@ -32,7 +32,7 @@ use Rattle.s_vectors.proofs.TopParts.{shared_lawful}
 use Rattle.s_vectors.specs.Divided.{AreOfPair, IsDivided}
 use Rattle.s_vectors.specs.Solutions.{IsSolved}
 
-module _ (m : MembersShown) (x : CodePair) (of : AreOfPair m x) (tracked : Each (IsTracked m.shared) m.list) (parts : List ScaledProduct) where
+module _ (m : MembersShown) (x : CodePair) (of : AreOfPair m x) (tracked : Each (IsMemberShown m.shared) m.list) (parts : List ScaledProduct) where
   -- the pair is one of the sums' list
   real_sums : IsPair (sums_of (variables m.shared.ring) (vectors_in m.list)) (pair_of x)
   real_sums = subst (λ G. IsPair G (pair_of x)) (vectors_are (variables m.shared.ring) m.list) of.real

@@ -13,7 +13,7 @@ use Rattle.vector_division.proofs.Occurring.{at_key}
 use Rattle.vector_division.specs.Divisions.{IsDivisionTrail}
 use Rattle.vector_division.specs.Reductions.{unscaled}
 use Rattle.vector_division.specs.declared.reduction.ScaledProduct.{ScaledProduct}
-use Rattle.basis_core.specs.Members.{Tracked}
+use Rattle.basis_core.specs.Members.{MemberShown}
 use Rattle.basis_core.specs.Rows.{vectors_in}
 use Rattle.s_vectors.proofs.Linking.{pair_front, pair_more, steps_through}
 use Rattle.s_vectors.specs.Divided.{HasKeysMet}
@@ -32,7 +32,7 @@ pub products-append : (xs ys : List ScaledProduct) → map unscaled (xs ++ ys) �
 products-append [] ys = refl
 products-append (x ∷ xs) ys = ap (λ l. unscaled x ∷ l) (products-append xs ys)
 
-module _ (n : ℕ) (ws : List ℕ) (ms : List Tracked) (k : Key n) where
+module _ (n : ℕ) (ws : List ℕ) (ms : List MemberShown) (k : Key n) where
   -- a part that is too great for its member's vector
   pub great_chain :
       (parts : List ScaledProduct) (number : ℕ) (last : Monomial) (products : List KeptProduct)
@@ -64,7 +64,7 @@ last_split first (s ∷ later) = let r = last_split s later in (first ∷ r.0, a
 
 -- where the vector of the division has the keys of a pair's products, the products of its trail are behind them
 pub division_chain :
-    (ring : Ring) (ms : List Tracked) (k : Key (variables ring)) (v : List (CodeKey × ℕ)) (top : List KeptProduct) (t : KeptTrail) (products : List KeptProduct)
+    (ring : Ring) (ms : List MemberShown) (k : Key (variables ring)) (v : List (CodeKey × ℕ)) (top : List KeptProduct) (t : KeptTrail) (products : List KeptProduct)
     → 0 < length top → ArePairProducts (variables ring) ring.weights (vectors_in ms) k top → HasKeysMet (variables ring) v (vectors_in ms) top
     → IsDivisionTrail ring v (vectors_in ms) t → products ≡ top ++ t.products.items
     → IsPairChain (variables ring) ring.weights ms k products t.last

@@ -3,10 +3,10 @@ use Rattle.std.specs.Prelude.{List, None, Option, Some, [], length, ℕ, ◌++�
 use Rattle.formal_sums.specs.FormalSums.{Each, FormalSum}
 use Rattle.bases.specs.Settings.{Setting}
 use Rattle.basis_steps.specs.Criteria.{IsRepresented}
-use Rattle.basis_steps.specs.Outcomes.{AreJobProducts, HasLeadBelowJob, IsRow}
+use Rattle.basis_steps.specs.Outcomes.{AreJobProducts, HasLeadBelowJob, IsReduct}
 use Rattle.basis_steps.specs.Pairs.{Pair}
 use Rattle.basis_steps.specs.States.{Member, Product, vectors}
-use Rattle.member_products.specs.declared.member.Row.{Row as CodeRow}
+use Rattle.member_products.specs.declared.member.Reduct.{Reduct as CodeReduct}
 use Rattle.monomial_orders.specs.Kept.{IsWeighed}
 use Rattle.module_vectors.specs.Rings.{variables}
 use Rattle.pair_criteria.specs.declared.pair.Pair.{Pair as CodePair}
@@ -21,10 +21,10 @@ pub record IsSolved {n : ℕ} (S : Setting n) (G : List (FormalSum n)) (job : Li
   pub few : length rows ≤ length job
   pub low : Each (λ m. HasLeadBelowJob S G job m.vector) rows
   pub job_products : AreJobProducts S.modulus G job products
-  pub sums : Each (IsRow S.modulus G products) rows
+  pub sums : Each (IsReduct S.modulus G products) rows
 
 -- a row that may be there
-abbrev pub row_list : Option CodeRow → List CodeRow
+abbrev pub row_list : Option CodeReduct → List CodeReduct
 row_list None = []
 row_list (Some row) = row ∷ []
 

@@ -7,7 +7,7 @@ ghost use Rattle.module_vectors.specs.declared.key.Key.{Key as KeyValue};
 ghost use Rattle.module_vectors.specs.declared.ring.Ring.{Ring as RingValue};
 ghost use Rattle.vector_division.specs.Divisions.{DivisionStops};
 ghost use Rattle.vector_division.specs.Reductions.{unscaled};
-ghost use Rattle.basis_core.specs.Members.{Tracked};
+ghost use Rattle.basis_core.specs.Members.{MemberShown};
 ghost use Rattle.basis_core.specs.Rows.{vectors_in};
 ghost use Rattle.s_vectors.specs.Divided.{AreOfPair, HasKeysMet, IsDivided, IsTopVector, negated};
 ghost use Rattle.s_vectors.specs.Parts.{PartsStop};
@@ -18,7 +18,7 @@ use crate::pairs::pair_parts;
 use crate::stops::{Chain, PairStop, without_residues};
 use crate::sums::{SumStop, sum_of_parts};
 use basis_core::{Members, quotient_products};
-use member_products::Row;
+use member_products::Reduct;
 use module_vectors::{NoMemory, Ring, Vect, WorkStop};
 use monomial_orders::Mono;
 use pair_criteria::Pair;
@@ -31,7 +31,7 @@ use zp_field::Modulus;
 #[derive(Drop)]
 pub(crate) struct Division {
     pub(crate) products: Vec<(u64, Mono)>,
-    pub(crate) row: Option<Row>,
+    pub(crate) row: Option<Reduct>,
 }
 
 // The products of the first parts, up to the one with this number.
@@ -51,7 +51,7 @@ fn products_to(
 
 // The stop where the sum of the parts stopped.
 fn stop_of_sum(alloc: Global, parts: Vec<ScaledProduct>, stop: SumStop) -> PairStop
-    ensures { (n : ℕ) (ws : List ℕ) (ms : List Tracked) (k : KeyOf n) → ArePairProducts n ws (vectors_in ms) k (map unscaled parts.items)
+    ensures { (n : ℕ) (ws : List ℕ) (ms : List MemberShown) (k : KeyOf n) → ArePairProducts n ws (vectors_in ms) k (map unscaled parts.items)
         → PartsStop (vectors_in ms) parts.items stop → PairStops n ws ms k result }
 {
     match stop {
@@ -79,7 +79,7 @@ fn products_before(
 
 // The stop where the division of a vector with these parts stopped.
 fn stop_of_division(alloc: Global, parts: Vec<ScaledProduct>, stop: WorkStop) -> PairStop
-    ensures { (ring : RingValue) (ms : List Tracked) (k : KeyOf (variables ring)) (v : List (KeyValue × ℕ)) → 0 < length parts.items
+    ensures { (ring : RingValue) (ms : List MemberShown) (k : KeyOf (variables ring)) (v : List (KeyValue × ℕ)) → 0 < length parts.items
         → ArePairProducts (variables ring) ring.weights (vectors_in ms) k (map unscaled parts.items)
         → HasKeysMet (variables ring) v (vectors_in ms) (map unscaled parts.items) → DivisionStops ring v (vectors_in ms) stop → PairStops (variables ring) ring.weights ms k result }
 {
@@ -133,7 +133,7 @@ fn make_row(
     members.kept();
     let _pair = pair;
     let products = quotient_products(alloc, ring, &parts)?;
-    let row = Row { vector, products };
+    let row = Reduct { vector, products };
     Ok(Division {
         products: without_residues(alloc, parts)?,
         row: Some(row),

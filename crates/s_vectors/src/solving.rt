@@ -8,7 +8,7 @@ use crate::division::{Division, divide_pair};
 use crate::stops::PairStop;
 use crate::trails::keep_trail;
 use basis_core::{Job, Outcome};
-use member_products::Row;
+use member_products::Reduct;
 use module_vectors::{NoMemory, WorkStop};
 use monomial_orders::Mono;
 use std::alloc::Global;
@@ -16,7 +16,7 @@ use std::alloc::Global;
 // Rows of a job and the products that they are made of.
 #[derive(Drop)]
 struct Solution {
-    rows: Vec<Row>,
+    rows: Vec<Reduct>,
     products: Vec<(u64, Mono)>,
 }
 

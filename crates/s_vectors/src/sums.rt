@@ -34,14 +34,6 @@ impl From<NoMemory> for SumStop {
     }
 }
 
-impl From<monomial_orders::NoMemory> for SumStop {
-    ghost from_gives = { λ _ stop. stop ≡ Memory };
-
-    fn from(_error: monomial_orders::NoMemory) -> SumStop {
-        SumStop::Memory
-    }
-}
-
 // The products of the parts and their vectors.
 fn products_of<'a, L: Vectors>(
     alloc: Global,
@@ -105,7 +97,7 @@ fn great_stop(alloc: Global, products: &[Product<'_>]) -> SumStop
     match find_product(products) {
         Some((number, monomial)) => match monomial.try_copy(alloc) {
             Ok(monomial) => SumStop::Degree(number, monomial),
-            Err(monomial_orders::NoMemory) => SumStop::Memory,
+            Err(NoMemory) => SumStop::Memory,
         },
         None => unreachable!(),
     }

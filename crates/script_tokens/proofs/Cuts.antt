@@ -8,7 +8,7 @@ use Rattle.script_tokens.specs.declared.token.TokenStop.{TokenStop}
 use Rattle.script_tokens.specs.declared.token.TokenStop.TheVariants.{At, Memory}
 use Rattle.script_tokens.specs.Scans.{GivesOrStops, token_at, tokens_from, tokens_of, with_front, begun}
 use Rattle.script_tokens.specs.Tokens.{is_blank}
-use Rattle.script_tokens.specs.Cuts.{Passes, IsToken, IsLongest, IsNext, IsCut, IsComment, BeginsNothing, HasTokens, HasStrayByte, IsCutInto}
+use Rattle.script_tokens.specs.Cuts.{Passes, IsToken, IsLongest, IsNextToken, IsCut, IsComment, BeginsNothing, HasTokens, HasStrayByte, IsCutInto}
 use Rattle.script_tokens.proofs.Longest.{found_is_longest, none_begins, token_apart, longest_is_found}
 use Rattle.script_tokens.proofs.Cutting.{inside_is_dropped}
 use Rattle.script_tokens.proofs.Order.{token_within}
@@ -42,7 +42,7 @@ length_taken (suc n) [] h = absurd (omega (arith, h))
 length_taken (suc n) (b ∷ bs) h = ap suc (length_taken n bs (omega (arith, h)))
 
 -- a token before the others
-next_token : (at b : ℕ) (bs : List ℕ) (t : TokenKind × ℕ) → token_at b bs ≡ Some t → t.1 ≤ length bs → IsNext at (b ∷ bs) (record { kind = t.0; start = at; end = at + 1 + t.1 }) (drop t.1 bs)
+next_token : (at b : ℕ) (bs : List ℕ) (t : TokenKind × ℕ) → token_at b bs ≡ Some t → t.1 ≤ length bs → IsNextToken at (b ∷ bs) (record { kind = t.0; start = at; end = at + 1 + t.1 }) (drop t.1 bs)
 next_token at b bs t e within =
     let h = found_is_longest b bs t e in
     let n = length_taken t.1 bs within in

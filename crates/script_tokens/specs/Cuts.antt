@@ -26,7 +26,7 @@ abbrev pub IsLongest : List ℕ → List ℕ → Type 0
 IsLongest bytes behind = (kind : TokenKind) (more after : List ℕ) → behind ≡ more ++ after → IsToken kind (bytes ++ more) → more ≡ []
 
 -- bytes that stand from place `at` on are blanks, then the text of t, which is the longest token there, then the rest
-pub record IsNext (at : ℕ) (bytes : List ℕ) (t : Token) (rest : List ℕ) : Type 0 where
+pub record IsNextToken (at : ℕ) (bytes : List ℕ) (t : Token) (rest : List ℕ) : Type 0 where
   pub blanks : List ℕ
   pub text : List ℕ
   pub parts : bytes ≡ blanks ++ (text ++ rest)
@@ -39,7 +39,7 @@ pub record IsNext (at : ℕ) (bytes : List ℕ) (t : Token) (rest : List ℕ) : 
 -- bytes that stand from place `at` on are these tokens and blanks, and then bytes of which Rest says what and where they are
 abbrev pub IsCut : (ℕ → List ℕ → Type 0) → ℕ → List ℕ → List Token → Type 0
 IsCut Rest at bytes [] = (blanks rest : List ℕ) × (bytes ≡ blanks ++ rest) × Passes is_blank blanks × Rest (at + length blanks) rest
-IsCut Rest at bytes (t ∷ ts) = (rest : List ℕ) × IsNext at bytes t rest × IsCut Rest t.end rest ts
+IsCut Rest at bytes (t ∷ ts) = (rest : List ℕ) × IsNextToken at bytes t rest × IsCut Rest t.end rest ts
 
 -- nothing, or a comment, which begins with # (35)
 abbrev pub IsComment : List ℕ → Type 0

@@ -17,7 +17,7 @@ use Rattle.groebner_iface.specs.declared.stop.Stop.{Stop}
 use Rattle.groebner_iface.specs.declared.stop.OpStop.TheVariants as causes
 use Rattle.run_endings.specs.Stops.{IsRunBy, IsStop, number_of_update, stopped_on, stopped_run}
 use Rattle.session_lang.specs.Lines.{RunOf}
-use Rattle.session_values.specs.Names.{State}
+use Rattle.session_values.specs.Names.{ScriptState}
 use Rattle.session_lang.specs.Stops.{TrailOf}
 use Rattle.session_top.specs.Parts.{LineStops, StopEnds}
 use Rattle.session_top.specs.Stops.{IsRunState, StopsScript}
@@ -33,18 +33,18 @@ no_run : (run : StoppedRun) → None ≡ Some run → ⊥
 no_run run same = cc
 
 -- the run on these is one of the line, where the run that was stopped is
-run_here : (before : State) (line : List ℕ) (shared : Shared) (answer : Stop) (run : StoppedRun) → Some (stopped_on shared answer) ≡ Some run
+run_here : (before : ScriptState) (line : List ℕ) (shared : Shared) (answer : Stop) (run : StoppedRun) → Some (stopped_on shared answer) ≡ Some run
     → RunOf before line run.ring run.rank run.list → RunOf before line shared.ring shared.rank shared.generators
 run_here before line shared answer run same here =
     let is : stopped_on shared answer ≡ run = cc in
     subst (λ r. RunOf before line r.ring r.rank r.list) (sym is) here
 
-run_state : (limits : Limits) (before : State) (line : List ℕ) (s : Shown) → RunOf before line s.shared.ring s.shared.rank s.shared.generators
+run_state : (limits : Limits) (before : ScriptState) (line : List ℕ) (s : Shown) → RunOf before line s.shared.ring s.shared.rank s.shared.generators
     → HasReplay s → IsRunBy limits.pairs limits.workers limits.update s → IsRunState limits before line s
 run_state limits before line s here replays one = record { run = here; replays = replays; budget = one.budget; workers = one.workers_are; update = one.update_is }
 
 -- what is kept of a run of the line that stopped
-pub run_cause : (limits : Limits) (before : State) (line : List ℕ) (state : Option Shown) (trail : Option KeptTrail) (run : StoppedRun)
+pub run_cause : (limits : Limits) (before : ScriptState) (line : List ℕ) (state : Option Shown) (trail : Option KeptTrail) (run : StoppedRun)
     → stopped_run state trail ≡ Some run → RunOf before line run.ring run.rank run.list → IsStop limits.pairs limits.workers limits.update state trail → IfSome state HasReplay
     → StopsScript limits before line state trail
 run_cause limits before line None None run same here stop replays = no_run run same
@@ -78,7 +78,7 @@ same_limits p q same =
     λ i. record { pairs = all.0 i; workers = all.1 i; helpers = all.2 i; update = update i }
 
 -- a run of the line stopped, and its stop line or a front of it was written
-pub run_stopped : (a b : Option (List ℕ)) (limits kept_limits : Limits) (before : State) (line : List ℕ) (number : ℕ) (old new : ℕ) (answer : Stop)
+pub run_stopped : (a b : Option (List ℕ)) (limits kept_limits : Limits) (before : ScriptState) (line : List ℕ) (number : ℕ) (old new : ℕ) (answer : Stop)
     (state : Option Shown) (trail : Option KeptTrail) (stop : Early) → settings_of kept_limits ≡ settings_of limits
     → StopsAtRun (RunOf before line) old new (stopped_run state trail) answer
     → IsStop kept_limits.pairs kept_limits.workers kept_limits.update state trail → IfSome state HasReplay
@@ -89,7 +89,7 @@ run_stopped a b limits kept_limits before line number old new answer state trail
     (run_cause limits before line state trail (record { ring = ring; rank = rank; list = list; answer = answer }) same here is_stop replays) says
 
 -- a division of the line stopped, and its stop line or a front of it was written
-pub division_stopped : (a b : Option (List ℕ)) (limits : Limits) (before : State) (line : List ℕ) (number : ℕ) (old new : ℕ) (kept kept' : Option StoppedRun)
+pub division_stopped : (a b : Option (List ℕ)) (limits : Limits) (before : ScriptState) (line : List ℕ) (number : ℕ) (old new : ℕ) (kept kept' : Option StoppedRun)
     (t : KeptTrail) (stop : Early) → CallStops (RunOf before line) (TrailOf before line) old new kept kept' (causes.Trail t)
     → StopEnds a b number None (Some t) stop → LineStops a b limits before line number stop
 division_stopped a b limits before line number old new kept kept' t stop (count, same, met) says =

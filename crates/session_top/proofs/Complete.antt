@@ -7,8 +7,8 @@ use Rattle.std.specs.declared.option.Option.{Option}
 use Rattle.std.specs.Io.KnownBytes.{Appends, IsAtEnd}
 use Rattle.session_top.specs.declared.early.Refusal.{Refusal}
 use Rattle.session_top.specs.declared.early.Refusal.TheVariants.{OfLine}
-use Rattle.session_values.specs.Names.{State, no_names}
-use Rattle.session_lang.specs.Lines.{Line, Refuses}
+use Rattle.session_values.specs.Names.{ScriptState, no_names}
+use Rattle.session_lang.specs.Lines.{Line, RefusesLine}
 use Rattle.script_parse.specs.declared.kind.Kind.{Kind}
 use Rattle.session_top.specs.declared.TheConstants.{SCRIPT_LIMIT}
 use Rattle.session_top.specs.Lines.{lines_in, lines_of, whole_lines, onto_first, onto_whole}
@@ -18,12 +18,12 @@ use Rattle.session_top.proofs.Whole.{long_script, short_script}
 
 -- a line that is done has one outcome, a refused one has one kind, and no line is both
 pub record LineLaws : Type 0 where
-  pub done : (before : State) (line : List ℕ) (p q : State) (x y : List ℕ) → Line before line p x → Line before line q y → (p ≡ q) × (x ≡ y)
-  pub kind : (before : State) (line : List ℕ) (j k : Kind) → Refuses before line j → Refuses before line k → j ≡ k
-  pub apart : (before : State) (line : List ℕ) (p : State) (x : List ℕ) (k : Kind) → Line before line p x → Refuses before line k → ⊥
+  pub done : (before : ScriptState) (line : List ℕ) (p q : ScriptState) (x y : List ℕ) → Line before line p x → Line before line q y → (p ≡ q) × (x ≡ y)
+  pub kind : (before : ScriptState) (line : List ℕ) (j k : Kind) → RefusesLine before line j → RefusesLine before line k → j ≡ k
+  pub apart : (before : ScriptState) (line : List ℕ) (p : ScriptState) (x : List ℕ) (k : Kind) → Line before line p x → RefusesLine before line k → ⊥
 
 -- the fold has one outcome
-pub folds_unique : (laws : LineLaws) (last : Ending) (n : ℕ) (c : State) (lines : List (List ℕ)) (t u : List ℕ) (e f : Ending)
+pub folds_unique : (laws : LineLaws) (last : Ending) (n : ℕ) (c : ScriptState) (lines : List (List ℕ)) (t u : List ℕ) (e f : Ending)
     → Folds last n c lines t e → Folds last n c lines u f → (t ≡ u) × (e ≡ f)
 folds_unique laws last n c [] t u e f (same, text) (same', text') = (text ∙ sym text', same ∙ sym same')
 folds_unique laws last n c (l ∷ lines) t u e f (inl (mid, first, rest, one, others, parts)) (inl (mid', first', rest', one', others', parts')) =
@@ -46,13 +46,13 @@ unfolding line_at
 line_of_refused m n k l e = ap line_at e
 
 -- a refusal stands at or behind the first of the lines
-refused_from : (n : ℕ) (c : State) (lines : List (List ℕ)) (t : List ℕ) (m : ℕ) (k : Refusal) → Folds Done n c lines t (Refused m k) → n ≤ m
+refused_from : (n : ℕ) (c : ScriptState) (lines : List (List ℕ)) (t : List ℕ) (m : ℕ) (k : Refusal) → Folds Done n c lines t (Refused m k) → n ≤ m
 refused_from n c [] t m k (same, text) = cc
 refused_from n c (l ∷ lines) t m k (inl (mid, first, rest, one, others, parts)) = let more = refused_from (n + 1) mid lines rest m k others in omega (arith, more)
 refused_from n c (l ∷ lines) t m k (inr (kind, refuses, same, text)) = let e : m ≡ n = line_of_refused m n k (OfLine kind) same in omega (arith, e)
 
 -- a refusal among the first lines does not hang on what comes behind them
-refused_within : (last : Ending) (n : ℕ) (c : State) (xs ys zs : List (List ℕ)) (t : List ℕ) (m : ℕ) (k : Refusal) → Folds Done n c (xs ++ ys) t (Refused m k) → m < n + length xs
+refused_within : (last : Ending) (n : ℕ) (c : ScriptState) (xs ys zs : List (List ℕ)) (t : List ℕ) (m : ℕ) (k : Refusal) → Folds Done n c (xs ++ ys) t (Refused m k) → m < n + length xs
     → Folds last n c (xs ++ zs) t (Refused m k)
 refused_within last n c [] ys zs t m k folds below = let from = refused_from n c ys t m k folds in absurd (omega (arith, from, below))
 refused_within last n c (x ∷ xs) ys zs t m k (inl (mid, first, rest, one, others, parts)) below =

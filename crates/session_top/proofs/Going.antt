@@ -3,14 +3,14 @@ use Rattle.std.proofs.Common.{◌≡◌, ℕ, ◌+◌, ◌≤◌, Bool, List, �
 use Rattle.std.specs.declared.option.Option.{Option}
 use Rattle.std.specs.Io.KnownBytes.{Appends, Consumes}
 use Rattle.byte_ports.specs.Lines.{Reading}
-use Rattle.session_values.specs.Names.{State, no_names}
+use Rattle.session_values.specs.Names.{ScriptState, no_names}
 use Rattle.session_top.specs.declared.TheConstants.{SCRIPT_LIMIT}
 use Rattle.session_top.specs.Lines.{lines_in}
 use Rattle.session_top.specs.Meaning.{AllDone}
 use Rattle.session_top.specs.Run.{AreReady}
 
 -- The bytes of these lines were read, and what is held behind them; the lines were done, and their text was written.
-pub record Going (left left' taken taken' : Option (List ℕ)) (reading : Reading) (number : ℕ) (state : State) : Type 0 where
+pub record Going (left left' taken taken' : Option (List ℕ)) (reading : Reading) (number : ℕ) (state : ScriptState) : Type 0 where
   pub used : List ℕ
   pub lines : List (List ℕ)
   pub text : List ℕ
@@ -23,7 +23,7 @@ pub record Going (left left' taken taken' : Option (List ℕ)) (reading : Readin
   pub written : Appends taken taken' text
 
 -- this line may be done once these bytes are read, and the lines before it were
-pub record Due (left left' taken taken' : Option (List ℕ)) (line : List ℕ) (number : ℕ) (state : State) : Type 0 where
+pub record Due (left left' taken taken' : Option (List ℕ)) (line : List ℕ) (number : ℕ) (state : ScriptState) : Type 0 where
   pub script : List ℕ
   pub lines : List (List ℕ)
   pub rest : List (List ℕ)

@@ -5,9 +5,9 @@ use Rattle.std.proofs.Math.Seq.{take-append-add}
 use Rattle.std.proofs.KnownBytes.{Appends-trans, Appends-nil, Consumes-nil, Consumes-trans}
 use Rattle.std.specs.declared.option.Option.{Option}
 use Rattle.std.specs.Io.KnownBytes.{Appends, Consumes}
-use Rattle.byte_ports.specs.Lines.{Reading, AreTaken, IsNextLine, IsRest, IsTooLong, IsCutOff}
+use Rattle.byte_ports.specs.Lines.{Reading, AreTaken, IsNextLine, IsLastBytes, IsTooLong, IsCutOff}
 use Rattle.session_lang.specs.Lines.{Line}
-use Rattle.session_values.specs.Names.{State, no_names}
+use Rattle.session_values.specs.Names.{ScriptState, no_names}
 use Rattle.session_top.specs.declared.TheConstants.{SCRIPT_LIMIT}
 use Rattle.session_top.specs.Lines.{lines_in, lines_of, whole_lines}
 use Rattle.session_top.specs.Meaning.{AllDone, is_long, script_lines}
@@ -32,7 +32,7 @@ going_starts a t r none room = record {
 }
 
 -- the bytes of the lines that were done, and what was held and then taken
-pub so_far : (a b c t u : Option (List ℕ)) (r : Reading) (n : ℕ) (s : State) (bytes : List ℕ) → (so : Going a b t u r n s) → AreTaken r b c bytes → Consumes a c (so.used ++ bytes)
+pub so_far : (a b c t u : Option (List ℕ)) (r : Reading) (n : ℕ) (s : ScriptState) (bytes : List ℕ) → (so : Going a b t u r n s) → AreTaken r b c bytes → Consumes a c (so.used ++ bytes)
 so_far a b c t u r n s bytes so taken =
     subst (Consumes a c) (append_assoc so.used r.held taken.more ∙ ap (λ l. so.used ++ l) (sym taken.parts))
     (Consumes-trans a b c (so.used ++ r.held) taken.more so.read taken.read)
@@ -41,7 +41,7 @@ behind : (used line more : List ℕ) → (used ++ (line ++ 10 ∷ [])) ++ more �
 behind used line more = append_assoc used (line ++ 10 ∷ []) more ∙ ap (λ l. used ++ l) (append_assoc line (10 ∷ []) more)
 
 -- the next line was done
-pub going_more : (a b c t u v : Option (List ℕ)) (r q : Reading) (n : ℕ) (s z : State) (line text : List ℕ)
+pub going_more : (a b c t u v : Option (List ℕ)) (r q : Reading) (n : ℕ) (s z : ScriptState) (line text : List ℕ)
     → Going a b t u r n s → IsNextLine r q b c line → Line s line z text → Appends u v text → Going a c t v q (n + 1) z
 going_more a b c t u v r q n s z line text so next step wrote =
     let one : length (line ++ 10 ∷ []) ≡ length line + 1 = length-append line (10 ∷ []) in
@@ -71,7 +71,7 @@ take_line line held room left sum =
     ap (λ n. take n (line ++ 10 ∷ held)) sums ∙ take-append-add line (10 ∷ held) (suc left)
 
 -- the next line may be done
-pub line_due : (a b c t u : Option (List ℕ)) (r q : Reading) (n : ℕ) (s : State) (line : List ℕ)
+pub line_due : (a b c t u : Option (List ℕ)) (r q : Reading) (n : ℕ) (s : ScriptState) (line : List ℕ)
     → Going a b t u r n s → IsNextLine r q b c line → Due a c t u line n s
 line_due a b c t u r q n s line so next = record {
   script = so.used ++ (line ++ 10 ∷ q.held);
@@ -89,25 +89,25 @@ line_due a b c t u r q n s line so next = record {
 }
 
 -- at the end of the input all bytes count
-pub rest_short : (a b c t u : Option (List ℕ)) (r : Reading) (n : ℕ) (s : State) (bytes : List ℕ) → (so : Going a b t u r n s) → IsRest r b c bytes
+pub rest_short : (a b c t u : Option (List ℕ)) (r : Reading) (n : ℕ) (s : ScriptState) (bytes : List ℕ) → (so : Going a b t u r n s) → IsLastBytes r b c bytes
     → length (so.used ++ bytes) ≤ SCRIPT_LIMIT
 rest_short a b c t u r n s bytes so rest =
     let len : length (so.used ++ bytes) ≡ length so.used + length bytes = length-append so.used bytes in
     omega (arith, len, so.room, rest.counts)
 
-pub rest_lines : (a b c t u : Option (List ℕ)) (r : Reading) (n : ℕ) (s : State) (bytes : List ℕ) → (so : Going a b t u r n s) → IsRest r b c bytes
+pub rest_lines : (a b c t u : Option (List ℕ)) (r : Reading) (n : ℕ) (s : ScriptState) (bytes : List ℕ) → (so : Going a b t u r n s) → IsLastBytes r b c bytes
     → script_lines (so.used ++ bytes) ≡ so.lines ++ lines_of bytes
 rest_lines a b c t u r n s bytes so rest =
     let short = rest_short a b c t u r n s bytes so rest in
     ap (λ w. lines_in w (take SCRIPT_LIMIT (so.used ++ bytes))) (short_script (so.used ++ bytes) short) ∙ ap lines_of (take_all SCRIPT_LIMIT (so.used ++ bytes) short)
     ∙ so.cut false bytes
 
-pub one_last : (line : List ℕ) (b c : Option (List ℕ)) (r : Reading) → IsRest r b c line → 0 < length line → lines_of line ≡ line ∷ []
+pub one_last : (line : List ℕ) (b c : Option (List ℕ)) (r : Reading) → IsLastBytes r b c line → 0 < length line → lines_of line ≡ line ∷ []
 one_last line b c r rest some = last_line false line rest.line refl some
 
 -- the last line may be done
-pub last_due : (a b c t u : Option (List ℕ)) (r : Reading) (n : ℕ) (s : State) (line : List ℕ)
-    → Going a b t u r n s → IsRest r b c line → 0 < length line → Due a c t u line n s
+pub last_due : (a b c t u : Option (List ℕ)) (r : Reading) (n : ℕ) (s : ScriptState) (line : List ℕ)
+    → Going a b t u r n s → IsLastBytes r b c line → 0 < length line → Due a c t u line n s
 last_due a b c t u r n s line so rest some = record {
   script = so.used ++ line;
   lines = so.lines;
@@ -121,19 +121,19 @@ last_due a b c t u r n s line so rest some = record {
 }
 
 -- more bytes were taken than count, and no line is left among those that do
-pub long_is : (a b c t u : Option (List ℕ)) (r : Reading) (n : ℕ) (s : State) → (so : Going a b t u r n s) → (long : IsTooLong r b c) → is_long (so.used ++ long.bytes) ≡ true
+pub long_is : (a b c t u : Option (List ℕ)) (r : Reading) (n : ℕ) (s : ScriptState) → (so : Going a b t u r n s) → (long : IsTooLong r b c) → is_long (so.used ++ long.bytes) ≡ true
 long_is a b c t u r n s so long =
     let len : length (so.used ++ long.bytes) ≡ length so.used + length long.bytes = length-append so.used long.bytes in
     long_script (so.used ++ long.bytes) (omega (arith, len, so.room, long.long))
 
-pub long_lines : (a b c t u : Option (List ℕ)) (r : Reading) (n : ℕ) (s : State) → (so : Going a b t u r n s) → (long : IsTooLong r b c)
+pub long_lines : (a b c t u : Option (List ℕ)) (r : Reading) (n : ℕ) (s : ScriptState) → (so : Going a b t u r n s) → (long : IsTooLong r b c)
     → whole_lines (take SCRIPT_LIMIT (so.used ++ long.bytes)) ≡ so.lines
 long_lines a b c t u r n s so long =
     ap whole_lines (take_used so.used long.bytes r.room so.room) ∙ so.cut true (take r.room long.bytes)
     ∙ ap (λ l. so.lines ++ l) (no_whole_line (take r.room long.bytes) long.line) ∙ append-nil so.lines
 
 -- a read failed, and each whole line was done
-pub going_cut : (a b c t u : Option (List ℕ)) (r : Reading) (n : ℕ) (s : State) → Going a b t u r n s → IsCutOff r b c → ReadCut a c t u
+pub going_cut : (a b c t u : Option (List ℕ)) (r : Reading) (n : ℕ) (s : ScriptState) → Going a b t u r n s → IsCutOff r b c → ReadCut a c t u
 going_cut a b c t u r n s so cut =
     let front : take SCRIPT_LIMIT (so.used ++ cut.bytes) ≡ so.used ++ cut.bytes =
     take_used so.used cut.bytes r.room so.room ∙ ap (λ l. so.used ++ l) (take_all r.room cut.bytes cut.counts) in

@@ -4,10 +4,10 @@ use Rattle.std.proofs.lemmas.List.{append_assoc, append-nil, length-append}
 use Rattle.std.proofs.KnownBytes.{Appends-trans, Appends-kept}
 use Rattle.std.specs.declared.option.Option.{Option}
 use Rattle.std.specs.Io.KnownBytes.{Appends, Consumes, IsAtEnd}
-use Rattle.byte_ports.specs.Lines.{Reading, IsNextLine, IsRest, IsTooLong}
+use Rattle.byte_ports.specs.Lines.{Reading, IsNextLine, IsLastBytes, IsTooLong}
 use Rattle.script_parse.specs.declared.kind.Kind.{Kind}
-use Rattle.session_lang.specs.Lines.{Line, Refuses}
-use Rattle.session_values.specs.Names.{State, no_names}
+use Rattle.session_lang.specs.Lines.{Line, RefusesLine}
+use Rattle.session_values.specs.Names.{ScriptState, no_names}
 use Rattle.session_top.specs.declared.TheConstants.{SCRIPT_LIMIT}
 use Rattle.session_top.specs.declared.early.Early.{Early}
 use Rattle.session_top.specs.declared.early.Early.TheVariants as early
@@ -42,15 +42,15 @@ settled_at script b lines rest line n kind count (inl e) =
 settled_at script b lines rest line n kind count (inr (end, e)) = inr end
 
 -- these lines were done, and the next is refused
-refused_next : (s : State) (n : ℕ) (lines more : List (List ℕ)) (line text : List ℕ) (kind : Kind) (last : Ending)
-    → n ≡ length lines → AllDone no_names lines s text → Refuses s line kind
+refused_next : (s : ScriptState) (n : ℕ) (lines more : List (List ℕ)) (line text : List ℕ) (kind : Kind) (last : Ending)
+    → n ≡ length lines → AllDone no_names lines s text → RefusesLine s line kind
     → Folds last 1 no_names (lines ++ line ∷ more) (text ++ closing (Refused (n + 1) (OfLine kind))) (Refused (n + 1) (OfLine kind))
 refused_next s n lines more line text kind last count steps refuses =
     let number : n + 1 ≡ 1 + length lines = omega (arith, count) in
     folds_after last (Refused (n + 1) (OfLine kind)) 1 no_names s lines (line ∷ more) text (closing (Refused (n + 1) (OfLine kind))) steps
     (inr (kind, refuses, ap (λ k. Refused k (OfLine kind)) number, ap (λ k. closing (Refused k (OfLine kind))) number))
 
-refused_meant : (a c t u v : Option (List ℕ)) (line : List ℕ) (n : ℕ) (s : State) (kind : Kind) → Due a c t u line n s → Refuses s line kind
+refused_meant : (a c t u v : Option (List ℕ)) (line : List ℕ) (n : ℕ) (s : ScriptState) (kind : Kind) → Due a c t u line n s → RefusesLine s line kind
     → Appends u v (closing (Refused (n + 1) (OfLine kind))) → Meant a c t v (Refused (n + 1) (OfLine kind))
 refused_meant a c t u v line n s kind due refuses wrote =
     let all = ready_lines due.script c (due.lines ++ (line ∷ due.rest)) due.ready in
@@ -66,7 +66,7 @@ refused_meant a c t u v line n s kind due refuses wrote =
     }
 
 -- a line was not done to its end
-pub due_stops : (a c t u v : Option (List ℕ)) (line : List ℕ) (n : ℕ) (s : State) (limits : Limits) (stop : Early)
+pub due_stops : (a c t u v : Option (List ℕ)) (line : List ℕ) (n : ℕ) (s : ScriptState) (limits : Limits) (stop : Early)
     → Due a c t u line n s → LineStops u v limits s line (n + 1) stop → ScriptStops a c t v limits stop
 due_stops a c t u v line n s limits (early.Refused m) due (same, (kind, refuses, wrote)) = record {
   refusal = OfLine kind;
@@ -154,7 +154,7 @@ due_stops a c t u v line n s limits (early.Stopped m kept) due (same, cause, wro
 }
 
 -- all lines of a script that is not too long were done
-ends_here : (a c t v : Option (List ℕ)) (script text : List ℕ) (lines : List (List ℕ)) (s : State) → Consumes a c script → IsAtEnd c → length script ≤ SCRIPT_LIMIT
+ends_here : (a c t v : Option (List ℕ)) (script text : List ℕ) (lines : List (List ℕ)) (s : ScriptState) → Consumes a c script → IsAtEnd c → length script ≤ SCRIPT_LIMIT
     → script_lines script ≡ lines → AllDone no_names lines s text → Appends t v text → Meant a c t v Done
 ends_here a c t v script text lines s read end short same steps wrote = record {
   script = script;
@@ -168,13 +168,13 @@ ends_here a c t v script text lines s read end short same steps wrote = record {
 }
 
 -- no line is left at the end of the input
-pub end_done : (a b c t u : Option (List ℕ)) (r : Reading) (n : ℕ) (s : State) → Going a b t u r n s → IsRest r b c [] → Meant a c t u Done
+pub end_done : (a b c t u : Option (List ℕ)) (r : Reading) (n : ℕ) (s : ScriptState) → Going a b t u r n s → IsLastBytes r b c [] → Meant a c t u Done
 end_done a b c t u r n s so rest =
     ends_here a c t u (so.used ++ []) so.text so.lines s (so_far a b c t u r n s [] so rest.taken) rest.end (rest_short a b c t u r n s [] so rest)
     (rest_lines a b c t u r n s [] so rest ∙ append-nil so.lines) so.steps so.written
 
 -- the last line was done
-last_done : (a b c t u v : Option (List ℕ)) (r : Reading) (n : ℕ) (s z : State) (line text : List ℕ) → Going a b t u r n s → IsRest r b c line → 0 < length line
+last_done : (a b c t u v : Option (List ℕ)) (r : Reading) (n : ℕ) (s z : ScriptState) (line text : List ℕ) → Going a b t u r n s → IsLastBytes r b c line → 0 < length line
     → Line s line z text → Appends u v text → Meant a c t v Done
 last_done a b c t u v r n s z line text so rest some step wrote =
     ends_here a c t v (so.used ++ line) (so.text ++ text) (so.lines ++ line ∷ []) z (so_far a b c t u r n s line so rest.taken) rest.end (rest_short a b c t u r n s line so rest)
@@ -182,24 +182,24 @@ last_done a b c t u v r n s z line text so rest some step wrote =
     (done_more no_names s z so.lines line so.text text so.steps step) (Appends-trans t u v so.text text so.written wrote)
 
 -- what was done with the last line
-pub last_result_done : (a b c t u v : Option (List ℕ)) (r : Reading) (n : ℕ) (s z : State) (line : List ℕ) (result : Result Unit Early)
-    → Going a b t u r n s → IsRest r b c line → 0 < length line
+pub last_result_done : (a b c t u v : Option (List ℕ)) (r : Reading) (n : ℕ) (s z : ScriptState) (line : List ℕ) (result : Result Unit Early)
+    → Going a b t u r n s → IsLastBytes r b c line → 0 < length line
     → OnOk result ((text : List ℕ) × Line s line z text × Appends u v text) → OnOk result (Meant a c t v Done)
 last_result_done a b c t u v r n s z line (Ok x) so rest some (text, step, wrote) = last_done a b c t u v r n s z line text so rest some step wrote
 last_result_done a b c t u v r n s z line (Err e) so rest some done = tt
 
-pub last_result_stops : (a b c t u v : Option (List ℕ)) (r : Reading) (n : ℕ) (s : State) (line : List ℕ) (limits : Limits) (result : Result Unit Early)
-    → Going a b t u r n s → IsRest r b c line → 0 < length line
+pub last_result_stops : (a b c t u v : Option (List ℕ)) (r : Reading) (n : ℕ) (s : ScriptState) (line : List ℕ) (limits : Limits) (result : Result Unit Early)
+    → Going a b t u r n s → IsLastBytes r b c line → 0 < length line
     → IfErr result (LineStops u v limits s line (n + 1)) → IfErr result (ScriptStops a c t v limits)
 last_result_stops a b c t u v r n s line limits (Ok x) so rest some stops = tt
 last_result_stops a b c t u v r n s line limits (Err e) so rest some stops = due_stops a c t u v line n s limits e (last_due a b c t u r n s line so rest some) stops
 
 -- another line was not done to its end
-pub line_stops : (a b c t u v : Option (List ℕ)) (r q : Reading) (n : ℕ) (s : State) (line : List ℕ) (limits : Limits) (stop : Early)
+pub line_stops : (a b c t u v : Option (List ℕ)) (r q : Reading) (n : ℕ) (s : ScriptState) (line : List ℕ) (limits : Limits) (stop : Early)
     → Going a b t u r n s → IsNextLine r q b c line → LineStops u v limits s line (n + 1) stop → ScriptStops a c t v limits stop
 line_stops a b c t u v r q n s line limits stop so next stops = due_stops a c t u v line n s limits stop (line_due a b c t u r q n s line so next) stops
 
-long_means : (script text : List ℕ) (lines : List (List ℕ)) (s : State) → is_long script ≡ true → whole_lines (take SCRIPT_LIMIT script) ≡ lines → AllDone no_names lines s text
+long_means : (script text : List ℕ) (lines : List (List ℕ)) (s : ScriptState) → is_long script ≡ true → whole_lines (take SCRIPT_LIMIT script) ≡ lines → AllDone no_names lines s text
     → Folds (last_of (is_long script)) 1 no_names (script_lines script) (text ++ closing (Refused 0 Length)) (Refused 0 Length)
 long_means script text lines s long same steps =
     subst (λ w. Folds (last_of w) 1 no_names (lines_in w (take SCRIPT_LIMIT script)) (text ++ closing (Refused 0 Length)) (Refused 0 Length)) (sym long)
@@ -207,7 +207,7 @@ long_means script text lines s long same steps =
     (folds_all (Refused 0 Length) no_names s lines text steps))
 
 -- the script is too long, and no line is left among the bytes that count
-pub long_stops : (a b c t u v : Option (List ℕ)) (r : Reading) (n : ℕ) (s : State) (limits : Limits) (stop : Early)
+pub long_stops : (a b c t u v : Option (List ℕ)) (r : Reading) (n : ℕ) (s : ScriptState) (limits : Limits) (stop : Early)
     → Going a b t u r n s → IsTooLong r b c → ErrorEnds u v 0 Length stop → ScriptStops a c t v limits stop
 long_stops a b c t u v r n s limits (early.Refused m) so long (same, wrote) = record {
   refusal = Length;
@@ -240,7 +240,7 @@ long_stops a b c t u v r n s limits early.ReadFault so long stops = absurd stops
 long_stops a b c t u v r n s limits (early.Stopped m kept) so long stops = absurd stops
 
 -- no line ends a run by a failed read
-pub no_fault_of_line : (u v : Option (List ℕ)) (limits : Limits) (s : State) (line : List ℕ) (n : ℕ) (stop : Early) → LineStops u v limits s line n stop
+pub no_fault_of_line : (u v : Option (List ℕ)) (limits : Limits) (s : ScriptState) (line : List ℕ) (n : ℕ) (stop : Early) → LineStops u v limits s line n stop
     → stop ≡ early.ReadFault → ⊥
 no_fault_of_line u v limits s line n stop stops same = subst (LineStops u v limits s line n) same stops
 
@@ -251,7 +251,7 @@ ended stop = Err stop
 same_error : (x y : Early) → ended x ≡ ended y → x ≡ y
 same_error x y same = cc
 
-pub no_fault_of_result : (u v : Option (List ℕ)) (limits : Limits) (s : State) (line : List ℕ) (n : ℕ) (result : Result Unit Early)
+pub no_fault_of_result : (u v : Option (List ℕ)) (limits : Limits) (s : ScriptState) (line : List ℕ) (n : ℕ) (result : Result Unit Early)
     → IfErr result (LineStops u v limits s line n) → result ≡ Err early.ReadFault → ⊥
 no_fault_of_result u v limits s line n (Ok x) stops same = cc
 no_fault_of_result u v limits s line n (Err e) stops same = no_fault_of_line u v limits s line n e stops (same_error e early.ReadFault same)
@@ -260,13 +260,13 @@ pub no_fault_of_refusal : (u v : Option (List ℕ)) (n : ℕ) (stop : Early) →
 no_fault_of_refusal u v n stop says same = subst (ErrorEnds u v n Length) (same_error stop early.ReadFault same) says
 
 -- a line that has begun is told by its number, which is not 0
-no_zero_of_line : (u v : Option (List ℕ)) (limits : Limits) (s : State) (line : List ℕ) (n : ℕ) (stop : Early) → LineStops u v limits s line (n + 1) stop
+no_zero_of_line : (u v : Option (List ℕ)) (limits : Limits) (s : ScriptState) (line : List ℕ) (n : ℕ) (stop : Early) → LineStops u v limits s line (n + 1) stop
     → stop ≡ early.NoMemory 0 → ⊥
 no_zero_of_line u v limits s line n stop stops same =
     let number : 0 ≡ n + 1 = (subst (LineStops u v limits s line (n + 1)) same stops).0 in
     omega (arith, number)
 
-pub no_zero_of_result : (u v : Option (List ℕ)) (limits : Limits) (s : State) (line : List ℕ) (n : ℕ) (result : Result Unit Early)
+pub no_zero_of_result : (u v : Option (List ℕ)) (limits : Limits) (s : ScriptState) (line : List ℕ) (n : ℕ) (result : Result Unit Early)
     → IfErr result (LineStops u v limits s line (n + 1)) → result ≡ Err (early.NoMemory 0) → ⊥
 no_zero_of_result u v limits s line n (Ok x) stops same = cc
 no_zero_of_result u v limits s line n (Err e) stops same = no_zero_of_line u v limits s line n e stops (same_error e (early.NoMemory 0) same)

@@ -6,7 +6,7 @@ use Rattle.std.proofs.lemmas.Bool.{lt-ltb}
 use Rattle.std.specs.declared.option.Option.{Option}
 use Rattle.std.specs.Io.KnownBytes.{Consumes, Keeps}
 use Rattle.session_top.specs.declared.TheConstants.{SCRIPT_LIMIT}
-use Rattle.session_values.specs.Names.{State, no_names}
+use Rattle.session_values.specs.Names.{ScriptState, no_names}
 use Rattle.session_top.specs.Lines.{whole_lines, onto_whole}
 use Rattle.session_top.specs.Meaning.{is_long}
 use Rattle.module_vectors.specs.declared.trail.KeptTrail.{KeptTrail}
@@ -78,7 +78,7 @@ none_or_some : (kept : Option Shown) → (kept ≡ None) ⊎ ((s : Shown) × (ke
 none_or_some None = inl refl
 none_or_some (Some s) = inr (s, refl)
 
-something_kept : (limits : Limits) (before : State) (line : List ℕ) (kept : Option Shown) → StopsScript limits before line kept None → kept ≡ None → ⊥
+something_kept : (limits : Limits) (before : ScriptState) (line : List ℕ) (kept : Option Shown) → StopsScript limits before line kept None → kept ≡ None → ⊥
 something_kept limits before line kept cause none = subst (λ k. StopsScript limits before line k None) none cause
 
 -- a stop that is no stop by a degree keeps a state

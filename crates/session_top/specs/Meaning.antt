@@ -6,8 +6,8 @@ use Rattle.script_parse.specs.declared.kind.Kind.TheVariants as kind
 use Rattle.session_top.specs.declared.early.Refusal.{Refusal}
 use Rattle.session_top.specs.declared.early.Refusal.TheVariants.{OfLine, Length}
 use Rattle.session_top.specs.declared.TheConstants.{SCRIPT_LIMIT}
-use Rattle.session_lang.specs.Lines.{Line, Refuses}
-use Rattle.session_values.specs.Names.{State, no_names}
+use Rattle.session_lang.specs.Lines.{Line, RefusesLine}
+use Rattle.session_values.specs.Names.{ScriptState, no_names}
 use Rattle.session_top.specs.Lines.{lines_in}
 
 -- how a script ends: all its lines are done, or one is refused; line 0 stands for the script as a whole
@@ -45,18 +45,18 @@ closing Done = []
 closing (Refused line refusal) = error_line line refusal
 
 -- From a state these lines are done, one after another: the state after them, and their text.
-abbrev pub AllDone : State → List (List ℕ) → State → List ℕ → Type 0
+abbrev pub AllDone : ScriptState → List (List ℕ) → ScriptState → List ℕ → Type 0
 AllDone before [] after text = (after ≡ before) × (text ≡ [])
-AllDone before (line ∷ lines) after text = (mid : State) × (first : List ℕ) × (rest : List ℕ)
+AllDone before (line ∷ lines) after text = (mid : ScriptState) × (first : List ℕ) × (rest : List ℕ)
     × Line before line mid first × AllDone mid lines after rest × (text ≡ first ++ rest)
 
 -- From a state, the lines from this number on are done up to the first that is refused; where none is, `last` comes.
-abbrev pub Folds : Ending → ℕ → State → List (List ℕ) → List ℕ → Ending → Type 0
+abbrev pub Folds : Ending → ℕ → ScriptState → List (List ℕ) → List ℕ → Ending → Type 0
 Folds last number before [] text ending = (ending ≡ last) × (text ≡ closing last)
 Folds last number before (line ∷ lines) text ending =
-    ((mid : State) × (first : List ℕ) × (rest : List ℕ)
+    ((mid : ScriptState) × (first : List ℕ) × (rest : List ℕ)
     × Line before line mid first × Folds last (number + 1) mid lines rest ending × (text ≡ first ++ rest))
-    ⊎ ((kind : Kind) × Refuses before line kind × (ending ≡ Refused number (OfLine kind)) × (text ≡ closing (Refused number (OfLine kind))))
+    ⊎ ((kind : Kind) × RefusesLine before line kind × (ending ≡ Refused number (OfLine kind)) × (text ≡ closing (Refused number (OfLine kind))))
 
 -- a script longer than the limit
 abbrev pub is_long : List ℕ → Bool

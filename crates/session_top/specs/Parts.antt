@@ -7,8 +7,8 @@ use Rattle.module_vectors.specs.declared.trail.KeptTrail.{KeptTrail}
 use Rattle.basis_core.specs.Shown.{Shown}
 use Rattle.byte_ports.specs.Causes.{AppendsFront}
 use Rattle.script_parse.specs.declared.kind.Kind.{Kind}
-use Rattle.session_lang.specs.Lines.{Line, Refuses}
-use Rattle.session_values.specs.Names.{State}
+use Rattle.session_lang.specs.Lines.{Line, RefusesLine}
+use Rattle.session_values.specs.Names.{ScriptState}
 use Rattle.session_top.specs.declared.early.Early.{Early}
 use Rattle.session_top.specs.declared.early.Early.TheVariants as early
 use Rattle.session_top.specs.declared.early.Refusal.{Refusal}
@@ -37,15 +37,15 @@ StopEnds taken taken' number state trail (early.NoMemory n) = ⊥
 StopEnds taken taken' number state trail early.ReadFault = ⊥
 
 -- what is written of a line
-abbrev pub IsDueOf : (limits : Limits) → State → List ℕ → ℕ → List ℕ → Type 0
-IsDueOf limits before line number text = ((after : State) × Line before line after text)
-    ⊎ ((kind : Kind) × Refuses before line kind × (text ≡ closing (Refused number (OfLine kind))))
+abbrev pub IsDueOf : (limits : Limits) → ScriptState → List ℕ → ℕ → List ℕ → Type 0
+IsDueOf limits before line number text = ((after : ScriptState) × Line before line after text)
+    ⊎ ((kind : Kind) × RefusesLine before line kind × (text ≡ closing (Refused number (OfLine kind))))
     ⊎ ((kept : Option Shown) × (trail : Option KeptTrail) × StopsScript limits before line kept trail × (text ≡ stop_line kept trail))
 
 -- a line was not done to its end
-abbrev pub LineStops : Option (List ℕ) → Option (List ℕ) → (limits : Limits) → State → List ℕ → ℕ → Early → Type 0
+abbrev pub LineStops : Option (List ℕ) → Option (List ℕ) → (limits : Limits) → ScriptState → List ℕ → ℕ → Early → Type 0
 LineStops taken taken' limits before line number (early.Refused n) =
-    (n ≡ number) × ((kind : Kind) × Refuses before line kind × Appends taken taken' (closing (Refused number (OfLine kind))))
+    (n ≡ number) × ((kind : Kind) × RefusesLine before line kind × Appends taken taken' (closing (Refused number (OfLine kind))))
 LineStops taken taken' limits before line number early.WriteFault =
     (text : List ℕ) × IsDueOf limits before line number text × AppendsFront taken taken' text
 LineStops taken taken' limits before line number (early.NoMemory n) = (n ≡ number) × Keeps taken taken'

@@ -10,7 +10,7 @@ use Rattle.session_top.specs.declared.early.Early.{Early}
 use Rattle.session_top.specs.declared.early.Early.TheVariants as early
 use Rattle.session_top.specs.declared.TheConstants.{SCRIPT_LIMIT}
 use Rattle.session_top.specs.Lines.{whole_lines}
-use Rattle.session_values.specs.Names.{State, no_names}
+use Rattle.session_values.specs.Names.{ScriptState, no_names}
 use Rattle.session_top.specs.Stops.{StopsScript, stop_line}
 use Rattle.session_top.specs.Meaning.{Ending, Done, Refused, Meaning, Folds, AllDone, script_lines, last_of, is_long}
 use Rattle.session_top.specs.Limits.{Limits}
@@ -37,7 +37,7 @@ pub record MeantRefused (left left' taken taken' : Option (List ℕ)) (line : �
 -- all lines that were whole in the bytes read were done, and their text is what was written
 pub record ReadCut (left left' taken taken' : Option (List ℕ)) : Type 0 where
   pub script : List ℕ
-  pub state : State
+  pub state : ScriptState
   pub text : List ℕ
   pub read : Consumes left left' script
   pub steps : AllDone no_names (whole_lines (take SCRIPT_LIMIT script)) state text
@@ -56,7 +56,7 @@ pub record MemoryCut (left left' taken taken' : Option (List ℕ)) (line : ℕ) 
   pub script : List ℕ
   pub lines : List (List ℕ)
   pub rest : List (List ℕ)
-  pub state : State
+  pub state : ScriptState
   pub text : List ℕ
   pub read : Consumes left left' script
   pub ready : AreReady script left' (lines ++ rest)
@@ -70,7 +70,7 @@ EndsAtLast last rest final = (final ≡ Done) ⊎ ((rest ≡ []) × (final ≡ l
 
 -- the text of these lines and the stop line of the first line of the rest
 pub record IsStopText (limits : Limits) (lines rest : List (List ℕ)) (text : List ℕ) : Type 0 where
-  pub state : State
+  pub state : ScriptState
   pub done : List ℕ
   pub line : List ℕ
   pub more : List (List ℕ)
@@ -104,7 +104,7 @@ pub record Stopped (left left' taken taken' : Option (List ℕ)) (limits : Limit
   pub lines : List (List ℕ)
   pub stopped : List ℕ
   pub rest : List (List ℕ)
-  pub state : State
+  pub state : ScriptState
   pub text : List ℕ
   pub read : Consumes left left' script
   pub ready : AreReady script left' (lines ++ (stopped ∷ rest))

@@ -15,7 +15,7 @@ use Rattle.basis_core.specs.Views.{run_of, state_of, variables_of}
 use Rattle.run_endings.specs.Endings.{IsDegreeStop, IsInterreductionStop}
 use Rattle.run_endings.specs.Stops.{shared_of_trail}
 use Rattle.session_lang.specs.Lines.{RunOf}
-use Rattle.session_values.specs.Names.{State}
+use Rattle.session_values.specs.Names.{ScriptState}
 use Rattle.session_lang.specs.Stops.{TrailOf}
 use Rattle.session_top.specs.Limits.{Limits}
 
@@ -37,17 +37,17 @@ abbrev pub pairs_line : Shown → List ℕ
 pairs_line s = codes "stop pairs " ++ decimal s.taken ++ (codes " queued " ++ decimal (length s.queue) ++ codes "\n")
 
 -- the line that tells a stop by the degree
-abbrev pub degree_line : KeptTrail → List ℕ
-degree_line t = codes "stop degree " ++ decimal (trail_degree t) ++ codes "\n"
+abbrev pub degree_stop_line : KeptTrail → List ℕ
+degree_stop_line t = codes "stop degree " ++ decimal (trail_degree t) ++ codes "\n"
 
 -- the line that tells a stop of which this state and this trail are kept
 abbrev pub stop_line : Option Shown → Option KeptTrail → List ℕ
 stop_line None None = []
 stop_line (Some s) None = pairs_line s
-stop_line s (Some t) = degree_line t
+stop_line s (Some t) = degree_stop_line t
 
 -- the state is of a run that this line needs, by so many workers with this budget of pairs, where this is queued as members come
-pub record IsRunState (limits : Limits) (before : State) (line : List ℕ) (s : Shown) : Type 0 where
+pub record IsRunState (limits : Limits) (before : ScriptState) (line : List ℕ) (s : Shown) : Type 0 where
   pub run : RunOf before line s.shared.ring s.shared.rank s.shared.generators
   pub replays : let n = variables_of s in Replays (run_of n s) (state_of n s)
   pub budget : s.budget ≡ limits.pairs
@@ -55,7 +55,7 @@ pub record IsRunState (limits : Limits) (before : State) (line : List ℕ) (s : 
   pub update : s.update ≡ limits.update
 
 -- a run of the line met its budget: so many pairs are taken, and a Take found one more, to which no criterion applies where new members drop none
-pub record StopsByPairs (limits : Limits) (before : State) (line : List ℕ) (s : Shown) : Type 0 where
+pub record StopsByPairs (limits : Limits) (before : ScriptState) (line : List ℕ) (s : Shown) : Type 0 where
   pub run : IsRunState limits before line s
   pub taken : s.taken ≡ s.budget
   pub moment : let n = variables_of s in KeepsBudgetStop (run_of n s) (state_of n s)
@@ -63,14 +63,14 @@ pub record StopsByPairs (limits : Limits) (before : State) (line : List ℕ) (s 
 -- The line needed a product of too great a degree: outside a run, in its division by a reduced basis or in a product of a list
 -- that it makes; in a run before there was a state, where a generator is divided; and in a run later, in the work on a pair or
 -- where a member's tail is divided.
-abbrev pub StopsByDegree : Limits → State → List ℕ → Option Shown → KeptTrail → Type 0
+abbrev pub StopsByDegree : Limits → ScriptState → List ℕ → Option Shown → KeptTrail → Type 0
 StopsByDegree limits before line None t =
     TrailOf before line t
     ⊎ (RunOf before line t.ring t.rank t.generators × IsBeginningTrail (variables t.ring) (shared_of_trail t) t)
 StopsByDegree limits before line (Some s) t = IsRunState limits before line s × (IsDegreeStop s t ⊎ IsInterreductionStop s t)
 
 -- the line stops the script, and this state and this trail are kept: a state alone at a stop by the budget, a trail at one by the degree
-abbrev pub StopsScript : Limits → State → List ℕ → Option Shown → Option KeptTrail → Type 0
+abbrev pub StopsScript : Limits → ScriptState → List ℕ → Option Shown → Option KeptTrail → Type 0
 StopsScript limits before line None None = ⊥
 StopsScript limits before line (Some s) None = StopsByPairs limits before line s
 StopsScript limits before line s (Some t) = StopsByDegree limits before line s t

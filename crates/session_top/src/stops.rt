@@ -4,7 +4,7 @@ ghost use Rattle.std.specs.Fmt.{decimal};
 ghost use Rattle.std.specs.Io.KnownBytes.{Appends};
 ghost use Rattle.monomials.specs.Weights.{first_weight};
 ghost use Rattle.byte_ports.specs.Causes.{AppendsFront, HasCause};
-ghost use Rattle.session_top.specs.Stops.{degree_by, degree_line, pairs_line, stop_line, trail_degree};
+ghost use Rattle.session_top.specs.Stops.{degree_by, degree_stop_line, pairs_line, stop_line, trail_degree};
 
 use crate::early::Kept;
 use basis_core::BasisState;
@@ -72,8 +72,8 @@ fn write_pairs_line<K: Sink>(sink: &mut K, state: &BasisState) -> Result<(), Fai
 
 /// Writes the line of a stop by the degree. It takes no memory.
 fn write_degree_line<K: Sink>(sink: &mut K, trail: &KeptTrail) -> Result<(), Failed>
-    ensures all { OnOk result (Appends (K.taken sink.old) (K.taken sink.new) (degree_line trail.now)) }
-    ensures front { OnErr result (AppendsFront (K.taken sink.old) (K.taken sink.new) (degree_line trail.now)) }
+    ensures all { OnOk result (Appends (K.taken sink.old) (K.taken sink.new) (degree_stop_line trail.now)) }
+    ensures front { OnErr result (AppendsFront (K.taken sink.old) (K.taken sink.new) (degree_stop_line trail.now)) }
     ensures cause { HasCause (K.faults sink.old) (K.faults sink.new) result }
 {
     write_count(sink, b"stop degree ", trail_degree(trail))?;

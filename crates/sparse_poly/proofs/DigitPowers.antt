@@ -21,7 +21,7 @@ use Rattle.sparse_poly.proofs.TopDegrees.{Occurs_within}
 use Rattle.sparse_poly.specs.Degrees.{HasDegreeWithin, IsWithinDegree}
 use Rattle.sparse_poly.specs.PowerParts.{IsPowerOver}
 use Rattle.sparse_poly.specs.Powers.{power}
-use Rattle.sparse_poly.specs.Stops.{Occurs, PowersFit}
+use Rattle.sparse_poly.specs.Stops.{OccursInPolynomial, PowersFit}
 use Rattle.sparse_poly.specs.TermPowers.{AreTermsWithin, StandForPower, raised_monomials}
 
 -- a number by its last digit
@@ -33,7 +33,7 @@ pub PowersFit_within : {n p : ℕ} (d : ℕ) (ws : List ℕ) (v : FormalSum n) (
 PowersFit_within {n} {p} d ws v k bound small = fits
   where
     fits :
-        (s t : ℕ) (a b : Exponents n) → s + t ≤ k → Occurs p (power v s) a → Occurs p (power v t) b
+        (s t : ℕ) (a b : Exponents n) → s + t ≤ k → OccursInPolynomial p (power v s) a → OccursInPolynomial p (power v t) b
         → weighted_degree ws a + weighted_degree ws b ≤ 65535
     fits s t a b le oa ob =
         let left : weighted_degree ws a ≤ s * d = Occurs_within (power v s) a (HasDegreeWithin_power v s bound) oa in

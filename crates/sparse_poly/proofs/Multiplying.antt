@@ -11,13 +11,13 @@ use Rattle.module_vectors.specs.declared.product.Product.{Product}
 use Rattle.module_vectors.specs.declared.stop.VectStop.{VectStop}
 use Rattle.module_vectors.specs.declared.stop.VectStop.TheVariants.{Degree, Memory}
 use Rattle.sparse_poly.proofs.Terms.{each_at, each_of}
-use Rattle.sparse_poly.specs.Multiples.{AreMultiples, exchanged}
+use Rattle.sparse_poly.specs.Multiples.{AreTermMultiples, exchanged}
 use Rattle.sparse_poly.specs.Stops.{ProductFits, PolynomialProductStops}
 
 pub AreMultiples_push :
     (v terms : List (CodeKey × ℕ)) (xs : List Product) (t : CodeKey × ℕ) (x : Product)
-    → x.residue ≡ t.1 → x.monomial.now ≡ t.0.monomial → x.vector.now ≡ v → AreMultiples v terms xs
-    → AreMultiples v (terms ++ t ∷ []) (xs ++ x ∷ [])
+    → x.residue ≡ t.1 → x.monomial.now ≡ t.0.monomial → x.vector.now ≡ v → AreTermMultiples v terms xs
+    → AreTermMultiples v (terms ++ t ∷ []) (xs ++ x ∷ [])
 AreMultiples_push v [] [] t x a b c h = (a, b, c, tt)
 AreMultiples_push v [] (y ∷ xs) t x a b c h = absurd h
 AreMultiples_push v (s ∷ terms) [] t x a b c h = absurd h
@@ -25,7 +25,7 @@ AreMultiples_push v (s ∷ terms) (y ∷ xs) t x a b c h = (h.0, h.1, h.2, AreMu
 
 -- their factors are residues and monomials
 pub multiples_factors :
-    (n : ℕ) (ws : List ℕ) (p : ℕ) (v terms : List (CodeKey × ℕ)) (xs : List Product) → AreMultiples v terms xs
+    (n : ℕ) (ws : List ℕ) (p : ℕ) (v terms : List (CodeKey × ℕ)) (xs : List Product) → AreTermMultiples v terms xs
     → Each (IsTerm n ws p) terms → Each (λ x. (x.residue < p) × IsWeighed n ws x.monomial.now) xs
 multiples_factors n ws p v [] [] h e = tt
 multiples_factors n ws p v [] (x ∷ xs) h e = absurd h
@@ -35,7 +35,7 @@ multiples_factors n ws p v (t ∷ terms) (x ∷ xs) h e =
 
 -- their vectors are v
 pub multiples_vectors :
-    (P : List (CodeKey × ℕ) → Type 0) (v terms : List (CodeKey × ℕ)) (xs : List Product) → AreMultiples v terms xs
+    (P : List (CodeKey × ℕ) → Type 0) (v terms : List (CodeKey × ℕ)) (xs : List Product) → AreTermMultiples v terms xs
     → P v → Each (λ x. P x.vector.now) xs
 multiples_vectors P v [] [] h e = tt
 multiples_vectors P v [] (x ∷ xs) h e = absurd h
@@ -44,7 +44,7 @@ multiples_vectors P v (t ∷ terms) (x ∷ xs) h e = (subst P (sym h.2) e, multi
 
 -- their sum is the product
 pub multiples_sum :
-    (n : ℕ) (v terms : List (CodeKey × ℕ)) (xs : List Product) → AreMultiples v terms xs
+    (n : ℕ) (v terms : List (CodeKey × ℕ)) (xs : List Product) → AreTermMultiples v terms xs
     → sum_of_products n xs ≡ product (sum_of n terms) (sum_of n v)
 multiples_sum n v [] [] h = refl
 multiples_sum n v [] (x ∷ xs) h = absurd h
@@ -57,7 +57,7 @@ multiples_sum n v (t ∷ terms) (x ∷ xs) h = ap₂ ◌++◌ one (multiples_sum
         ∙ ap₂ (λ m w. scale t.1 (exponents_of n m.exponents) (sum_of n w)) h.1 h.2
 
 pub multiples_fit :
-    (n : ℕ) (ws : List ℕ) (p : ℕ) (v terms : List (CodeKey × ℕ)) (xs : List Product) → AreMultiples v terms xs
+    (n : ℕ) (ws : List ℕ) (p : ℕ) (v terms : List (CodeKey × ℕ)) (xs : List Product) → AreTermMultiples v terms xs
     → Each (IsTerm n ws p) terms → ProductsFit xs → ProductFits terms v
 multiples_fit n ws p v [] [] h e f = tt
 multiples_fit n ws p v [] (x ∷ xs) h e f = absurd h
@@ -67,7 +67,7 @@ multiples_fit n ws p v (t ∷ terms) (x ∷ xs) h e f =
 
 -- each product has a term's monomial and the vector v
 pub multiples_monomial :
-    (v terms : List (CodeKey × ℕ)) (xs : List Product) → AreMultiples v terms xs
+    (v terms : List (CodeKey × ℕ)) (xs : List Product) → AreTermMultiples v terms xs
     → Each (λ x. HasMonomial terms x.monomial.now × (x.vector.now ≡ v)) xs
 multiples_monomial v [] [] h = tt
 multiples_monomial v [] (x ∷ xs) h = absurd h
@@ -83,7 +83,7 @@ multiples_monomial v (t ∷ terms) (x ∷ xs) h = (((t, (0, omega arith, refl), 
         (((has.0, (suc has.1.0, (let lt = has.1.1 in omega arith), has.1.2), has.2), h.0.1), later xs h.1)
 
 pub multiples_stop :
-    (v terms : List (CodeKey × ℕ)) (xs : List Product) (stop : VectStop) → AreMultiples v terms xs
+    (v terms : List (CodeKey × ℕ)) (xs : List Product) (stop : VectStop) → AreTermMultiples v terms xs
     → ProductsStop xs stop → PolynomialProductStops terms v stop
 multiples_stop v terms xs Memory h s = tt
 multiples_stop v terms xs (Degree a b) h s =

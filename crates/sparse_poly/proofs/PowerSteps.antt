@@ -24,7 +24,7 @@ use Rattle.sparse_poly.proofs.TopDegrees.{Occurs_within, PowersFit_of}
 use Rattle.sparse_poly.specs.Degrees.{HasDegreeWithin, IsWithinDegree}
 use Rattle.sparse_poly.specs.PowerParts.{IsPower, IsPowerOver, PowerStopsOver}
 use Rattle.sparse_poly.specs.Powers.{constant, power}
-use Rattle.sparse_poly.specs.Stops.{Occurs, PowerStops, PowersFit, ProductFits, PolynomialProductStops}
+use Rattle.sparse_poly.specs.Stops.{OccursInPolynomial, PowerStops, PowersFit, ProductFits, PolynomialProductStops}
 
 -- a stop of a lower power is one of a higher
 pub PowerStops_higher :
@@ -73,7 +73,7 @@ module _ {n r p : ℕ} {compare : Key n → Key n → Ordering} (order : IsKeyOr
       → PowersFit ws p base k
   power_fits base i j k a b poly e ha hb fits = PowersFit_of ws domain base i j k poly e both
     where
-      both : (x y : Exponents n) → Occurs p (power base i) x → Occurs p (power base j) y → weighted_degree ws x + weighted_degree ws y ≤ 65535
+      both : (x y : Exponents n) → OccursInPolynomial p (power base i) x → OccursInPolynomial p (power base j) y → weighted_degree ws x + weighted_degree ws y ≤ 65535
       both x y ox oy =
           let t = HasMonomial_of order ws p a (power base i) x ha.same ox in
           let u = HasMonomial_of order ws p b (power base j) y hb.same oy in

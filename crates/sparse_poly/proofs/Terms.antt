@@ -16,7 +16,7 @@ use Rattle.module_vectors.specs.Vectors.{HasPositions, IsTerm, IsVector, key_of,
 use Rattle.module_vectors.specs.declared.key.Key.{Key as CodeKey}
 use Rattle.sparse_poly.proofs.TopDegrees.{coefficient_elsewhere}
 use Rattle.sparse_poly.specs.Degrees.{HasDegreeWithin, IsWithinDegree}
-use Rattle.sparse_poly.specs.Stops.{Occurs}
+use Rattle.sparse_poly.specs.Stops.{OccursInPolynomial}
 
 at_index : {X : Type 0} (P : X → Type 0) (xs : List X) (x : X) (i : ℕ) → i < length xs → get_or xs i x ≡ x → Each P xs → P x
 at_index P [] x i lt e h = absurd (omega arith)
@@ -148,7 +148,7 @@ module _ {n r : ℕ} {compare : Key n → Key n → Ordering} (order : IsKeyOrde
   pub Occurs_of :
       (terms : List (CodeKey × ℕ)) (v : FormalSum n) (m : Monomial)
       → IsVector n ws p compare terms → HasPositions 1 terms → IsSame p (sum_of n terms) v → HasMonomial terms m
-      → Occurs p v (exponents_of n m.exponents)
+      → OccursInPolynomial p v (exponents_of n m.exponents)
   Occurs_of terms v m h positions same has z =
       let lt : has.0.0.position < 1 = each_at (λ t. t.0.position < 1) terms has.0 positions has.1 in
       let e : key_of n has.0.0 ≡ (0, exponents_of n has.0.0.monomial.exponents) = ap (λ i. (i, exponents_of n has.0.0.monomial.exponents)) (omega arith) in
@@ -159,7 +159,7 @@ module _ {n r : ℕ} {compare : Key n → Key n → Ordering} (order : IsKeyOrde
   -- what occurs there is the monomial of a term
   pub HasMonomial_of :
       (terms : List (CodeKey × ℕ)) (v : FormalSum n) (m : _)
-      → IsSame p (sum_of n terms) v → Occurs p v m
+      → IsSame p (sum_of n terms) v → OccursInPolynomial p v m
       → (t : CodeKey × ℕ) × Contains terms t × (exponents_of n t.0.monomial.exponents ≡ m)
   HasMonomial_of terms v m same occurs =
       let t = term_at p terms (0, m) (λ z. occurs (IsCongruent_trans (IsCongruent_sym (same.by_key (0, m))) z)) in

@@ -28,7 +28,7 @@ use Rattle.sparse_poly.proofs.Bounding.{HasDegreeWithin_power, product_weight}
 use Rattle.sparse_poly.proofs.Powering.{IsPolynomial_power}
 use Rattle.sparse_poly.specs.Degrees.{HasDegreeWithin}
 use Rattle.sparse_poly.specs.Powers.{constant, power}
-use Rattle.sparse_poly.specs.Stops.{Occurs, PowersFit}
+use Rattle.sparse_poly.specs.Stops.{OccursInPolynomial, PowersFit}
 
 -- a polynomial has no coefficient at other positions
 pub coefficient_elsewhere :
@@ -195,7 +195,7 @@ lead_degree {n} {p} ws v a h lead = record { above = λ k lt. by k lt (eq-zero-o
 
 -- what occurs has a degree within the bound
 pub Occurs_within :
-    {n p d : ℕ} {ws : List ℕ} (v : FormalSum n) (m : Exponents n) → HasDegreeWithin ws p d v → Occurs p v m → weighted_degree ws m ≤ d
+    {n p d : ℕ} {ws : List ℕ} (v : FormalSum n) (m : Exponents n) → HasDegreeWithin ws p d v → OccursInPolynomial p v m → weighted_degree ws m ≤ d
 Occurs_within {n} {p} {d} {ws} v m h o = by (cases_lt d (weighted_degree ws m))
   where
     by : (d < weighted_degree ws m) ⊎ (weighted_degree ws m ≤ d) → weighted_degree ws m ≤ d
@@ -204,7 +204,7 @@ Occurs_within {n} {p} {d} {ws} v m h o = by (cases_lt d (weighted_degree ws m))
 
 -- the monomials of two powers fit
 abbrev pub BothFit : {n : ℕ} → List ℕ → ℕ → FormalSum n → ℕ → ℕ → Type 0
-BothFit {n} ws p v i j = (a b : Exponents n) → Occurs p (power v i) a → Occurs p (power v j) b → weighted_degree ws a + weighted_degree ws b ≤ 65535
+BothFit {n} ws p v i j = (a b : Exponents n) → OccursInPolynomial p (power v i) a → OccursInPolynomial p (power v j) b → weighted_degree ws a + weighted_degree ws b ≤ 65535
 
 -- where those of two powers fit, those of all whose exponents sum to no more do
 pub PowersFit_of :

@@ -6,12 +6,12 @@ use Rattle.module_vectors.specs.declared.stop.VectStop.{VectStop}
 use Rattle.module_vectors.specs.declared.stop.VectStop.TheVariants.{Memory, Degree}
 
 -- item by item, xs are the products of the terms and v
-abbrev pub AreMultiples : List (CodeKey × ℕ) → List (CodeKey × ℕ) → List Product → Type 0
-AreMultiples v [] [] = Unit {0}
-AreMultiples v [] (x ∷ xs) = ⊥
-AreMultiples v (t ∷ terms) [] = ⊥
-AreMultiples v (t ∷ terms) (x ∷ xs) =
-    (x.residue ≡ t.1) × (x.monomial.now ≡ t.0.monomial) × (x.vector.now ≡ v) × AreMultiples v terms xs
+abbrev pub AreTermMultiples : List (CodeKey × ℕ) → List (CodeKey × ℕ) → List Product → Type 0
+AreTermMultiples v [] [] = Unit {0}
+AreTermMultiples v [] (x ∷ xs) = ⊥
+AreTermMultiples v (t ∷ terms) [] = ⊥
+AreTermMultiples v (t ∷ terms) (x ∷ xs) =
+    (x.residue ≡ t.1) × (x.monomial.now ≡ t.0.monomial) × (x.vector.now ≡ v) × AreTermMultiples v terms xs
 
 -- the stop with its two monomials exchanged
 abbrev pub exchanged : VectStop → VectStop

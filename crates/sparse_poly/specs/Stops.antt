@@ -21,18 +21,18 @@ PolynomialProductStops a b Memory = ⊤
 PolynomialProductStops a b (Degree s t) = HasMonomial a s × HasMonomial b t × IsTooGreat s t
 
 -- the polynomial has a term with this monomial, modulo p
-abbrev pub Occurs : {n : ℕ} → ℕ → FormalSum n → Exponents n → Type 0
-Occurs p v m = IsCongruent p (coefficient v (0, m)) 0 → ⊥
+abbrev pub OccursInPolynomial : {n : ℕ} → ℕ → FormalSum n → Exponents n → Type 0
+OccursInPolynomial p v m = IsCongruent p (coefficient v (0, m)) 0 → ⊥
 
 -- each monomial of a power times each of another fits, where the exponents sum to at most k
 abbrev pub PowersFit : {n : ℕ} → List ℕ → ℕ → FormalSum n → ℕ → Type 0
 PowersFit {n} ws p v k =
-    (i j : ℕ) (a b : Exponents n) → i + j ≤ k → Occurs p (power v i) a → Occurs p (power v j) b
+    (i j : ℕ) (a b : Exponents n) → i + j ≤ k → OccursInPolynomial p (power v i) a → OccursInPolynomial p (power v j) b
     → weighted_degree ws a + weighted_degree ws b ≤ 65535
 
 -- Degree comes where monomials of two powers, with exponents that sum to at most k, have too great a degree together
 abbrev pub PowerStops : (n : ℕ) → List ℕ → ℕ → FormalSum n → ℕ → VectStop → Type 0
 PowerStops n ws p v k Memory = ⊤
 PowerStops n ws p v k (Degree s t) =
-    (i : ℕ) × (j : ℕ) × (i + j ≤ k) × Occurs p (power v i) (exponents_of n s.exponents) × Occurs p (power v j) (exponents_of n t.exponents)
+    (i : ℕ) × (j : ℕ) × (i + j ≤ k) × OccursInPolynomial p (power v i) (exponents_of n s.exponents) × OccursInPolynomial p (power v j) (exponents_of n t.exponents)
     × IsTooGreat s t × IsWeighed n ws s × IsWeighed n ws t

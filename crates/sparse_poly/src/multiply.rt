@@ -4,7 +4,7 @@ ghost use Rattle.formal_sums.specs.FormalSums.{product};
 ghost use Rattle.module_vectors.specs.Rings.{variables};
 ghost use Rattle.module_vectors.specs.Vectors.{sum_of, IsVectorOver, StandsFor, HasPositions};
 ghost use Rattle.sparse_poly.specs.Degrees.{IsWithinDegree};
-ghost use Rattle.sparse_poly.specs.Multiples.{AreMultiples, exchanged};
+ghost use Rattle.sparse_poly.specs.Multiples.{AreTermMultiples, exchanged};
 ghost use Rattle.sparse_poly.specs.Stops.{ProductFits, PolynomialProductStops};
 
 use crate::digits::top_degree;
@@ -116,7 +116,7 @@ fn multiples<'a>(
     terms: &'a [(Key, u32)],
     v: &'a Vect,
 ) -> Result<Vec<Product<'a>>, NoMemory>
-    ensures { IfOk result (λ products. AreMultiples v.now terms.now products.items) }
+    ensures { IfOk result (λ products. AreTermMultiples v.now terms.now products.items) }
 {
     let mut products = Vec::with_capacity(alloc, terms.len())?;
     for term in terms {

@@ -8,7 +8,7 @@ ghost use Rattle.formal_sums.specs.FormalSums.{FormalSum, IsPolynomial, IsSame, 
 ghost use Rattle.sparse_poly.specs.Degrees.{HasDegreeWithin};
 ghost use Rattle.sparse_poly.specs.Binomials.{binary_form, choose};
 ghost use Rattle.sparse_poly.specs.Powers.{power};
-ghost use Rattle.sparse_poly.specs.Stops.{Occurs, PowersFit};
+ghost use Rattle.sparse_poly.specs.Stops.{OccursInPolynomial, PowersFit};
 ghost use Rattle.sparse_poly.specs.TermPowers.{raised_monomials};
 ghost use Rattle.bases.specs.Leads.{IsLead};
 ghost use Rattle.bases.specs.Settings.{Setting, IsLawful};
@@ -43,7 +43,7 @@ pub fn top_degrees()
         → IsLead S (product u v) (0, times a b) }
     ensures powers { (n p i j : ℕ) (ws : List ℕ) (v : FormalSum n)
         → IsDomain p → IsPolynomial v
-        → ((a b : Exponents n) → Occurs p (power v i) a → Occurs p (power v j) b → weighted_degree ws a + weighted_degree ws b ≤ 65535)
+        → ((a b : Exponents n) → OccursInPolynomial p (power v i) a → OccursInPolynomial p (power v j) b → weighted_degree ws a + weighted_degree ws b ≤ 65535)
         → PowersFit ws p v (i + j) }
 {}
 

@@ -2,7 +2,7 @@ use Rattle.std.proofs.Common.{List, [], length, rules, subst, ℕ}
 use Rattle.queue_updates.specs.declared.Update.{Update}
 use Rattle.basis_steps.specs.Pairs.{Drop, Pair}
 use Rattle.basis_steps.specs.Updates.{QueuesPairs}
-use Rattle.pair_queue.specs.Leads.{LeadsShown, setting_of as setting_by, sums_shown}
+use Rattle.pair_updates.specs.Leads.{LeadsShown, setting_of_leads as setting_by, sums_shown}
 use Rattle.basis_core.specs.Jobs.{pairs_of}
 use Rattle.basis_core.proofs.KnownByLeads.{queues_known}
 use Rattle.basis_core.proofs.leading.first_pairs.Goals as goal

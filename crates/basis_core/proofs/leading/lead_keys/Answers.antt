@@ -6,7 +6,7 @@ use Rattle.module_vectors.proofs.Scaling.{Each_at}
 use Rattle.module_vectors.specs.Vectors.{IsMonomialOver}
 use Rattle.module_vectors.specs.declared.key.Key.{Key as CodeKey}
 use Rattle.basis_core.specs.Leads.{first_key}
-use Rattle.basis_core.specs.Members.{Shared, Tracked}
+use Rattle.basis_core.specs.Members.{Shared, MemberShown}
 use Rattle.basis_core.proofs.KnownByLeads.{key_weighed, next_key, no_keys}
 use Rattle.basis_core.proofs.Trailing.{members_nonzero}
 use Rattle.basis_core.proofs.leading.lead_keys.Goals as goal
@@ -24,16 +24,16 @@ pub lead_key-requires : goal.lead_key-requires
 lead_key-requires c =
     let ms = c.args.members.now.list in
     let within : c.loop-index.index < length ms = omega (arith, c.loop-index-test.true, c.len-index-end.ensures) in
-    Each_at (λ (m : Tracked). 0 < length m.vector) ms c.loop-index.index c.get.result.now
+    Each_at (λ (m : MemberShown). 0 < length m.vector) ms c.loop-index.index c.get.result.now
     (members_nonzero c.args.members.now.shared ms c.requires.monic) within c.get.ensures.terms
 
 pub loop-index-preserved : goal.loop-index-preserved
 loop-index-preserved c =
     let ms = c.args.members.now.list in
     let shared : Shared = c.args.members.now.shared in
-    let m : Tracked = c.get.result.now in
+    let m : MemberShown = c.get.result.now in
     let within : c.loop-index.index < length ms = omega (arith, c.loop-index-test.true, c.len-index-end.ensures) in
-    let some = Each_at (λ (m : Tracked). 0 < length m.vector) ms c.loop-index.index m (members_nonzero shared ms c.requires.monic) within c.get.ensures.terms in
+    let some = Each_at (λ (m : MemberShown). 0 < length m.vector) ms c.loop-index.index m (members_nonzero shared ms c.requires.monic) within c.get.ensures.terms in
     let more : c.push.new.self.items ≡ c.loop-index.keys.items ++ (first_key m.vector ∷ []) = c.in_ok-push.ensures.items
     ∙ ap (λ k. c.loop-index.keys.items ++ (k ∷ [])) c.in_ok-key.ensures in
     record {
@@ -48,4 +48,4 @@ pub returns-clause-leads : goal.returns-clause-leads
 returns-clause-leads c =
     let ms = c.args.members.now.list in
     let all : length ms ≤ c.loop-index.index = omega (arith, c.loop-index-test.false, c.len-index-end.ensures) in
-    c.loop-index.invariant.keys ∙ ap (λ l. drop c.args.first (map (λ (m : Tracked). first_key m.vector) l)) (take_all c.loop-index.index ms all)
+    c.loop-index.invariant.keys ∙ ap (λ l. drop c.args.first (map (λ (m : MemberShown). first_key m.vector) l)) (take_all c.loop-index.index ms all)

@@ -3,7 +3,7 @@ use Rattle.formal_sums.specs.FormalSums.{Each}
 use Rattle.monomial_orders.specs.Kept.{IsWeighed}
 use Rattle.module_vectors.specs.declared.key.Key.{Key as CodeKey}
 use Rattle.basis_steps.specs.Updates.{QueuesPairs}
-use Rattle.pair_queue.specs.Leads.{LeadsShown, setting_of as setting_by, sums_shown}
+use Rattle.pair_updates.specs.Leads.{LeadsShown, setting_of_leads as setting_by, sums_shown}
 use Rattle.basis_core.specs.Jobs.{pairs_of}
 use Rattle.basis_core.proofs.KnownByLeads.{leads_count, leads_joined, queues_known}
 use Rattle.basis_core.proofs.putting.add_pairs.Goals as goal

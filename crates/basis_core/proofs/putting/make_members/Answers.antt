@@ -2,9 +2,9 @@ use Rattle.std.proofs.Common.{List, [], drop, length, subst, sym, take, ◌+◌,
 use Rattle.formal_sums.specs.FormalSums.{Each}
 use Rattle.module_vectors.proofs.Scaling.{take_item}
 use Rattle.module_vectors.specs.Rings.{variables}
-use Rattle.basis_steps.specs.Divisions.{IsMonicMember, Makes}
+use Rattle.basis_steps.specs.Divisions.{IsMonicMember, MakesMembers}
 use Rattle.basis_steps.specs.States.{vectors}
-use Rattle.member_products.specs.declared.member.Row.{Row}
+use Rattle.member_products.specs.declared.member.Reduct.{Reduct}
 use Rattle.basis_core.specs.Makings.{HaveMadeRows}
 use Rattle.basis_core.specs.Members.{IsRunMember, MembersShown, Shared, member_of, members_of, setting_of}
 use Rattle.basis_core.specs.RowDivision.{with_multiple}
@@ -28,7 +28,7 @@ make_member-requires-clause-monic c =
 
 pub returns-in-Err-clause-stop : goal.returns-in-Err-clause-stop
 returns-in-Err-clause-stop c =
-    let rows : List Row = c.args.rows.now in
+    let rows : List Reduct = c.args.rows.now in
     let row = c.row-item.result in
     let n = variables c.args.members.now.shared.ring in
     let same : c.make_member.new.members ≡ c.loop-row.members = c.in-Err.ensures.err in
@@ -49,16 +49,16 @@ pub loop-row-preserved : goal.loop-row-preserved
 loop-row-preserved c =
     let n = variables c.args.members.now.shared.ring in
     let shared : Shared = c.args.members.now.shared in
-    let rows : List Row = c.args.rows.now in
+    let rows : List Reduct = c.args.rows.now in
     let row = c.row-item.result in
     let made = c.in_default.ensures.made in
     let one : HaveMadeRows n shared c.loop-row.members.list (row ∷ []) c.make_member.new.members.list =
     made_one n shared c.loop-row.members.list row c.zero-none.result made.0 c.make_member.new.members.list c.zero-none.ensures made.1
-    (subst (λ (s : Shared). Makes (setting_of (variables s.ring) s) (vectors (members_of (variables s.ring) c.loop-row.members.list))
+    (subst (λ (s : Shared). MakesMembers (setting_of (variables s.ring) s) (vectors (members_of (variables s.ring) c.loop-row.members.list))
     (member_of (variables s.ring) (with_multiple row c.zero-none.result) ∷ []) (members_of (variables s.ring) made.0))
     c.loop-row.invariant.shared made.2) in
     let all : HaveMadeRows n shared c.args.members.now.list (take (c.loop-row.row-index + 1) rows) c.make_member.new.members.list =
-    subst (λ (l : List Row). HaveMadeRows n shared c.args.members.now.list l c.make_member.new.members.list)
+    subst (λ (l : List Reduct). HaveMadeRows n shared c.args.members.now.list l c.make_member.new.members.list)
     (sym (take_item rows c.loop-row.row-index row c.loop-row-test.true c.row-item.is))
     (more_made n shared c.args.members.now.list (take c.loop-row.row-index rows) c.loop-row.members.list
     (row ∷ []) c.make_member.new.members.list c.loop-row.invariant.made one) in

@@ -1,11 +1,11 @@
 use Rattle.std.proofs.Common.{List, length, refl, subst, sym, ℕ}
 use Rattle.formal_sums.specs.FormalSums.{Each}
 use Rattle.module_vectors.specs.Rings.{variables}
-use Rattle.member_products.specs.declared.member.Row.{Row as CodeRow}
+use Rattle.member_products.specs.declared.member.Reduct.{Reduct as CodeReduct}
 use Rattle.basis_steps.specs.Divisions.{IsMonicMember}
 use Rattle.basis_steps.specs.States.{vectors}
 use Rattle.basis_core.specs.Makings.{StopsAt, StopsOne, StopsRow}
-use Rattle.basis_core.specs.Members.{IsRunRow, IsTracked, Shared, Tracked, members_of, setting_of}
+use Rattle.basis_core.specs.Members.{IsRunRow, IsMemberShown, Shared, MemberShown, members_of, setting_of}
 use Rattle.basis_core.specs.Outcomes.{OutcomeShown}
 use Rattle.basis_core.proofs.AfterPut.{base_more, one_stops, stops_outcome}
 use Rattle.basis_core.proofs.Tracking.{rows_more}
@@ -35,9 +35,9 @@ pub put_stop-stop-requires-clause-row : goal.put_stop-stop-requires-clause-row
 put_stop-stop-requires-clause-row c =
     let shared : Shared = c.args.members.now.shared in
     let o : OutcomeShown = c.args.outcome.now in
-    let after : List Tracked = c.make_members.new.members.list in
+    let after : List MemberShown = c.make_members.new.members.list in
     let row : StopsRow (variables shared.ring) shared c.args.members.now.list o.rows after c.in-Err.stop =
-    subst (λ (rows : List CodeRow). StopsRow (variables shared.ring) shared c.args.members.now.list rows after c.in-Err.stop) c.rows.ensures c.in-Err.ensures.stop in
+    subst (λ (rows : List CodeReduct). StopsRow (variables shared.ring) shared c.args.members.now.list rows after c.in-Err.stop) c.rows.ensures c.in-Err.ensures.stop in
     subst (λ (sh : Shared). StopsOne (variables sh.ring) sh.ring.weights after o.rows c.in-Err.stop) (sym c.in-Err.ensures.shared)
     (one_stops (variables shared.ring) shared c.args.members.now.list o.rows after c.in-Err.stop row)
 
@@ -45,10 +45,10 @@ pub returns-in-Err-clause-stop : goal.returns-in-Err-clause-stop
 returns-in-Err-clause-stop c =
     let shared : Shared = c.args.members.now.shared in
     let o : OutcomeShown = c.args.outcome.now in
-    let after : List Tracked = c.make_members.new.members.list in
+    let after : List MemberShown = c.make_members.new.members.list in
     let row : StopsRow (variables shared.ring) shared c.args.members.now.list o.rows after c.in-Err.stop =
-    subst (λ (rows : List CodeRow). StopsRow (variables shared.ring) shared c.args.members.now.list rows after c.in-Err.stop)
+    subst (λ (rows : List CodeReduct). StopsRow (variables shared.ring) shared c.args.members.now.list rows after c.in-Err.stop)
     c.rows.ensures c.in-Err.ensures.stop in
     stops_outcome (variables shared.ring) shared c.args.members.now.list after o c.in-Err.stop c.put_stop-stop.result refl row
-    (subst (λ (sh : Shared). Each (IsTracked sh) after) c.in-Err.ensures.shared c.kept-in-Err.ensures)
+    (subst (λ (sh : Shared). Each (IsMemberShown sh) after) c.in-Err.ensures.shared c.kept-in-Err.ensures)
     (subst (λ (sh : Shared). StopsAt sh after o c.in-Err.stop c.put_stop-stop.result) c.in-Err.ensures.shared c.put_stop-stop.ensures)

@@ -10,7 +10,7 @@ use Rattle.pair_criteria.specs.declared.pair.Pair.{Pair as CodePair}
 use Rattle.pair_criteria.specs.Traces.{AreTraced}
 use Rattle.basis_core.specs.Chains.{IsTracedTo}
 use Rattle.basis_core.specs.Jobs.{IsJobOver, JobShown}
-use Rattle.basis_core.specs.Members.{Shared, Tracked}
+use Rattle.basis_core.specs.Members.{Shared, MemberShown}
 use Rattle.basis_core.specs.Outcomes.{OutcomeShown}
 use Rattle.basis_core.specs.Rows.{vectors_in}
 use Rattle.basis_core.proofs.Tracing.{HasStoppedRow, all_known, all_traced}
@@ -58,7 +58,7 @@ trace_back-requires-clause-traced c =
 
 pub returns-clause-trail : goal.returns-clause-trail
 returns-clause-trail c =
-    let ms : List Tracked = c.args.members.now.list in
+    let ms : List MemberShown = c.args.members.now.list in
     let shared : Shared = c.args.members.now.shared in
     let o : OutcomeShown = c.args.outcome.now in
     let n : ℕ = variables shared.ring in
@@ -86,7 +86,7 @@ returns-clause-trail c =
 
 pub returns-clause-ends : goal.returns-clause-ends
 returns-clause-ends c =
-    let ms : List Tracked = c.args.members.now.list in
+    let ms : List MemberShown = c.args.members.now.list in
     let shared : Shared = c.args.members.now.shared in
     let o : OutcomeShown = c.args.outcome.now in
     let n : ℕ = variables shared.ring in

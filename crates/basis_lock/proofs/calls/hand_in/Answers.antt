@@ -1,6 +1,6 @@
 use Rattle.std.proofs.Common.{List, [], ap, length, refl, subst, sym, ◌++◌, ◌∙◌, ◌∷◌, ℕ}
 use Rattle.basis_steps.specs.Steps as steps
-use Rattle.basis_core.specs.Members.{Tracked, members_of, rows_of}
+use Rattle.basis_core.specs.Members.{MemberShown, members_of, rows_of}
 use Rattle.basis_core.specs.Outcomes.{OutcomeShown, products_of}
 use Rattle.basis_core.specs.Shown.{Shown}
 use Rattle.basis_core.specs.Views.{run_of, state_of, variables_of}
@@ -38,7 +38,7 @@ returns-in-Ok-clause-put g c =
     let v : View Noted Base = c.args.seat.now.place.me.0 in
     let b : Base = base c.args.lock.now.table.shared.key.value in
     let o : OutcomeShown = c.args.outcome in
-    let made : List Tracked = (c.in-Ok.ensures.step).0 in
+    let made : List MemberShown = (c.in-Ok.ensures.step).0 in
     let put = (c.in-Ok.ensures.step).1 in
     let more = subst (λ (w : ℕ). Adds (Put w made) s t) c.requires.may.worker put.adds in
     record {

@@ -5,13 +5,13 @@ use Rattle.module_vectors.specs.Rings.{variables}
 use Rattle.module_vectors.specs.Vectors.{sums_of}
 use Rattle.basis_steps.specs.Cofactors.{AreCombined}
 use Rattle.member_products.specs.Members.{members_of}
-use Rattle.basis_core.specs.Members.{Shared, Tracked, shared_of}
+use Rattle.basis_core.specs.Members.{Shared, MemberShown, shared_of}
 use Rattle.cofactor_track.specs.declared.member.Member.{Member}
 use Rattle.cofactor_track.proofs.runs.run_members.Goals as goal
 
 pub with_cofactors-requires-clause-combined : goal.with_cofactors-requires-clause-combined
 with_cofactors-requires-clause-combined c =
-    subst₂ (λ (s : Shared) (l : List Tracked). AreCombined s.ring.modulus.value (sums_of (variables s.ring) s.generators) (members_of (variables s.ring) l))
+    subst₂ (λ (s : Shared) (l : List MemberShown). AreCombined s.ring.modulus.value (sums_of (variables s.ring) s.generators) (members_of (variables s.ring) l))
     (sym c.members-members.ensures.shared) (sym c.members-members.ensures.list) c.kept.ensures.holds.combined
 
 pub returns-in_ok-with_cofactors-in-Ok-clause-shared : goal.returns-in_ok-with_cofactors-in-Ok-clause-shared

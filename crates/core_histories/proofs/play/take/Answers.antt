@@ -1,6 +1,6 @@
 use Rattle.std.proofs.Common.{ap, subst, sym, ℕ, ◌∙◌}
 use Rattle.basis_core.specs.Outcomes.{OutcomeShown}
-use Rattle.basis_core.specs.Pending.{MayPut}
+use Rattle.basis_core.specs.Pending.{MayPutOutcome}
 use Rattle.basis_core.specs.Shown.{Shown}
 use Rattle.core_histories.specs.Waiting.{AreWaiting}
 use Rattle.basis_core.specs.Answers.{AnswersTake}
@@ -33,7 +33,7 @@ returns-in-Ok g c =
     let o : OutcomeShown = c.in-Ok.outcome in
     let given = c.in-Ok-Job.field-0-is ∙ ap taken.Job (sym c.in-Ok.ensures.job) in
     let answers : AnswersTake w t (taken.Job o.job) = subst (AnswersTake w t) given c.in-Ok-Job.ensures.answer in
-    let may : MayPut t o = c.pending_outcomes.ensures.taken s t w c.args.most c.in-Ok-Job.field-0 o c.requires.may c.in-Ok-Job.ensures.step c.take.ensures.run c.in-Ok-Job.ensures.answer given in
+    let may : MayPutOutcome t o = c.pending_outcomes.ensures.taken s t w c.args.most c.in-Ok-Job.field-0 o c.requires.may c.in-Ok-Job.ensures.step c.take.ensures.run c.in-Ok-Job.ensures.answer given in
     let before : AreWaiting t c.take_back.new.waiting.items =
     waits_on s t w c.args.waiting.now.items c.take_back.new.waiting.items c.requires.waiting
     (λ q apart old. c.pending_outcomes.ensures.take s t w c.args.most c.in-Ok-Job.field-0 q c.in-Ok-Job.ensures.step c.take.ensures.run c.take.ensures.members apart old)

@@ -3,14 +3,14 @@ use Rattle.basis_core.specs.Shown.{Shown}
 use Rattle.ruled_lock.specs.declared.law.View.{View}
 use Rattle.ruled_lock.specs.Plays.{AllBack}
 use Rattle.basis_core.specs.Logs.{Base, Noted, base, log}
-use Rattle.f4_engine.specs.Workers.{AllDone, EachDone, IsReady}
+use Rattle.f4_engine.specs.Workers.{AllWorkersDone, EachDone, IsFirstView}
 use Rattle.f4_engine.proofs.Begun.{all_ended, all_took}
 use Rattle.f4_engine.proofs.Seats.{all_back, each_done, opener_ready}
 use Rattle.f4_engine.proofs.runs.let_work.Goals as goal
 
 pub work_all-seat-requires-clause-ready : goal.work_all-seat-requires-clause-ready
 work_all-seat-requires-clause-ready g c κs within =
-    subst (λ (z : ℕ × View Noted Base). IsReady z.0 z.1) (λ i. (sym c.workers-workers.ensures i, sym c.in-Ok.ensures.seat.1 i)) (opener_ready (base c.args.state))
+    subst (λ (z : ℕ × View Noted Base). IsFirstView z.0 z.1) (λ i. (sym c.workers-workers.ensures i, sym c.in-Ok.ensures.seat.1 i)) (opener_ready (base c.args.state))
 
 pub close-state-requires-clause-all : goal.close-state-requires-clause-all
 close-state-requires-clause-all g c =
@@ -25,7 +25,7 @@ returns-in-Ok g c =
     let v : View Noted Base = c.work_all-seat.result.place.me.0 in
     let many : c.workers-workers.result ≡ k.workers = c.workers-workers.ensures ∙ ap (λ (s : Shown). s.workers) (sym c.in-Ok.ensures.lock) in
     let same : base t ≡ base c.args.state = c.close-state.ensures.base ∙ ap base c.in-Ok.ensures.lock in
-    let done : EachDone k.workers (log t) = each_done k.workers v (log t) (subst (λ (n : ℕ). AllDone n v) many c.work_all-seat.ensures.done) c.close-state.ensures.history in
+    let done : EachDone k.workers (log t) = each_done k.workers v (log t) (subst (λ (n : ℕ). AllWorkersDone n v) many c.work_all-seat.ensures.done) c.close-state.ensures.history in
     let all : EachDone t.workers (log t) = subst (λ (n : ℕ). EachDone n (log t)) (sym (ap (λ (b : Base). b.workers) c.close-state.ensures.base)) done in
     record {
       shared = ap (λ (b : Base). b.shared) same;

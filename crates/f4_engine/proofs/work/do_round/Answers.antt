@@ -9,8 +9,8 @@ use Rattle.f4_engine.proofs.work.do_round.Goals as goal
 pub take_job-requires-clause-may : goal.take_job-requires-clause-may
 take_job-requires-clause-may g c = record { known = c.requires.works.known; works = c.requires.works.works; free = c.requires.works.free; some = omega arith }
 
-pub do_job_in_turn-requires-clause-job : goal.do_job_in_turn-requires-clause-job
-do_job_in_turn-requires-clause-job g c κs within =
+pub do_taken_job-requires-clause-job : goal.do_taken_job-requires-clause-job
+do_taken_job-requires-clause-job g c κs within =
     (takes_a_job (base c.args.lock.now.table.shared.key.value) c.args.seat.now.place.me.0 c.take_job.new.seat.place.me.0 512 c.in-Ok-Job.job c.requires.works (rw c.in-Ok-Job.field-0-is at c.in-Ok-Job.ensures.took)).1
 
 pub ask_to_end-requires-clause-none : goal.ask_to_end-requires-clause-none
@@ -38,7 +38,7 @@ returns-in-Ok-Job-clause-ends g c =
     let v : View Noted Base = c.args.seat.now.place.me.0 in
     let w : View Noted Base = c.take_job.new.seat.place.me.0 in
     let took = takes_a_job (base c.args.lock.now.table.shared.key.value) v w 512 c.in-Ok-Job.job c.requires.works (rw c.in-Ok-Job.field-0-is at c.in-Ok-Job.ensures.took) in
-    (same_twice v w c.do_job_in_turn.new.seat.place.me.0 took.0 c.do_job_in_turn.ensures.ends.0, c.do_job_in_turn.ensures.ends.1)
+    (same_twice v w c.do_taken_job.new.seat.place.me.0 took.0 c.do_taken_job.ensures.ends.0, c.do_taken_job.ensures.ends.1)
 
 pub returns-in-Ok-Empty-clause-ends : goal.returns-in-Ok-Empty-clause-ends
 returns-in-Ok-Empty-clause-ends g c =

@@ -1,7 +1,7 @@
 use Rattle.std.proofs.Common.{length, rules, subst, sym, true, ◌≡◌}
 use Rattle.monomials.specs.Exponents.{exponents_of}
 use Rattle.monomial_counts.specs.Counts.{has_divisor}
-use Rattle.hilbert_series.specs.Generators.{AreGenerators, monomials}
+use Rattle.hilbert_series.specs.Generators.{AreMonomialGenerators, monomials}
 use Rattle.hilbert_series.proofs.Loops.{Sifting, last_weighed, sifting_begins, sifting_drops, sifting_ends, sifting_keeps}
 use Rattle.hilbert_series.proofs.generators.without_earlier_multiples.Goals as goal
 
@@ -32,10 +32,10 @@ loop-m-init c =
 
 pub is_multiple-requires-clause-generators : goal.is_multiple-requires-clause-generators
 is_multiple-requires-clause-generators c =
-    subst (AreGenerators (length c.args.weights.now) c.args.weights.now) (sym c.as_slice.ensures.value) c.loop-m.invariant.kept_generators
+    subst (AreMonomialGenerators (length c.args.weights.now) c.args.weights.now) (sym c.as_slice.ensures.value) c.loop-m.invariant.kept_generators
 
 pub is_multiple-requires-clause-monomial : goal.is_multiple-requires-clause-monomial
 is_multiple-requires-clause-monomial c =
     let ws = c.args.weights.now in
-    last_weighed (length ws) ws c.pop.new.self.items c.in-Some.m (subst (AreGenerators (length ws) ws) c.in-Some.ensures.items
+    last_weighed (length ws) ws c.pop.new.self.items c.in-Some.m (subst (AreMonomialGenerators (length ws) ws) c.in-Some.ensures.items
     c.loop-m.invariant.rest_generators)

@@ -1,6 +1,6 @@
 use Rattle.std.proofs.Common.{length, take}
-use Rattle.hilbert_series.specs.Generators.{AreApart, monomials}
+use Rattle.hilbert_series.specs.Generators.{AreCoprimeToAll, monomials}
 use Rattle.hilbert_series.proofs.parts.are_apart.Given as goal
 
 abbrev pub invariant-loop-m : goal.invariant-loop-m
-invariant-loop-m l = AreApart (length l.weights) (monomials (length l.weights) l.first) (take l.m-index l.other)
+invariant-loop-m l = AreCoprimeToAll (length l.weights) (monomials (length l.weights) l.first) (take l.m-index l.other)

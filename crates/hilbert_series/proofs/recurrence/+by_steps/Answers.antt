@@ -1,7 +1,7 @@
 use Rattle.std.proofs.Common.{arith, length, subst, subst₂, sym}
 use Rattle.hilbert_laws.specs.Numerators.{plus}
 use Rattle.hilbert_laws.specs.Shifting.{shifted}
-use Rattle.hilbert_series.specs.Generators.{AreApart, AreGenerators, HaveSameCoefficients, IsNumeratorWith, IsSplit, monomials}
+use Rattle.hilbert_series.specs.Generators.{AreCoprimeToAll, AreMonomialGenerators, HaveSameCoefficients, IsNumeratorWith, IsNumeratorSplit, monomials}
 use Rattle.hilbert_series.proofs.Lists.{numerator_split, slice_small_with, some_holds, split_of_slice}
 use Rattle.hilbert_series.proofs.Loops.{ok_more}
 use Rattle.hilbert_series.proofs.recurrence.+by_steps.Goals as goal
@@ -13,7 +13,7 @@ plus_shifted-requires-clause-small_left t c =
     let p = c.in-Some-2.branches in
     let s = split_of_slice n ws c.args.done.now.items c.args.list.items c.as_slice-3.result.now c.as_slice-4.result.now p.left.items p.right.items p.degree
     c.as_slice-3.ensures.value c.as_slice-4.ensures.value
-    (some_holds (λ x. IsSplit n ws (monomials n c.as_slice-3.result.now) c.as_slice-4.result.now x.left.items x.right.items x.degree)
+    (some_holds (λ x. IsNumeratorSplit n ws (monomials n c.as_slice-3.result.now) c.as_slice-4.result.now x.left.items x.right.items x.degree)
     c.in_ok-branches.field-0 p c.in-Some-2.is c.in_ok-branches.ensures.split) in
     let a = s.left_fewer in
     let f = c.requires.few in
@@ -27,7 +27,7 @@ plus_shifted-requires-clause-small_right t c =
     let p = c.in-Some-2.branches in
     let s = split_of_slice n ws c.args.done.now.items c.args.list.items c.as_slice-3.result.now c.as_slice-4.result.now p.left.items p.right.items p.degree
     c.as_slice-3.ensures.value c.as_slice-4.ensures.value
-    (some_holds (λ x. IsSplit n ws (monomials n c.as_slice-3.result.now) c.as_slice-4.result.now x.left.items x.right.items x.degree)
+    (some_holds (λ x. IsNumeratorSplit n ws (monomials n c.as_slice-3.result.now) c.as_slice-4.result.now x.left.items x.right.items x.degree)
     c.in_ok-branches.field-0 p c.in-Some-2.is c.in_ok-branches.ensures.split) in
     let a = s.right_fewer in
     let f = c.requires.few in
@@ -41,7 +41,7 @@ returns t c =
     let p = c.in-Some-2.branches in
     let s = split_of_slice n ws c.args.done.now.items c.args.list.items c.as_slice-3.result.now c.as_slice-4.result.now p.left.items p.right.items p.degree
     c.as_slice-3.ensures.value c.as_slice-4.ensures.value
-    (some_holds (λ x. IsSplit n ws (monomials n c.as_slice-3.result.now) c.as_slice-4.result.now x.left.items x.right.items x.degree)
+    (some_holds (λ x. IsNumeratorSplit n ws (monomials n c.as_slice-3.result.now) c.as_slice-4.result.now x.left.items x.right.items x.degree)
     c.in_ok-branches.field-0 p c.in-Some-2.is c.in_ok-branches.ensures.split) in
     let ms = monomials n c.args.done.now.items in
     record {
@@ -78,25 +78,25 @@ pub by_generators-requires-in_default-2-clause-start : goal.by_generators-requir
 by_generators-requires-in_default-2-clause-start t c = c.requires.start
 
 pub parted-requires-clause-done : goal.parted-requires-clause-done
-parted-requires-clause-done t c = subst (AreGenerators (length c.args.weights.now) c.args.weights.now) (sym c.as_slice.ensures.value) c.requires.done
+parted-requires-clause-done t c = subst (AreMonomialGenerators (length c.args.weights.now) c.args.weights.now) (sym c.as_slice.ensures.value) c.requires.done
 
 pub parted-requires-clause-generators : goal.parted-requires-clause-generators
 parted-requires-clause-generators t c =
-    subst (AreGenerators (length c.args.weights.now) c.args.weights.now) (sym c.as_slice-2.ensures.value) c.requires.generators
+    subst (AreMonomialGenerators (length c.args.weights.now) c.args.weights.now) (sym c.as_slice-2.ensures.value) c.requires.generators
 
 pub parted-requires-clause-apart : goal.parted-requires-clause-apart
 parted-requires-clause-apart t c =
     let n = length c.args.weights.now in
-    subst₂ (λ ds gs. AreApart n (monomials n ds) gs) (sym c.as_slice.ensures.value) (sym c.as_slice-2.ensures.value) c.requires.apart
+    subst₂ (λ ds gs. AreCoprimeToAll n (monomials n ds) gs) (sym c.as_slice.ensures.value) (sym c.as_slice-2.ensures.value) c.requires.apart
 
 pub split-requires-clause-done : goal.split-requires-clause-done
-split-requires-clause-done t c = subst (AreGenerators (length c.args.weights.now) c.args.weights.now) (sym c.as_slice-3.ensures.value) c.requires.done
+split-requires-clause-done t c = subst (AreMonomialGenerators (length c.args.weights.now) c.args.weights.now) (sym c.as_slice-3.ensures.value) c.requires.done
 
 pub split-requires-clause-generators : goal.split-requires-clause-generators
 split-requires-clause-generators t c =
-    subst (AreGenerators (length c.args.weights.now) c.args.weights.now) (sym c.as_slice-4.ensures.value) c.requires.generators
+    subst (AreMonomialGenerators (length c.args.weights.now) c.args.weights.now) (sym c.as_slice-4.ensures.value) c.requires.generators
 
 pub split-requires-clause-apart : goal.split-requires-clause-apart
 split-requires-clause-apart t c =
     let n = length c.args.weights.now in
-    subst₂ (λ ds gs. AreApart n (monomials n ds) gs) (sym c.as_slice-3.ensures.value) (sym c.as_slice-4.ensures.value) c.requires.apart
+    subst₂ (λ ds gs. AreCoprimeToAll n (monomials n ds) gs) (sym c.as_slice-3.ensures.value) (sym c.as_slice-4.ensures.value) c.requires.apart

@@ -9,7 +9,7 @@ use Rattle.order_change.proofs.Stepping.{few_room}
 use Rattle.order_change.specs.Lists.{AreMonomials, monomials}
 use Rattle.order_change.specs.Products.{HaveRoom}
 use Rattle.order_change.specs.Stops.{OrderChangeStops}
-use Rattle.order_change.specs.Tables.{IsGiven}
+use Rattle.order_change.specs.Tables.{IsBasisGiven}
 use Rattle.order_change.proofs.conversion.convert.Goals as goal
 
 pub standard_monomials-requires : goal.standard_monomials-requires
@@ -58,8 +58,8 @@ converted-requires c =
     (λ m has. subst (λ z. Has (monomials n z) m) c.deref-2.ensures.value (c.in_ok-standard.ensures.inside m has))
     (λ m has. c.in_ok-standard.ensures.all m (subst (λ z. Has (monomials n z) m) (sym c.deref-2.ensures.value) has)) listed in
     let few : length standard ≤ 256 = let a = c.in_ok-standard.ensures.long in let b = c.in-Ok.ensures.most in let d = ap length c.deref-2.ensures.value in omega (arith, a, b, d) in
-    subst (λ z. IsGiven n ring c.args.basis.now z c.deref-4.result.now) (sym c.deref-3.ensures.value)
-    (subst (λ z. IsGiven n ring c.args.basis.now leads z) (sym c.deref-4.ensures.value)
+    subst (λ z. IsBasisGiven n ring c.args.basis.now z c.deref-4.result.now) (sym c.deref-3.ensures.value)
+    (subst (λ z. IsBasisGiven n ring c.args.basis.now leads z) (sym c.deref-4.ensures.value)
     (given n ring c.args.basis.now leads standard (sym ring.weighted) (c.lawful_setting.ensures 1) c.requires
     c.in_ok-leads.ensures.monomials c.in_ok-leads.ensures.leads c.in_ok-standard.ensures.monomials sorted c.in_ok-standard.ensures.ascending c.in_ok-standard.ensures.room few))
 

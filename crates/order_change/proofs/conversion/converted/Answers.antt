@@ -6,7 +6,7 @@ use Rattle.module_vectors.specs.Vectors.{sums_of}
 use Rattle.module_vectors.specs.declared.ring.Ring.{Ring}
 use Rattle.groebner_iface.specs.Runs.{IsReducedBasisOf}
 use Rattle.order_change.proofs.Finishing.{answer, ready}
-use Rattle.order_change.specs.Changing.{AreProducts, IsChanged, IsFormOf}
+use Rattle.order_change.specs.Changing.{AreVariableProducts, IsChanged, IsFormModulo}
 use Rattle.order_change.specs.Lists.{monomials}
 use Rattle.order_change.specs.Reordered.{with_order}
 use Rattle.order_change.proofs.conversion.converted.Goals as goal
@@ -20,8 +20,8 @@ changed-requires c =
     let r = ready n ring basis standard c.args.order c.in_ok-form.form c.in_ok-table.table c.in_ok-form.ensures c.in_ok-table.ensures in
     record {
       few = c.requires.few;
-      form = subst (λ (z : Ring). IsFormOf (length z.weights) z (sums_of (length z.weights) basis) (monomials (length z.weights) standard) (unit (length z.weights)) c.in_ok-form.form) (sym c.in_ok-new_ring.ensures) r.0;
-      table = subst (λ (z : Ring). AreProducts (length z.weights) z.modulus.value (sums_of (length z.weights) basis) (monomials (length z.weights) standard) c.in_ok-table.table) (sym c.in_ok-new_ring.ensures) r.1;
+      form = subst (λ (z : Ring). IsFormModulo (length z.weights) z (sums_of (length z.weights) basis) (monomials (length z.weights) standard) (unit (length z.weights)) c.in_ok-form.form) (sym c.in_ok-new_ring.ensures) r.0;
+      table = subst (λ (z : Ring). AreVariableProducts (length z.weights) z.modulus.value (sums_of (length z.weights) basis) (monomials (length z.weights) standard) c.in_ok-table.table) (sym c.in_ok-new_ring.ensures) r.1;
     }
 
 pub returns : goal.returns

@@ -9,7 +9,7 @@ use Rattle.basis_steps.specs.Criteria.{IsPair}
 use Rattle.basis_steps.specs.Divisions.{IsMonicMember}
 use Rattle.basis_steps.specs.States.{vectors}
 use Rattle.basis_core.proofs.Tracking.{vectors_over}
-use Rattle.basis_core.specs.Jobs.{HasLcm, pair_of}
+use Rattle.basis_core.specs.Jobs.{HasLcmOfMembers, pair_of}
 use Rattle.basis_core.specs.Members.{members_of, setting_of}
 use Rattle.basis_core.specs.Rows.{vectors_in}
 use Rattle.s_vectors.proofs.Leaving.{first_steps}
@@ -33,7 +33,7 @@ pair_parts-requires-clause-real c =
 
 pub pair_parts-requires-clause-lcm : goal.pair_parts-requires-clause-lcm
 pair_parts-requires-clause-lcm c =
-    subst (λ (r : Ring). HasLcm (variables r) r.weights c.args.members.now.list c.args.pair.now) (sym c.requires.over) c.requires.pair.lcm
+    subst (λ (r : Ring). HasLcmOfMembers (variables r) r.weights c.args.members.now.list c.args.pair.now) (sym c.requires.over) c.requires.pair.lcm
 
 pub sum_of_parts-requires-clause-list : goal.sum_of_parts-requires-clause-list
 sum_of_parts-requires-clause-list c =

@@ -1,7 +1,7 @@
 use Rattle.std.proofs.Common.{List, ap, arith, get_or, length, subst, subst₂, sym, ◌∙◌, ◌≡◌, ◌<◌, ◌≤◌}
 use Rattle.formal_sums.proofs.WeightedSums.{Each_append}
 use Rattle.formal_sums.specs.FormalSums.{Each}
-use Rattle.basis_core.specs.Members.{IsRunRow, Shared, Tracked}
+use Rattle.basis_core.specs.Members.{IsRunRow, Shared, MemberShown}
 use Rattle.monomial_orders.specs.Kept.{IsWeighed}
 use Rattle.module_vectors.specs.Rings.{variables}
 use Rattle.s_vectors.proofs.Collecting.{solved_job, solved_step}
@@ -17,7 +17,7 @@ divide_pair-requires c =
     let lt : c.loop-number.number < length j.pairs = omega (arith, ap length c.pairs-pair-items.ensures) in
     let is : x ≡ get_or j.pairs c.loop-number.number x = c.pair-item.is ∙ ap (λ xs. get_or xs c.loop-number.number x) c.pairs-pair-items.ensures in
     record {
-      pair = subst₂ (λ (s : Shared) (l : List Tracked). AreOfPair (record { shared = s; list = l }) x) (sym c.members.ensures.shared) (sym c.members.ensures.list)
+      pair = subst₂ (λ (s : Shared) (l : List MemberShown). AreOfPair (record { shared = s; list = l }) x) (sym c.members.ensures.shared) (sym c.members.ensures.list)
           (job_pair j c.loop-number.number x c.kept.ensures lt is);
     }
 
@@ -30,7 +30,7 @@ loop-number-preserved c =
     let lt : c.loop-number.number < length j.pairs = omega (arith, ap length c.pairs-pair-items.ensures) in
     let is : x ≡ get_or j.pairs c.loop-number.number x = c.pair-item.is ∙ ap (λ xs. get_or xs c.loop-number.number x) c.pairs-pair-items.ensures in
     let s : IsSolvedPair (record { shared = j.shared; list = j.members }) x c.in-Ok.division =
-    subst₂ (λ (s : Shared) (l : List Tracked). IsSolvedPair (record { shared = s; list = l }) x c.in-Ok.division) c.members.ensures.shared c.members.ensures.list c.in-Ok.ensures.solved in
+    subst₂ (λ (s : Shared) (l : List MemberShown). IsSolvedPair (record { shared = s; list = l }) x c.in-Ok.division) c.members.ensures.shared c.members.ensures.list c.in-Ok.ensures.solved in
     record {
       over = subst (Each (IsRunRow j.shared (length j.members))) (sym c.in_ok-add_division-in-Ok.ensures.rows) (Each_append _ c.loop-number.solution.rows.items (row_list c.in-Ok.division.row) i.over s.over);
       weighed = subst (Each (λ t. IsWeighed n j.shared.ring.weights t.1)) (sym c.in_ok-add_division-in-Ok.ensures.products) (Each_append _ c.loop-number.solution.products.items c.in-Ok.division.products.items i.weighed s.weighed);

@@ -1,7 +1,7 @@
 use Rattle.std.proofs.Common.{◌≡◌, ◌<◌, ◌≤◌, ◌+◌, ℕ, Fits, List, Result, Ok, Err, ap, ◌∙◌, refl, sym, arith, w32}
 use Rattle.std.specs.declared.option.Option.{Option}
 use Rattle.byte_ports.specs.Lines.{IsNextLine, Reading}
-use Rattle.session_values.specs.Names.{State}
+use Rattle.session_values.specs.Names.{ScriptState}
 use Rattle.session_top.specs.declared.TheConstants.{SCRIPT_LIMIT}
 use Rattle.session_top.specs.declared.early.Early.{Early}
 use Rattle.session_top.proofs.Going.{Going}
@@ -11,12 +11,12 @@ use Rattle.session_top.proofs.Runs.{end_done, last_result_done, last_result_stop
 use Rattle.session_top.proofs.lines.do_all.Goals as goal
 
 -- a line of all room fits
-never_full : (a b t u : Option (List ℕ)) (r : Reading) (n : ℕ) (s : State) (capacity : ℕ)
+never_full : (a b t u : Option (List ℕ)) (r : Reading) (n : ℕ) (s : ScriptState) (capacity : ℕ)
     → Going a b t u r n s → SCRIPT_LIMIT ≤ capacity → capacity < r.room → ⊥
 never_full a b t u r n s capacity so enough full = omega (arith, so.room)
 
 -- the number of the next line fits
-number_fits : (a b t u : Option (List ℕ)) (r : Reading) (n : ℕ) (s : State) → Going a b t u r n s → Fits w32 (n + 1)
+number_fits : (a b t u : Option (List ℕ)) (r : Reading) (n : ℕ) (s : ScriptState) → Going a b t u r n s → Fits w32 (n + 1)
 number_fits a b t u r n s so = omega (arith, so.room, so.few)
 
 -- a line takes room

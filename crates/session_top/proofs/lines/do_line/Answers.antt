@@ -1,7 +1,7 @@
 use Rattle.std.proofs.Common.{refl, rules}
 use Rattle.std.proofs.KnownBytes.{Keeps-refl}
 use Rattle.groebner_iface.specs.declared.stop.Stop.TheVariants.{Degree, Pairs}
-use Rattle.session_lang.specs.Lines.{Refuses}
+use Rattle.session_lang.specs.Lines.{RefusesLine}
 use Rattle.session_top.specs.Limits.{limits_in}
 use Rattle.session_top.proofs.Causes.{division_stopped, run_stopped}
 use Rattle.session_top.proofs.Risings.{le_self, no_write_of_memory, same_error}
@@ -10,7 +10,7 @@ use Rattle.session_top.proofs.lines.do_line.Goals as goal
 
 pub returns-in-Ok-Refused-clause-stops : goal.returns-in-Ok-Refused-clause-stops
 returns-in-Ok-Refused-clause-stops g c =
-    let refuses : Refuses c.args.desk.now.session c.args.line.now c.in-Ok-Refused.kind = search rules in
+    let refuses : RefusesLine c.args.desk.now.session c.args.line.now c.in-Ok-Refused.kind = search rules in
     refused_stops _ _ _ _ _ _ _ _ refuses c.refuse.ensures.says
 
 pub returns-in-Err-Pairs-clause-stops : goal.returns-in-Err-Pairs-clause-stops

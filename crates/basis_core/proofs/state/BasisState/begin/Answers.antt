@@ -8,7 +8,7 @@ use Rattle.basis_steps.specs.Updates.{QueuesPairs}
 use Rattle.basis_core.proofs.Room.{room_bound}
 use Rattle.basis_core.proofs.Starting.{begun_inside, begun_replays, made_monic}
 use Rattle.basis_core.specs.Beginning.{HaveMade}
-use Rattle.basis_core.specs.Inside.{IsRead, shown}
+use Rattle.basis_core.specs.Inside.{IsEventRead, shown}
 use Rattle.basis_core.specs.Jobs.{pairs_of}
 use Rattle.basis_core.specs.Members.{MembersShown, Shared, members_of, setting_of, shared_of}
 use Rattle.basis_core.specs.Shown.{Shown}
@@ -57,7 +57,7 @@ invariant_of-result c =
       replays = begun_replays (run_of n s) (state_of n s) begins;
       leads = c.in_ok-pairs.ensures.leads;
       stop = tt;
-      read = subst (λ (l : List Event). Each (IsRead (length s.members) None) l) (sym c.in_ok-history.ensures.items) tt;
+      read = subst (λ (l : List Event). Each (IsEventRead (length s.members) None) l) (sym c.in_ok-history.ensures.items) tt;
       room = omega (arith, ap length c.in_ok-history.ensures.items, room_bound (state_of n s) c.args.workers, c.in_ok-history.ensures.capacity);
     }
 

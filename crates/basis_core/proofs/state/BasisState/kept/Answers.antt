@@ -3,7 +3,7 @@ use Rattle.formal_sums.specs.FormalSums.{Each}
 use Rattle.basis_steps.specs.Invariant.{HoldsInvariant}
 use Rattle.basis_steps.specs.States.{IsLawfulRun}
 use Rattle.basis_steps.specs.Steps.{Replays}
-use Rattle.basis_core.specs.Inside.{IsRead, shown}
+use Rattle.basis_core.specs.Inside.{IsEventRead, shown}
 use Rattle.basis_core.specs.Shown.{Shown}
 use Rattle.basis_core.specs.Views.{run_of, state_of, variables_of}
 use Rattle.basis_core.proofs.Replaying.{lawful_run, replayed_holds}
@@ -23,4 +23,4 @@ returns-clause-holds c =
     (replayed_holds (variables_of (shown c.self.inside)) (shown c.self.inside) c.domain.ensures c.self.invariant.some c.self.invariant.replays)
 
 pub returns-clause-read : goal.returns-clause-read
-returns-clause-read c = subst (λ (s : Shown). Each (IsRead (length s.members) s.stop) s.history) c.self.view_is c.self.invariant.read
+returns-clause-read c = subst (λ (s : Shown). Each (IsEventRead (length s.members) s.stop) s.history) c.self.view_is c.self.invariant.read

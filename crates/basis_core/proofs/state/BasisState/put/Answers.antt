@@ -7,7 +7,7 @@ use Rattle.basis_core.specs.declared.event.Event.{Event}
 use Rattle.basis_core.specs.declared.event.Event.TheVariants.{Put}
 use Rattle.basis_core.specs.declared.state.BasisState.TheInside.{Inside}
 use Rattle.basis_core.specs.Jobs.{JobShown, pairs_of}
-use Rattle.basis_core.specs.Members.{Tracked}
+use Rattle.basis_core.specs.Members.{MemberShown}
 use Rattle.basis_core.specs.Outcomes.{OutcomeShown}
 use Rattle.basis_core.specs.Shown.{Shown}
 use Rattle.basis_core.specs.Views.{run_of, state_of, variables_of}
@@ -84,10 +84,10 @@ returns-clause-step c =
     let s : Shown = shown c.self.inside in
     let n : ℕ = variables_of s in
     let put = has_put c in
-    let list : List Tracked = c.add_members.new.members.list in
+    let list : List MemberShown = c.add_members.new.members.list in
     let t : Shown = record (after_put s list (pairs_of c.give_back.new.self.queue) c.give_back.new.self.dropped c.give_back.new.self.out c.push_reserved.new.self.items)
     { shared = c.add_members.new.members.shared; update = c.give_back.new.self.update } in
-    subst (λ (z : Shown). (made : List Tracked) × PutsOutcome (variables_of z) z c.args.outcome made t) c.self.view_is (
+    subst (λ (z : Shown). (made : List MemberShown) × PutsOutcome (variables_of z) z c.args.outcome made t) c.self.view_is (
       (put.made).made,
       record {
         puts = put_step n s c.args.outcome list (pairs_of c.give_back.new.self.queue) c.give_back.new.self.dropped c.give_back.new.self.out

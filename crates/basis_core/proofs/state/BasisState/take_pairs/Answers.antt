@@ -5,7 +5,7 @@ use Rattle.basis_core.proofs.TakenPairs.{IsFound, MayTake, after_take, found_by,
 use Rattle.basis_core.proofs.Logging.{takes_more}
 use Rattle.basis_core.proofs.Replaying.{replayed_holds}
 use Rattle.basis_core.specs.Answers.{pairs_given}
-use Rattle.basis_core.specs.Inside.{IsCoherent, shown}
+use Rattle.basis_core.specs.Inside.{IsCoherentState, shown}
 use Rattle.basis_core.specs.Jobs.{IsJobOver, pairs_of}
 use Rattle.basis_core.specs.Logs.{Adds, Take as TakeNote}
 use Rattle.basis_core.specs.Members.{MembersShown}
@@ -63,7 +63,7 @@ invariant_of-self-2 c =
     let g = c.in_ok-given.given in
     let kept = take_kept i c.args.worker c.args.most g c.take.new.self c.keep_stop.new.stop (found_here c) c.push_reserved.new.self c.self.invariant (noted c)
     (omega (arith, c.in_ok-reserve.ensures.ok, c.reserve.ensures.len, c.push_reserved.ensures.capacity, i.history.ok, c.reserve.new.self.ok)) in
-    subst (λ k. IsCoherent (record
+    subst (λ k. IsCoherentState (record
     i { pairs = c.take.new.self; taken = i.taken + k; stop = c.keep_stop.new.stop; history = c.push_reserved.new.self })) (counted c) kept
 
 pub returns-clause-step : goal.returns-clause-step

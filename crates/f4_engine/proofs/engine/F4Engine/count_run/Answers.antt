@@ -1,10 +1,10 @@
 use Rattle.std.proofs.Common.{ap, subst, sym, ◌≡◌}
-use Rattle.f4_engine.specs.Engines.{EngineShown, with_run}
+use Rattle.f4_engine.specs.Engines.{F4Shown, with_run}
 use Rattle.f4_engine.proofs.engine.F4Engine.count_run.Goals as goal
 
 pub returns : goal.returns
 returns c =
-    subst (λ runs. ◌≡◌ {A = EngineShown} (record {
+    subst (λ runs. ◌≡◌ {A = F4Shown} (record {
       pairs = c.self.inside.pairs;
       workers = c.self.inside.workers;
       helpers = c.self.inside.helpers;

@@ -3,7 +3,7 @@ use Rattle.monomial_orders.specs.Kept.{IsWeighed}
 use Rattle.module_vectors.specs.Vectors.{sums_of}
 use Rattle.order_change.proofs.Items.{unit_by}
 use Rattle.order_change.proofs.Stepping.{first_next, first_turns, nothing_known}
-use Rattle.order_change.specs.Changing.{IsFormOf}
+use Rattle.order_change.specs.Changing.{IsFormModulo}
 use Rattle.order_change.specs.Lists.{monomials}
 use Rattle.order_change.proofs.change.Change.begin.Goals as goal
 
@@ -26,7 +26,7 @@ add-requires-clause-form c =
     let ring = c.args.ring.now in
     let n = length ring.weights in
     let is = unit_by c.len.result n c.in_ok-one.one.exponents c.len.ensures c.in_ok-one.ensures.ok in
-    subst (λ z. IsFormOf n ring (sums_of n c.args.basis.now) (monomials n c.args.standard.now) z c.args.form) (sym is) c.requires.form
+    subst (λ z. IsFormModulo n ring (sums_of n c.args.basis.now) (monomials n c.args.standard.now) z c.args.form) (sym is) c.requires.form
 
 pub returns : goal.returns
 returns c =

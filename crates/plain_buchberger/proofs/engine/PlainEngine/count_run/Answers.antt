@@ -1,10 +1,10 @@
 use Rattle.std.proofs.Common.{ap, subst, sym, ◌≡◌}
-use Rattle.plain_buchberger.specs.Engines.{EngineShown, with_run}
+use Rattle.plain_buchberger.specs.Engines.{PlainShown, with_run}
 use Rattle.plain_buchberger.proofs.engine.PlainEngine.count_run.Goals as goal
 
 pub returns : goal.returns
 returns c =
-    subst (λ runs. ◌≡◌ {A = EngineShown} (record {
+    subst (λ runs. ◌≡◌ {A = PlainShown} (record {
       pairs = c.self.inside.pairs;
       update = c.self.inside.update;
       runs = runs;
