@@ -3,9 +3,9 @@ use Rattle.std.proofs.Common.{Global, List, Vec, [], ap, append-nil, arith, fals
 use Rattle.std.proofs.Common.{true, vec_capacity, zero, ℕ, ◌*◌, ◌++◌, ◌+◌, ◌-◌, ◌<◌, ◌∙◌, ◌∷◌, ◌≡◌, ◌≤◌}
 use Rattle.std.proofs.lemmas.List.{length-map, take-map}
 use Rattle.formal_sums.specs.FormalSums.{Each, FormalSum}
-use Rattle.module_vectors.specs.Rings.{variables}
+use Rattle.term_lists.specs.Rings.{variables}
+use Rattle.term_lists.specs.Vectors.{sum_of}
 use Rattle.module_vectors.specs.Trails.{KeptProduct, last_product, no_product}
-use Rattle.module_vectors.specs.Vectors.{sum_of}
 use Rattle.module_vectors.specs.declared.trail.KeptTrail.{KeptTrail}
 use Rattle.member_products.specs.Generators.{IsVectorOf}
 use Rattle.member_products.specs.declared.member.Reduct.{Reduct as CodeReduct}

@@ -7,10 +7,10 @@ use Rattle.std.proofs.lemmas.List.{reverse-append}
 use Rattle.formal_sums.specs.FormalSums.{Each, Key, shift}
 use Rattle.bases.proofs.Meeting.{met_behind}
 use Rattle.bases.specs.Leads.{head_key}
-use Rattle.module_vectors.specs.Rings.{variables}
+use Rattle.term_lists.specs.Rings.{variables}
+use Rattle.term_lists.specs.Vectors.{IsTerm, key_of, sum_of}
+use Rattle.term_lists.specs.declared.key.Key.{Key as CodeKey}
 use Rattle.module_vectors.specs.Trails.{HasKey, IsInProduct, IsKeptProduct, KeptProduct, product_lead, kept_at}
-use Rattle.module_vectors.specs.Vectors.{IsTerm, key_of, sum_of}
-use Rattle.module_vectors.specs.declared.key.Key.{Key as CodeKey}
 use Rattle.basis_core.specs.Chains.{IsChainTo}
 use Rattle.basis_core.specs.Members.{Shared, MemberShown}
 use Rattle.basis_core.specs.Members.{IsMemberShown}

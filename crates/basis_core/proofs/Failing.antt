@@ -3,12 +3,12 @@ use Rattle.std.proofs.Common.{List, [], ap, get_or, length, subst, subst₂, ℕ
 use Rattle.std.proofs.lemmas.List.{length-map}
 use Rattle.formal_sums.specs.FormalSums.{Each}
 use Rattle.monomial_orders.specs.Kept.{IsWeighed}
-use Rattle.module_vectors.specs.Rings.{variables}
-use Rattle.module_vectors.specs.Stops.{HasMonomial}
+use Rattle.term_lists.specs.Rings.{variables}
+use Rattle.term_lists.specs.Stops.{HasMonomial}
+use Rattle.term_lists.specs.Vectors.{sum_of}
+use Rattle.term_lists.specs.declared.key.Key.{Key as CodeKey}
+use Rattle.term_lists.specs.declared.ring.Ring.{Ring}
 use Rattle.module_vectors.specs.Trails.{AreMet, HasKey, IsChain, IsStart, KeptProduct, last_product, product_lead}
-use Rattle.module_vectors.specs.Vectors.{sum_of}
-use Rattle.module_vectors.specs.declared.key.Key.{Key as CodeKey}
-use Rattle.module_vectors.specs.declared.ring.Ring.{Ring}
 use Rattle.module_vectors.specs.declared.trail.KeptTrail.{KeptTrail}
 use Rattle.module_vectors.specs.declared.trail.TrailStart.{TrailStart}
 use Rattle.module_vectors.specs.declared.trail.WorkStop.{WorkStop}

@@ -1,7 +1,7 @@
 -- The trail of a job is one of the run
 use Rattle.std.proofs.Common.{List, [], arith, get_or, inl, length, subst, sym, take, ℕ, ◌++◌, ◌∙◌, ◌∷◌, ◌≡◌, ◌≤◌}
-use Rattle.module_vectors.specs.Rings.{variables}
-use Rattle.module_vectors.specs.Vectors.{sums_of}
+use Rattle.term_lists.specs.Rings.{variables}
+use Rattle.term_lists.specs.Vectors.{sums_of}
 use Rattle.module_vectors.specs.declared.trail.KeptTrail.{KeptTrail}
 use Rattle.basis_steps.specs.Criteria.{IsPair}
 use Rattle.basis_steps.specs.Divisions.{Occurs}

@@ -10,10 +10,10 @@ use Rattle.orders.specs.KeyOrders.{KeyDivides}
 use Rattle.bases.specs.Leads.{head_key, leads}
 use Rattle.bases.specs.Representations.{key_lcm}
 use Rattle.bases.specs.Settings.{Setting}
-use Rattle.module_vectors.proofs.Scaling.{take_item}
-use Rattle.module_vectors.specs.Rings.{variables}
-use Rattle.module_vectors.specs.Vectors.{IsMonomialOver, key_of, sum_of}
-use Rattle.module_vectors.specs.declared.key.Key.{Key as CodeKey}
+use Rattle.term_lists.proofs.Scaling.{take_item}
+use Rattle.term_lists.specs.Rings.{variables}
+use Rattle.term_lists.specs.Vectors.{IsMonomialOver, key_of, sum_of}
+use Rattle.term_lists.specs.declared.key.Key.{Key as CodeKey}
 use Rattle.member_products.specs.Generators.{IsRanked}
 use Rattle.pair_criteria.specs.declared.pair.Pair.{Pair as CodePair}
 use Rattle.basis_steps.specs.Criteria.{ChainApplies, CriterionApplies, IsPair, NoCriterionApplies, Skips, lcm_of, waiting}

@@ -19,12 +19,12 @@ use Rattle.bases.specs.Bases.{IsCovered}
 use Rattle.bases.specs.Leads.{IsMonicList, IsNormal, head_coefficient, head_key}
 use Rattle.bases.specs.Representations.{IsLower, place}
 use Rattle.bases.specs.Settings.{IsLawful, Setting}
-use Rattle.module_vectors.proofs.NormalVectors.{vector_normal}
-use Rattle.module_vectors.specs.Multiples.{rescaled}
-use Rattle.module_vectors.specs.Rings.{ring_comparison, setting, variables}
-use Rattle.module_vectors.specs.Vectors.{HasPositions, StandsFor, key_of, sum_of, sums_of}
-use Rattle.module_vectors.specs.declared.key.Key.{Key as CodeKey}
-use Rattle.module_vectors.specs.declared.ring.Ring.{Ring}
+use Rattle.term_lists.proofs.NormalVectors.{vector_normal}
+use Rattle.term_lists.specs.Multiples.{rescaled}
+use Rattle.term_lists.specs.Rings.{ring_comparison, setting, variables}
+use Rattle.term_lists.specs.Vectors.{HasPositions, StandsFor, key_of, sum_of, sums_of}
+use Rattle.term_lists.specs.declared.key.Key.{Key as CodeKey}
+use Rattle.term_lists.specs.declared.ring.Ring.{Ring}
 use Rattle.zp_field.specs.Moduli.{IsInverse}
 use Rattle.vector_division.proofs.Freeing.{not_covered}
 use Rattle.vector_division.specs.Divisions.{HasReducedLead}

@@ -5,8 +5,8 @@ use Rattle.std.proofs.lemmas.List.{map-append}
 use Rattle.formal_sums.proofs.WeightedSums.{Each_append}
 use Rattle.formal_sums.specs.FormalSums.{Each, FormalSum}
 use Rattle.bases.specs.Settings.{Setting}
-use Rattle.module_vectors.proofs.Scaling.{Each_at}
-use Rattle.module_vectors.specs.declared.key.Key.{Key as CodeKey}
+use Rattle.term_lists.proofs.Scaling.{Each_at}
+use Rattle.term_lists.specs.declared.key.Key.{Key as CodeKey}
 use Rattle.member_products.specs.Generators.{IsRanked}
 use Rattle.member_products.specs.declared.member.Reduct.{Reduct as CodeReduct}
 use Rattle.basis_steps.proofs.Growing.{vectors-append}

@@ -6,11 +6,11 @@ use Rattle.formal_sums.proofs.WeightedSums.{same_key-shift, weighted_sum-scale, 
 use Rattle.formal_sums.specs.FormalSums.{Each, FormalSum, Key, coefficient, indicator, scale, shift}
 use Rattle.bases.specs.Leads.{head_key}
 use Rattle.bases.specs.Settings.{IsLawful, Setting}
-use Rattle.module_vectors.proofs.NormalVectors.{residues_of}
-use Rattle.module_vectors.specs.Rings.{ring_comparison}
+use Rattle.term_lists.proofs.NormalVectors.{residues_of}
+use Rattle.term_lists.specs.Rings.{ring_comparison}
+use Rattle.term_lists.specs.Vectors.{IsVector, IsVectorOver, sum_of, sums_of}
+use Rattle.term_lists.specs.declared.key.Key.{Key as CodeKey}
 use Rattle.module_vectors.specs.Trails.{HasKey, IsInProduct, KeptProduct, product_lead}
-use Rattle.module_vectors.specs.Vectors.{IsVector, IsVectorOver, sum_of, sums_of}
-use Rattle.module_vectors.specs.declared.key.Key.{Key as CodeKey}
 use Rattle.vector_division.proofs.Members.{sums_at}
 use Rattle.vector_division.proofs.Occurring.{at_key, nonzeros, occurs, scaled_key}
 use Rattle.basis_steps.specs.Divisions.{Occurs}

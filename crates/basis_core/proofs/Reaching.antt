@@ -6,10 +6,10 @@ use Rattle.monomial_orders.specs.Kept.{Monomial}
 use Rattle.monomials.specs.Exponents.{exponents_of}
 use Rattle.formal_sums.specs.FormalSums.{Each, FormalSum, Key, shift}
 use Rattle.bases.specs.Leads.{head_key}
-use Rattle.module_vectors.specs.Rings.{variables}
+use Rattle.term_lists.specs.Rings.{variables}
+use Rattle.term_lists.specs.Vectors.{sum_of}
+use Rattle.term_lists.specs.declared.key.Key.{Key as CodeKey}
 use Rattle.module_vectors.specs.Trails.{AreMet, IsMet, KeptProduct, last_product, product_lead}
-use Rattle.module_vectors.specs.Vectors.{sum_of}
-use Rattle.module_vectors.specs.declared.key.Key.{Key as CodeKey}
 use Rattle.member_products.specs.Generators.{IsVectorOf}
 use Rattle.vector_division.proofs.Occurring.{Contains_here, Contains_later}
 use Rattle.vector_division.specs.Reductions.{AreMetFrom, cofactors_of, unscaled}

@@ -2,8 +2,8 @@
 use Rattle.std.proofs.Common.{List, [], ap, inl, inr, length, length-set, refl, subst, suc, sym, true, zero, ℕ, ◌<◌, ◌∙◌, ◌∷◌, ◌≡◌}
 use Rattle.residues.specs.Residues.{IsDomain}
 use Rattle.monomial_orders.specs.Laws.{key_comparison_order}
-use Rattle.module_vectors.specs.Rings.{variables}
-use Rattle.module_vectors.specs.Vectors.{sums_of}
+use Rattle.term_lists.specs.Rings.{variables}
+use Rattle.term_lists.specs.Vectors.{sums_of}
 use Rattle.basis_steps.proofs.Starting.{kept_replays, replays_more}
 use Rattle.basis_steps.specs.Invariant.{HoldsInvariant}
 use Rattle.basis_steps.specs.States.{End, Ended, Event, IsLawfulRun, MoreWork, Put, Run, State, Stop, Take}

@@ -5,7 +5,7 @@ use Rattle.std.specs.Option.{is_some}
 use Rattle.std.specs.Prelude.{MatchOption, ⊤}
 use Rattle.formal_sums.specs.FormalSums.{Each, FormalSum}
 use Rattle.residues.specs.Residues.{IsDomain}
-use Rattle.module_vectors.proofs.SumsOfProducts.{Each_take}
+use Rattle.term_lists.proofs.Parts.{Each_take}
 use Rattle.pair_criteria.specs.declared.pair.Pair.{Pair as CodePair}
 use Rattle.queue_updates.specs.declared.Update.TheVariants.{Gebauer, Plain}
 use Rattle.basis_steps.proofs.Taking.{job_given_out}

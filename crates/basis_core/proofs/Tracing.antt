@@ -8,10 +8,10 @@ use Rattle.formal_sums.specs.FormalSums.{Each, FormalSum, Key, shift}
 use Rattle.bases.proofs.Meeting.{met_at, turn_from}
 use Rattle.bases.specs.Leads.{head_key}
 use Rattle.monomial_orders.specs.Kept.{Monomial}
-use Rattle.module_vectors.specs.Rings.{variables}
+use Rattle.term_lists.specs.Rings.{variables}
+use Rattle.term_lists.specs.Vectors.{IsMonomialOver, sum_of}
+use Rattle.term_lists.specs.declared.key.Key.{Key as CodeKey}
 use Rattle.module_vectors.specs.Trails.{AreMet, HasKey, IsInProduct, IsKeptProduct, KeptProduct, no_product, product_lead, kept_at}
-use Rattle.module_vectors.specs.Vectors.{IsMonomialOver, sum_of}
-use Rattle.module_vectors.specs.declared.key.Key.{Key as CodeKey}
 use Rattle.pair_criteria.specs.declared.pair.Pair.{Pair as CodePair}
 use Rattle.basis_steps.proofs.Counting.{is_same_pair-refl, is_same_pair-true}
 use Rattle.basis_steps.proofs.JobProducts.{job_product_at}

@@ -4,12 +4,12 @@ use Rattle.formal_sums.specs.Combinations.{combination}
 use Rattle.formal_sums.specs.FormalSums.{Each, FormalSum, IsOfRank}
 use Rattle.bases.specs.Settings.{IsLawful}
 use Rattle.monomial_orders.specs.Kept.{Monomial}
-use Rattle.module_vectors.proofs.Monomials.{monomial_at}
-use Rattle.module_vectors.specs.Rings.{ring_comparison, variables}
+use Rattle.term_lists.proofs.Monomials.{monomial_at}
+use Rattle.term_lists.specs.Rings.{ring_comparison, variables}
+use Rattle.term_lists.specs.Vectors.{AreVectorsOver, HasPositions, IsMonomialOver, sum_of, sums_of}
+use Rattle.term_lists.specs.declared.key.Key.{Key as CodeKey}
+use Rattle.term_lists.specs.declared.ring.Ring.{Ring}
 use Rattle.module_vectors.specs.Trails.{IsOfProduct, KeptProduct}
-use Rattle.module_vectors.specs.Vectors.{AreVectorsOver, HasPositions, IsMonomialOver, sum_of, sums_of}
-use Rattle.module_vectors.specs.declared.key.Key.{Key as CodeKey}
-use Rattle.module_vectors.specs.declared.ring.Ring.{Ring}
 use Rattle.member_products.proofs.Multiplied.{member_at}
 use Rattle.member_products.proofs.Ranks as ranks
 use Rattle.member_products.specs.Generators.{IsRanked}

@@ -1,6 +1,6 @@
 -- What the calls on the state of a run answer
 use Rattle.std.specs.Prelude.{List, None, Some, [], get_or, length, take, ⊤, ℕ, ◌++◌, ◌<◌, ◌∷◌, ◌≡◌, ◌≤◌, ◌⊎◌}
-use Rattle.module_vectors.specs.Vectors.{sums_of}
+use Rattle.term_lists.specs.Vectors.{sums_of}
 use Rattle.module_vectors.specs.declared.trail.KeptTrail.{KeptTrail}
 use Rattle.module_vectors.specs.declared.trail.TrailStart.TheVariants as starts
 use Rattle.module_vectors.specs.declared.trail.WorkStop.{WorkStop}

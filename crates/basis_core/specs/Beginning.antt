@@ -1,10 +1,10 @@
 -- The members that the first generators make, and the multiples of these
 use Rattle.std.specs.Prelude.{List, [], take, ℕ, ◌∷◌}
 use Rattle.monomials.specs.Exponents.{unit}
-use Rattle.module_vectors.specs.Rings.{variables}
-use Rattle.module_vectors.specs.Vectors.{StandsFor, sums_of}
-use Rattle.module_vectors.specs.declared.key.Key.{Key as CodeKey}
-use Rattle.module_vectors.specs.declared.ring.Ring.{Ring}
+use Rattle.term_lists.specs.Rings.{variables}
+use Rattle.term_lists.specs.Vectors.{StandsFor, sums_of}
+use Rattle.term_lists.specs.declared.key.Key.{Key as CodeKey}
+use Rattle.term_lists.specs.declared.ring.Ring.{Ring}
 use Rattle.basis_steps.specs.Divisions.{MakesMembers}
 use Rattle.basis_steps.specs.Steps.{generator_rows}
 use Rattle.basis_core.specs.Members.{Shared, MemberShown, members_of, setting_of}

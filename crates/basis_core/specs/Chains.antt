@@ -1,8 +1,8 @@
 -- How one comes from a pair of a job to the last of some products: each has its lead from a pair or from an earlier product
 use Rattle.std.specs.Prelude.{List, [], length, ℕ, ◌-◌, ◌∷◌, ◌≡◌}
 use Rattle.formal_sums.specs.FormalSums.{Each}
+use Rattle.term_lists.specs.declared.key.Key.{Key as CodeKey}
 use Rattle.module_vectors.specs.Trails.{AreMet, IsKeptProduct, KeptProduct, last_product, product_lead, kept_at}
-use Rattle.module_vectors.specs.declared.key.Key.{Key as CodeKey}
 use Rattle.pair_criteria.specs.Pairs.{IsLcmOf}
 use Rattle.pair_criteria.specs.declared.pair.Pair.{Pair as CodePair}
 use Rattle.basis_core.specs.Jobs.{pair_of}

@@ -1,8 +1,8 @@
 -- What a trail keeps of the members
 use Rattle.std.specs.Prelude.{List, [], ℕ, ◌≡◌}
 use Rattle.monomial_orders.specs.Kept.{Monomial}
+use Rattle.term_lists.specs.declared.key.Key.{Key as CodeKey}
 use Rattle.module_vectors.specs.Trails.{KeptProduct}
-use Rattle.module_vectors.specs.declared.key.Key.{Key as CodeKey}
 use Rattle.module_vectors.specs.declared.trail.KeptTrail.{KeptTrail}
 use Rattle.module_vectors.specs.declared.trail.TrailStart.{TrailStart}
 use Rattle.basis_core.specs.Members.{MembersShown}

@@ -1,7 +1,7 @@
 -- The leads of the members, by which the pairs know them
 use Rattle.std.specs.Prelude.{List, [], map, ℕ, ◌∷◌}
-use Rattle.module_vectors.specs.Rings.{variables}
-use Rattle.module_vectors.specs.declared.key.Key.{Key as CodeKey}
+use Rattle.term_lists.specs.Rings.{variables}
+use Rattle.term_lists.specs.declared.key.Key.{Key as CodeKey}
 use Rattle.pair_updates.specs.Leads.{LeadsShown}
 use Rattle.basis_core.specs.Members.{Shared, MemberShown}
 

@@ -1,6 +1,6 @@
 -- The members that rows make, and where a row is not divided
 use Rattle.std.specs.Prelude.{Contains, List, ⊤, ◌++◌, ◌∷◌, ◌≡◌, ℕ}
-use Rattle.module_vectors.specs.Rings.{variables}
+use Rattle.term_lists.specs.Rings.{variables}
 use Rattle.module_vectors.specs.Trails.{KeptProduct, last_product}
 use Rattle.module_vectors.specs.declared.trail.KeptTrail.{KeptTrail}
 use Rattle.module_vectors.specs.declared.trail.WorkStop.{WorkStop}

@@ -3,7 +3,7 @@ use Rattle.std.specs.Prelude.{List, length, map, ℕ}
 use Rattle.monomials.specs.Exponents.{exponents_of}
 use Rattle.formal_sums.specs.FormalSums.{Each}
 use Rattle.monomial_orders.specs.Kept.{IsWeighed, Monomial}
-use Rattle.module_vectors.specs.Rings.{variables}
+use Rattle.term_lists.specs.Rings.{variables}
 use Rattle.basis_steps.specs.Outcomes.{IsOutcome}
 use Rattle.basis_steps.specs.States.{Product, vectors}
 use Rattle.member_products.specs.declared.member.Reduct.{Reduct as CodeReduct}

@@ -2,9 +2,9 @@
 use Rattle.std.specs.Prelude.{List, [], length, map, ⊤, ℕ, ◌+◌, ◌∷◌, ◌<◌, ◌≡◌}
 use Rattle.formal_sums.specs.FormalSums.{Each}
 use Rattle.monomial_orders.specs.Kept.{IsWeighed, Monomial}
+use Rattle.term_lists.specs.Vectors.{sum_of}
+use Rattle.term_lists.specs.declared.key.Key.{Key as CodeKey}
 use Rattle.module_vectors.specs.Trails.{AreMet, HasKey, IsOfProduct, KeptProduct, last_product, product_lead}
-use Rattle.module_vectors.specs.Vectors.{sum_of}
-use Rattle.module_vectors.specs.declared.key.Key.{Key as CodeKey}
 use Rattle.basis_core.specs.declared.row_division.RowStop.{RowStop}
 use Rattle.basis_core.specs.declared.row_division.RowStop.TheVariants.{Memory, Degree}
 use Rattle.basis_core.specs.Members.{MemberShown}

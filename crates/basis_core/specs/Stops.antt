@@ -3,9 +3,9 @@ use Rattle.std.specs.Prelude.{List, None, Option, Some, [], get_or, ⊤, ℕ, �
 use Rattle.monomials.specs.Exponents.{exponents_of}
 use Rattle.monomials.specs.Weights.{weighted_degree}
 use Rattle.formal_sums.specs.FormalSums.{FormalSum}
-use Rattle.module_vectors.specs.Rings.{ring_comparison, variables}
+use Rattle.term_lists.specs.Rings.{ring_comparison, variables}
+use Rattle.term_lists.specs.Vectors.{AreVectorsOver, sums_of}
 use Rattle.module_vectors.specs.Trails.{IsTrail as IsKeptTrail, KeptProduct, last_product, no_product}
-use Rattle.module_vectors.specs.Vectors.{AreVectorsOver, sums_of}
 use Rattle.module_vectors.specs.declared.trail.KeptTrail.{KeptTrail}
 use Rattle.module_vectors.specs.declared.trail.TrailStart.{TrailStart}
 use Rattle.module_vectors.specs.declared.trail.TrailStart.TheVariants as starts

@@ -1,7 +1,7 @@
 -- The plain data that the state of a run stands for
 use Rattle.std.specs.Prelude.{List, None, Option, Some, drop, map, take, ℕ, ◌≡◌}
-use Rattle.module_vectors.specs.Rings.{variables}
-use Rattle.module_vectors.specs.Vectors.{sums_of}
+use Rattle.term_lists.specs.Rings.{variables}
+use Rattle.term_lists.specs.Vectors.{sums_of}
 use Rattle.basis_steps.specs.States as plain
 use Rattle.basis_steps.specs.States.{Run, State}
 use Rattle.basis_core.specs.declared.ending.Ending.{Ending}

@@ -1,6 +1,6 @@
 // What a run begins with: the members that its generators make.
 ghost use Rattle.std.specs.Prelude.{◌≡◌, ◌+◌, ◌<◌, [], get_or, length, IfOk, IfErr, OnOk};
-ghost use Rattle.module_vectors.specs.Rings.{variables};
+ghost use Rattle.term_lists.specs.Rings.{variables};
 ghost use Rattle.basis_steps.specs.Steps.{none_ended};
 ghost use Rattle.basis_core.specs.Answers.{BeginningStops, IsBeginningTrail};
 ghost use Rattle.basis_core.specs.Beginning.{HaveMade, IsUnitMultiple};

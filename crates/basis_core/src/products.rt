@@ -1,8 +1,8 @@
 // The products that a division takes away, as a vector whose positions are the indices of members.
 ghost use Rattle.std.specs.Prelude.{◌≡◌, ◌<◌, IfOk, map};
 ghost use Rattle.formal_sums.specs.FormalSums.{Each};
-ghost use Rattle.module_vectors.specs.Rings.{variables};
-ghost use Rattle.module_vectors.specs.Vectors.{IsMonomialOver, StandsFor};
+ghost use Rattle.term_lists.specs.Rings.{variables};
+ghost use Rattle.term_lists.specs.Vectors.{IsMonomialOver, StandsFor};
 ghost use Rattle.vector_division.specs.Reductions.{cofactors_of, term_of};
 ghost use Rattle.member_products.specs.Generators.{IsVectorOf};
 

@@ -2,7 +2,7 @@
 ghost use Rattle.std.specs.Prelude.{◌≡◌, ◌≤◌, ◌+◌, ◌*◌, OnOk, OnErr, IfErr, length, map, take};
 ghost use Rattle.std.specs.Vec.{vec_capacity};
 ghost use Rattle.formal_sums.specs.FormalSums.{Each};
-ghost use Rattle.module_vectors.specs.Rings.{variables};
+ghost use Rattle.term_lists.specs.Rings.{variables};
 ghost use Rattle.basis_steps.specs.Updates.{QueuesPairs};
 ghost use Rattle.basis_steps.specs.States.{vectors};
 ghost use Rattle.basis_core.specs.Jobs.{pairs_of};

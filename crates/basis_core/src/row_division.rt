@@ -1,6 +1,6 @@
 // A row divided by the members of a moment, and the member that it makes.
 ghost use Rattle.std.specs.Prelude.{◌≡◌, ◌<◌, ◌++◌, ◌∷◌, [], List, length, IfOk, IfErr, OnOk, OnErr};
-ghost use Rattle.module_vectors.specs.Rings.{variables};
+ghost use Rattle.term_lists.specs.Rings.{variables};
 ghost use Rattle.basis_steps.specs.Divisions.{MakesMembers};
 ghost use Rattle.basis_steps.specs.States.{vectors};
 ghost use Rattle.member_products.specs.Generators.{IsRanked};

@@ -2,7 +2,7 @@
 ghost use Rattle.std.specs.Prelude.{◌≡◌, ◌<◌, ℕ, List, None, Some, [], get_or, length, true, IfOk, IfErr, MatchOption, OnOk, OnErr, false};
 ghost use Rattle.std.specs.Arc.{arc_value};
 ghost use Rattle.formal_sums.specs.FormalSums.{Each};
-ghost use Rattle.module_vectors.specs.Rings.{variables};
+ghost use Rattle.term_lists.specs.Rings.{variables};
 ghost use Rattle.basis_steps.specs.Invariant.{HoldsInvariant};
 ghost use Rattle.basis_steps.specs.States.{IsLawfulRun};
 ghost use Rattle.basis_steps.specs.Histories.{HasStopped};

@@ -2,9 +2,9 @@
 ghost use Rattle.std.specs.Prelude.{ℕ, ◌≡◌, ◌<◌, ◌++◌, ◌∷◌, [], IfOk, IfSome, IfNone, OnOk, false, length, reverse, take, true};
 ghost use Rattle.monomials.specs.Exponents.{exponents_of, unit};
 ghost use Rattle.formal_sums.specs.FormalSums.{Each, shift};
-ghost use Rattle.module_vectors.specs.Rings.{variables};
+ghost use Rattle.term_lists.specs.Rings.{variables};
+ghost use Rattle.term_lists.specs.Vectors.{IsMonomialOver, key_of};
 ghost use Rattle.module_vectors.specs.Trails.{IsInProduct, IsKeptProduct, product_lead, kept_at};
-ghost use Rattle.module_vectors.specs.Vectors.{IsMonomialOver, key_of};
 ghost use Rattle.pair_criteria.specs.declared.pair.Pair.{Pair as PairValue};
 ghost use Rattle.pair_criteria.specs.Traces.{AreTraced};
 ghost use Rattle.basis_core.specs.Chains.{IsTracedTo};

@@ -1,7 +1,7 @@
 // Products of numbers and powers of variables.
 ghost use Rattle.std.specs.Prelude.{◌≡◌, ◌<◌, IfOk, IfSome, length};
-ghost use Rattle.module_vectors.specs.Rings.{variables};
-ghost use Rattle.module_vectors.specs.Vectors.{IsMonomialOver};
+ghost use Rattle.term_lists.specs.Rings.{variables};
+ghost use Rattle.term_lists.specs.Vectors.{IsMonomialOver};
 
 use crate::no_value::NoValue;
 use module_vectors::Ring;

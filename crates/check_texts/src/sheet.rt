@@ -1,7 +1,7 @@
 // A sheet, on which values are written.
 ghost use Rattle.std.specs.Prelude.{◌↔◌, IsTrue};
 ghost use Rattle.formal_sums.specs.FormalSums.{Each};
-ghost use Rattle.module_vectors.specs.Vectors.{HasVariables};
+ghost use Rattle.term_lists.specs.Vectors.{HasVariables};
 
 use cofactor_track::Member;
 use module_vectors::{Key, Ring, Vect};

@@ -7,10 +7,10 @@ use Rattle.formal_sums.proofs.OfRank.{IsOfRank_append, IsOfRank_of, IsOfRank_sca
 use Rattle.formal_sums.proofs.Sameness.{IsSame_append, IsSame_of, IsSame_scale, IsSame_sym, IsSame_trans}
 use Rattle.formal_sums.specs.Combinations.{combination}
 use Rattle.formal_sums.specs.FormalSums.{FormalSum, scale}
-use Rattle.module_vectors.specs.Rings.{variables}
-use Rattle.module_vectors.specs.Vectors.{StandsFor, sum_of, sums_of}
-use Rattle.module_vectors.specs.declared.key.Key.{Key as CodeKey}
-use Rattle.module_vectors.specs.declared.ring.Ring.{Ring}
+use Rattle.term_lists.specs.Rings.{variables}
+use Rattle.term_lists.specs.Vectors.{StandsFor, sum_of, sums_of}
+use Rattle.term_lists.specs.declared.key.Key.{Key as CodeKey}
+use Rattle.term_lists.specs.declared.ring.Ring.{Ring}
 use Rattle.basis_steps.proofs.Growing.{each_at}
 use Rattle.member_products.proofs.Ranks.{of_rank, ranked_by, ring_lawful}
 use Rattle.member_products.specs.Generators.{AreGenerators, IsRanked, IsVectorOf}

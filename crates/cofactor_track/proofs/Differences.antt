@@ -7,7 +7,7 @@ use Rattle.formal_sums.proofs.WeightedSums.{weighted_sum-scale}
 use Rattle.formal_sums.specs.FormalSums.{FormalSum, IsSame, indicator, scale}
 use Rattle.monomial_orders.specs.Kept.{Monomial}
 use Rattle.monomial_orders.specs.Monomials.{IsMonomial}
-use Rattle.module_vectors.specs.Vectors.{sum_of}
+use Rattle.term_lists.specs.Vectors.{sum_of}
 
 -- a factor counts modulo p
 scale_mod : {n : ℕ} (p c : ℕ) (m : Exponents n) (v : FormalSum n) → IsSame p (scale (c % p) m v) (scale c m v)

@@ -1,10 +1,10 @@
 -- Vectors with their cofactors over shared generators
 use Rattle.std.specs.Prelude.{List, length, ℕ}
 use Rattle.formal_sums.specs.Combinations.{combination}
-use Rattle.module_vectors.specs.Rings.{variables}
-use Rattle.module_vectors.specs.Vectors.{StandsFor, sum_of, sums_of}
-use Rattle.module_vectors.specs.declared.key.Key.{Key as CodeKey}
-use Rattle.module_vectors.specs.declared.ring.Ring.{Ring}
+use Rattle.term_lists.specs.Rings.{variables}
+use Rattle.term_lists.specs.Vectors.{StandsFor, sum_of, sums_of}
+use Rattle.term_lists.specs.declared.key.Key.{Key as CodeKey}
+use Rattle.term_lists.specs.declared.ring.Ring.{Ring}
 use Rattle.member_products.specs.Generators.{IsRanked}
 
 -- v is a vector of the rank, a has cofactors for the generators, and v is the combination of the generators by them

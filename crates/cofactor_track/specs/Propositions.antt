@@ -3,8 +3,8 @@ use Rattle.std.specs.Prelude.{List, length, ℕ}
 use Rattle.std.specs.Coded.{Coded-set, coded_ℕ, Π_prop}
 use Rattle.residues.specs.Residues.{IsCongruent}
 use Rattle.formal_sums.specs.FormalSums.{FormalSum, IsSame, coefficient}
-use Rattle.module_vectors.specs.declared.key.Key.{Key as CodeKey}
-use Rattle.module_vectors.specs.declared.ring.Ring.{Ring}
+use Rattle.term_lists.specs.declared.key.Key.{Key as CodeKey}
+use Rattle.term_lists.specs.declared.ring.Ring.{Ring}
 use Rattle.member_products.specs.Propositions.{IsRanked-prop}
 use Rattle.cofactor_track.specs.Members.{IsCombined}
 

@@ -1,8 +1,8 @@
 // Unit vectors, products and differences.
 ghost use Rattle.std.specs.Prelude.{◌≡◌, ◌<◌, IfOk, IfErr, OnOk, OnErr};
-ghost use Rattle.module_vectors.specs.Stops.{Fits, ScaledStops};
+ghost use Rattle.term_lists.specs.Stops.{Fits, ScaledStops};
 ghost use Rattle.member_products.specs.Generators.{IsVectorOf};
-ghost use Rattle.module_vectors.specs.Vectors.{IsMonomialOver};
+ghost use Rattle.term_lists.specs.Vectors.{IsMonomialOver};
 ghost use Rattle.cofactor_track.specs.Changes.{IsLess, IsTimes, IsUnitVector};
 
 use module_vectors::{Key, NoMemory, Product, Ring, Vect, VectStop};

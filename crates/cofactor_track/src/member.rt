@@ -32,8 +32,8 @@ impl Drop for Member {
 
 impl Member {
     ghost use Rattle.std.specs.Prelude.{◌≡◌, ◌<◌, ℕ, List, [], get_or, length, IfOk, IfErr, OnOk, OnErr};
-    ghost use Rattle.module_vectors.specs.Stops.{Fits};
-    ghost use Rattle.module_vectors.specs.Vectors.{IsMonomialOver};
+    ghost use Rattle.term_lists.specs.Stops.{Fits};
+    ghost use Rattle.term_lists.specs.Vectors.{IsMonomialOver};
     ghost use Rattle.cofactor_track.specs.Changes.{ChangeStops, IsLess, IsScaled, IsTimes, IsUnitVector};
 
     /// Generator i, with the cofactors e_i.

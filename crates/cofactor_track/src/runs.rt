@@ -2,8 +2,8 @@
 ghost use Rattle.std.specs.Prelude.{◌≡◌, ◌<◌, IfOk, IfErr, [], get_or, length, map};
 ghost use Rattle.std.specs.Arc.{arc_value};
 ghost use Rattle.formal_sums.specs.FormalSums.{Each};
-ghost use Rattle.module_vectors.specs.Rings.{variables};
-ghost use Rattle.module_vectors.specs.Vectors.{sums_of};
+ghost use Rattle.term_lists.specs.Rings.{variables};
+ghost use Rattle.term_lists.specs.Vectors.{sums_of};
 ghost use Rattle.basis_steps.specs.Cofactors.{AreCombined};
 ghost use Rattle.member_products.specs.Generators.{IsRanked};
 ghost use Rattle.member_products.specs.Members.{AreCofactors, CofactorsStop, members_of};

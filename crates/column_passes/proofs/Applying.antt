@@ -16,9 +16,9 @@ use Rattle.minimal_laws.proofs.Splitting.{length-images}
 use Rattle.minimal_laws.specs.Cancellation.{AreSameColumns, cleared, component, remove_at, split_map, without_row}
 use Rattle.minimal_laws.specs.Minimal.{IsConstantAt}
 use Rattle.betti_laws.proofs.Constants.{HasNoConstant}
-use Rattle.module_vectors.specs.Rings.{variables}
-use Rattle.module_vectors.specs.declared.key.Key.{Key as CodeKey}
-use Rattle.module_vectors.specs.declared.ring.Ring.{Ring}
+use Rattle.term_lists.specs.Rings.{variables}
+use Rattle.term_lists.specs.declared.key.Key.{Key as CodeKey}
+use Rattle.term_lists.specs.declared.ring.Ring.{Ring}
 use Rattle.column_passes.specs.Passing.{AreFirstSteps, IsFirstStep, Pivot, applied, left_by, left_by_all}
 
 abbrev Terms : Type 0

@@ -11,8 +11,8 @@ use Rattle.minimal_laws.proofs.Rows.{linear_without_row}
 use Rattle.minimal_laws.specs.Cancellation.{AreSameColumns, remove_at, without_row}
 use Rattle.minimal_laws.specs.Minimal.{IsConstantAt}
 use Rattle.betti_laws.proofs.Constants.{HasNoConstant}
-use Rattle.module_vectors.specs.Rings.{variables}
-use Rattle.module_vectors.specs.declared.ring.Ring.{Ring}
+use Rattle.term_lists.specs.Rings.{variables}
+use Rattle.term_lists.specs.declared.ring.Ring.{Ring}
 use Rattle.column_passes.specs.Passing.{AreFirstSteps, IsFirstStep, Pivot, add_choice, add_index, add_kept, add_place, applied, indices_in_turn}
 use Rattle.column_passes.specs.Passing.{left_by, left_by_all, rows_in_turn}
 use Rattle.column_passes.specs.Placing.{place_after, without_all}

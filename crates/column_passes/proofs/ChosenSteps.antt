@@ -15,10 +15,10 @@ use Rattle.minimal_laws.specs.Gradings.{AreHomogeneous, GradedMap}
 use Rattle.minimal_laws.specs.Minimal.{IsConstantAt}
 use Rattle.betti_laws.proofs.ConstantParts.{coefficient_unit, columns_split, constant_back, constant_there, constants_graded}
 use Rattle.betti_laws.specs.ConstantParts.{constant_part}
-use Rattle.module_vectors.specs.Rings.{ring_comparison, variables}
-use Rattle.module_vectors.specs.Vectors.{AreTermsOver, AreVectorsOver, sums_of}
-use Rattle.module_vectors.specs.declared.key.Key.{Key as CodeKey}
-use Rattle.module_vectors.specs.declared.ring.Ring.{Ring}
+use Rattle.term_lists.specs.Rings.{ring_comparison, variables}
+use Rattle.term_lists.specs.Vectors.{AreTermsOver, AreVectorsOver, sums_of}
+use Rattle.term_lists.specs.declared.key.Key.{Key as CodeKey}
+use Rattle.term_lists.specs.declared.ring.Ring.{Ring}
 use Rattle.column_passes.specs.Passing.{AreFirstSteps, AreGradedColumns, IsChosen, IsFirstStep, IsPassed, Pivot, applied, left_by, left_by_all}
 use Rattle.column_passes.specs.Placing.{ArePlacesAfter}
 use Rattle.column_passes.specs.declared.one_pass.Passed.{Passed}

@@ -15,13 +15,13 @@ use Rattle.formal_sums.proofs.WeightedSums.{weighted_sum-scale}
 use Rattle.formal_sums.specs.FormalSums.{Each, FormalSum, IsSame, indicator, product, scale, shift, weighted_sum}
 use Rattle.minimal_laws.proofs.Rows.{linear_component}
 use Rattle.minimal_laws.specs.Cancellation.{cleared, component}
-use Rattle.module_vectors.specs.Rings.{variables}
-use Rattle.module_vectors.specs.Stops.{ScaledStops}
-use Rattle.module_vectors.specs.Vectors.{StandsFor, sum_of}
-use Rattle.module_vectors.specs.declared.key.Key.{Key as CodeKey}
-use Rattle.module_vectors.specs.declared.ring.Ring.{Ring}
-use Rattle.module_vectors.specs.declared.stop.VectStop.{VectStop}
-use Rattle.module_vectors.specs.declared.stop.VectStop.TheVariants.{Degree, Memory}
+use Rattle.term_lists.specs.Rings.{variables}
+use Rattle.term_lists.specs.Stops.{ScaledStops}
+use Rattle.term_lists.specs.Vectors.{StandsFor, sum_of}
+use Rattle.term_lists.specs.declared.key.Key.{Key as CodeKey}
+use Rattle.term_lists.specs.declared.ring.Ring.{Ring}
+use Rattle.term_lists.specs.declared.stop.VectStop.{VectStop}
+use Rattle.term_lists.specs.declared.stop.VectStop.TheVariants.{Degree, Memory}
 use Rattle.column_passes.specs.Clearing.{ClearingStops, IsMonomialAt, multiple_of}
 use Rattle.column_passes.proofs.Lists.{all_append}
 

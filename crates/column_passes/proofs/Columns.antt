@@ -4,10 +4,10 @@ use Rattle.std.proofs.lemmas.List.{append_assoc, map-append, take_more}
 use Rattle.formal_sums.proofs.Sameness.{IsSame_refl, IsSame_sym}
 use Rattle.formal_sums.specs.FormalSums.{FormalSum, IsSame}
 use Rattle.minimal_laws.specs.Cancellation.{AreSameColumns}
-use Rattle.module_vectors.specs.Rings.{ring_comparison, variables}
-use Rattle.module_vectors.specs.Vectors.{AreVectorsOver, IsVectorOver, StandsFor, sum_of, sums_of}
-use Rattle.module_vectors.specs.declared.key.Key.{Key as CodeKey}
-use Rattle.module_vectors.specs.declared.ring.Ring.{Ring}
+use Rattle.term_lists.specs.Rings.{ring_comparison, variables}
+use Rattle.term_lists.specs.Vectors.{AreVectorsOver, IsVectorOver, StandsFor, sum_of, sums_of}
+use Rattle.term_lists.specs.declared.key.Key.{Key as CodeKey}
+use Rattle.term_lists.specs.declared.ring.Ring.{Ring}
 use Rattle.column_passes.specs.Placing.{AreWithout, without_all}
 use Rattle.column_passes.proofs.Lists.{all_append}
 

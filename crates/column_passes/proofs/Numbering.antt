@@ -5,10 +5,10 @@ use Rattle.formal_sums.proofs.Sameness.{IsSame_of, IsSame_trans}
 use Rattle.formal_sums.specs.FormalSums.{Each, FormalSum, IsSame}
 use Rattle.minimal_laws.proofs.Rows.{linear_cleared}
 use Rattle.minimal_laws.specs.Cancellation.{cleared}
-use Rattle.module_vectors.specs.Rings.{variables}
-use Rattle.module_vectors.specs.Vectors.{StandsFor, sum_of}
-use Rattle.module_vectors.specs.declared.key.Key.{Key as CodeKey}
-use Rattle.module_vectors.specs.declared.ring.Ring.{Ring}
+use Rattle.term_lists.specs.Rings.{variables}
+use Rattle.term_lists.specs.Vectors.{StandsFor, sum_of}
+use Rattle.term_lists.specs.declared.key.Key.{Key as CodeKey}
+use Rattle.term_lists.specs.declared.ring.Ring.{Ring}
 use Rattle.column_passes.specs.Passing.{AreNumbered, HaveNoOthers, cleared_all}
 use Rattle.column_passes.specs.declared.steps.Step.{Step}
 use Rattle.column_passes.proofs.Clearings.{cleared_other}

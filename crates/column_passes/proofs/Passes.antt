@@ -14,11 +14,11 @@ use Rattle.bases.specs.Settings.{IsLawful}
 use Rattle.minimal_laws.specs.Cancellation.{AreSameColumns, cleared}
 use Rattle.minimal_laws.specs.Gradings.{AreHomogeneous, IsHomogeneous}
 use Rattle.minimal_laws.specs.Minimal.{IsConstantAt}
-use Rattle.module_vectors.proofs.Scaling.{Each_at}
-use Rattle.module_vectors.specs.Rings.{ring_comparison, setting, variables}
-use Rattle.module_vectors.specs.Vectors.{IsVectorOver, StandsFor, sum_of, sums_of}
-use Rattle.module_vectors.specs.declared.key.Key.{Key as CodeKey}
-use Rattle.module_vectors.specs.declared.ring.Ring.{Ring}
+use Rattle.term_lists.proofs.Scaling.{Each_at}
+use Rattle.term_lists.specs.Rings.{ring_comparison, setting, variables}
+use Rattle.term_lists.specs.Vectors.{IsVectorOver, StandsFor, sum_of, sums_of}
+use Rattle.term_lists.specs.declared.key.Key.{Key as CodeKey}
+use Rattle.term_lists.specs.declared.ring.Ring.{Ring}
 use Rattle.column_passes.specs.Constants.{IsLeastUnit}
 use Rattle.column_passes.specs.Passing.{AreFinished, AreNumbered, HaveNoOthers, IsFreeOfSteps, IsGraded, IsMetOver, IsPassed, IsColumnSorted, IsStepOver}
 use Rattle.column_passes.specs.Passing.{LeaveNumbered, Pivot, add_kept, cleared_all, finished_all, indices_in_turn, left_by_all, rows_in_turn}

@@ -7,10 +7,10 @@ use Rattle.std.proofs.lemmas.Bool.Decides.{nat_tests}
 use Rattle.std.proofs.lemmas.List.{append_assoc, get_or_append_left, get_or_past, get_or_push, length-take, length_push, take_more}
 use Rattle.minimal_laws.proofs.Rows.{close, skip}
 use Rattle.minimal_laws.specs.Cancellation.{remove_at}
-use Rattle.module_vectors.specs.Rings.{ring_comparison}
-use Rattle.module_vectors.specs.Vectors.{IsVectorOver, sum_of}
-use Rattle.module_vectors.specs.declared.key.Key.{Key as CodeKey}
-use Rattle.module_vectors.specs.declared.ring.Ring.{Ring}
+use Rattle.term_lists.specs.Rings.{ring_comparison}
+use Rattle.term_lists.specs.Vectors.{IsVectorOver, sum_of}
+use Rattle.term_lists.specs.declared.key.Key.{Key as CodeKey}
+use Rattle.term_lists.specs.declared.ring.Ring.{Ring}
 use Rattle.column_passes.specs.Passing.{LeaveNumbered, add_index, indices_in_turn}
 use Rattle.column_passes.specs.Placing.{ArePlacesAfter, IsPlacePut, all_removed, keep_at, place_after, place_told, placed, put_at, without_all}
 use Rattle.column_passes.specs.declared.one_pass.Met.{Met}

@@ -13,8 +13,8 @@ use Rattle.minimal_laws.proofs.Rows.{close, skip}
 use Rattle.minimal_laws.specs.Cancellation.{cleared, component, without_row}
 use Rattle.minimal_laws.specs.Minimal.{IsConstantAt}
 use Rattle.betti_laws.proofs.Constants.{HasNoConstant}
-use Rattle.module_vectors.specs.Rings.{variables}
-use Rattle.module_vectors.specs.declared.ring.Ring.{Ring}
+use Rattle.term_lists.specs.Rings.{variables}
+use Rattle.term_lists.specs.declared.ring.Ring.{Ring}
 use Rattle.column_passes.specs.Passing.{Pivot, applied}
 use Rattle.column_passes.specs.Placing.{place_after, without_all}
 use Rattle.column_passes.proofs.Applying.{no_constant_without}

@@ -12,12 +12,12 @@ use Rattle.formal_sums.specs.FormalSums.{Each, FormalSum, Key, coefficient}
 use Rattle.bases.specs.Settings.{IsLawful}
 use Rattle.minimal_laws.specs.Minimal.{IsConstantAt}
 use Rattle.betti_laws.proofs.Constants.{HasNoConstant}
-use Rattle.module_vectors.proofs.Scaling.{Each_at}
-use Rattle.module_vectors.specs.Rings.{ring_comparison, setting, variables}
+use Rattle.term_lists.proofs.Scaling.{Each_at}
+use Rattle.term_lists.specs.Rings.{ring_comparison, setting, variables}
+use Rattle.term_lists.specs.Vectors.{AreVectorsOver, IsTerm, IsVectorOver, key_of, sum_of, sums_of}
+use Rattle.term_lists.specs.declared.key.Key.{Key as CodeKey}
+use Rattle.term_lists.specs.declared.ring.Ring.{Ring}
 use Rattle.module_vectors.specs.Trails.{HasKey}
-use Rattle.module_vectors.specs.Vectors.{AreVectorsOver, IsTerm, IsVectorOver, key_of, sum_of, sums_of}
-use Rattle.module_vectors.specs.declared.key.Key.{Key as CodeKey}
-use Rattle.module_vectors.specs.declared.ring.Ring.{Ring}
 use Rattle.vector_division.proofs.Members.{sums_at}
 use Rattle.vector_division.proofs.Occurring.{coefficients, occurs}
 use Rattle.column_passes.specs.Constants.{HasUnit, IsFirst, IsLeastUnit}

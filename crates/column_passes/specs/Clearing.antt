@@ -4,13 +4,13 @@ use Rattle.monomials.specs.Exponents.{unit}
 use Rattle.formal_sums.specs.FormalSums.{FormalSum, product, scale}
 use Rattle.minimal_laws.specs.Cancellation.{component}
 use Rattle.monomial_orders.specs.Kept.{Monomial}
-use Rattle.module_vectors.specs.Rings.{variables}
-use Rattle.module_vectors.specs.Stops.{HasMonomial, IsTooGreat}
-use Rattle.module_vectors.specs.Vectors.{sum_of}
-use Rattle.module_vectors.specs.declared.key.Key.{Key as CodeKey}
-use Rattle.module_vectors.specs.declared.ring.Ring.{Ring}
-use Rattle.module_vectors.specs.declared.stop.VectStop.{VectStop}
-use Rattle.module_vectors.specs.declared.stop.VectStop.TheVariants.{Degree, Memory}
+use Rattle.term_lists.specs.Rings.{variables}
+use Rattle.term_lists.specs.Stops.{HasMonomial, IsTooGreat}
+use Rattle.term_lists.specs.Vectors.{sum_of}
+use Rattle.term_lists.specs.declared.key.Key.{Key as CodeKey}
+use Rattle.term_lists.specs.declared.ring.Ring.{Ring}
+use Rattle.term_lists.specs.declared.stop.VectStop.{VectStop}
+use Rattle.term_lists.specs.declared.stop.VectStop.TheVariants.{Degree, Memory}
 
 -- the multiple of w that these terms' entry in row r takes away; s is the inverse of w's entry there
 abbrev pub multiple_of : (ring : Ring) → ℕ → ℕ → List (CodeKey × ℕ) → List (CodeKey × ℕ) → FormalSum (variables ring)

@@ -3,10 +3,10 @@ use Rattle.std.specs.Prelude.{List, [], map, ℕ, ◌++◌, ◌∷◌, ◌≡◌
 use Rattle.formal_sums.specs.FormalSums.{FormalSum}
 use Rattle.minimal_laws.specs.Cancellation.{AreSameColumns}
 use Rattle.betti_laws.specs.ConstantParts.{constant_part}
-use Rattle.module_vectors.specs.Rings.{ring_comparison, variables}
-use Rattle.module_vectors.specs.Vectors.{AreVectorsOver, sum_of, sums_of}
-use Rattle.module_vectors.specs.declared.key.Key.{Key as CodeKey}
-use Rattle.module_vectors.specs.declared.ring.Ring.{Ring}
+use Rattle.term_lists.specs.Rings.{ring_comparison, variables}
+use Rattle.term_lists.specs.Vectors.{AreVectorsOver, sum_of, sums_of}
+use Rattle.term_lists.specs.declared.key.Key.{Key as CodeKey}
+use Rattle.term_lists.specs.declared.ring.Ring.{Ring}
 
 -- the columns are one by one the images of the others, in the ring's own order
 pub record AreColumnImages (ring : Ring) (f : FormalSum (variables ring) → FormalSum (variables ring)) (old new : List (List (CodeKey × ℕ))) : Type 0 where

@@ -3,10 +3,10 @@ use Rattle.std.specs.Prelude.{Contains, List, None, Option, Some, [], get_or, le
 use Rattle.monomials.specs.Exponents.{unit}
 use Rattle.formal_sums.specs.FormalSums.{Each, FormalSum, coefficient}
 use Rattle.minimal_laws.specs.Minimal.{IsConstantAt}
-use Rattle.module_vectors.specs.Rings.{variables}
-use Rattle.module_vectors.specs.Vectors.{sums_of}
-use Rattle.module_vectors.specs.declared.key.Key.{Key as CodeKey}
-use Rattle.module_vectors.specs.declared.ring.Ring.{Ring}
+use Rattle.term_lists.specs.Rings.{variables}
+use Rattle.term_lists.specs.Vectors.{sums_of}
+use Rattle.term_lists.specs.declared.key.Key.{Key as CodeKey}
+use Rattle.term_lists.specs.declared.ring.Ring.{Ring}
 use Rattle.column_passes.specs.declared.constants.Constant.{Constant}
 
 -- a term at this position, with the monomial 1 and this residue

@@ -6,10 +6,10 @@ use Rattle.formal_sums.specs.FormalSums.{Each, FormalSum, IsSame, coefficient}
 use Rattle.minimal_laws.specs.Cancellation.{AreSameColumns, cleared, remove_at, without_row}
 use Rattle.minimal_laws.specs.Gradings.{AreHomogeneous, IsHomogeneous}
 use Rattle.minimal_laws.specs.Minimal.{IsConstantAt}
-use Rattle.module_vectors.specs.Rings.{ring_comparison, variables}
-use Rattle.module_vectors.specs.Vectors.{AreVectorsOver, IsVectorOver, sum_of, sums_of}
-use Rattle.module_vectors.specs.declared.key.Key.{Key as CodeKey}
-use Rattle.module_vectors.specs.declared.ring.Ring.{Ring}
+use Rattle.term_lists.specs.Rings.{ring_comparison, variables}
+use Rattle.term_lists.specs.Vectors.{AreVectorsOver, IsVectorOver, sum_of, sums_of}
+use Rattle.term_lists.specs.declared.key.Key.{Key as CodeKey}
+use Rattle.term_lists.specs.declared.ring.Ring.{Ring}
 use Rattle.column_passes.specs.Constants.{HasNoConstants, IsLeastUnit}
 use Rattle.column_passes.specs.Placing.{ArePlacesAfter, place_after, place_told, without_all}
 use Rattle.column_passes.specs.declared.one_pass.Met.{Met}

@@ -2,10 +2,10 @@
 use Rattle.std.specs.Prelude.{Bool, List, None, Option, Some, [], cond, get_or, length, map, nat_eq, nat_lt, ℕ, ◌++◌, ◌+◌, ◌-◌, ◌∷◌, ◌≡◌}
 use Rattle.formal_sums.specs.FormalSums.{FormalSum}
 use Rattle.minimal_laws.specs.Cancellation.{remove_at, without_row}
-use Rattle.module_vectors.specs.Rings.{ring_comparison, variables}
-use Rattle.module_vectors.specs.Vectors.{AreVectorsOver, sums_of}
-use Rattle.module_vectors.specs.declared.key.Key.{Key as CodeKey}
-use Rattle.module_vectors.specs.declared.ring.Ring.{Ring}
+use Rattle.term_lists.specs.Rings.{ring_comparison, variables}
+use Rattle.term_lists.specs.Vectors.{AreVectorsOver, sums_of}
+use Rattle.term_lists.specs.declared.key.Key.{Key as CodeKey}
+use Rattle.term_lists.specs.declared.ring.Ring.{Ring}
 use Rattle.column_passes.specs.declared.placing.Leaving.{Leaving}
 
 -- what is left to row q when these leave in turn, or none where it is one of them

@@ -1,7 +1,7 @@
 // The rows and columns that leave a map, by its constants alone.
 ghost use Rattle.std.specs.Prelude.{◌≡◌, IfOk};
-ghost use Rattle.module_vectors.specs.Rings.{ring_comparison, variables};
-ghost use Rattle.module_vectors.specs.Vectors.{AreVectorsOver, sums_of};
+ghost use Rattle.term_lists.specs.Rings.{ring_comparison, variables};
+ghost use Rattle.term_lists.specs.Vectors.{AreVectorsOver, sums_of};
 ghost use Rattle.column_passes.specs.Passing.{AreGradedColumns, IsChosen};
 
 use crate::constant_parts::constant_columns;

@@ -2,8 +2,8 @@
 ghost use Rattle.std.specs.Prelude.{◌≡◌, ◌<◌, ◌≤◌, ◌++◌, ◌∷◌, ◌-◌, ℕ, [], IfErr, IfOk, OnOk, cond, false, length, nat_lt};
 ghost use Rattle.formal_sums.specs.FormalSums.{Each};
 ghost use Rattle.minimal_laws.specs.Cancellation.{cleared, without_row};
-ghost use Rattle.module_vectors.specs.Rings.{ring_comparison, variables};
-ghost use Rattle.module_vectors.specs.Vectors.{AreTermsOver, IsMonomialOver, IsVectorOver, StandsFor, sum_of};
+ghost use Rattle.term_lists.specs.Rings.{ring_comparison, variables};
+ghost use Rattle.term_lists.specs.Vectors.{AreTermsOver, IsMonomialOver, IsVectorOver, StandsFor, sum_of};
 ghost use Rattle.column_passes.specs.Clearing.{ClearingStops, lowered, multiple_of};
 
 use crate::placing::lower_position;

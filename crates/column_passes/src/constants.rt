@@ -1,9 +1,9 @@
 // The first constant of a map.
 ghost use Rattle.std.specs.Prelude.{◌≡◌, ◌∷◌, ◌++◌, [], ℕ, List, None, IfSome};
 ghost use Rattle.formal_sums.specs.FormalSums.{Each};
-ghost use Rattle.module_vectors.specs.Rings.{ring_comparison, variables};
-ghost use Rattle.module_vectors.specs.Vectors.{AreVectorsOver, sums_of};
-ghost use Rattle.module_vectors.specs.declared.key.Key.{Key as KeyValue};
+ghost use Rattle.term_lists.specs.Rings.{ring_comparison, variables};
+ghost use Rattle.term_lists.specs.Vectors.{AreVectorsOver, sums_of};
+ghost use Rattle.term_lists.specs.declared.key.Key.{Key as KeyValue};
 ghost use Rattle.column_passes.specs.Constants.{HasNoConstants, IsFirst, IsLeastUnit};
 ghost use Rattle.column_passes.specs.Passing.{IsGraded};
 

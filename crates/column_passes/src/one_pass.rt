@@ -1,8 +1,8 @@
 // One pass over the columns of a map, by degree, after which they have no constants.
 ghost use Rattle.std.specs.Prelude.{◌≡◌, ◌<◌, [], List, ℕ, IfOk, OnOk, get_or, length};
 ghost use Rattle.formal_sums.specs.FormalSums.{Each};
-ghost use Rattle.module_vectors.specs.Rings.{ring_comparison, variables};
-ghost use Rattle.module_vectors.specs.Vectors.{AreVectorsOver, IsVectorOver, sums_of};
+ghost use Rattle.term_lists.specs.Rings.{ring_comparison, variables};
+ghost use Rattle.term_lists.specs.Vectors.{AreVectorsOver, IsVectorOver, sums_of};
 ghost use Rattle.column_passes.specs.Passing.{AreFinished, AreGradedColumns, AreNumbered, HaveNoOthers, IsFreeOfSteps, IsMetOver, IsPassed};
 ghost use Rattle.column_passes.specs.Passing.{IsColumnSorted, IsStepOver, LeaveNumbered, indices_in_turn};
 ghost use Rattle.column_passes.specs.Placing.{ArePlacesAfter};

@@ -1,7 +1,7 @@
 // Rows move up when others leave.
 ghost use Rattle.std.specs.Prelude.{◌≡◌, ◌++◌, ◌∷◌, ◌-◌, ◌≤◌, [], List, ℕ, IfOk, OnOk, cond, false, length, nat_lt, true};
-ghost use Rattle.module_vectors.specs.Rings.{ring_comparison};
-ghost use Rattle.module_vectors.specs.Vectors.{AreVectorsOver, IsVectorOver, sum_of};
+ghost use Rattle.term_lists.specs.Rings.{ring_comparison};
+ghost use Rattle.term_lists.specs.Vectors.{AreVectorsOver, IsVectorOver, sum_of};
 ghost use Rattle.column_passes.specs.Placing.{ArePlacesAfter, AreWithout, IsPlacePut, all_removed, keep_at, place_told, placed, without_all};
 
 use module_vectors::{Key, NoMemory, Ring, Vect, VectList};

@@ -1,8 +1,8 @@
 // Constants that left a map, and vectors after them.
 ghost use Rattle.std.specs.Prelude.{◌≡◌, ◌<◌, ◌≤◌, ◌⊎◌, ◌++◌, ◌∷◌, [], ℕ, IfOk, OnOk, drop, get_or};
 ghost use Rattle.formal_sums.specs.FormalSums.{Each};
-ghost use Rattle.module_vectors.specs.Rings.{ring_comparison, variables};
-ghost use Rattle.module_vectors.specs.Vectors.{IsVectorOver, StandsFor, sum_of};
+ghost use Rattle.term_lists.specs.Rings.{ring_comparison, variables};
+ghost use Rattle.term_lists.specs.Vectors.{IsVectorOver, StandsFor, sum_of};
 ghost use Rattle.column_passes.specs.Passing.{AreNumbered, HaveNoOthers, IsStepOver, cleared_all};
 
 use crate::clearing::cleared_vector;

@@ -2,10 +2,10 @@
 use Rattle.std.specs.Prelude.{List, [], get_or, length, ℕ, ◌++◌, ◌<◌, ◌≡◌}
 use Rattle.formal_sums.specs.Combinations.{combination}
 use Rattle.formal_sums.specs.FormalSums.{FormalSum}
-use Rattle.module_vectors.specs.Rings.{ring_comparison, variables}
-use Rattle.module_vectors.specs.Vectors.{AreVectorsOver, StandsFor, sum_of, sums_of}
-use Rattle.module_vectors.specs.declared.key.Key.{Key as CodeKey}
-use Rattle.module_vectors.specs.declared.ring.Ring.{Ring}
+use Rattle.term_lists.specs.Rings.{ring_comparison, variables}
+use Rattle.term_lists.specs.Vectors.{AreVectorsOver, StandsFor, sum_of, sums_of}
+use Rattle.term_lists.specs.declared.key.Key.{Key as CodeKey}
+use Rattle.term_lists.specs.declared.ring.Ring.{Ring}
 
 -- new is old plus a combination of the columns
 pub record IsComplement (ring : Ring) (columns : List (List (CodeKey × ℕ))) (old new : List (CodeKey × ℕ)) : Type 0 where

@@ -1,8 +1,8 @@
 // Vectors plus combinations of columns.
 ghost use Rattle.std.specs.Prelude.{◌++◌, IfOk, length};
 ghost use Rattle.formal_sums.specs.Combinations.{combination};
-ghost use Rattle.module_vectors.specs.Rings.{ring_comparison, variables};
-ghost use Rattle.module_vectors.specs.Vectors.{AreVectorsOver, IsVectorOver, sum_of, sums_of};
+ghost use Rattle.term_lists.specs.Rings.{ring_comparison, variables};
+ghost use Rattle.term_lists.specs.Vectors.{AreVectorsOver, IsVectorOver, sum_of, sums_of};
 ghost use Rattle.complements.specs.Complements.{AreComplements, IsComplement};
 
 use crate::elimination::{Elimination, Work, eliminated};

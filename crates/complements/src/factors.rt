@@ -1,7 +1,7 @@
 // The combination of columns that takes away a vector's entries in the rows of one degree.
 ghost use Rattle.std.specs.Prelude.{◌<◌, IfOk, OnOk, length};
-ghost use Rattle.module_vectors.specs.Rings.{ring_comparison};
-ghost use Rattle.module_vectors.specs.Vectors.{AreTermsOver, IsMonomialOver, IsVectorOver};
+ghost use Rattle.term_lists.specs.Rings.{ring_comparison};
+ghost use Rattle.term_lists.specs.Vectors.{AreTermsOver, IsMonomialOver, IsVectorOver};
 
 use crate::elimination::{Step, Work, take_steps};
 use module_vectors::{Key, NoMemory, Ring, Vect, lawful_setting};

@@ -1,6 +1,6 @@
 // The leads of the members that no other member's lead divides.
 ghost use Rattle.std.specs.Prelude.{◌≡◌, ◌<◌, IfOk, IfSome, OnOk, length};
-ghost use Rattle.module_vectors.specs.Vectors.{AreTermsOver, IsMonomialOver};
+ghost use Rattle.term_lists.specs.Vectors.{AreTermsOver, IsMonomialOver};
 ghost use Rattle.member_products.specs.Generators.{IsVectorOf};
 
 use basis_core::{BasisState, Members};

@@ -10,12 +10,12 @@ use Rattle.homogeneous_laws.proofs.Combining.{dehomogenised-append, same_at_one}
 use Rattle.homogeneous_laws.proofs.Ends.{weighted_degree-last}
 use Rattle.homogeneous_laws.specs.Homogeneous.{before_last, dehomogenised, last_exponent}
 use Rattle.monomial_orders.specs.Kept.{AreWeights, IsWeighed, Monomial}
-use Rattle.module_vectors.proofs.Merges.{sum_of-append}
-use Rattle.module_vectors.proofs.Scaling.{take_item}
-use Rattle.module_vectors.specs.Rings.{variables}
-use Rattle.module_vectors.specs.Vectors.{AreTermsOver, IsMonomialOver, IsTerm, StandsFor, sum_of}
-use Rattle.module_vectors.specs.declared.key.Key.{Key as CodeKey}
-use Rattle.module_vectors.specs.declared.ring.Ring.{Ring}
+use Rattle.term_lists.proofs.Merges.{sum_of-append}
+use Rattle.term_lists.proofs.Scaling.{take_item}
+use Rattle.term_lists.specs.Rings.{variables}
+use Rattle.term_lists.specs.Vectors.{AreTermsOver, IsMonomialOver, IsTerm, StandsFor, sum_of}
+use Rattle.term_lists.specs.declared.key.Key.{Key as CodeKey}
+use Rattle.term_lists.specs.declared.ring.Ring.{Ring}
 use Rattle.degree_engine.specs.LastVariables.{AreAtOne, IsAtOne, IsWithLast}
 
 -- ---- exponents

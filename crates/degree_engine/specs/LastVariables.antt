@@ -1,10 +1,10 @@
 -- One more variable at the end (IVA chapter 8, section 4)
 use Rattle.std.specs.Prelude.{List, [], get_or, length, suc, ℕ, ◌++◌, ◌∷◌, ◌≡◌}
 use Rattle.formal_sums.specs.FormalSums.{Each, IsSame}
-use Rattle.module_vectors.specs.Rings.{variables}
-use Rattle.module_vectors.specs.Vectors.{sum_of}
-use Rattle.module_vectors.specs.declared.key.Key.{Key as CodeKey}
-use Rattle.module_vectors.specs.declared.ring.Ring.{Ring}
+use Rattle.term_lists.specs.Rings.{variables}
+use Rattle.term_lists.specs.Vectors.{sum_of}
+use Rattle.term_lists.specs.declared.key.Key.{Key as CodeKey}
+use Rattle.term_lists.specs.declared.ring.Ring.{Ring}
 use Rattle.homogeneous_laws.specs.Homogeneous.{dehomogenised}
 
 -- the ring `more` is `ring` with one more variable at the end, of weight 1, by the same orders

@@ -1,10 +1,10 @@
 -- Lists whose terms stand in another order
 use Rattle.std.specs.Prelude.{List, [], get_or, length, ℕ, ◌≡◌}
 use Rattle.formal_sums.specs.FormalSums.{IsSame}
-use Rattle.module_vectors.specs.Rings.{variables}
-use Rattle.module_vectors.specs.Vectors.{sum_of}
-use Rattle.module_vectors.specs.declared.key.Key.{Key as CodeKey}
-use Rattle.module_vectors.specs.declared.ring.Ring.{Ring}
+use Rattle.term_lists.specs.Rings.{variables}
+use Rattle.term_lists.specs.Vectors.{sum_of}
+use Rattle.term_lists.specs.declared.key.Key.{Key as CodeKey}
+use Rattle.term_lists.specs.declared.ring.Ring.{Ring}
 
 -- as many vectors, each the same one as that with its index
 pub record AreResorted (ring : Ring) (list resorted : List (List (CodeKey × ℕ))) : Type 0 where

@@ -1,7 +1,7 @@
 // Are all terms of one degree?
 ghost use Rattle.std.specs.Prelude.{IsTrue, ◌≡◌};
 ghost use Rattle.formal_sums.specs.FormalSums.{Each};
-ghost use Rattle.module_vectors.specs.Vectors.{HasPositions};
+ghost use Rattle.term_lists.specs.Vectors.{HasPositions};
 ghost use Rattle.degree_engine.specs.LastVariables.{HasOneDegree};
 
 use module_vectors::{Key, Vect, VectList};

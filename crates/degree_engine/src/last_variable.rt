@@ -1,7 +1,7 @@
 // One more variable at the end, and 1 put for it.
 ghost use Rattle.std.specs.Prelude.{◌≡◌, ◌+◌, ◌++◌, ◌∷◌, [], IfOk, length, suc, take};
-ghost use Rattle.module_vectors.specs.Rings.{ring_comparison, variables};
-ghost use Rattle.module_vectors.specs.Vectors.{AreTermsOver, AreVectorsOver, IsMonomialOver, IsVectorOver, sum_of};
+ghost use Rattle.term_lists.specs.Rings.{ring_comparison, variables};
+ghost use Rattle.term_lists.specs.Vectors.{AreTermsOver, AreVectorsOver, IsMonomialOver, IsVectorOver, sum_of};
 ghost use Rattle.homogeneous_laws.specs.Homogeneous.{dehomogenised};
 ghost use Rattle.degree_engine.specs.LastVariables.{AreAtOne, HasOneDegree, IsAtOne, IsWithLast};
 

@@ -7,7 +7,7 @@ use Rattle.monomials.specs.Exponents.{unit}
 use Rattle.formal_sums.proofs.Sameness.{IsSame_append, IsSame_of, IsSame_refl, IsSame_trans, scale-append, shift-unit}
 use Rattle.formal_sums.proofs.WeightedSums.{coefficient-append}
 use Rattle.formal_sums.specs.FormalSums.{Each, IsSame, Key, coefficient, indicator, scale, weighted_sum}
-use Rattle.module_vectors.proofs.Scaling.{Each_at, take_item}
+use Rattle.term_lists.proofs.Scaling.{Each_at, take_item}
 use Rattle.module_vectors.proofs.SumsOfProducts.{added_zero}
 use Rattle.row_matrix.specs.Rows.{AreEntries, Entry, row_sum}
 use Rattle.dense_reduction.proofs.Entries.{entries_from, entries_within}

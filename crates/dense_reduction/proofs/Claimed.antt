@@ -6,8 +6,8 @@ use Rattle.std.specs.List.Sorted.{IsPermutation}
 use Rattle.formal_sums.proofs.Combining.{Each_map}
 use Rattle.formal_sums.proofs.WeightedSums.{Each_append}
 use Rattle.formal_sums.specs.FormalSums.{Each}
-use Rattle.module_vectors.proofs.Scaling.{take_item}
-use Rattle.module_vectors.proofs.SumsOfProducts.{Each_member}
+use Rattle.term_lists.proofs.Scaling.{take_item}
+use Rattle.term_lists.proofs.Parts.{Each_member}
 use Rattle.pivot_table.specs.Law.{NamesRowOf, entry, found_by, word_of}
 use Rattle.pivot_table.specs.declared.claims.Claim.{Claim}
 use Rattle.pivot_table.specs.declared.law.Entry.{Entry as Told}

@@ -14,7 +14,7 @@ use Rattle.formal_sums.specs.FormalSums.{Each, FormalSum, IsSame, Key, coefficie
 use Rattle.row_laws.proofs.RowSpans.{IsInSpan_append, IsInSpan_itself, IsInSpan_scale}
 use Rattle.row_laws.specs.Rows.{IsInSpan}
 use Rattle.row_matrix.specs.Rows.{AreEntries, Entry, IsRow, RowShown, row_sum, source_key}
-use Rattle.module_vectors.proofs.Scaling.{Each_at}
+use Rattle.term_lists.proofs.Scaling.{Each_at}
 use Rattle.dense_reduction.proofs.Adding.{Each_set, dense_add}
 use Rattle.dense_reduction.proofs.Entries.{entries_from, entries_push, entries_widen, monic_entries}
 use Rattle.dense_reduction.specs.Dense.{AddsMultiple, AreWithin, HasRoom, IsDense, dense_sum}

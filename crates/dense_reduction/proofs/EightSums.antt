@@ -6,7 +6,7 @@ use Rattle.std.proofs.lemmas.List.{drop_more, get_or-map, get_or-replicate, get_
 use native.Mathlib.Nat.{mul-mod_left, zero-mod}
 use Rattle.residues.proofs.Congruences.{IsCongruent_add, IsCongruent_of, IsCongruent_refl, IsCongruent_trans}
 use Rattle.residues.specs.Residues.{IsCongruent}
-use Rattle.module_vectors.proofs.Scaling.{Each_at}
+use Rattle.term_lists.proofs.Scaling.{Each_at}
 use Rattle.row_matrix.specs.Rows.{AreEntries, Entry}
 use Rattle.dense_reduction.proofs.Adding.{AreAddedTo, Each_set, added_at, added_start, added_step, adds_nothing, adds_step, entries_drop, product_below}
 use Rattle.dense_reduction.specs.Dense.{AddsMultiple, AreWithin, HasRoom, IsDense}

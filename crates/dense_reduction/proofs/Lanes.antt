@@ -9,7 +9,7 @@ use Rattle.std.proofs.lemmas.List.{get_or_default, length-drop, length-replicate
 use Rattle.std.proofs.lemmas.Slice.Eq.{slice_eq-Decides}
 use Rattle.std.specs.Cmp.Lexicographic.{pointwise}
 use Rattle.formal_sums.specs.FormalSums.{Each}
-use Rattle.module_vectors.proofs.Scaling.{Each_at}
+use Rattle.term_lists.proofs.Scaling.{Each_at}
 use Rattle.row_matrix.specs.Rows.{AreEntries, Entry, IsRow, RowShown}
 use Rattle.dense_reduction.proofs.Adding.{Each_front, Each_set, product_below}
 use Rattle.dense_reduction.proofs.Clearing.{pivot_row}

@@ -4,7 +4,7 @@ use Rattle.std.proofs.lemmas.List.{append-nil, append_assoc, get_or-map, get_or_
 use Rattle.std.proofs.lemmas.List.Elements.{All-from_get_or, All-get_or}
 use Rattle.std.proofs.lemmas.Option.{none-some, same_Some}
 use Rattle.formal_sums.specs.FormalSums.{Each, FormalSum, Key}
-use Rattle.module_vectors.proofs.Scaling.{Each_at}
+use Rattle.term_lists.proofs.Scaling.{Each_at}
 use Rattle.pivot_table.specs.declared.law.Entry.{Entry as Told}
 use Rattle.row_laws.proofs.RowSpans.{IsInSpan_itself, IsInSpan_through}
 use Rattle.row_laws.specs.Rows.{IsInSpan}

@@ -15,7 +15,7 @@ use Rattle.zp_field.specs.Moduli.{IsInverse}
 use Rattle.row_laws.proofs.RowSpans.{IsInSpan_append, IsInSpan_itself, IsInSpan_same, IsInSpan_scale}
 use Rattle.row_laws.specs.Rows.{IsInSpan}
 use Rattle.row_matrix.specs.Rows.{AreEntries, Entry, RowShown, first_column, first_residue, row_sum, source_key}
-use Rattle.module_vectors.proofs.Scaling.{take_item}
+use Rattle.term_lists.proofs.Scaling.{take_item}
 use Rattle.dense_reduction.proofs.Clearing.{sources_push}
 use Rattle.dense_reduction.proofs.Entries.{entries_from, entries_push}
 use Rattle.dense_reduction.proofs.Naming.{span_left}

@@ -8,7 +8,7 @@ use Rattle.formal_sums.proofs.Sameness.{IsSame_append, IsSame_of, IsSame_refl, I
 use Rattle.formal_sums.proofs.WeightedSums.{Each_append, coefficient-append}
 use Rattle.formal_sums.specs.Combinations.{combination}
 use Rattle.formal_sums.specs.FormalSums.{Each, FormalSum, IsSame, Key, coefficient, indicator, scale}
-use Rattle.module_vectors.proofs.Scaling.{Each_at}
+use Rattle.term_lists.proofs.Scaling.{Each_at}
 use Rattle.pivot_table.specs.Law.{NamesRowOf, entry}
 use Rattle.pivot_table.specs.declared.law.Entry.{Entry as Told}
 use Rattle.row_laws.specs.Rows.{IsInSpan}

@@ -14,9 +14,9 @@ use Rattle.operation_laws.specs.Operations.{IsSyzygyModulo}
 use Rattle.ext_laws.proofs.Kernels.{kernel_from, kernel_to, rows_count}
 use Rattle.ext_laws.proofs.Units.{unit_at, units_basis, units_count, whole_from, whole_to, zero_from, zero_to}
 use Rattle.ext_laws.specs.Transposes.{IsInTransposedKernel, rows_of, unit_vectors}
-use Rattle.module_vectors.specs.Rings.{ring_comparison, setting, variables}
-use Rattle.module_vectors.specs.Vectors.{HasPositions, sum_of, sums_of}
-use Rattle.module_vectors.specs.declared.ring.Ring.{Ring}
+use Rattle.term_lists.specs.Rings.{ring_comparison, setting, variables}
+use Rattle.term_lists.specs.Vectors.{HasPositions, sum_of, sums_of}
+use Rattle.term_lists.specs.declared.ring.Ring.{Ring}
 use Rattle.vector_division.proofs.Members.{sums_at}
 use Rattle.groebner_iface.specs.Runs.{IsReducedBasisOf}
 use Rattle.syzygy_engine.specs.Kernels.{GeneratesSyzygies}

@@ -12,9 +12,9 @@ use Rattle.resolution_laws.proofs.Starts.{start_whole}
 use Rattle.resolution_laws.specs.Resolutions.{IsCanonical, IsCanonicalStart}
 use Rattle.ext_laws.proofs.Images.{columns_taken, rank_taken, start_images}
 use Rattle.ext_laws.specs.Transposes.{HaveRanks, IsInTransposedKernel, image_at, rank_at, rows_of}
-use Rattle.module_vectors.specs.Rings.{ring_comparison, setting, variables}
-use Rattle.module_vectors.specs.Vectors.{AreTermsOver, sum_of, sums_of}
-use Rattle.module_vectors.specs.declared.ring.Ring.{Ring}
+use Rattle.term_lists.specs.Rings.{ring_comparison, setting, variables}
+use Rattle.term_lists.specs.Vectors.{AreTermsOver, sum_of, sums_of}
+use Rattle.term_lists.specs.declared.ring.Ring.{Ring}
 use Rattle.syzygy_engine.proofs.Marks.{loose}
 use Rattle.syzygy_engine.proofs.Standing.{ranks_of_positions}
 use Rattle.resolution_maps.proofs.Joining.{length-degrees}

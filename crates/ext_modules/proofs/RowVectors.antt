@@ -12,10 +12,10 @@ use Rattle.operation_laws.specs.Operations.{picked}
 use Rattle.ext_laws.proofs.Kernels.{row_at, rows_count}
 use Rattle.ext_laws.proofs.Rows.{entries, row_rank}
 use Rattle.ext_laws.specs.Transposes.{row_from, rows_of}
-use Rattle.module_vectors.proofs.NormalVectors.{vector_positions}
-use Rattle.module_vectors.specs.Rings.{ring_comparison, setting, variables}
-use Rattle.module_vectors.specs.Vectors.{AreTermsOver, HasPositions, IsVectorOver, StandsFor, key_of, sum_of, sums_of}
-use Rattle.module_vectors.specs.declared.ring.Ring.{Ring}
+use Rattle.term_lists.proofs.NormalVectors.{vector_positions}
+use Rattle.term_lists.specs.Rings.{ring_comparison, setting, variables}
+use Rattle.term_lists.specs.Vectors.{AreTermsOver, HasPositions, IsVectorOver, StandsFor, key_of, sum_of, sums_of}
+use Rattle.term_lists.specs.declared.ring.Ring.{Ring}
 use Rattle.vector_division.proofs.Members.{sums_at}
 use Rattle.syzygy_engine.proofs.Generated.{lawful_at}
 use Rattle.syzygy_engine.proofs.Marks.{sum-append}

@@ -8,9 +8,9 @@ use Rattle.formal_sums.specs.FormalSums.{Each}
 use Rattle.bases.specs.Settings.{IsLawful}
 use Rattle.ext_laws.proofs.Images.{rank_next}
 use Rattle.ext_laws.specs.Transposes.{rank_at, rows_of}
-use Rattle.module_vectors.specs.Rings.{ring_comparison, setting, variables}
-use Rattle.module_vectors.specs.Vectors.{AreTermsOver, HasPositions}
-use Rattle.module_vectors.specs.declared.ring.Ring.{Ring}
+use Rattle.term_lists.specs.Rings.{ring_comparison, setting, variables}
+use Rattle.term_lists.specs.Vectors.{AreTermsOver, HasPositions}
+use Rattle.term_lists.specs.declared.ring.Ring.{Ring}
 use Rattle.groebner_iface.specs.Runs.{IsReducedBasisOf}
 use Rattle.resolution_maps.specs.Inducing.{Columns}
 use Rattle.resolution_maps.specs.declared.maps.Map.{Map}

@@ -17,9 +17,9 @@ use Rattle.monomial_orders.specs.declared.order.ModOrder.{ModOrder}
 use Rattle.monomial_orders.specs.declared.order.ModOrder.TheVariants.{Pot, Top}
 use Rattle.ext_laws.proofs.Units.{unit_at, units_count}
 use Rattle.ext_laws.specs.Transposes.{HasDescendingUnits, unit_vectors}
-use Rattle.module_vectors.specs.Rings.{ring_comparison, setting, variables}
-use Rattle.module_vectors.specs.Vectors.{IsVectorOver, sum_of, sums_of}
-use Rattle.module_vectors.specs.declared.ring.Ring.{Ring}
+use Rattle.term_lists.specs.Rings.{ring_comparison, setting, variables}
+use Rattle.term_lists.specs.Vectors.{IsVectorOver, sum_of, sums_of}
+use Rattle.term_lists.specs.declared.ring.Ring.{Ring}
 use Rattle.vector_division.proofs.Members.{sums_at}
 use Rattle.ext_modules.specs.Units.{AreUnits}
 use Rattle.ext_modules.proofs.Putting.{Terms, take_next}

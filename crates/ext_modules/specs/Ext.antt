@@ -5,10 +5,10 @@ use Rattle.formal_sums.specs.Combinations.{IsMember}
 use Rattle.formal_sums.specs.FormalSums.{Each, FormalSum}
 use Rattle.operation_laws.specs.Operations.{IsSyzygyModulo}
 use Rattle.ext_laws.specs.Transposes.{IsInTransposedKernel, rank_at, rows_of}
-use Rattle.module_vectors.specs.Rings.{variables}
-use Rattle.module_vectors.specs.Vectors.{AreTermsOver, HasPositions, sums_of}
-use Rattle.module_vectors.specs.declared.key.Key.{Key as CodeKey}
-use Rattle.module_vectors.specs.declared.ring.Ring.{Ring}
+use Rattle.term_lists.specs.Rings.{variables}
+use Rattle.term_lists.specs.Vectors.{AreTermsOver, HasPositions, sums_of}
+use Rattle.term_lists.specs.declared.key.Key.{Key as CodeKey}
+use Rattle.term_lists.specs.declared.ring.Ring.{Ring}
 use Rattle.ideal_ops.specs.Answers.{IsBasisOfThose}
 use Rattle.ideal_ops.specs.Modulo.{AreModuloRuns}
 use Rattle.ideal_ops.specs.Runs.{AreVectorsFor, OfRuns}

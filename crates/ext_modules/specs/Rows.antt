@@ -1,6 +1,6 @@
 -- Rows of a map, by the terms of its columns
 use Rattle.std.specs.Prelude.{List, [], cond, get_or, length, nat_eq, suc, ℕ, ◌++◌, ◌<◌, ◌∷◌, ◌≡◌}
-use Rattle.module_vectors.specs.declared.key.Key.{Key as CodeKey}
+use Rattle.term_lists.specs.declared.key.Key.{Key as CodeKey}
 
 -- the terms at position i, moved to position j
 abbrev pub entries_of : (i j : ℕ) → List (CodeKey × ℕ) → List (CodeKey × ℕ)

@@ -5,7 +5,7 @@ ghost use Rattle.formal_sums.specs.FormalSums.{FormalSum};
 ghost use Rattle.formal_sums.specs.Combinations.{IsMember};
 ghost use Rattle.resolution_laws.specs.Resolutions.{IsCanonical, IsCanonicalStart};
 ghost use Rattle.ext_laws.specs.Transposes.{IsInTransposedKernel, rank_at};
-ghost use Rattle.module_vectors.specs.Rings.{ring_comparison, setting, variables};
+ghost use Rattle.term_lists.specs.Rings.{ring_comparison, setting, variables};
 ghost use Rattle.resolution_maps.specs.Inducing.{Columns, maps_of};
 ghost use Rattle.resolution_maps.specs.Resolved.{AreJoined, AreVectorsThrough, columns_of};
 ghost use Rattle.resolution_maps.specs.declared.maps.Resolution.{Resolution as ResolutionValue};

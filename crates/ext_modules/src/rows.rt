@@ -1,7 +1,7 @@
 // The rows of a map, as lists of terms that grow column by column.
 ghost use Rattle.std.specs.Prelude.{◌≡◌, ◌<◌, ◌++◌, ◌∷◌, [], IfOk, OnOk, length};
 ghost use Rattle.formal_sums.specs.FormalSums.{Each};
-ghost use Rattle.module_vectors.specs.Vectors.{HasPositions};
+ghost use Rattle.term_lists.specs.Vectors.{HasPositions};
 ghost use Rattle.ext_modules.specs.Rows.{ArePut, AreRowsOf};
 
 use module_vectors::{Key, NoMemory, Vect, VectList};
@@ -22,7 +22,7 @@ impl Drop for Row {
 
 impl Model for Row {
     ghost use Rattle.std.specs.Prelude.{ℕ, List};
-    ghost use Rattle.module_vectors.specs.declared.key.Key.{Key};
+    ghost use Rattle.term_lists.specs.declared.key.Key.{Key};
 
     ghost Value = { List (Key × ℕ) };
 

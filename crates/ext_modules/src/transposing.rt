@@ -2,8 +2,8 @@
 ghost use Rattle.std.specs.Prelude.{◌≡◌, ◌++◌, ◌∷◌, [], IfOk, OnOk, List};
 ghost use Rattle.formal_sums.specs.FormalSums.{Each, FormalSum};
 ghost use Rattle.ext_laws.specs.Transposes.{rows_of};
-ghost use Rattle.module_vectors.specs.Rings.{variables};
-ghost use Rattle.module_vectors.specs.Vectors.{AreTermsOver, HasPositions, sum_of, sums_of};
+ghost use Rattle.term_lists.specs.Rings.{variables};
+ghost use Rattle.term_lists.specs.Vectors.{AreTermsOver, HasPositions, sum_of, sums_of};
 ghost use Rattle.ideal_ops.specs.Runs.{AreVectorsFor};
 
 use crate::rows::{Row, rows_of_columns};

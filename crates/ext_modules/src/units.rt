@@ -2,8 +2,8 @@
 ghost use Rattle.std.specs.Prelude.{◌≡◌, ◌↔◌, ◌∷◌, [], true, IfOk};
 ghost use Rattle.ext_laws.specs.Transposes.{unit_vectors};
 ghost use Rattle.operation_laws.specs.Operations.{basis_vector};
-ghost use Rattle.module_vectors.specs.Rings.{ring_comparison, variables};
-ghost use Rattle.module_vectors.specs.Vectors.{AreVectorsOver, IsVectorOver, sum_of, sums_of};
+ghost use Rattle.term_lists.specs.Rings.{ring_comparison, variables};
+ghost use Rattle.term_lists.specs.Vectors.{AreVectorsOver, IsVectorOver, sum_of, sums_of};
 ghost use Rattle.ext_modules.specs.Units.{AreUnits};
 
 use module_vectors::{Key, NoMemory, Ring, Vect, VectList, lawful_setting};

@@ -1,8 +1,8 @@
 // The engine.
 ghost use Rattle.std.specs.Prelude.{◌≡◌, ◌<◌, IfErr, IfOk, IfSome, MatchOption, None, OnOk, Some};
 ghost use Rattle.formal_sums.specs.FormalSums.{Each};
-ghost use Rattle.module_vectors.specs.Rings.{ring_comparison};
-ghost use Rattle.module_vectors.specs.Vectors.{AreVectorsOver, HasPositions};
+ghost use Rattle.term_lists.specs.Rings.{ring_comparison};
+ghost use Rattle.term_lists.specs.Vectors.{AreVectorsOver, HasPositions};
 ghost use Rattle.basis_core.specs.Members.{Shared};
 ghost use Rattle.groebner_iface.specs.Runs.{IsReducedBasisOf, StoppedRun};
 ghost use Rattle.risen_counts.specs.Counts.{next_count};

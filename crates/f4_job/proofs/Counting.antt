@@ -4,8 +4,8 @@ use Rattle.std.proofs.lemmas.List.{get_or-map, length-map}
 use Rattle.formal_sums.specs.FormalSums.{Each}
 use Rattle.bases.specs.Leads.{leads}
 use Rattle.bases.specs.Settings.{IsLawful, Setting}
-use Rattle.module_vectors.proofs.SumsOfProducts.{Each_member}
-use Rattle.module_vectors.specs.declared.key.Key.{Key as CodeKey}
+use Rattle.term_lists.proofs.Parts.{Each_member}
+use Rattle.term_lists.specs.declared.key.Key.{Key as CodeKey}
 use Rattle.row_matrix.specs.Rows.{Descend, IsRow, RowShown, column_key, first_column, vector_of, vectors_of}
 use Rattle.dense_reduction.specs.Pivots.{lead_column}
 use Rattle.row_reduce.specs.Echelons.{IsEchelonOf}

@@ -3,7 +3,7 @@ use Rattle.std.proofs.Common.{Bool, List, [], ap, arith, cond, false, get_or, ge
 use Rattle.std.proofs.lemmas.Bool.{cases_eq}
 use Rattle.std.proofs.lemmas.List.{get_or_append_left, get_or_push, length_push}
 use Rattle.formal_sums.specs.FormalSums.{Each}
-use Rattle.module_vectors.proofs.Scaling.{take_item}
+use Rattle.term_lists.proofs.Scaling.{take_item}
 use Rattle.row_matrix.specs.Rows.{RowShown, first_column}
 use Rattle.dense_reduction.specs.Pivots.{lead_column, no_row, row_at}
 use Rattle.f4_job.specs.Flags.{AreFlags, unflagged}

@@ -12,9 +12,9 @@ use Rattle.orders.specs.KeyOrders.{Descends}
 use Rattle.bases.proofs.Leading.{one_not_zero}
 use Rattle.bases.specs.Leads.{head_key, leads}
 use Rattle.bases.specs.Settings.{IsLawful, Setting}
+use Rattle.term_lists.specs.Vectors.{IsVector, key_of, sum_of}
+use Rattle.term_lists.specs.declared.key.Key.{Key as CodeKey}
 use Rattle.module_vectors.specs.Trails.{HasKey, KeptProduct, no_product, product_lead, kept_at}
-use Rattle.module_vectors.specs.Vectors.{IsVector, key_of, sum_of}
-use Rattle.module_vectors.specs.declared.key.Key.{Key as CodeKey}
 use Rattle.pair_criteria.specs.declared.pair.Pair.{Pair as CodePair}
 use Rattle.basis_steps.specs.Divisions.{IsKeyAtMost}
 use Rattle.row_laws.proofs.NewRows.{find_row}

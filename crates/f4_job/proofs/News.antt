@@ -4,8 +4,8 @@ use Rattle.std.proofs.lemmas.List.{get_or-map, get_or_default, length-map}
 use Rattle.formal_sums.specs.FormalSums.{Each}
 use Rattle.bases.specs.Leads.{head_key, leads}
 use Rattle.bases.specs.Settings.{IsLawful, Setting}
-use Rattle.module_vectors.proofs.Scaling.{Each_at}
-use Rattle.module_vectors.specs.declared.key.Key.{Key as CodeKey}
+use Rattle.term_lists.proofs.Scaling.{Each_at}
+use Rattle.term_lists.specs.declared.key.Key.{Key as CodeKey}
 use Rattle.row_laws.proofs.Jobs.{ContainsLead_row}
 use Rattle.row_laws.specs.Jobs.{IsNewRows}
 use Rattle.row_matrix.specs.Rows.{Descend, IsRow, RowShown, column_key, vector_of, vectors_of}

@@ -12,11 +12,11 @@ use Rattle.bases.proofs.Leading.{IsLead_of_monic, lead_unique, positive}
 use Rattle.bases.specs.Leads.{IsLead, head_key}
 use Rattle.bases.specs.Settings.{IsLawful, Setting}
 use Rattle.monomial_orders.specs.Kept.{IsWeighed}
-use Rattle.module_vectors.proofs.Scaling.{Each_at}
-use Rattle.module_vectors.specs.Rings.{ring_comparison, variables}
+use Rattle.term_lists.proofs.Scaling.{Each_at}
+use Rattle.term_lists.specs.Rings.{ring_comparison, variables}
+use Rattle.term_lists.specs.Vectors.{IsVector, sum_of, sums_of}
+use Rattle.term_lists.specs.declared.key.Key.{Key as CodeKey}
 use Rattle.module_vectors.specs.Trails.{KeptProduct, no_product, product_lead, kept_at}
-use Rattle.module_vectors.specs.Vectors.{IsVector, sum_of, sums_of}
-use Rattle.module_vectors.specs.declared.key.Key.{Key as CodeKey}
 use Rattle.pair_criteria.specs.declared.pair.Pair.{Pair as CodePair}
 use Rattle.vector_division.proofs.Members.{sums_at}
 use Rattle.vector_division.specs.Reductions.{cofactors_of, unscaled}

@@ -13,10 +13,10 @@ use Rattle.bases.proofs.NormalForms.{IsMonicLead_normal}
 use Rattle.bases.specs.Leads.{IsMonicLead, IsMonicList, IsNormal, head_key, leads}
 use Rattle.bases.specs.Representations.{HasLcmRepresentation}
 use Rattle.bases.specs.Settings.{IsLawful, Setting}
-use Rattle.module_vectors.proofs.Scaling.{Each_at}
+use Rattle.term_lists.proofs.Scaling.{Each_at}
+use Rattle.term_lists.specs.Vectors.{IsVector, sum_of, sums_of}
+use Rattle.term_lists.specs.declared.key.Key.{Key as CodeKey}
 use Rattle.module_vectors.specs.Trails.{KeptProduct}
-use Rattle.module_vectors.specs.Vectors.{IsVector, sum_of, sums_of}
-use Rattle.module_vectors.specs.declared.key.Key.{Key as CodeKey}
 use Rattle.pair_criteria.specs.declared.pair.Pair.{Pair as CodePair}
 use Rattle.row_laws.proofs.Jobs.{job_representation}
 use Rattle.row_laws.proofs.NewRows.{IsMonicList_new}
@@ -33,7 +33,7 @@ use Rattle.symbolic_prep.specs.Plans.{IsMemberPair, product_sum}
 use Rattle.symbolic_prep.specs.Prepared.{IsMonicVector, IsPrepared}
 use Rattle.f4_job.specs.Flags.{AreFlags, unflagged}
 use Rattle.f4_job.specs.Solved.{AreNewRows}
-use Rattle.module_vectors.proofs.NormalVectors.{residues_of}
+use Rattle.term_lists.proofs.NormalVectors.{residues_of}
 use Rattle.f4_job.proofs.Counting.{new_few}
 use Rattle.f4_job.proofs.Flagging.{unflagged_each}
 use Rattle.f4_job.proofs.Lowering.{new_low}

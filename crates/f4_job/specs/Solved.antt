@@ -5,9 +5,9 @@ use Rattle.formal_sums.specs.FormalSums.{Each, IsOfRank, Key}
 use Rattle.bases.specs.Leads.{head_key}
 use Rattle.bases.specs.Representations.{HasLcmRepresentation}
 use Rattle.bases.specs.Settings.{Setting}
+use Rattle.term_lists.specs.Vectors.{key_of, sums_of}
+use Rattle.term_lists.specs.declared.key.Key.{Key as CodeKey}
 use Rattle.module_vectors.specs.Trails.{KeptProduct, kept_at}
-use Rattle.module_vectors.specs.Vectors.{key_of, sums_of}
-use Rattle.module_vectors.specs.declared.key.Key.{Key as CodeKey}
 use Rattle.pair_criteria.specs.declared.pair.Pair.{Pair as CodePair}
 use Rattle.row_matrix.specs.Rows.{AreKeys, Descend, IsFromSources, IsRow, RowShown, vector_of, vectors_of}
 use Rattle.symbolic_prep.specs.Plans.{IsMemberProduct, product_sum}

@@ -1,6 +1,6 @@
 // A job solved by its matrix.
 ghost use Rattle.std.specs.Prelude.{◌≡◌, ◌<◌, IfOk, IfErr};
-ghost use Rattle.module_vectors.specs.Rings.{variables};
+ghost use Rattle.term_lists.specs.Rings.{variables};
 ghost use Rattle.basis_core.specs.Outcomes.{IsOutcomeOver};
 ghost use Rattle.basis_core.specs.Members.{setting_of};
 ghost use Rattle.basis_core.specs.Rows.{vectors_in};

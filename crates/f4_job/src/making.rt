@@ -1,7 +1,7 @@
 // Rows of a matrix as rows of an outcome.
 ghost use Rattle.std.specs.Prelude.{◌≡◌, ◌<◌, IfOk, length, map};
 ghost use Rattle.formal_sums.specs.FormalSums.{Each};
-ghost use Rattle.module_vectors.specs.Rings.{ring_comparison, variables};
+ghost use Rattle.term_lists.specs.Rings.{ring_comparison, variables};
 ghost use Rattle.row_matrix.specs.Rows.{AreKeys, Descend, IsRow};
 ghost use Rattle.f4_job.specs.Made.{AreMadeRows, AreWeighedProducts, IsMadeRow, entry_term, source_parts};
 

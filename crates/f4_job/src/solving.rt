@@ -1,8 +1,8 @@
 // The new rows of a job.
 ghost use Rattle.std.specs.Prelude.{◌<◌, ℕ, IfOk};
 ghost use Rattle.formal_sums.specs.FormalSums.{Each};
-ghost use Rattle.module_vectors.specs.Rings.{ring_comparison, setting, variables};
-ghost use Rattle.module_vectors.specs.Vectors.{AreVectorsOver};
+ghost use Rattle.term_lists.specs.Rings.{ring_comparison, setting, variables};
+ghost use Rattle.term_lists.specs.Vectors.{AreVectorsOver};
 ghost use Rattle.symbolic_prep.specs.Plans.{IsMemberPair};
 ghost use Rattle.symbolic_prep.specs.Prepared.{IsMonicVector};
 ghost use Rattle.f4_job.specs.Solved.{AreNewRows};

@@ -1,7 +1,7 @@
 -- Stops of a call: of its runs, and of more runs and trails
 use Rattle.std.proofs.Common.{List, Option, ℕ}
-use Rattle.module_vectors.specs.declared.key.Key.{Key}
-use Rattle.module_vectors.specs.declared.ring.Ring.{Ring}
+use Rattle.term_lists.specs.declared.key.Key.{Key}
+use Rattle.term_lists.specs.declared.ring.Ring.{Ring}
 use Rattle.module_vectors.specs.declared.trail.KeptTrail.{KeptTrail}
 use Rattle.groebner_iface.specs.Calls.{CallStops}
 use Rattle.groebner_iface.specs.Runs.{StoppedRun, StopsRun}

@@ -4,11 +4,11 @@ use Rattle.formal_sums.specs.FormalSums.{Key}
 use Rattle.std.specs.declared.cmp.Ordering.{Ordering}
 use Rattle.bases.specs.Settings.{IsLawful}
 use Rattle.formal_sums.proofs.Sameness.{IsSame_of}
-use Rattle.module_vectors.proofs.NormalVectors.{vector_unique}
-use Rattle.module_vectors.specs.Rings.{setting, variables}
-use Rattle.module_vectors.specs.Vectors.{AreVectorsOver, sums_of}
-use Rattle.module_vectors.specs.declared.key.Key.{Key as CodeKey}
-use Rattle.module_vectors.specs.declared.ring.Ring.{Ring}
+use Rattle.term_lists.proofs.NormalVectors.{vector_unique}
+use Rattle.term_lists.specs.Rings.{setting, variables}
+use Rattle.term_lists.specs.Vectors.{AreVectorsOver, sums_of}
+use Rattle.term_lists.specs.declared.key.Key.{Key as CodeKey}
+use Rattle.term_lists.specs.declared.ring.Ring.{Ring}
 
 pub one_list_of_sums :
     (ring : Ring) (compare : (n : ℕ) → Key n → Key n → Ordering) (rank : ℕ) (left right : List (List (CodeKey × ℕ)))

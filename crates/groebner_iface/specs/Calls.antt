@@ -1,7 +1,7 @@
 -- Why a call that takes an engine has no answer
 use Rattle.std.specs.Prelude.{List, Option, Some, ℕ, ◌≡◌}
-use Rattle.module_vectors.specs.declared.key.Key.{Key}
-use Rattle.module_vectors.specs.declared.ring.Ring.{Ring}
+use Rattle.term_lists.specs.declared.key.Key.{Key}
+use Rattle.term_lists.specs.declared.ring.Ring.{Ring}
 use Rattle.module_vectors.specs.declared.trail.KeptTrail.{KeptTrail}
 use Rattle.risen_counts.specs.Counts.{Rose}
 use Rattle.groebner_iface.specs.Runs.{StoppedRun}

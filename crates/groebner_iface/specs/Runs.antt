@@ -2,10 +2,10 @@
 use Rattle.std.specs.Prelude.{List, Option, Some, ℕ, ◌≡◌}
 use Rattle.formal_sums.specs.FormalSums.{Each}
 use Rattle.bases.specs.Bases.{IsReducedBasis}
-use Rattle.module_vectors.specs.Rings.{ring_comparison, setting, variables}
-use Rattle.module_vectors.specs.Vectors.{AreVectorsOver, HasPositions, sums_of}
-use Rattle.module_vectors.specs.declared.key.Key.{Key as CodeKey}
-use Rattle.module_vectors.specs.declared.ring.Ring.{Ring}
+use Rattle.term_lists.specs.Rings.{ring_comparison, setting, variables}
+use Rattle.term_lists.specs.Vectors.{AreVectorsOver, HasPositions, sums_of}
+use Rattle.term_lists.specs.declared.key.Key.{Key as CodeKey}
+use Rattle.term_lists.specs.declared.ring.Ring.{Ring}
 use Rattle.risen_counts.specs.Counts.{Rose}
 use Rattle.groebner_iface.specs.declared.stop.Stop.{Stop}
 use Rattle.groebner_iface.specs.declared.stop.Stop.TheVariants.{Memory, Pairs, Degree}

@@ -1,7 +1,7 @@
 //! What engines have in common. The function's contract is a law, proved here.
 
 ghost use Rattle.std.specs.Prelude.{◌≡◌, ℕ, List};
-ghost use Rattle.module_vectors.specs.declared.key.Key.{Key as KeyValue};
+ghost use Rattle.term_lists.specs.declared.key.Key.{Key as KeyValue};
 ghost use Rattle.groebner_iface.specs.Runs.{IsReducedBasisOf};
 
 use module_vectors::{Ring, lawful_setting};

@@ -11,7 +11,7 @@ use Rattle.monomial_orders.specs.Monomials.{IsMonomial, IsQuotient}
 use Rattle.std.proofs.lemmas.List.Sorted.{IsPermutation-sym, length_permutation}
 use Rattle.std.specs.List.Sorted.{IsPermutation}
 use Rattle.formal_sums.specs.FormalSums.{Each}
-use Rattle.module_vectors.proofs.Gathers.{Each_permutation}
+use Rattle.term_lists.proofs.Gathers.{Each_permutation}
 use Rattle.hilbert_series.proofs.Lists.{Each_append, Each_back, Each_front, has_divisor-last, monomials-append, quotient_apart, quotient_lcm}
 use Rattle.hilbert_series.proofs.Same.{has_divisor_redundant}
 use Rattle.hilbert_series.specs.Generators.{AreCoprimeToAll, AreMonomialGenerators, HaveSameMultiples, IsCoprimeToAll, IsShorter, monomials}

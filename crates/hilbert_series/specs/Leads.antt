@@ -3,8 +3,8 @@ use Rattle.std.specs.Prelude.{List, get_or, length, map, pos, suc, ℕ, ℤ, ◌
 use Rattle.formal_sums.specs.FormalSums.{Each, Key}
 use Rattle.hilbert_laws.specs.Numerators.{leads_at}
 use Rattle.monomial_orders.specs.Kept.{IsWeighed}
-use Rattle.module_vectors.specs.Vectors.{key_of}
-use Rattle.module_vectors.specs.declared.key.Key.{Key as CodeKey}
+use Rattle.term_lists.specs.Vectors.{key_of}
+use Rattle.term_lists.specs.declared.key.Key.{Key as CodeKey}
 use Rattle.hilbert_series.specs.declared.stop.HilbertStop.{HilbertStop}
 use Rattle.hilbert_series.specs.declared.stop.HilbertStop.TheVariants.{Memory, Leads, Large}
 

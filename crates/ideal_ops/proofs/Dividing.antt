@@ -11,10 +11,10 @@ use Rattle.syzygy_laws.proofs.Marking.{combination_rank}
 use Rattle.operation_laws.proofs.Linear.{Each_at}
 use Rattle.operation_laws.proofs.Saturate.{single_vector}
 use Rattle.operation_laws.specs.Operations.{basis_vector, listed, multiples_of}
-use Rattle.module_vectors.specs.Rings.{variables}
-use Rattle.module_vectors.specs.Vectors.{AreTermsOver, sum_of, sums_of}
-use Rattle.module_vectors.specs.declared.key.Key.{Key as CodeKey}
-use Rattle.module_vectors.specs.declared.ring.Ring.{Ring}
+use Rattle.term_lists.specs.Rings.{variables}
+use Rattle.term_lists.specs.Vectors.{AreTermsOver, sum_of, sums_of}
+use Rattle.term_lists.specs.declared.key.Key.{Key as CodeKey}
+use Rattle.term_lists.specs.declared.ring.Ring.{Ring}
 use Rattle.vector_division.proofs.Members.{sums_at}
 use Rattle.syzygy_engine.specs.Marking.{StandOneByOne}
 use Rattle.syzygy_engine.proofs.Standing.{Terms}

@@ -9,8 +9,8 @@ use Rattle.formal_sums.specs.FormalSums.{Each, FormalSum}
 use Rattle.division_laws.specs.Elimination.{has_none_of_first}
 use Rattle.syzygy_laws.specs.Kernels.{all_kept}
 use Rattle.operation_laws.specs.Operations.{eliminated}
-use Rattle.module_vectors.specs.Vectors.{HasVariables, sum_of}
-use Rattle.module_vectors.specs.declared.key.Key.{Key as CodeKey}
+use Rattle.term_lists.specs.Vectors.{HasVariables, sum_of}
+use Rattle.term_lists.specs.declared.key.Key.{Key as CodeKey}
 
 -- ---- exponents
 eq_zero : (a : ℕ) → a ≡ 0 → nat_eq a 0 ≡ true

@@ -11,11 +11,11 @@ use Rattle.operation_laws.proofs.Plain.{intersect_plain, saturate_plain}
 use Rattle.operation_laws.proofs.RankFacts.{back_rank, intersection_rank, saturation_rank}
 use Rattle.operation_laws.proofs.Running.{lawful_elimination}
 use Rattle.operation_laws.specs.Operations.{IsInSaturation, back, elimination_setting, intersection_list, saturation_list, with_first}
-use Rattle.module_vectors.proofs.NormalVectors.{vector_positions}
-use Rattle.module_vectors.specs.FrontVariables.{front_ring}
-use Rattle.module_vectors.specs.Rings.{ring_comparison, setting, variables}
-use Rattle.module_vectors.specs.Vectors.{HasPositions, sum_of, sums_of}
-use Rattle.module_vectors.specs.declared.ring.Ring.{Ring}
+use Rattle.term_lists.proofs.NormalVectors.{vector_positions}
+use Rattle.term_lists.specs.FrontVariables.{front_ring}
+use Rattle.term_lists.specs.Rings.{ring_comparison, setting, variables}
+use Rattle.term_lists.specs.Vectors.{HasPositions, sum_of, sums_of}
+use Rattle.term_lists.specs.declared.ring.Ring.{Ring}
 use Rattle.groebner_iface.specs.Runs.{IsReducedBasisOf}
 use Rattle.syzygy_engine.proofs.Standing.{Terms, rank_of_positions, ranks_of_positions, stand_module}
 use Rattle.ideal_ops.specs.Answers.{IsBasisOfThose}

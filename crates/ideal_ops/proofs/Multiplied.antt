@@ -12,12 +12,13 @@ use Rattle.operation_laws.proofs.Linear.{Each_of_map}
 use Rattle.operation_laws.proofs.Saturate.{HasRank_product}
 use Rattle.operation_laws.specs.Operations.{products_of}
 use Rattle.monomial_orders.specs.Kept.{IsWeighed, Monomial}
-use Rattle.module_vectors.specs.Rings.{ring_comparison, setting, variables}
-use Rattle.module_vectors.specs.Stops.{CombinationStops, HasMonomial}
+use Rattle.term_lists.specs.Rings.{ring_comparison, setting, variables}
+use Rattle.term_lists.specs.Stops.{HasMonomial}
+use Rattle.term_lists.specs.Vectors.{AreVectorsOver, HasPositions, IsTerm, IsVectorOver, sum_of, sums_of}
+use Rattle.term_lists.specs.declared.ring.Ring.{Ring}
+use Rattle.term_lists.specs.declared.stop.VectStop.TheVariants.{Degree}
+use Rattle.module_vectors.specs.ProductStops.{CombinationStops}
 use Rattle.module_vectors.specs.Trails.{IsOfProduct, IsStart}
-use Rattle.module_vectors.specs.Vectors.{AreVectorsOver, HasPositions, IsTerm, IsVectorOver, sum_of, sums_of}
-use Rattle.module_vectors.specs.declared.ring.Ring.{Ring}
-use Rattle.module_vectors.specs.declared.stop.VectStop.TheVariants.{Degree}
 use Rattle.module_vectors.specs.declared.trail.KeptTrail.{KeptTrail}
 use Rattle.module_vectors.specs.declared.trail.TrailStart.TheVariants.{Product}
 use Rattle.module_vectors.specs.declared.trail.WorkStop.{WorkStop}

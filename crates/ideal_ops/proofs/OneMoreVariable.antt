@@ -21,13 +21,14 @@ use Rattle.operation_laws.proofs.Saturate.{single_vector}
 use Rattle.operation_laws.specs.Operations.{back, basis_vector, eliminated, first_variable, inverse_vector, with_first, without_first}
 use Rattle.monomial_orders.specs.Kept.{IsWeighed, Monomial}
 use Rattle.monomial_orders.specs.Monomials.{IsMonomial, variable}
-use Rattle.module_vectors.specs.FrontVariables.{HaveNoFront, front_ring, with_front, without_front}
-use Rattle.module_vectors.specs.Rings.{ring_comparison, variables}
-use Rattle.module_vectors.specs.Stops.{CombinationStops, HasMonomial, ScaledStops}
-use Rattle.module_vectors.specs.Vectors.{AreTermsOver, HasPositions, IsVectorOver, StandsFor, sum_of, sums_of}
-use Rattle.module_vectors.specs.declared.ring.Ring.{Ring}
-use Rattle.module_vectors.specs.declared.stop.VectStop.{VectStop}
-use Rattle.module_vectors.specs.declared.stop.VectStop.TheVariants.{Memory, Degree}
+use Rattle.term_lists.specs.FrontVariables.{HaveNoFront, front_ring, with_front, without_front}
+use Rattle.term_lists.specs.Rings.{ring_comparison, variables}
+use Rattle.term_lists.specs.Stops.{HasMonomial, ScaledStops}
+use Rattle.term_lists.specs.Vectors.{AreTermsOver, HasPositions, IsVectorOver, StandsFor, sum_of, sums_of}
+use Rattle.term_lists.specs.declared.ring.Ring.{Ring}
+use Rattle.term_lists.specs.declared.stop.VectStop.{VectStop}
+use Rattle.term_lists.specs.declared.stop.VectStop.TheVariants.{Memory, Degree}
+use Rattle.module_vectors.specs.ProductStops.{CombinationStops}
 use Rattle.module_vectors.specs.declared.trail.KeptTrail.{KeptTrail}
 use Rattle.syzygy_engine.proofs.Standing.{Terms}
 use Rattle.ideal_ops.specs.Components.{placed}

@@ -19,10 +19,10 @@ use Rattle.operation_laws.proofs.RankFacts.{eliminated_rank}
 use Rattle.operation_laws.proofs.RunFacts.{run_of}
 use Rattle.operation_laws.proofs.Running.{lawful_elimination, run_generates, run_itself}
 use Rattle.operation_laws.specs.Operations.{IsCombinationOfKept, eliminated, elimination_setting}
-use Rattle.module_vectors.proofs.NormalVectors.{vector_positions}
-use Rattle.module_vectors.specs.Rings.{ring_comparison, setting, variables}
-use Rattle.module_vectors.specs.Vectors.{AreTermsOver, AreVectorsOver, HasPositions, HasVariables, IsVectorOver, StandsFor, sum_of, sums_of}
-use Rattle.module_vectors.specs.declared.ring.Ring.{Ring}
+use Rattle.term_lists.proofs.NormalVectors.{vector_positions}
+use Rattle.term_lists.specs.Rings.{ring_comparison, setting, variables}
+use Rattle.term_lists.specs.Vectors.{AreTermsOver, AreVectorsOver, HasPositions, HasVariables, IsVectorOver, StandsFor, sum_of, sums_of}
+use Rattle.term_lists.specs.declared.ring.Ring.{Ring}
 use Rattle.module_vectors.specs.declared.trail.KeptTrail.{KeptTrail}
 use Rattle.risen_counts.specs.Counts.{RoseAtMost, next_count}
 use Rattle.groebner_iface.specs.Calls.{CallStops}

@@ -13,9 +13,9 @@ use Rattle.syzygy_laws.specs.Syzygies.{raised}
 use Rattle.operation_laws.proofs.Linear.{Each_at}
 use Rattle.operation_laws.proofs.More.{all_of_rank}
 use Rattle.operation_laws.specs.Operations.{basis_vector, blocks, stacked}
-use Rattle.module_vectors.specs.Rings.{ring_comparison, setting, variables}
-use Rattle.module_vectors.specs.Vectors.{AreTermsOver, HasPositions, IsVectorOver, StandsFor, sum_of, sums_of}
-use Rattle.module_vectors.specs.declared.ring.Ring.{Ring}
+use Rattle.term_lists.specs.Rings.{ring_comparison, setting, variables}
+use Rattle.term_lists.specs.Vectors.{AreTermsOver, HasPositions, IsVectorOver, StandsFor, sum_of, sums_of}
+use Rattle.term_lists.specs.declared.ring.Ring.{Ring}
 use Rattle.groebner_iface.specs.Calls.{CallStops, NoTrail}
 use Rattle.groebner_iface.specs.Runs.{IsReducedBasisOf, StoppedRun}
 use Rattle.groebner_iface.specs.declared.stop.OpStop.{OpStop}

@@ -10,9 +10,9 @@ use Rattle.operation_laws.proofs.OneMarkRuns.{modulo_multiples, modulo_stack}
 use Rattle.operation_laws.proofs.Quotient.{length-listed}
 use Rattle.operation_laws.proofs.Running.{blocks_rank, multiples_rank, stacked_rank, through}
 use Rattle.operation_laws.specs.Operations.{IsSyzygyModulo, basis_vector, blocks, multiples_of, stacked}
-use Rattle.module_vectors.specs.Rings.{ring_comparison, setting, variables}
-use Rattle.module_vectors.specs.Vectors.{HasPositions, sum_of, sums_of}
-use Rattle.module_vectors.specs.declared.ring.Ring.{Ring}
+use Rattle.term_lists.specs.Rings.{ring_comparison, setting, variables}
+use Rattle.term_lists.specs.Vectors.{HasPositions, sum_of, sums_of}
+use Rattle.term_lists.specs.declared.ring.Ring.{Ring}
 use Rattle.groebner_iface.specs.Runs.{IsReducedBasisOf}
 use Rattle.syzygy_engine.specs.Marking.{position_ring}
 use Rattle.syzygy_engine.proofs.Generated.{lawful_at}

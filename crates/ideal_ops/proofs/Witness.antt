@@ -18,9 +18,9 @@ use Rattle.operation_laws.proofs.Linear.{Each_at}
 use Rattle.operation_laws.proofs.RunFacts.{run_of}
 use Rattle.operation_laws.specs.Lifts.{IsRemainder}
 use Rattle.operation_laws.specs.Operations.{IsRun}
-use Rattle.module_vectors.specs.Rings.{ring_comparison, setting, variables}
-use Rattle.module_vectors.specs.Vectors.{HasPositions, sums_of}
-use Rattle.module_vectors.specs.declared.ring.Ring.{Ring}
+use Rattle.term_lists.specs.Rings.{ring_comparison, setting, variables}
+use Rattle.term_lists.specs.Vectors.{HasPositions, sums_of}
+use Rattle.term_lists.specs.declared.ring.Ring.{Ring}
 use Rattle.groebner_iface.specs.Runs.{IsReducedBasisOf}
 use Rattle.syzygy_engine.proofs.Standing.{Terms, ranks_of_positions}
 use Rattle.ideal_ops.specs.Answers.{HaveSameMembers, IsInFirstAlone}

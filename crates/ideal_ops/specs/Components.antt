@@ -1,10 +1,10 @@
 -- Runs of quotients and colons (UAG chapter 5, section 3)
 use Rattle.std.specs.Prelude.{List, [], length, ℕ, map, ◌*◌, ◌+◌, ◌∷◌}
 use Rattle.operation_laws.specs.Operations.{basis_vector, blocks, multiples_of, stacked}
-use Rattle.module_vectors.specs.Rings.{variables}
-use Rattle.module_vectors.specs.Vectors.{sum_of, sums_of}
-use Rattle.module_vectors.specs.declared.key.Key.{Key as CodeKey}
-use Rattle.module_vectors.specs.declared.ring.Ring.{Ring}
+use Rattle.term_lists.specs.Rings.{variables}
+use Rattle.term_lists.specs.Vectors.{sum_of, sums_of}
+use Rattle.term_lists.specs.declared.key.Key.{Key as CodeKey}
+use Rattle.term_lists.specs.declared.ring.Ring.{Ring}
 use Rattle.ideal_ops.specs.Modulo.{AreModuloRuns}
 use Rattle.ideal_ops.specs.Runs.{IsRunFor, OfRuns}
 

@@ -3,11 +3,11 @@ use Rattle.std.specs.Prelude.{List, [], suc, ℕ, ◌-◌, ◌∷◌, ◌≡◌}
 use Rattle.monomials.specs.Exponents.{exponents_of, unit}
 use Rattle.operation_laws.specs.Operations.{back, first_variable}
 use Rattle.monomial_orders.specs.Kept.{Monomial}
-use Rattle.module_vectors.specs.FrontVariables.{front_ring}
-use Rattle.module_vectors.specs.Rings.{variables}
-use Rattle.module_vectors.specs.Vectors.{IsMonomialOver, sums_of}
-use Rattle.module_vectors.specs.declared.key.Key.{Key as CodeKey}
-use Rattle.module_vectors.specs.declared.ring.Ring.{Ring}
+use Rattle.term_lists.specs.FrontVariables.{front_ring}
+use Rattle.term_lists.specs.Rings.{variables}
+use Rattle.term_lists.specs.Vectors.{IsMonomialOver, sums_of}
+use Rattle.term_lists.specs.declared.key.Key.{Key as CodeKey}
+use Rattle.term_lists.specs.declared.ring.Ring.{Ring}
 use Rattle.groebner_iface.specs.Runs.{IsReducedBasisOf}
 use Rattle.ideal_ops.specs.Runs.{AreTwoRuns, AreVectorsFor, IsRunOn, OfRuns}
 

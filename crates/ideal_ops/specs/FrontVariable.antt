@@ -2,11 +2,11 @@
 use Rattle.std.specs.Prelude.{List, [], length, map, suc, ℕ, ◌<◌, ◌∷◌, ◌⊎◌}
 use Rattle.formal_sums.specs.FormalSums.{FormalSum}
 use Rattle.operation_laws.specs.Operations.{back, basis_vector, intersection_list, saturation_list, times_first, times_rest, with_first}
-use Rattle.module_vectors.specs.FrontVariables.{front_ring}
-use Rattle.module_vectors.specs.Rings.{ring_comparison, variables}
-use Rattle.module_vectors.specs.Vectors.{IsVectorOver, StandsFor, sum_of, sums_of}
-use Rattle.module_vectors.specs.declared.key.Key.{Key as CodeKey}
-use Rattle.module_vectors.specs.declared.ring.Ring.{Ring}
+use Rattle.term_lists.specs.FrontVariables.{front_ring}
+use Rattle.term_lists.specs.Rings.{ring_comparison, variables}
+use Rattle.term_lists.specs.Vectors.{IsVectorOver, StandsFor, sum_of, sums_of}
+use Rattle.term_lists.specs.declared.key.Key.{Key as CodeKey}
+use Rattle.term_lists.specs.declared.ring.Ring.{Ring}
 use Rattle.module_vectors.specs.declared.trail.KeptTrail.{KeptTrail}
 use Rattle.ideal_ops.specs.Products.{IsProductTrail}
 use Rattle.ideal_ops.specs.Runs.{AreTwoRuns, AreVectorsFor, IsRunFor, OfRuns}

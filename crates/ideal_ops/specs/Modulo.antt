@@ -3,9 +3,9 @@ use Rattle.std.specs.Prelude.{List, length, ℕ, ◌++◌, ◌+◌}
 use Rattle.formal_sums.specs.FormalSums.{FormalSum}
 use Rattle.syzygy_laws.specs.Kernels.{kernel_of}
 use Rattle.syzygy_laws.specs.Syzygies.{marked}
-use Rattle.module_vectors.specs.Rings.{variables}
-use Rattle.module_vectors.specs.Vectors.{sums_of}
-use Rattle.module_vectors.specs.declared.ring.Ring.{Ring}
+use Rattle.term_lists.specs.Rings.{variables}
+use Rattle.term_lists.specs.Vectors.{sums_of}
+use Rattle.term_lists.specs.declared.ring.Ring.{Ring}
 use Rattle.syzygy_engine.specs.Marking.{position_ring}
 use Rattle.ideal_ops.specs.Runs.{AreTwoRuns, AreVectorsFor, IsRunFor, OfRuns}
 

@@ -2,11 +2,11 @@
 use Rattle.std.specs.Prelude.{List, [], get_or, length, ⊤, ℕ, ◌<◌, ◌∷◌, ◌≡◌}
 use Rattle.operation_laws.specs.Operations.{products_of}
 use Rattle.monomial_orders.specs.Kept.{Monomial}
-use Rattle.module_vectors.specs.Rings.{variables}
+use Rattle.term_lists.specs.Rings.{variables}
+use Rattle.term_lists.specs.Vectors.{sums_of}
+use Rattle.term_lists.specs.declared.key.Key.{Key as CodeKey}
+use Rattle.term_lists.specs.declared.ring.Ring.{Ring}
 use Rattle.module_vectors.specs.Trails.{IsTrail}
-use Rattle.module_vectors.specs.Vectors.{sums_of}
-use Rattle.module_vectors.specs.declared.key.Key.{Key as CodeKey}
-use Rattle.module_vectors.specs.declared.ring.Ring.{Ring}
 use Rattle.module_vectors.specs.declared.trail.KeptTrail.{KeptTrail}
 use Rattle.module_vectors.specs.declared.trail.TrailStart.TheVariants.{Product}
 use Rattle.module_vectors.specs.declared.trail.WorkStop.{WorkStop}

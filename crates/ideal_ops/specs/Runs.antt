@@ -4,10 +4,10 @@ use Rattle.formal_sums.specs.FormalSums.{FormalSum}
 use Rattle.operation_laws.specs.Operations.{eliminated}
 use Rattle.monomial_orders.specs.declared.order.Order.TheVariants.{Elim}
 use Rattle.monomial_orders.specs.declared.order.ModOrder.TheVariants.{Top}
-use Rattle.module_vectors.specs.Rings.{ring_comparison, variables}
-use Rattle.module_vectors.specs.Vectors.{AreVectorsOver, sums_of}
-use Rattle.module_vectors.specs.declared.key.Key.{Key as CodeKey}
-use Rattle.module_vectors.specs.declared.ring.Ring.{Ring}
+use Rattle.term_lists.specs.Rings.{ring_comparison, variables}
+use Rattle.term_lists.specs.Vectors.{AreVectorsOver, sums_of}
+use Rattle.term_lists.specs.declared.key.Key.{Key as CodeKey}
+use Rattle.term_lists.specs.declared.ring.Ring.{Ring}
 use Rattle.groebner_iface.specs.Runs.{IsReducedBasisOf}
 use Rattle.syzygy_engine.specs.Marking.{StandOneByOne}
 

@@ -3,10 +3,11 @@ ghost use Rattle.std.specs.Prelude.{◌≡◌, ◌<◌, ◌-◌, ◌++◌, ◌�
 ghost use Rattle.monomials.specs.Exponents.{exponents_of};
 ghost use Rattle.formal_sums.specs.FormalSums.{Each, FormalSum, HasRank, scale};
 ghost use Rattle.operation_laws.specs.Operations.{first_variable, times_first, times_rest, with_first};
-ghost use Rattle.module_vectors.specs.FrontVariables.{front_ring};
-ghost use Rattle.module_vectors.specs.Rings.{ring_comparison, variables};
-ghost use Rattle.module_vectors.specs.Stops.{CombinationStops, ScaledStops};
-ghost use Rattle.module_vectors.specs.Vectors.{AreTermsOver, AreVectorsOver, HasPositions, IsMonomialOver, IsVectorOver, sum_of, sums_of};
+ghost use Rattle.term_lists.specs.FrontVariables.{front_ring};
+ghost use Rattle.term_lists.specs.Rings.{ring_comparison, variables};
+ghost use Rattle.term_lists.specs.Stops.{ScaledStops};
+ghost use Rattle.term_lists.specs.Vectors.{AreTermsOver, AreVectorsOver, HasPositions, IsMonomialOver, IsVectorOver, sum_of, sums_of};
+ghost use Rattle.module_vectors.specs.ProductStops.{CombinationStops};
 ghost use Rattle.ideal_ops.specs.FrontSteps.{IsFrontMonomial, IsBehindFactor};
 ghost use Rattle.ideal_ops.specs.FrontVariable.{IsFrontTrail, IsFrontTrailOf, IsFrontVector, front_polynomial, rest_polynomial};
 ghost use Rattle.ideal_ops.specs.Products.{IsProductTrail, WorkStops};

@@ -3,9 +3,9 @@ ghost use Rattle.std.specs.Prelude.{◌≡◌, ◌<◌, ◌≤◌, ◌++◌, ◌
 ghost use Rattle.formal_sums.specs.FormalSums.{Each, FormalSum, product};
 ghost use Rattle.formal_sums.specs.Combinations.{IsMember};
 ghost use Rattle.operation_laws.specs.Operations.{products_of};
-ghost use Rattle.module_vectors.specs.Rings.{ring_comparison, variables};
-ghost use Rattle.module_vectors.specs.Stops.{CombinationStops};
-ghost use Rattle.module_vectors.specs.Vectors.{AreVectorsOver, HasPositions, IsVectorOver, StandsFor, sum_of, sums_of};
+ghost use Rattle.term_lists.specs.Rings.{ring_comparison, variables};
+ghost use Rattle.term_lists.specs.Vectors.{AreVectorsOver, HasPositions, IsVectorOver, StandsFor, sum_of, sums_of};
+ghost use Rattle.module_vectors.specs.ProductStops.{CombinationStops};
 ghost use Rattle.module_vectors.specs.declared.trail.TrailStart.TheVariants.{Product};
 ghost use Rattle.risen_counts.specs.Counts.{RoseAtMost};
 ghost use Rattle.groebner_iface.specs.Calls.{CallStops};

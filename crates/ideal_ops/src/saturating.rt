@@ -2,10 +2,10 @@
 ghost use Rattle.std.specs.Prelude.{◌≡◌, ◌≤◌, ◌<◌, ◌-◌, ◌++◌, ◌∷◌, [], IfOk, IfErr, OnOk, suc};
 ghost use Rattle.formal_sums.specs.FormalSums.{Each, FormalSum, IsOfRank, scale};
 ghost use Rattle.operation_laws.specs.Operations.{IsInSaturation, basis_vector, first_variable, inverse_vector, listed, saturation_list, with_first};
-ghost use Rattle.module_vectors.specs.FrontVariables.{front_ring};
-ghost use Rattle.module_vectors.specs.Stops.{ScaledStops};
-ghost use Rattle.module_vectors.specs.Rings.{ring_comparison, variables};
-ghost use Rattle.module_vectors.specs.Vectors.{AreTermsOver, AreVectorsOver, HasPositions, IsVectorOver, StandsFor, sum_of, sums_of};
+ghost use Rattle.term_lists.specs.FrontVariables.{front_ring};
+ghost use Rattle.term_lists.specs.Stops.{ScaledStops};
+ghost use Rattle.term_lists.specs.Rings.{ring_comparison, variables};
+ghost use Rattle.term_lists.specs.Vectors.{AreTermsOver, AreVectorsOver, HasPositions, IsVectorOver, StandsFor, sum_of, sums_of};
 ghost use Rattle.risen_counts.specs.Counts.{RoseAtMost};
 ghost use Rattle.groebner_iface.specs.Calls.{CallStops};
 ghost use Rattle.ideal_ops.specs.Answers.{IsBasisOfThose};

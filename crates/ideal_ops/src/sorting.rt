@@ -1,8 +1,8 @@
 // A list in the order of another ring.
 ghost use Rattle.std.specs.Prelude.{◌≡◌, IfOk};
 ghost use Rattle.formal_sums.specs.FormalSums.{Each};
-ghost use Rattle.module_vectors.specs.Rings.{ring_comparison, variables};
-ghost use Rattle.module_vectors.specs.Vectors.{AreTermsOver, IsVectorOver, StandsFor, sum_of, sums_of};
+ghost use Rattle.term_lists.specs.Rings.{ring_comparison, variables};
+ghost use Rattle.term_lists.specs.Vectors.{AreTermsOver, IsVectorOver, StandsFor, sum_of, sums_of};
 ghost use Rattle.ideal_ops.specs.Runs.{AreVectorsFor};
 
 use module_vectors::{NoMemory, Ring, Vect, VectList};

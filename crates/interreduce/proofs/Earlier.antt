@@ -11,11 +11,11 @@ use Rattle.orders.specs.KeyOrders.{KeyDivides}
 use Rattle.bases.proofs.Leading.{positive}
 use Rattle.bases.specs.Leads.{head_coefficient, head_key, leads}
 use Rattle.bases.specs.Settings.{IsLawful}
-use Rattle.module_vectors.proofs.SumsOfProducts.{Each_member}
-use Rattle.module_vectors.specs.Rings.{setting, variables}
+use Rattle.term_lists.proofs.Parts.{Each_member}
+use Rattle.term_lists.specs.Rings.{setting, variables}
+use Rattle.term_lists.specs.Vectors.{AreVectorsOver, IsVectorOver, sum_of, sums_of}
+use Rattle.term_lists.specs.declared.ring.Ring.{Ring}
 use Rattle.module_vectors.specs.Trails.{lead_at}
-use Rattle.module_vectors.specs.Vectors.{AreVectorsOver, IsVectorOver, sum_of, sums_of}
-use Rattle.module_vectors.specs.declared.ring.Ring.{Ring}
 use Rattle.vector_division.proofs.Members.{sums_at}
 use Rattle.vector_division.specs.Divisions.{IsFreeOfLeads, IsUncovered}
 use Rattle.interreduce.specs.Leads.{AreNeeded, IsCoveredBy}

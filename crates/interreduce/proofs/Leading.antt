@@ -10,10 +10,10 @@ use Rattle.formal_sums.specs.FormalSums.{Each, Key}
 use Rattle.orders.proofs.KeyOrdering.{equal_itself, less_of_greater}
 use Rattle.orders.specs.KeyOrders.{IsKeyOrder, KeyDivides}
 use Rattle.bases.specs.Leads.{head_key}
-use Rattle.module_vectors.proofs.SumsOfProducts.{Each_member}
+use Rattle.term_lists.proofs.Parts.{Each_member}
+use Rattle.term_lists.specs.Vectors.{HasVariables, key_of, sum_of}
+use Rattle.term_lists.specs.declared.key.Key.{Key as CodeKey}
 use Rattle.module_vectors.specs.Trails.{lead_at}
-use Rattle.module_vectors.specs.Vectors.{HasVariables, key_of, sum_of}
-use Rattle.module_vectors.specs.declared.key.Key.{Key as CodeKey}
 use Rattle.vector_division.specs.Progress.{HaveVariables}
 use Rattle.interreduce.specs.Leads.{HaveLeads, LeadsRise, by_lead, lack_of}
 

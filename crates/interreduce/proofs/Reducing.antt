@@ -23,13 +23,13 @@ use Rattle.reduced_bases.proofs.Dropping.{IsGroebnerBasis_dropped}
 use Rattle.reduced_bases.proofs.Sorting.{IsReducedBasis_sorted, IsReducedSet_permuted}
 use Rattle.reduced_bases.proofs.Tails.{IsReducedSet_tails}
 use Rattle.reduced_bases.specs.Interreduction.{CoversLeads, HasFreeTail, IsMinimalList, IsTailReduced}
-use Rattle.module_vectors.proofs.Gathers.{Each_permutation}
-use Rattle.module_vectors.proofs.NormalVectors.{vector_normal, vector_positions}
-use Rattle.module_vectors.proofs.SumsOfProducts.{Each_member}
-use Rattle.module_vectors.specs.Rings.{setting, variables}
+use Rattle.term_lists.proofs.Gathers.{Each_permutation}
+use Rattle.term_lists.proofs.NormalVectors.{vector_normal, vector_positions}
+use Rattle.term_lists.proofs.Parts.{Each_member}
+use Rattle.term_lists.specs.Rings.{setting, variables}
+use Rattle.term_lists.specs.Vectors.{AreVectorsOver, HasPositions, IsVectorOver, sum_of, sums_of}
+use Rattle.term_lists.specs.declared.ring.Ring.{Ring}
 use Rattle.module_vectors.specs.Trails.{lead_at}
-use Rattle.module_vectors.specs.Vectors.{AreVectorsOver, HasPositions, IsVectorOver, sum_of, sums_of}
-use Rattle.module_vectors.specs.declared.ring.Ring.{Ring}
 use Rattle.vector_division.proofs.Members.{sums_at}
 use Rattle.vector_division.specs.Divisions.{IsFreeOfLeads, IsUncovered}
 use Rattle.interreduce.specs.Leads.{AreNeeded}

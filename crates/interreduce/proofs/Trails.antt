@@ -1,10 +1,10 @@
 -- A trail of the division of a tail is one of the division of the whole vector
 use Rattle.std.proofs.Common.{List, [], drop, inl, inr, subst, sym, ℕ, ◌++◌, ◌∷◌, ◌≡◌}
 use Rattle.formal_sums.specs.FormalSums.{FormalSum, Key}
-use Rattle.module_vectors.specs.Rings.{variables}
+use Rattle.term_lists.specs.Rings.{variables}
+use Rattle.term_lists.specs.Vectors.{sum_of}
+use Rattle.term_lists.specs.declared.ring.Ring.{Ring}
 use Rattle.module_vectors.specs.Trails.{AreMet, IsStart, HasKey, IsMet, IsTrail, KeptProduct, product_lead}
-use Rattle.module_vectors.specs.Vectors.{sum_of}
-use Rattle.module_vectors.specs.declared.ring.Ring.{Ring}
 use Rattle.module_vectors.specs.declared.trail.KeptTrail.{KeptTrail}
 use Rattle.module_vectors.specs.declared.trail.TrailStart.{TrailStart}
 use Rattle.module_vectors.specs.declared.trail.TrailStart.TheVariants as starts

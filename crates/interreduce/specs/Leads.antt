@@ -5,8 +5,8 @@ use Rattle.std.specs.declared.cmp.Ordering.{Ordering}
 use Rattle.std.specs.declared.cmp.Ordering.TheVariants.{Greater, Less}
 use Rattle.formal_sums.specs.FormalSums.{Each, Key}
 use Rattle.orders.specs.KeyOrders.{KeyDivides}
+use Rattle.term_lists.specs.declared.key.Key.{Key as CodeKey}
 use Rattle.module_vectors.specs.Trails.{lead_at}
-use Rattle.module_vectors.specs.declared.key.Key.{Key as CodeKey}
 
 -- each of these members has a lead: it is not zero
 abbrev pub HaveLeads : List (List (CodeKey × ℕ)) → List ℕ → Type 0

@@ -1,8 +1,8 @@
 // Tails divided by the members that were reduced before them.
 ghost use Rattle.std.specs.Prelude.{◌≡◌, ◌<◌, ◌≤◌, ◌+◌, ◌-◌, ◌++◌, ◌∷◌, ℕ, [], IfOk, OnOk, get_or, length, map, take};
 ghost use Rattle.formal_sums.specs.FormalSums.{Each};
-ghost use Rattle.module_vectors.specs.Rings.{variables};
-ghost use Rattle.module_vectors.specs.Vectors.{AreVectorsOver};
+ghost use Rattle.term_lists.specs.Rings.{variables};
+ghost use Rattle.term_lists.specs.Vectors.{AreVectorsOver};
 ghost use Rattle.vector_division.specs.Divisors.{AreDivisors};
 ghost use Rattle.interreduce.specs.Leads.{AreNeeded, HaveLeads};
 ghost use Rattle.interreduce.specs.Members.{AreBatchOf, AreReducedMembers, HaveReducedTails};

@@ -2,8 +2,8 @@
 ghost use Rattle.std.specs.Prelude.{ℕ, ◌<◌, List, IfErr, IfOk, length};
 ghost use Rattle.formal_sums.specs.FormalSums.{Each, FormalSum};
 ghost use Rattle.bases.specs.Bases.{IsGroebnerBasis, IsReducedBasis};
-ghost use Rattle.module_vectors.specs.Rings.{setting, variables};
-ghost use Rattle.module_vectors.specs.Vectors.{AreVectorsOver, HasPositions, sums_of};
+ghost use Rattle.term_lists.specs.Rings.{setting, variables};
+ghost use Rattle.term_lists.specs.Vectors.{AreVectorsOver, HasPositions, sums_of};
 ghost use Rattle.interreduce.specs.Trails.{InterreductionStops};
 ghost use Rattle.interreduce.specs.Leads.{AreNeeded};
 ghost use Rattle.interreduce.specs.Members.{AreReducedMembers, StopsAtFirst, StopsAtLeast};

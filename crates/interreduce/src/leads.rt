@@ -1,9 +1,9 @@
 // Which members of a list are needed for its leads, and their order.
 ghost use Rattle.std.specs.Prelude.{◌≡◌, ◌<◌, ◌↔◌, ◌∷◌, ℕ, List, [], Contains, IfOk, IsTrue, MatchOption, get_or, length};
 ghost use Rattle.formal_sums.specs.FormalSums.{Each};
-ghost use Rattle.module_vectors.specs.Rings.{variables};
+ghost use Rattle.term_lists.specs.Rings.{variables};
+ghost use Rattle.term_lists.specs.Vectors.{AreVectorsOver, key_of};
 ghost use Rattle.module_vectors.specs.Trails.{lead_at};
-ghost use Rattle.module_vectors.specs.Vectors.{AreVectorsOver, key_of};
 ghost use Rattle.vector_division.specs.Progress.{HaveVariables};
 ghost use Rattle.interreduce.specs.Leads.{AreNeeded, HaveLeads, IsCoveredBy, LeadsRise, by_lead};
 

@@ -3,8 +3,8 @@ ghost use Rattle.std.specs.Prelude.{◌≡◌, ◌<◌, ◌++◌, [], IfErr, IfO
 ghost use Rattle.std.specs.declared.cmp.Ordering.TheVariants.{Greater};
 ghost use Rattle.formal_sums.specs.FormalSums.{Each};
 ghost use Rattle.bases.specs.Leads.{head_key};
-ghost use Rattle.module_vectors.specs.Rings.{variables};
-ghost use Rattle.module_vectors.specs.Vectors.{AreVectorsOver, IsVectorOver, sum_of};
+ghost use Rattle.term_lists.specs.Rings.{variables};
+ghost use Rattle.term_lists.specs.Vectors.{AreVectorsOver, IsVectorOver, sum_of};
 ghost use Rattle.vector_division.specs.Divisions.{DivisionStops, IsDivisionTrail};
 ghost use Rattle.vector_division.specs.Divisors.{AreDivisors};
 ghost use Rattle.interreduce.specs.Members.{HasDivision, HasReducedTail, IsDividedMember, ReducesTail};

@@ -2,8 +2,8 @@
 ghost use Rattle.std.specs.Prelude.{◌≡◌, ◌<◌, [], IfErr, IfOk, get_or, length, map};
 ghost use Rattle.std.specs.declared.result.Result.TheVariants.{Ok};
 ghost use Rattle.formal_sums.specs.FormalSums.{Each};
-ghost use Rattle.module_vectors.specs.Rings.{variables};
-ghost use Rattle.module_vectors.specs.Vectors.{AreVectorsOver};
+ghost use Rattle.term_lists.specs.Rings.{variables};
+ghost use Rattle.term_lists.specs.Vectors.{AreVectorsOver};
 ghost use Rattle.vector_division.specs.Divisors.{AreDivisors};
 ghost use Rattle.interreduce.specs.Leads.{HaveLeads};
 ghost use Rattle.interreduce.specs.Members.{AreReducedMembers, HaveReducedTails, IsFirstRefusal, ReducesMember, ReducesTail, StopsAtFirst};

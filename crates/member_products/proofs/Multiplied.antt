@@ -4,13 +4,13 @@ use Rattle.formal_sums.proofs.Combining.{IsSame_combination_members}
 use Rattle.formal_sums.proofs.Sameness.{IsSame_append, IsSame_refl, IsSame_trans}
 use Rattle.formal_sums.specs.Combinations.{combination}
 use Rattle.formal_sums.specs.FormalSums.{FormalSum, IsSame}
-use Rattle.module_vectors.specs.Rings.{variables}
-use Rattle.module_vectors.specs.Stops.{CombinationStops}
-use Rattle.module_vectors.specs.Vectors.{StandsFor, sum_of, sums_of}
-use Rattle.module_vectors.specs.declared.key.Key.{Key as CodeKey}
-use Rattle.module_vectors.specs.declared.ring.Ring.{Ring}
-use Rattle.module_vectors.specs.declared.stop.VectStop.{VectStop}
-use Rattle.module_vectors.specs.declared.stop.VectStop.TheVariants.{Memory, Degree}
+use Rattle.term_lists.specs.Rings.{variables}
+use Rattle.term_lists.specs.Vectors.{StandsFor, sum_of, sums_of}
+use Rattle.term_lists.specs.declared.key.Key.{Key as CodeKey}
+use Rattle.term_lists.specs.declared.ring.Ring.{Ring}
+use Rattle.term_lists.specs.declared.stop.VectStop.{VectStop}
+use Rattle.term_lists.specs.declared.stop.VectStop.TheVariants.{Memory, Degree}
+use Rattle.module_vectors.specs.ProductStops.{CombinationStops}
 use Rattle.basis_steps.proofs.Carrying.{from_append, length-from}
 use Rattle.basis_steps.specs.Cofactors.{cofactor_lists, cofactors_by}
 use Rattle.member_products.specs.Members.{AreCofactors, AreMembersOver, CofactorsStop, IsMemberOver, member_of, members_of}

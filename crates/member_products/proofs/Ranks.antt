@@ -7,11 +7,11 @@ use Rattle.formal_sums.specs.FormalSums.{Each, FormalSum, HasRank, IsOfRank, sca
 use Rattle.bases.specs.Settings.{IsLawful}
 use Rattle.monomial_orders.specs.Laws.{key_comparison_order}
 use Rattle.zp_field.proofs.TableFields.{is_modulus-domain}
-use Rattle.module_vectors.proofs.NormalVectors.{vector_positions}
-use Rattle.module_vectors.specs.Rings.{ring_comparison, setting, variables}
-use Rattle.module_vectors.specs.Vectors.{AreVectorsOver, HasPositions, StandsFor, sum_of, sums_of}
-use Rattle.module_vectors.specs.declared.key.Key.{Key as CodeKey}
-use Rattle.module_vectors.specs.declared.ring.Ring.{Ring}
+use Rattle.term_lists.proofs.NormalVectors.{vector_positions}
+use Rattle.term_lists.specs.Rings.{ring_comparison, setting, variables}
+use Rattle.term_lists.specs.Vectors.{AreVectorsOver, HasPositions, StandsFor, sum_of, sums_of}
+use Rattle.term_lists.specs.declared.key.Key.{Key as CodeKey}
+use Rattle.term_lists.specs.declared.ring.Ring.{Ring}
 use Rattle.member_products.specs.Generators.{IsRanked, IsVectorOf}
 
 -- the ring's order and modulus are lawful

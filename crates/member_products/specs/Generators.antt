@@ -1,10 +1,10 @@
 -- The generators of a run: vectors of its ring and its rank
 use Rattle.std.specs.Prelude.{List, ℕ}
 use Rattle.formal_sums.specs.FormalSums.{Each}
-use Rattle.module_vectors.specs.Rings.{ring_comparison}
-use Rattle.module_vectors.specs.Vectors.{HasPositions, IsVectorOver}
-use Rattle.module_vectors.specs.declared.key.Key.{Key as CodeKey}
-use Rattle.module_vectors.specs.declared.ring.Ring.{Ring}
+use Rattle.term_lists.specs.Rings.{ring_comparison}
+use Rattle.term_lists.specs.Vectors.{HasPositions, IsVectorOver}
+use Rattle.term_lists.specs.declared.key.Key.{Key as CodeKey}
+use Rattle.term_lists.specs.declared.ring.Ring.{Ring}
 
 -- a vector in the ring's own order
 abbrev pub IsVectorOf : Ring → List (CodeKey × ℕ) → Type 0

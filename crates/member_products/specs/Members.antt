@@ -1,13 +1,13 @@
 -- What members and rows stand for, and their cofactors
 use Rattle.std.specs.Prelude.{Contains, List, [], get_or, length, map, take, ⊤, ℕ, ◌+◌, ◌∷◌, ◌≡◌}
 use Rattle.formal_sums.specs.FormalSums.{IsSame}
-use Rattle.module_vectors.specs.Rings.{variables}
-use Rattle.module_vectors.specs.Stops.{CombinationStops}
-use Rattle.module_vectors.specs.Vectors.{sum_of, sums_of}
-use Rattle.module_vectors.specs.declared.key.Key.{Key as CodeKey}
-use Rattle.module_vectors.specs.declared.ring.Ring.{Ring}
-use Rattle.module_vectors.specs.declared.stop.VectStop.{VectStop}
-use Rattle.module_vectors.specs.declared.stop.VectStop.TheVariants.{Memory, Degree}
+use Rattle.term_lists.specs.Rings.{variables}
+use Rattle.term_lists.specs.Vectors.{sum_of, sums_of}
+use Rattle.term_lists.specs.declared.key.Key.{Key as CodeKey}
+use Rattle.term_lists.specs.declared.ring.Ring.{Ring}
+use Rattle.term_lists.specs.declared.stop.VectStop.{VectStop}
+use Rattle.term_lists.specs.declared.stop.VectStop.TheVariants.{Memory, Degree}
+use Rattle.module_vectors.specs.ProductStops.{CombinationStops}
 use Rattle.basis_steps.specs.Cofactors.{cofactor_lists}
 use Rattle.basis_steps.specs.States.{Member}
 use Rattle.member_products.specs.Generators.{IsRanked}

@@ -7,9 +7,9 @@ use Rattle.std.specs.declared.cmp.Ordering.TheVariants.{Greater}
 use Rattle.formal_sums.specs.FormalSums.{Each, FormalSum, Key}
 use Rattle.orders.specs.KeyOrders.{Descends}
 use Rattle.monomial_orders.specs.Kept.{IsWeighed, Monomial}
-use Rattle.module_vectors.specs.Vectors.{IsTerm, IsVector}
-use Rattle.module_vectors.specs.declared.key.Key.{Key as CodeKey}
-use Rattle.module_vectors.specs.declared.ring.Ring.{Ring}
+use Rattle.term_lists.specs.Vectors.{IsTerm, IsVector}
+use Rattle.term_lists.specs.declared.key.Key.{Key as CodeKey}
+use Rattle.term_lists.specs.declared.ring.Ring.{Ring}
 use Rattle.member_products.specs.Generators.{AreGenerators, IsRanked}
 
 Each-prop : {X : Type 0} (P : X → Type 0) → ((x : X) → IsProp (P x)) → (xs : List X) → IsProp (Each P xs)

@@ -1,7 +1,7 @@
 // Cofactors multiplied out.
 ghost use Rattle.std.specs.Prelude.{◌≡◌, ◌++◌, ◌∷◌, [], List, IfOk, IfErr, OnOk, OnErr, length};
 ghost use Rattle.formal_sums.specs.FormalSums.{Each};
-ghost use Rattle.module_vectors.specs.Stops.{CombinationStops};
+ghost use Rattle.module_vectors.specs.ProductStops.{CombinationStops};
 ghost use Rattle.member_products.specs.Generators.{IsRanked};
 ghost use Rattle.member_products.specs.Members.{AreCofactors, AreMembersOver, CofactorsStop, IsMemberOver};
 ghost use Rattle.member_products.specs.declared.member.RunMember.{RunMember as MemberValue};

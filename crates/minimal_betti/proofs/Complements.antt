@@ -21,10 +21,10 @@ use Rattle.minimal_laws.proofs.Rows.{close, linear_without_row}
 use Rattle.minimal_laws.proofs.Splitting.{get_or-images, length-images}
 use Rattle.minimal_laws.specs.Cancellation.{AreSameColumns, remove_at, without_row}
 use Rattle.complements.specs.Complements.{AreComplements, IsComplement}
-use Rattle.module_vectors.specs.Rings.{variables}
-use Rattle.module_vectors.specs.Vectors.{sum_of, sums_of}
-use Rattle.module_vectors.specs.declared.key.Key.{Key as CodeKey}
-use Rattle.module_vectors.specs.declared.ring.Ring.{Ring}
+use Rattle.term_lists.specs.Rings.{variables}
+use Rattle.term_lists.specs.Vectors.{sum_of, sums_of}
+use Rattle.term_lists.specs.declared.key.Key.{Key as CodeKey}
+use Rattle.term_lists.specs.declared.ring.Ring.{Ring}
 use Rattle.vector_division.proofs.Members.{sums_at}
 use Rattle.column_passes.specs.Passing.{AreFirstSteps, IsFirstStep, Pivot, applied, left_by, left_by_all}
 use Rattle.column_passes.specs.Placing.{AreWithout, all_removed, place_after, without_all}

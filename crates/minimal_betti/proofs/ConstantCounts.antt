@@ -9,8 +9,8 @@ use Rattle.betti_laws.proofs.ConstantParts.{constant_table, constants_graded}
 use Rattle.betti_laws.proofs.Tables.{trimmed_counts}
 use Rattle.betti_laws.specs.ConstantParts.{constant_part}
 use Rattle.betti_laws.specs.Tables.{occurrences, step_count}
-use Rattle.module_vectors.specs.Rings.{ring_comparison, setting, variables}
-use Rattle.module_vectors.specs.declared.ring.Ring.{Ring}
+use Rattle.term_lists.specs.Rings.{ring_comparison, setting, variables}
+use Rattle.term_lists.specs.declared.ring.Ring.{Ring}
 use Rattle.resolution_maps.specs.declared.maps.Resolution.{Resolution}
 use Rattle.minimal_betti.specs.Carried.{LeadsTo, graded_map, graded_maps}
 use Rattle.minimal_betti.specs.ConstantMaps.{AreConstantMaps}

@@ -4,8 +4,8 @@ use Rattle.std.proofs.Common.{List, [], ap, arith, get_or, length, map, refl, su
 use Rattle.formal_sums.specs.FormalSums.{Each}
 use Rattle.betti_laws.specs.Tables.{occurrences, step_count}
 use Rattle.minimal_laws.specs.Gradings.{graded_by_leads}
-use Rattle.module_vectors.specs.Rings.{variables}
-use Rattle.module_vectors.specs.declared.ring.Ring.{Ring}
+use Rattle.term_lists.specs.Rings.{variables}
+use Rattle.term_lists.specs.declared.ring.Ring.{Ring}
 use Rattle.resolution_maps.specs.Inducing.{maps_of}
 use Rattle.resolution_maps.specs.Resolved.{AreJoined, degrees_of}
 use Rattle.resolution_maps.specs.declared.maps.Map.{Map}

@@ -19,10 +19,10 @@ use Rattle.minimal_laws.proofs.Searching.{cancellation_exists, same_maps_itself}
 use Rattle.minimal_laws.specs.Cancellation.{AreSameMaps, IsCancelled, done, keep, trimmed}
 use Rattle.minimal_laws.specs.Gradings.{AreExact, AreGraded, AreHomogeneous, GradedMap, GradedMaps, IsHomogeneous, first_columns, graded_by_leads}
 use Rattle.minimal_laws.specs.Minimal.{HasConstant, IsMinimal, Presents, difference}
-use Rattle.module_vectors.specs.Rings.{ring_comparison, setting, variables}
-use Rattle.module_vectors.specs.Vectors.{AreVectorsOver, sums_of}
-use Rattle.module_vectors.specs.declared.key.Key.{Key as CodeKey}
-use Rattle.module_vectors.specs.declared.ring.Ring.{Ring}
+use Rattle.term_lists.specs.Rings.{ring_comparison, setting, variables}
+use Rattle.term_lists.specs.Vectors.{AreVectorsOver, sums_of}
+use Rattle.term_lists.specs.declared.key.Key.{Key as CodeKey}
+use Rattle.term_lists.specs.declared.ring.Ring.{Ring}
 use Rattle.resolution_maps.specs.Inducing.{maps_of}
 use Rattle.resolution_maps.specs.Resolved.{AreJoined, columns_of, degrees_of}
 use Rattle.resolution_maps.specs.declared.maps.Map.{Map}

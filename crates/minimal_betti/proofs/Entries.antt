@@ -14,16 +14,16 @@ use Rattle.monomial_orders.specs.Kept.{IsWeighed, Monomial}
 use Rattle.monomial_orders.specs.declared.order.ModOrder.{ModOrder}
 use Rattle.monomial_orders.specs.declared.order.ModOrder.TheVariants.{Pot, Top}
 use Rattle.monomial_orders.specs.declared.order.Order.{Order}
-use Rattle.module_vectors.proofs.Scaling.{Each_at}
-use Rattle.module_vectors.specs.Rings.{ring_comparison, variables}
-use Rattle.module_vectors.specs.Stops.{HasMonomial, IsTooGreat}
+use Rattle.term_lists.proofs.Scaling.{Each_at}
+use Rattle.term_lists.specs.Rings.{ring_comparison, variables}
+use Rattle.term_lists.specs.Stops.{HasMonomial, IsTooGreat}
+use Rattle.term_lists.specs.Vectors.{AreVectorsOver, IsTerm, IsVectorOver, sum_of}
+use Rattle.term_lists.specs.declared.ring.Ring.{Ring}
+use Rattle.term_lists.specs.declared.key.Key.{Key as CodeKey}
 use Rattle.module_vectors.specs.Trails.{IsStart}
-use Rattle.module_vectors.specs.Vectors.{AreVectorsOver, IsTerm, IsVectorOver, sum_of}
-use Rattle.module_vectors.specs.declared.ring.Ring.{Ring}
 use Rattle.module_vectors.specs.declared.trail.KeptTrail.{KeptTrail}
 use Rattle.module_vectors.specs.declared.trail.TrailStart.{TrailStart}
 use Rattle.module_vectors.specs.declared.trail.TrailStart.TheVariants.{Product}
-use Rattle.module_vectors.specs.declared.key.Key.{Key as CodeKey}
 use Rattle.column_passes.specs.Clearing.{IsMonomialAt}
 use Rattle.column_passes.specs.declared.constants.Constant.{Constant}
 use Rattle.column_passes.proofs.Clearings.{nat_eq-other}

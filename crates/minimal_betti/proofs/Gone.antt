@@ -2,11 +2,11 @@
 use Rattle.std.specs.Prelude.{None}
 use Rattle.std.proofs.Common.{List, [], get_or, length, subst, sym, take, ℕ, ◌++◌, ◌+◌, ◌<◌, ◌∙◌, ◌∷◌, ◌≡◌}
 use Rattle.std.proofs.lemmas.List.{get_or_default}
-use Rattle.module_vectors.proofs.Scaling.{Each_at, Each_more}
-use Rattle.module_vectors.specs.Rings.{ring_comparison}
-use Rattle.module_vectors.specs.Vectors.{AreVectorsOver, IsVectorOver}
-use Rattle.module_vectors.specs.declared.key.Key.{Key as CodeKey}
-use Rattle.module_vectors.specs.declared.ring.Ring.{Ring}
+use Rattle.term_lists.proofs.Scaling.{Each_at, Each_more}
+use Rattle.term_lists.specs.Rings.{ring_comparison}
+use Rattle.term_lists.specs.Vectors.{AreVectorsOver, IsVectorOver}
+use Rattle.term_lists.specs.declared.key.Key.{Key as CodeKey}
+use Rattle.term_lists.specs.declared.ring.Ring.{Ring}
 use Rattle.column_passes.specs.Placing.{ArePlacesAfter, all_removed, place_told}
 use Rattle.column_passes.specs.declared.placing.Leaving.{Leaving}
 use Rattle.column_passes.proofs.Lists.{all_append, all_map}

@@ -16,11 +16,11 @@ use Rattle.minimal_laws.specs.Gradings.{AreExact, AreGraded, AreHomogeneous, Gra
 use Rattle.minimal_laws.specs.Minimal.{HasConstant}
 use Rattle.betti_laws.proofs.Constants.{HasNoConstant, no_constant_combination, no_constant_same}
 use Rattle.betti_laws.proofs.Lifting.{first_no_constant}
-use Rattle.module_vectors.proofs.NormalVectors.{vector_lead, vector_positions}
-use Rattle.module_vectors.specs.Rings.{ring_comparison, setting, variables}
-use Rattle.module_vectors.specs.Vectors.{AreVectorsOver, HasPositions, IsVectorOver, key_of, sum_of, sums_of}
-use Rattle.module_vectors.specs.declared.key.Key.{Key as CodeKey}
-use Rattle.module_vectors.specs.declared.ring.Ring.{Ring}
+use Rattle.term_lists.proofs.NormalVectors.{vector_lead, vector_positions}
+use Rattle.term_lists.specs.Rings.{ring_comparison, setting, variables}
+use Rattle.term_lists.specs.Vectors.{AreVectorsOver, HasPositions, IsVectorOver, key_of, sum_of, sums_of}
+use Rattle.term_lists.specs.declared.key.Key.{Key as CodeKey}
+use Rattle.term_lists.specs.declared.ring.Ring.{Ring}
 use Rattle.resolution_maps.specs.Resolved.{HavePositions}
 use Rattle.minimal_betti.specs.Carried.{AreOrdered, graded_map}
 use Rattle.minimal_betti.specs.declared.carried.Carried.{Carried}

@@ -2,9 +2,9 @@
 use Rattle.std.proofs.Common.{List, [], ap, arith, length, map, refl, subst, suc, sym, ℕ, ◌<◌, ◌∷◌, ◌≡◌}
 use Rattle.std.proofs.lemmas.List.{length-map}
 use Rattle.minimal_laws.specs.Cancellation.{AreSameColumns}
-use Rattle.module_vectors.specs.Rings.{ring_comparison, variables}
-use Rattle.module_vectors.specs.Vectors.{AreVectorsOver, sums_of}
-use Rattle.module_vectors.specs.declared.ring.Ring.{Ring}
+use Rattle.term_lists.specs.Rings.{ring_comparison, variables}
+use Rattle.term_lists.specs.Vectors.{AreVectorsOver, sums_of}
+use Rattle.term_lists.specs.declared.ring.Ring.{Ring}
 use Rattle.column_passes.proofs.Places.{none_leave, some_leave}
 use Rattle.column_passes.specs.Constants.{HasNoConstants}
 use Rattle.column_passes.specs.Passing.{IsPassed, Pivot, left_by_all}

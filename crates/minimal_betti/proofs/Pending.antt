@@ -10,9 +10,9 @@ use Rattle.minimal_laws.proofs.Searching.{same_maps_itself}
 use Rattle.minimal_laws.proofs.SameMaps.{same_graded}
 use Rattle.minimal_laws.specs.Cancellation.{AreSameColumns, AreSameMaps, remove_at}
 use Rattle.minimal_laws.specs.Gradings.{AreGraded, GradedMap, GradedMaps}
-use Rattle.module_vectors.specs.Rings.{ring_comparison, variables}
-use Rattle.module_vectors.specs.Vectors.{AreVectorsOver, sums_of}
-use Rattle.module_vectors.specs.declared.ring.Ring.{Ring}
+use Rattle.term_lists.specs.Rings.{ring_comparison, variables}
+use Rattle.term_lists.specs.Vectors.{AreVectorsOver, sums_of}
+use Rattle.term_lists.specs.declared.ring.Ring.{Ring}
 use Rattle.column_passes.specs.Constants.{HasNoConstants}
 use Rattle.column_passes.specs.Passing.{AreGradedColumns, IsChosen, Pivot, left_by_all}
 use Rattle.column_passes.specs.Placing.{all_removed}

@@ -10,8 +10,8 @@ use Rattle.minimal_laws.proofs.Searching.{cancellation_exists, same_maps_itself}
 use Rattle.minimal_laws.specs.Cancellation.{AreSameColumns, AreSameMaps, IsCancelled, IsFirstConstant, done, split, step}
 use Rattle.minimal_laws.specs.Gradings.{GradedMap, GradedMaps, first_columns}
 use Rattle.minimal_laws.specs.Minimal.{HasConstant}
-use Rattle.module_vectors.specs.Rings.{variables}
-use Rattle.module_vectors.specs.declared.ring.Ring.{Ring}
+use Rattle.term_lists.specs.Rings.{variables}
+use Rattle.term_lists.specs.declared.ring.Ring.{Ring}
 use Rattle.module_vectors.specs.declared.trail.WorkStop.{WorkStop}
 use Rattle.module_vectors.specs.declared.trail.WorkStop.TheVariants.{Degree, Memory}
 use Rattle.column_passes.proofs.Applying.{constant_there}

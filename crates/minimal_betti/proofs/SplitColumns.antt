@@ -6,10 +6,10 @@ use Rattle.std.proofs.lemmas.List.{get_or_default, map-append, reverse-append, t
 use Rattle.formal_sums.proofs.Sameness.{IsSame_sym}
 use Rattle.formal_sums.specs.FormalSums.{FormalSum}
 use Rattle.minimal_laws.specs.Cancellation.{AreSameColumns, remove_at}
-use Rattle.module_vectors.specs.Rings.{ring_comparison, variables}
-use Rattle.module_vectors.specs.Vectors.{AreVectorsOver, StandsFor, sum_of, sums_of}
-use Rattle.module_vectors.specs.declared.key.Key.{Key as CodeKey}
-use Rattle.module_vectors.specs.declared.ring.Ring.{Ring}
+use Rattle.term_lists.specs.Rings.{ring_comparison, variables}
+use Rattle.term_lists.specs.Vectors.{AreVectorsOver, StandsFor, sum_of, sums_of}
+use Rattle.term_lists.specs.declared.key.Key.{Key as CodeKey}
+use Rattle.term_lists.specs.declared.ring.Ring.{Ring}
 use Rattle.resolution_maps.specs.Resolved.{degrees_of}
 use Rattle.resolution_maps.specs.declared.maps.Map.{Map}
 use Rattle.column_passes.proofs.Columns.{nothing_same, same_pushed, sums_more, vectors_pushed}

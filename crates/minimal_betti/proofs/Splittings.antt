@@ -9,10 +9,10 @@ use Rattle.formal_sums.specs.FormalSums.{Each, FormalSum}
 use Rattle.minimal_laws.proofs.Splitting.{length-remove_at}
 use Rattle.minimal_laws.specs.Cancellation.{AreSameColumns, IsFirstConstant, cleared, remove_at, without_row}
 use Rattle.minimal_laws.specs.Gradings.{AreGraded, GradedMap, GradedMaps, IsHomogeneous, first_columns}
-use Rattle.module_vectors.specs.Rings.{ring_comparison, variables}
-use Rattle.module_vectors.specs.Vectors.{AreVectorsOver, sum_of, sums_of}
-use Rattle.module_vectors.specs.declared.key.Key.{Key as CodeKey}
-use Rattle.module_vectors.specs.declared.ring.Ring.{Ring}
+use Rattle.term_lists.specs.Rings.{ring_comparison, variables}
+use Rattle.term_lists.specs.Vectors.{AreVectorsOver, sum_of, sums_of}
+use Rattle.term_lists.specs.declared.key.Key.{Key as CodeKey}
+use Rattle.term_lists.specs.declared.ring.Ring.{Ring}
 use Rattle.module_vectors.specs.declared.trail.WorkStop.{WorkStop}
 use Rattle.module_vectors.specs.declared.trail.WorkStop.TheVariants.{Degree, Memory}
 use Rattle.vector_division.proofs.Members.{sums_at}

@@ -16,10 +16,10 @@ use Rattle.minimal_laws.specs.Cancellation.{AreSameColumns, AreSameMaps, IsCance
 use Rattle.minimal_laws.specs.Cancellation.{without_row, without_rows}
 use Rattle.minimal_laws.specs.Gradings.{AreGraded, GradedMap, GradedMaps, first_columns}
 use Rattle.minimal_laws.specs.Minimal.{HasConstant, IsConstantAt}
-use Rattle.module_vectors.specs.Rings.{ring_comparison, variables}
-use Rattle.module_vectors.specs.Vectors.{AreVectorsOver, sum_of, sums_of}
-use Rattle.module_vectors.specs.declared.key.Key.{Key as CodeKey}
-use Rattle.module_vectors.specs.declared.ring.Ring.{Ring}
+use Rattle.term_lists.specs.Rings.{ring_comparison, variables}
+use Rattle.term_lists.specs.Vectors.{AreVectorsOver, sum_of, sums_of}
+use Rattle.term_lists.specs.declared.key.Key.{Key as CodeKey}
+use Rattle.term_lists.specs.declared.ring.Ring.{Ring}
 use Rattle.column_passes.proofs.Applying.{constant_there, split_columns_same}
 use Rattle.column_passes.proofs.Lists.{all_append, each_left, each_mapped, each_right, each_unmapped, map_same}
 use Rattle.column_passes.specs.Constants.{HasNoConstants}

@@ -3,10 +3,10 @@ use Rattle.std.specs.Prelude.{List, [], map, ℕ, ⊤, ◌∷◌, ◌≡◌}
 use Rattle.formal_sums.specs.FormalSums.{Each, FormalSum}
 use Rattle.minimal_laws.specs.Cancellation.{IsCancelled}
 use Rattle.minimal_laws.specs.Gradings.{GradedMap, GradedMaps}
-use Rattle.module_vectors.specs.Rings.{ring_comparison, variables}
-use Rattle.module_vectors.specs.Vectors.{AreVectorsOver, sums_of}
-use Rattle.module_vectors.specs.declared.key.Key.{Key as CodeKey}
-use Rattle.module_vectors.specs.declared.ring.Ring.{Ring}
+use Rattle.term_lists.specs.Rings.{ring_comparison, variables}
+use Rattle.term_lists.specs.Vectors.{AreVectorsOver, sums_of}
+use Rattle.term_lists.specs.declared.key.Key.{Key as CodeKey}
+use Rattle.term_lists.specs.declared.ring.Ring.{Ring}
 use Rattle.resolution_maps.specs.Resolved.{degrees_of}
 use Rattle.resolution_maps.specs.declared.maps.Map.{Map}
 use Rattle.column_passes.specs.ConstantColumns.{AreColumnImages}

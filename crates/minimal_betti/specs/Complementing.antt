@@ -3,10 +3,10 @@ use Rattle.std.specs.Prelude.{List, None, [], get_or, length, map, ℕ, ◌<◌,
 use Rattle.formal_sums.specs.FormalSums.{Each}
 use Rattle.minimal_laws.specs.Cancellation.{AreSameColumns, AreSameMaps}
 use Rattle.minimal_laws.specs.Gradings.{GradedMap, GradedMaps}
-use Rattle.module_vectors.specs.Rings.{ring_comparison, variables}
-use Rattle.module_vectors.specs.Vectors.{AreVectorsOver, sums_of}
-use Rattle.module_vectors.specs.declared.key.Key.{Key as CodeKey}
-use Rattle.module_vectors.specs.declared.ring.Ring.{Ring}
+use Rattle.term_lists.specs.Rings.{ring_comparison, variables}
+use Rattle.term_lists.specs.Vectors.{AreVectorsOver, sums_of}
+use Rattle.term_lists.specs.declared.key.Key.{Key as CodeKey}
+use Rattle.term_lists.specs.declared.ring.Ring.{Ring}
 use Rattle.column_passes.specs.Passing.{Pivot, left_by_all}
 use Rattle.column_passes.specs.Placing.{AreWithout, all_removed, place_after}
 use Rattle.minimal_betti.specs.Carried.{LeadsTo, graded_map}

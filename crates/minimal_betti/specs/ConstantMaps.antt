@@ -1,7 +1,7 @@
 -- Maps with the constants of their columns alone
 use Rattle.std.specs.Prelude.{List}
 use Rattle.betti_laws.specs.ConstantParts.{constant_part}
-use Rattle.module_vectors.specs.declared.ring.Ring.{Ring}
+use Rattle.term_lists.specs.declared.ring.Ring.{Ring}
 use Rattle.resolution_maps.specs.declared.maps.Map.{Map}
 use Rattle.minimal_betti.specs.Carried.{AreCarriedBy}
 use Rattle.minimal_betti.specs.declared.carried.Carried.{Carried}

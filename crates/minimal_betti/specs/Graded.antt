@@ -2,9 +2,9 @@
 use Rattle.std.specs.Prelude.{}
 use Rattle.formal_sums.specs.FormalSums.{Each}
 use Rattle.minimal_laws.specs.Gradings.{AreExact, AreGraded, GradedMaps, graded_by_leads}
-use Rattle.module_vectors.specs.Rings.{ring_comparison, variables}
-use Rattle.module_vectors.specs.Vectors.{AreTermsOver, AreVectorsOver}
-use Rattle.module_vectors.specs.declared.ring.Ring.{Ring}
+use Rattle.term_lists.specs.Rings.{ring_comparison, variables}
+use Rattle.term_lists.specs.Vectors.{AreTermsOver, AreVectorsOver}
+use Rattle.term_lists.specs.declared.ring.Ring.{Ring}
 use Rattle.resolution_maps.specs.Inducing.{maps_of}
 use Rattle.resolution_maps.specs.Resolved.{AreJoined, columns_of}
 use Rattle.resolution_maps.specs.declared.maps.Resolution.{Resolution}

@@ -1,6 +1,6 @@
 -- The entry of a vector in a row, as a polynomial
 use Rattle.std.specs.Prelude.{List, [], ℕ, ◌++◌, ◌∷◌, ◌≡◌, ◌⊎◌}
-use Rattle.module_vectors.specs.declared.key.Key.{Key as CodeKey}
+use Rattle.term_lists.specs.declared.key.Key.{Key as CodeKey}
 
 -- the term at position 0
 abbrev pub at_zero : CodeKey × ℕ → CodeKey × ℕ

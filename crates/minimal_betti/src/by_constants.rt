@@ -4,7 +4,7 @@ ghost use Rattle.betti_laws.specs.Tables.{step_count};
 ghost use Rattle.formal_sums.specs.FormalSums.{FormalSum};
 ghost use Rattle.minimal_laws.specs.Gradings.{GradedMaps};
 ghost use Rattle.minimal_laws.specs.Minimal.{IsMinimal, Presents};
-ghost use Rattle.module_vectors.specs.Rings.{variables};
+ghost use Rattle.term_lists.specs.Rings.{variables};
 ghost use Rattle.minimal_betti.specs.Carried.{graded_map};
 ghost use Rattle.minimal_betti.specs.Graded.{IsGradedResolution, graded_of};
 ghost use Rattle.minimal_betti.specs.Tables.{IsBettiTable};

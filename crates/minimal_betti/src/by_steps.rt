@@ -1,7 +1,7 @@
 // The constants of a map leave step by step.
 ghost use Rattle.std.specs.Prelude.{◌≡◌, IfErr, IfOk, OnOk, length};
-ghost use Rattle.module_vectors.specs.Rings.{variables};
-ghost use Rattle.module_vectors.specs.Vectors.{sums_of};
+ghost use Rattle.term_lists.specs.Rings.{variables};
+ghost use Rattle.term_lists.specs.Vectors.{sums_of};
 ghost use Rattle.column_passes.specs.Constants.{HasNoConstants};
 ghost use Rattle.minimal_betti.specs.Carried.{LeadsTo, graded_maps};
 ghost use Rattle.minimal_betti.specs.Minimising.{CancellationStops};

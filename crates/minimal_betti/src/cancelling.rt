@@ -3,8 +3,8 @@ ghost use Rattle.std.specs.Prelude.{◌≡◌, [], ℕ, List, IfErr, IfOk, OnOk,
 ghost use Rattle.formal_sums.specs.FormalSums.{Each, FormalSum};
 ghost use Rattle.minimal_laws.specs.Cancellation.{trimmed};
 ghost use Rattle.minimal_laws.specs.Minimal.{IsMinimal, Presents};
-ghost use Rattle.module_vectors.specs.Rings.{variables};
-ghost use Rattle.module_vectors.specs.Vectors.{AreTermsOver, sums_of};
+ghost use Rattle.term_lists.specs.Rings.{variables};
+ghost use Rattle.term_lists.specs.Vectors.{AreTermsOver, sums_of};
 ghost use Rattle.resolution_maps.specs.Resolved.{AreJoined, columns_of, degrees_of};
 ghost use Rattle.column_passes.specs.Constants.{HasNoConstants};
 ghost use Rattle.column_passes.specs.Passing.{IsPassed};

@@ -1,8 +1,8 @@
 // Maps when their constants have left, each column that stays computed at once.
 ghost use Rattle.std.specs.Prelude.{◌≡◌, ◌<◌, [], List, ℕ, IfOk, IfSome, IsTrue, OnOk, length, map, reverse};
 ghost use Rattle.formal_sums.specs.FormalSums.{Each};
-ghost use Rattle.module_vectors.specs.Rings.{ring_comparison, variables};
-ghost use Rattle.module_vectors.specs.Vectors.{AreVectorsOver, sums_of};
+ghost use Rattle.term_lists.specs.Rings.{ring_comparison, variables};
+ghost use Rattle.term_lists.specs.Vectors.{AreVectorsOver, sums_of};
 ghost use Rattle.column_passes.specs.Passing.{AreFirstSteps, IsChosen, Pivot};
 ghost use Rattle.column_passes.specs.Placing.{ArePlacesAfter, all_removed};
 ghost use Rattle.minimal_betti.specs.Carried.{graded_maps};

@@ -1,7 +1,7 @@
 // The constants of a resolution's maps alone.
 ghost use Rattle.std.specs.Prelude.{◌≡◌, IfOk, reverse};
 ghost use Rattle.formal_sums.specs.FormalSums.{Each};
-ghost use Rattle.module_vectors.specs.Vectors.{AreTermsOver};
+ghost use Rattle.term_lists.specs.Vectors.{AreTermsOver};
 ghost use Rattle.resolution_maps.specs.Resolved.{degrees_of};
 ghost use Rattle.column_passes.specs.ConstantColumns.{AreConstants};
 ghost use Rattle.minimal_betti.specs.ConstantMaps.{AreConstantMaps};

@@ -1,8 +1,8 @@
 // A constant, its row and its column leave the maps.
 ghost use Rattle.std.specs.Prelude.{◌≡◌, ◌<◌, ◌+◌, ◌∷◌, [], IfErr, IfOk, OnOk, get_or, length};
 ghost use Rattle.minimal_laws.specs.Cancellation.{cleared, without_row};
-ghost use Rattle.module_vectors.specs.Rings.{ring_comparison, variables};
-ghost use Rattle.module_vectors.specs.Vectors.{AreVectorsOver, IsVectorOver, StandsFor, sum_of, sums_of};
+ghost use Rattle.term_lists.specs.Rings.{ring_comparison, variables};
+ghost use Rattle.term_lists.specs.Vectors.{AreVectorsOver, IsVectorOver, StandsFor, sum_of, sums_of};
 ghost use Rattle.column_passes.specs.Constants.{IsFirst};
 ghost use Rattle.minimal_betti.specs.Carried.{AreOrdered, LeadsTo, graded_maps};
 ghost use Rattle.minimal_betti.specs.Minimising.{CancellationStops};

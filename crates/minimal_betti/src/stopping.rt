@@ -2,9 +2,9 @@
 ghost use Rattle.std.specs.Prelude.{◌<◌, ◌≡◌, ◌++◌, ◌∷◌, [], IfOk, OnOk, get_or, length};
 ghost use Rattle.minimal_laws.specs.Cancellation.{component};
 ghost use Rattle.monomial_orders.specs.Kept.{Monomial};
-ghost use Rattle.module_vectors.specs.Rings.{ring_comparison, variables};
-ghost use Rattle.module_vectors.specs.Stops.{HasMonomial, IsTooGreat};
-ghost use Rattle.module_vectors.specs.Vectors.{AreVectorsOver, IsVectorOver, sum_of};
+ghost use Rattle.term_lists.specs.Rings.{ring_comparison, variables};
+ghost use Rattle.term_lists.specs.Stops.{HasMonomial, IsTooGreat};
+ghost use Rattle.term_lists.specs.Vectors.{AreVectorsOver, IsVectorOver, sum_of};
 ghost use Rattle.column_passes.specs.Clearing.{ClearingStops, IsMonomialAt};
 ghost use Rattle.minimal_betti.specs.Stopping.{IsKeptInRow, at_zero};
 ghost use Rattle.minimal_betti.specs.Minimising.{IsClearingTrail};

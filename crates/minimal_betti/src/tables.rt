@@ -4,7 +4,7 @@ ghost use Rattle.formal_sums.specs.FormalSums.{Each, FormalSum};
 ghost use Rattle.betti_laws.specs.Tables.{occurrences, step_count};
 ghost use Rattle.minimal_laws.specs.Gradings.{GradedMaps};
 ghost use Rattle.minimal_laws.specs.Minimal.{IsMinimal, Presents};
-ghost use Rattle.module_vectors.specs.Rings.{variables};
+ghost use Rattle.term_lists.specs.Rings.{variables};
 ghost use Rattle.vector_division.specs.Progress.{AreWeighed};
 ghost use Rattle.resolution_maps.specs.Resolved.{AreJoined, columns_of};
 ghost use Rattle.minimal_betti.specs.Graded.{graded_of};

@@ -2,9 +2,9 @@
 use Rattle.std.proofs.Common.{List, [], ap, ap₂, get_or, length, sym, take, ℕ, ◌++◌, ◌+◌, ◌<◌, ◌∙◌, ◌∷◌, ◌≡◌}
 use Rattle.std.proofs.lemmas.List.{map-append}
 use Rattle.monomial_orders.specs.Kept.{Monomial}
-use Rattle.module_vectors.proofs.Scaling.{take_item}
-use Rattle.module_vectors.specs.FrontVariables.{with_front}
-use Rattle.module_vectors.specs.declared.key.Key.{Key as CodeKey}
+use Rattle.term_lists.proofs.Scaling.{take_item}
+use Rattle.term_lists.specs.FrontVariables.{with_front}
+use Rattle.term_lists.specs.declared.key.Key.{Key as CodeKey}
 
 -- one more term has the variable
 pub fronted_more :

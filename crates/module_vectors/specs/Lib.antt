@@ -1,11 +1,4 @@
 -- what public clauses cite
-pub mod Rings
-pub mod Vectors
 pub mod Products
-pub mod Stops
-pub mod Multiples
+pub mod ProductStops
 pub mod Trails
-pub mod FrontVariables
-pub mod Doubling
--- invariants of loops
-pub mod Merging

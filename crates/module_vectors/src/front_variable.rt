@@ -2,32 +2,15 @@
 ghost use Rattle.std.specs.Prelude.{◌≡◌, ◌<◌, ◌++◌, ◌∷◌, [], IfOk, IfErr, OnOk, length, slice_index};
 ghost use Rattle.monomials.specs.Exponents.{exponents_of};
 ghost use Rattle.formal_sums.specs.FormalSums.{Each, scale};
-ghost use Rattle.module_vectors.specs.FrontVariables.{HaveNoFront, front_ring, with_front, without_front};
-ghost use Rattle.module_vectors.specs.Rings.{ring_comparison, variables};
-ghost use Rattle.module_vectors.specs.Stops.{Fits, ScaledStops};
-ghost use Rattle.module_vectors.specs.Vectors.{AreTermsOver, IsMonomialOver, IsVectorOver, StandsFor, sum_of};
+ghost use Rattle.term_lists.specs.FrontVariables.{HaveNoFront, with_front, without_front};
+ghost use Rattle.term_lists.specs.Rings.{ring_comparison, variables};
+ghost use Rattle.term_lists.specs.Stops.{Fits, ScaledStops};
+ghost use Rattle.term_lists.specs.Vectors.{AreTermsOver, IsMonomialOver, IsVectorOver, StandsFor, sum_of};
 
-use crate::scaled::scaled_terms;
 use crate::{Frame, Key, NoMemory, Ring, Vect, VectStop};
-use monomial_orders::{ModOrder, Mono, Order};
+use monomial_orders::Mono;
 use std::alloc::Global;
-
-impl Ring {
-    /// The ring with a new variable in front, of weight 1, by an order that eliminates it, term over position (IVA chapter 4,
-    /// section 3). The other variables keep their names and weights. The new one is named t', which is no name that a script
-    /// can give: there a name has letters, digits and _ alone.
-    pub fn with_front_variable(&self, alloc: Global) -> Result<Ring, NoMemory>
-        ensures { IfOk result (λ ring. ring ≡ front_ring self.now) }
-    {
-        Ok(Ring {
-            modulus: self.modulus,
-            vars: self.vars.with_front(alloc, "t'")?,
-            order: Order::Elim(1),
-            module_order: ModOrder::Top,
-            weights: self.weights.with_front(alloc)?,
-        })
-    }
-}
+use term_lists::scaled_terms;
 
 // The terms in one more variable, which they have not.
 fn terms_with_front(alloc: Global, terms: &[(Key, u32)]) -> Result<Vec<(Key, u32)>, NoMemory>

@@ -4,23 +4,21 @@ ghost use Rattle.std.specs.Prelude.{IsTrue, IfOk, IfErr, OnOk, OnErr, MatchOptio
 ghost use Rattle.monomials.specs.Exponents.{exponents_of, unit};
 ghost use Rattle.formal_sums.specs.FormalSums.{Each, scale};
 ghost use Rattle.formal_sums.specs.Combinations.{combination};
-ghost use Rattle.module_vectors.specs.Rings.{variables};
-ghost use Rattle.module_vectors.specs.Vectors.{sum_of, sums_of, IsMonomialOver, IsVectorOver, AreVectorsOver, AreTermsOver};
-ghost use Rattle.module_vectors.specs.Vectors.{StandsFor, HasPositions, IsMonicOf, IsTerm};
+ghost use Rattle.term_lists.specs.Rings.{variables};
+ghost use Rattle.term_lists.specs.Vectors.{sum_of, sums_of, IsMonomialOver, IsVectorOver, AreVectorsOver, AreTermsOver};
+ghost use Rattle.term_lists.specs.Vectors.{StandsFor, HasPositions, IsMonicOf, IsTerm};
+ghost use Rattle.term_lists.specs.Multiples.{rescaled};
+ghost use Rattle.term_lists.specs.Stops.{Fits, ScaledStops};
 ghost use Rattle.module_vectors.specs.Products.{sum_of_products};
-ghost use Rattle.module_vectors.specs.Multiples.{rescaled};
-ghost use Rattle.module_vectors.specs.Stops.{Fits, ScaledStops, ProductsStop, ProductsFit, CombinationStops, CombinationFits};
+ghost use Rattle.module_vectors.specs.ProductStops.{ProductsStop, ProductsFit, CombinationStops, CombinationFits};
 
-use crate::gather::gather;
-use crate::merge::merge;
-use crate::scaled::scaled_terms;
 use crate::sums::{products_of, sum_terms};
-use crate::terms::{are_below, copy_terms, equal_terms, rescale_terms};
 use crate::{Frame, Key, NoMemory, Product, Room, VectList, VectStop};
 use monomial_orders::Mono;
 use std::alloc::Global;
 use std::marker::Model;
 use std::mem::replace;
+use term_lists::{are_below, copy_terms, equal_terms, gather, merge, rescale_terms, scaled_terms};
 
 /// A vector of a free module over a polynomial ring: its terms, strictly descending in a frame's order, with residues
 /// that are not 0. Contracts see the list of its terms.
@@ -37,7 +35,7 @@ impl Drop for Vect {
 
 impl Model for Vect {
     ghost use Rattle.std.specs.Prelude.{ℕ, List};
-    ghost use Rattle.module_vectors.specs.declared.key.Key.{Key};
+    ghost use Rattle.term_lists.specs.declared.key.Key.{Key};
 
     ghost Value = { List (Key × ℕ) };
 

@@ -8,10 +8,10 @@ use Rattle.formal_sums.specs.FormalSums.{Each, FormalSum, Key}
 use Rattle.bases.specs.Leads.{IsMonicLead, head_key, leads}
 use Rattle.bases.specs.Settings.{IsLawful, Setting}
 use Rattle.monomial_orders.specs.Kept.{IsWeighed, Monomial}
-use Rattle.module_vectors.specs.Rings.{ring_comparison, setting, variables}
-use Rattle.module_vectors.specs.Vectors.{AreVectorsOver, IsTerm, IsVectorOver, sum_of, sums_of}
-use Rattle.module_vectors.specs.declared.key.Key.{Key as CodeKey}
-use Rattle.module_vectors.specs.declared.ring.Ring.{Ring}
+use Rattle.term_lists.specs.Rings.{ring_comparison, setting, variables}
+use Rattle.term_lists.specs.Vectors.{AreVectorsOver, IsTerm, IsVectorOver, sum_of, sums_of}
+use Rattle.term_lists.specs.declared.key.Key.{Key as CodeKey}
+use Rattle.term_lists.specs.declared.ring.Ring.{Ring}
 use Rattle.groebner_iface.specs.Runs.{IsReducedBasisOf}
 use Rattle.change_laws.proofs.Pushing.{at_new, at_old}
 use Rattle.change_laws.specs.Standard.{lead_monomials}

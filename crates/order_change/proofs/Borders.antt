@@ -8,9 +8,9 @@ use Rattle.formal_sums.specs.FormalSums.{Each, FormalSum, scale}
 use Rattle.monomial_orders.specs.Comparisons.{comparison}
 use Rattle.monomial_orders.specs.Kept.{Monomial}
 use Rattle.monomial_orders.specs.Laws.{comparison_order}
-use Rattle.module_vectors.specs.Vectors.{sums_of}
-use Rattle.module_vectors.specs.declared.key.Key.{Key as CodeKey}
-use Rattle.module_vectors.specs.declared.ring.Ring.{Ring}
+use Rattle.term_lists.specs.Vectors.{sums_of}
+use Rattle.term_lists.specs.declared.key.Key.{Key as CodeKey}
+use Rattle.term_lists.specs.declared.ring.Ring.{Ring}
 use Rattle.orders.specs.MonomialOrders.{IsMonomialOrder}
 use Rattle.change_laws.proofs.Listing.{standard_divisor}
 use Rattle.change_laws.proofs.Modulo.{modulo_scale, modulo_trans}

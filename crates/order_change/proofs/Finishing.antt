@@ -14,12 +14,12 @@ use Rattle.monomial_orders.specs.Comparisons.{comparison}
 use Rattle.monomial_orders.specs.Kept.{Monomial}
 use Rattle.monomial_orders.specs.Laws.{comparison_order}
 use Rattle.monomial_orders.specs.declared.order.Order.{Order}
-use Rattle.module_vectors.proofs.NormalVectors.{residues_of}
-use Rattle.module_vectors.proofs.SumsOfProducts.{Each_member}
-use Rattle.module_vectors.specs.Rings.{ring_comparison, setting, variables}
-use Rattle.module_vectors.specs.Vectors.{HasPositions, IsVector, sum_of, sums_of}
-use Rattle.module_vectors.specs.declared.key.Key.{Key as CodeKey}
-use Rattle.module_vectors.specs.declared.ring.Ring.{Ring}
+use Rattle.term_lists.proofs.NormalVectors.{residues_of}
+use Rattle.term_lists.proofs.Parts.{Each_member}
+use Rattle.term_lists.specs.Rings.{ring_comparison, setting, variables}
+use Rattle.term_lists.specs.Vectors.{HasPositions, IsVector, sum_of, sums_of}
+use Rattle.term_lists.specs.declared.key.Key.{Key as CodeKey}
+use Rattle.term_lists.specs.declared.ring.Ring.{Ring}
 use Rattle.groebner_iface.specs.Runs.{IsReducedBasisOf}
 use Rattle.change_laws.proofs.Independent.{echelon_independent, uncovered_independent}
 use Rattle.change_laws.proofs.NewBases.{change_reduced}

@@ -22,11 +22,11 @@ use Rattle.monomial_orders.specs.Kept.{Monomial}
 use Rattle.monomial_orders.specs.declared.order.ModOrder.TheVariants.{Pot, Top}
 use Rattle.monomial_orders.specs.declared.order.ModOrder.{ModOrder}
 use Rattle.monomial_orders.specs.declared.order.Order.{Order}
-use Rattle.module_vectors.proofs.SumsOfProducts.{Each_member}
-use Rattle.module_vectors.specs.Rings.{ring_comparison, setting}
-use Rattle.module_vectors.specs.Vectors.{HasPositions, IsTerm, IsVector, key_of, sum_of, sums_of}
-use Rattle.module_vectors.specs.declared.key.Key.{Key as CodeKey}
-use Rattle.module_vectors.specs.declared.ring.Ring.{Ring}
+use Rattle.term_lists.proofs.Parts.{Each_member}
+use Rattle.term_lists.specs.Rings.{ring_comparison, setting}
+use Rattle.term_lists.specs.Vectors.{HasPositions, IsTerm, IsVector, key_of, sum_of, sums_of}
+use Rattle.term_lists.specs.declared.key.Key.{Key as CodeKey}
+use Rattle.term_lists.specs.declared.ring.Ring.{Ring}
 use Rattle.change_laws.proofs.Expansions.{expansion_linear, expansion_one, expansion_zero}
 use Rattle.change_laws.specs.Combinations.{expansion}
 use Rattle.change_laws.specs.Standard.{IsStandard}

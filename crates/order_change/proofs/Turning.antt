@@ -6,7 +6,7 @@ use Rattle.monomials.proofs.Monomials.{times-unit}
 use Rattle.monomials.specs.Exponents.{Exponents, times, unit}
 use Rattle.monomial_orders.specs.Comparisons.{comparison}
 use Rattle.monomial_orders.specs.Laws.{comparison_order}
-use Rattle.module_vectors.specs.declared.ring.Ring.{Ring}
+use Rattle.term_lists.specs.declared.ring.Ring.{Ring}
 use Rattle.change_laws.specs.Standard.{Has, power}
 use Rattle.order_change.proofs.Filling.{eq_or}
 use Rattle.order_change.proofs.Orders.{less_not_back, less_times, not_less_trans, variable_above}

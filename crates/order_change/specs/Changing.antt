@@ -8,10 +8,10 @@ use Rattle.formal_sums.specs.FormalSums.{Each, FormalSum, Key, coefficient}
 use Rattle.bases.specs.Leads.{IsMonicLead, leads}
 use Rattle.monomial_orders.specs.Comparisons.{comparison}
 use Rattle.monomial_orders.specs.Kept.{IsWeighed, Monomial}
-use Rattle.module_vectors.specs.Rings.{ring_comparison, setting}
-use Rattle.module_vectors.specs.Vectors.{HasPositions, IsVector, sums_of}
-use Rattle.module_vectors.specs.declared.key.Key.{Key as CodeKey}
-use Rattle.module_vectors.specs.declared.ring.Ring.{Ring}
+use Rattle.term_lists.specs.Rings.{ring_comparison, setting}
+use Rattle.term_lists.specs.Vectors.{HasPositions, IsVector, sums_of}
+use Rattle.term_lists.specs.declared.key.Key.{Key as CodeKey}
+use Rattle.term_lists.specs.declared.ring.Ring.{Ring}
 use Rattle.change_laws.specs.Combinations.{IsSameModulo, expansion}
 use Rattle.change_laws.specs.Standard.{Has, IsStandard, lead_monomials}
 use Rattle.order_change.specs.Forms.{AreResidues, IsRowForm, monomial_vector}

@@ -1,6 +1,6 @@
 -- A ring by another order
 use Rattle.monomial_orders.specs.declared.order.Order.{Order}
-use Rattle.module_vectors.specs.declared.ring.Ring.{Ring}
+use Rattle.term_lists.specs.declared.ring.Ring.{Ring}
 
 -- the ring by another order of its monomials
 abbrev pub with_order : Order → Ring → Ring

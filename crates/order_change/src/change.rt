@@ -3,8 +3,8 @@ ghost use Rattle.std.specs.Prelude.{◌≡◌, ◌<◌, ◌≤◌, ◌+◌, ◌+
 ghost use Rattle.monomials.specs.Exponents.{Exponents, exponents_of, unit};
 ghost use Rattle.formal_sums.specs.FormalSums.{Each, FormalSum, IsSame};
 ghost use Rattle.monomial_orders.specs.Kept.{IsWeighed};
-ghost use Rattle.module_vectors.specs.Rings.{ring_comparison};
-ghost use Rattle.module_vectors.specs.Vectors.{IsVector, sum_of, sums_of};
+ghost use Rattle.term_lists.specs.Rings.{ring_comparison};
+ghost use Rattle.term_lists.specs.Vectors.{IsVector, sum_of, sums_of};
 ghost use Rattle.change_laws.specs.Combinations.{IsSameModulo, expansion};
 ghost use Rattle.change_laws.specs.Standard.{Has};
 ghost use Rattle.order_change.specs.Changing.{AreVariableProducts, IsMonomialAdded, IsChanged, IsChanging, IsFormModulo, IsKnownSoFar, IsNextMonomial, IsRest};

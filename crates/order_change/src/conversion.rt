@@ -1,8 +1,8 @@
 // The change of order.
 ghost use Rattle.std.specs.Prelude.{◌≡◌, IfErr, IfOk, OnOk, length};
 ghost use Rattle.groebner_iface.specs.Runs.{IsReducedBasisOf};
-ghost use Rattle.module_vectors.specs.Rings.{variables};
-ghost use Rattle.module_vectors.specs.Vectors.{sums_of};
+ghost use Rattle.term_lists.specs.Rings.{variables};
+ghost use Rattle.term_lists.specs.Vectors.{sums_of};
 ghost use Rattle.change_laws.specs.Standard.{lead_monomials};
 ghost use Rattle.order_change.specs.Stops.{AreFew, OrderChangeStops};
 ghost use Rattle.order_change.specs.Reordered.{with_order};

@@ -4,7 +4,7 @@ ghost use Rattle.monomials.specs.Exponents.{Divides, exponents_of, unit};
 ghost use Rattle.formal_sums.specs.FormalSums.{IsSame};
 ghost use Rattle.monomial_orders.specs.Comparisons.{comparison};
 ghost use Rattle.monomial_orders.specs.Kept.{IsWeighed};
-ghost use Rattle.module_vectors.specs.Vectors.{sum_of};
+ghost use Rattle.term_lists.specs.Vectors.{sum_of};
 ghost use Rattle.change_laws.specs.Combinations.{expansion};
 ghost use Rattle.change_laws.specs.Standard.{Has, IsStandard};
 ghost use Rattle.order_change.specs.Forms.{AreResidues};

@@ -3,7 +3,7 @@ use Rattle.std.proofs.Common.{List, ap, refl, subst₂, sym, ℕ, ◌≡◌}
 use Rattle.monomials.specs.Exponents.{exponents_of, lcm}
 use Rattle.monomial_orders.specs.Kept.{Monomial}
 use Rattle.monomial_orders.specs.Monomials.{IsMonomial}
-use Rattle.module_vectors.specs.declared.key.Key.{Key as CodeKey}
+use Rattle.term_lists.specs.declared.key.Key.{Key as CodeKey}
 use Rattle.pair_criteria.specs.Pairs.{IsPairOfLeads, lead_at, variables_of}
 
 -- the least common multiple of two monomials of n variables

@@ -2,8 +2,8 @@
 use Rattle.std.specs.Prelude.{List, [], ℕ}
 use Rattle.formal_sums.specs.FormalSums.{Key}
 use Rattle.bases.specs.Meeting.{AreMetInTurn}
+use Rattle.term_lists.specs.declared.key.Key.{Key as CodeKey}
 use Rattle.module_vectors.specs.Trails.{IsInProduct, KeptProduct, product_lead}
-use Rattle.module_vectors.specs.declared.key.Key.{Key as CodeKey}
 use Rattle.pair_criteria.specs.Pairs.{IsLcmOf}
 use Rattle.pair_criteria.specs.declared.pair.Pair.{Pair}
 

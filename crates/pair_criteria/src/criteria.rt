@@ -1,7 +1,7 @@
 // The criteria that spare pairs.
 ghost use Rattle.std.specs.Prelude.{◌≡◌, ◌↔◌, IsTrue};
 ghost use Rattle.orders.specs.KeyOrders.{KeyDivides};
-ghost use Rattle.module_vectors.specs.Vectors.{key_of};
+ghost use Rattle.term_lists.specs.Vectors.{key_of};
 ghost use Rattle.pair_criteria.specs.Pairs.{variables_of};
 ghost use Rattle.pair_criteria.specs.Sparing.{ProductCriterionApplies, SparesByChain, SparesByProduct};
 

@@ -3,8 +3,8 @@ ghost use Rattle.std.specs.Prelude.{◌≡◌, ◌<◌, IfOk, length};
 ghost use Rattle.monomials.specs.Exponents.{Divides, exponents_of};
 ghost use Rattle.formal_sums.specs.FormalSums.{Each};
 ghost use Rattle.bases.specs.Leads.{head_key};
-ghost use Rattle.module_vectors.specs.Rings.{variables};
-ghost use Rattle.module_vectors.specs.Vectors.{IsMonomialOver, sum_of};
+ghost use Rattle.term_lists.specs.Rings.{variables};
+ghost use Rattle.term_lists.specs.Vectors.{IsMonomialOver, sum_of};
 ghost use Rattle.pair_criteria.specs.Pairs.{IsFactorOf};
 
 use module_vectors::{Key, NoMemory, Ring, Vect};

@@ -8,7 +8,7 @@ use Rattle.formal_sums.specs.FormalSums.{Each, FormalSum, Key}
 use Rattle.orders.specs.KeyOrders.{KeyDivides}
 use Rattle.monomials.specs.Exponents.{lcm, times}
 use Rattle.bases.specs.Leads.{leads}
-use Rattle.module_vectors.specs.declared.key.Key.{Key as CodeKey}
+use Rattle.term_lists.specs.declared.key.Key.{Key as CodeKey}
 use Rattle.basis_steps.proofs.Counting.{count_each, pair_ordered, pair_swapped}
 use Rattle.basis_steps.specs.Criteria.{ChainApplies, IsPair, lcm_of, waiting}
 use Rattle.basis_steps.specs.Pairs.{Pair, count, pair_of}

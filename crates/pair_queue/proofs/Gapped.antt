@@ -7,8 +7,8 @@ use Rattle.monomials.specs.Exponents.{Divides, Exponents, exponents_of, lcm}
 use Rattle.bases.specs.Leads.{leads}
 use Rattle.basis_steps.specs.Criteria.{lcm_of}
 use Rattle.basis_steps.specs.Pairs.{pair_of}
-use Rattle.module_vectors.specs.Vectors.{key_of}
-use Rattle.module_vectors.specs.declared.key.Key.{Key as CodeKey}
+use Rattle.term_lists.specs.Vectors.{key_of}
+use Rattle.term_lists.specs.declared.key.Key.{Key as CodeKey}
 use Rattle.pair_updates.proofs.Dividing.{both_divided}
 use Rattle.pair_queue.specs.Gaps.{IsBetween, IsGap}
 use Rattle.pair_updates.specs.Leads.{LeadsShown, sums_shown}

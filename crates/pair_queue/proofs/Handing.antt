@@ -2,7 +2,7 @@
 use Rattle.std.proofs.Common.{Bool, Global, List, Vec, ap, arith, cond, drop, inl, inr, length, subst, sym, take, ℕ, ◌++◌, ◌<◌, ◌∙◌, ◌≡◌, ◌≤◌, ◌⊎◌}
 use Rattle.std.proofs.lemmas.Bool.{cases_lt}
 use Rattle.formal_sums.specs.FormalSums.{Each}
-use Rattle.module_vectors.proofs.SumsOfProducts.{Each_drop}
+use Rattle.term_lists.proofs.Parts.{Each_drop}
 use Rattle.pair_criteria.specs.declared.pair.Pair.{Pair as CodePair}
 use Rattle.queue_updates.specs.declared.Update.TheVariants.{Plain}
 use Rattle.basis_steps.proofs.Counting.{count-append, count-split, count_each, count_out_with, count_workers, pairs_out-append}

@@ -11,8 +11,8 @@ use Rattle.monomials.specs.Exponents.{Divides, Exponents, exponents_of, lcm, quo
 use Rattle.monomials.specs.Weights.{weighted_degree}
 use Rattle.orders.proofs.Lexicographic.{nat_cmp-less, then_less}
 use Rattle.bases.specs.Leads.{leads}
-use Rattle.module_vectors.proofs.Scaling.{Each_at}
-use Rattle.module_vectors.proofs.SumsOfProducts.{Each_take}
+use Rattle.term_lists.proofs.Scaling.{Each_at}
+use Rattle.term_lists.proofs.Parts.{Each_take}
 use Rattle.monomial_orders.proofs.Over.{weighed_exact}
 use Rattle.monomial_orders.specs.Laws.{key_comparison_order}
 use Rattle.pair_criteria.specs.declared.pair.Pair.{Pair as CodePair}

@@ -6,8 +6,8 @@ use Rattle.formal_sums.specs.FormalSums.{Key}
 use Rattle.monomials.specs.Exponents.{Divides, exponents_of, lcm, times}
 use Rattle.orders.specs.KeyOrders.{KeyDivides}
 use Rattle.bases.specs.Representations.{key_lcm}
-use Rattle.module_vectors.specs.Vectors.{key_of}
-use Rattle.module_vectors.specs.declared.key.Key.{Key as CodeKey}
+use Rattle.term_lists.specs.Vectors.{key_of}
+use Rattle.term_lists.specs.declared.key.Key.{Key as CodeKey}
 use Rattle.pair_criteria.specs.Sparing as leads_spared
 
 pub not_true : (b : Bool) → b ≡ false → IsTrue b → ⊥

@@ -7,7 +7,7 @@ use Rattle.monomials.specs.Exponents.{degree}
 use Rattle.formal_sums.proofs.WeightedSums.{Each_append}
 use Rattle.formal_sums.specs.FormalSums.{Each, FormalSum}
 use Rattle.orders.proofs.KeyOrdering.{KeyDivides_trans}
-use Rattle.module_vectors.proofs.SumsOfProducts.{Each_member}
+use Rattle.term_lists.proofs.Parts.{Each_member}
 use Rattle.basis_steps.proofs.Dropping.{proper_degree}
 use Rattle.basis_steps.specs.Criteria.{IsPair, lcm_of}
 use Rattle.basis_steps.specs.Drops.{DividesProperly, YieldsTo}

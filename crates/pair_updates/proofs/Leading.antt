@@ -1,8 +1,8 @@
 -- The leads of a list of keys
 use Rattle.std.proofs.Common.{List, [], ap, arith, get_or, length, refl, suc, zero, ℕ, ◌++◌, ◌<◌, ◌∷◌, ◌≡◌}
 use Rattle.bases.specs.Leads.{leads}
-use Rattle.module_vectors.specs.Vectors.{key_of}
-use Rattle.module_vectors.specs.declared.key.Key.{Key as CodeKey}
+use Rattle.term_lists.specs.Vectors.{key_of}
+use Rattle.term_lists.specs.declared.key.Key.{Key as CodeKey}
 use Rattle.pair_criteria.specs.declared.pair.Pair.{Pair as CodePair}
 use Rattle.formal_sums.specs.FormalSums.{Each}
 use Rattle.basis_steps.specs.Criteria.{IsPair}

@@ -8,8 +8,8 @@ use Rattle.formal_sums.specs.FormalSums.{Each, FormalSum}
 use Rattle.bases.specs.Leads.{leads}
 use Rattle.bases.specs.Representations.{key_lcm}
 use Rattle.monomial_orders.specs.Kept.{IsWeighed}
-use Rattle.module_vectors.specs.Vectors.{key_of}
-use Rattle.module_vectors.specs.declared.key.Key.{Key as CodeKey}
+use Rattle.term_lists.specs.Vectors.{key_of}
+use Rattle.term_lists.specs.declared.key.Key.{Key as CodeKey}
 use Rattle.basis_steps.proofs.Counting.{count-append}
 use Rattle.basis_steps.proofs.Growing.{each_at}
 use Rattle.basis_steps.specs.Criteria.{lcm_of}

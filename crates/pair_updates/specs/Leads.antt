@@ -2,8 +2,8 @@
 use Rattle.std.specs.Prelude.{List, [], map, ℕ, ◌∷◌}
 use Rattle.formal_sums.specs.FormalSums.{FormalSum}
 use Rattle.bases.specs.Settings.{Setting}
-use Rattle.module_vectors.specs.Vectors.{key_of}
-use Rattle.module_vectors.specs.declared.key.Key.{Key as CodeKey}
+use Rattle.term_lists.specs.Vectors.{key_of}
+use Rattle.term_lists.specs.declared.key.Key.{Key as CodeKey}
 use Rattle.monomial_orders.specs.Comparisons.{key_comparison}
 use Rattle.monomial_orders.specs.declared.order.ModOrder.{ModOrder}
 use Rattle.monomial_orders.specs.declared.order.Order.{Order}

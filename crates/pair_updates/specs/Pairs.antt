@@ -1,7 +1,7 @@
 -- Queued pairs
 use Rattle.std.specs.Prelude.{List, map, ℕ, ◌<◌, ◌≡◌}
 use Rattle.monomial_orders.specs.Kept.{IsWeighed}
-use Rattle.module_vectors.specs.Vectors.{key_of}
+use Rattle.term_lists.specs.Vectors.{key_of}
 use Rattle.pair_criteria.specs.declared.pair.Pair.{Pair as CodePair}
 use Rattle.basis_steps.specs.Criteria.{IsPair, lcm_of}
 use Rattle.basis_steps.specs.Pairs.{Pair}

@@ -3,7 +3,7 @@ ghost use Rattle.std.specs.Prelude.{◌≡◌, ◌<◌, ◌≤◌, ◌+◌, ◌+
 ghost use Rattle.std.specs.Vec.{vec_capacity};
 ghost use Rattle.formal_sums.specs.FormalSums.{Each};
 ghost use Rattle.bases.specs.Leads.{leads};
-ghost use Rattle.module_vectors.specs.Vectors.{key_of};
+ghost use Rattle.term_lists.specs.Vectors.{key_of};
 ghost use Rattle.monomial_orders.specs.Comparisons.{key_comparison};
 ghost use Rattle.monomial_orders.specs.Kept.{IsWeighed};
 ghost use Rattle.monomials.specs.Exponents.{exponents_of};

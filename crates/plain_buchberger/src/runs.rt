@@ -1,8 +1,8 @@
 // A run of the engine.
 ghost use Rattle.std.specs.Prelude.{ℕ, IfOk, IfErr};
 ghost use Rattle.formal_sums.specs.FormalSums.{Each};
-ghost use Rattle.module_vectors.specs.Rings.{ring_comparison, variables};
-ghost use Rattle.module_vectors.specs.Vectors.{AreVectorsOver, HasPositions};
+ghost use Rattle.term_lists.specs.Rings.{ring_comparison, variables};
+ghost use Rattle.term_lists.specs.Vectors.{AreVectorsOver, HasPositions};
 ghost use Rattle.queue_updates.specs.declared.Update.{Update};
 ghost use Rattle.basis_core.specs.Answers.{BeginningStops, IsRunOf};
 ghost use Rattle.groebner_iface.specs.Runs.{IsReducedBasisOf};

@@ -3,7 +3,7 @@ use Rattle.std.proofs.Common.{◌≡◌, ◌≢◌, ◌++◌, ◌+◌, ◌-◌, 
 use Rattle.std.specs.List.{range_with_len}
 use Rattle.std.proofs.lemmas.List.{append-nil, drop_more, drop_all}
 use Rattle.std.proofs.lemmas.Bool.Decides.{nat_tests}
-use Rattle.module_vectors.specs.declared.key.Key.{Key}
+use Rattle.term_lists.specs.declared.key.Key.{Key}
 use Rattle.poly_text.specs.Texts.{terms_at, entry_texts, joined, poly_text, term_text}
 use Rattle.poly_text.specs.Writing.{AscendsFrom, IsStretch, between, entries_rest, later_entries, tails, terms_rest, zero_entries}
 use Rattle.poly_text.proofs.Writing.{joined_cons}

@@ -15,8 +15,8 @@ use Rattle.orders.proofs.KeyOrdering.{less_of_greater}
 use Rattle.monomials.specs.Exponents.{exponents_of}
 use Rattle.monomial_orders.proofs.Over.{weighed_exact}
 use Rattle.monomial_orders.specs.Kept.{IsWeighed, Monomial}
-use Rattle.module_vectors.specs.Vectors.{HasPositions, key_of, sum_of}
-use Rattle.module_vectors.specs.declared.key.Key.{Key}
+use Rattle.term_lists.specs.Vectors.{HasPositions, key_of, sum_of}
+use Rattle.term_lists.specs.declared.key.Key.{Key}
 use Rattle.poly_text.specs.Names.{AreDistinctNames}
 use Rattle.poly_text.specs.Printable.{IsPrintable, IsPrintableNumber, IsPrintableVector}
 use Rattle.poly_text.specs.Texts.{terms_at, entries_text, entry_texts, factor_texts, joined, list_text, poly_text, powers_texts, term_text, vector_text}

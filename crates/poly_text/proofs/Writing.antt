@@ -4,7 +4,7 @@ use Rattle.std.specs.Fmt.{decimal}
 use Rattle.std.proofs.lemmas.List.{append-nil, drop_more}
 use Rattle.std.proofs.lemmas.Fmt.{decimal_digit}
 use Rattle.std.proofs.lemmas.Bool.Decides.{nat_tests}
-use Rattle.module_vectors.specs.declared.key.Key.{Key}
+use Rattle.term_lists.specs.declared.key.Key.{Key}
 use Rattle.poly_text.specs.Texts.{factor_texts, joined, poly_text, power_texts, powers_texts, term_text}
 use Rattle.poly_text.specs.Writing.{IsFront, factor_start, power_text, powers_rest, tails}
 

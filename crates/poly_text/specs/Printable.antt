@@ -4,8 +4,8 @@ use Rattle.std.specs.declared.cmp.Ordering.{Ordering}
 use Rattle.formal_sums.specs.FormalSums.{Each, Key as KeyOf}
 use Rattle.orders.specs.KeyOrders.{Descends}
 use Rattle.monomial_orders.specs.Kept.{IsWeighed}
-use Rattle.module_vectors.specs.Vectors.{HasPositions, sum_of}
-use Rattle.module_vectors.specs.declared.key.Key.{Key}
+use Rattle.term_lists.specs.Vectors.{HasPositions, sum_of}
+use Rattle.term_lists.specs.declared.key.Key.{Key}
 
 -- the term has a monomial in n variables of these weights, its residue is not 0, and its numbers have at most 64 bits
 pub record IsPrintable (n : ℕ) (ws : List ℕ) (t : Key × ℕ) : Type 0 where

@@ -2,8 +2,8 @@
 use Rattle.std.specs.Prelude.{filter, flat_map, List, [], codes, map, zero, suc, ℕ, ◌++◌, ◌∷◌, ◌==◌, if◌then◌else◌}
 use Rattle.std.specs.List.{range_with_len}
 use Rattle.std.specs.Fmt.{decimal}
-use Rattle.module_vectors.specs.declared.key.Key.{Key}
-use Rattle.module_vectors.specs.declared.ring.Ring.{Ring}
+use Rattle.term_lists.specs.declared.key.Key.{Key}
+use Rattle.term_lists.specs.declared.ring.Ring.{Ring}
 
 -- the texts, with the byte between each two
 abbrev pub joined : ℕ → List (List ℕ) → List ℕ

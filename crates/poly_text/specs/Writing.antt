@@ -2,7 +2,7 @@
 use Rattle.std.specs.Prelude.{Bool, List, [], codes, false, map, replicate, suc, true, zero, ⊤, ℕ, ◌≢◌, ◌≤◌, ◌+◌, ◌-◌, ◌++◌, ◌∷◌, ◌==◌, ◌≡◌, if◌then◌else◌}
 use Rattle.std.specs.List.{range_with_len}
 use Rattle.std.specs.Fmt.{decimal}
-use Rattle.module_vectors.specs.declared.key.Key.{Key}
+use Rattle.term_lists.specs.declared.key.Key.{Key}
 use Rattle.poly_text.specs.Texts.{poly_text, term_text, terms_at}
 
 -- new is old with more behind it

@@ -4,8 +4,8 @@
 ghost use Rattle.std.specs.Prelude.{◌≡◌, ◌++◌, OnOk, OnErr, List, ℕ};
 ghost use Rattle.std.specs.Fmt.{signed_decimal};
 ghost use Rattle.formal_sums.specs.FormalSums.{Each};
-ghost use Rattle.module_vectors.specs.Rings.{variables};
-ghost use Rattle.module_vectors.specs.Vectors.{HasVariables};
+ghost use Rattle.term_lists.specs.Rings.{variables};
+ghost use Rattle.term_lists.specs.Vectors.{HasVariables};
 ghost use Rattle.poly_text.specs.Texts.{entries_text, list_text, names_of, poly_text, vector_text};
 
 use itoa::Buffer;

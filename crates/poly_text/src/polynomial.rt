@@ -2,7 +2,7 @@
 ghost use Rattle.std.specs.Prelude.{◌≡◌, ◌++◌, ◌<◌, OnOk, OnErr, length, map, string_bytes};
 ghost use Rattle.std.specs.Fmt.{decimal};
 ghost use Rattle.formal_sums.specs.FormalSums.{Each};
-ghost use Rattle.module_vectors.specs.Vectors.{HasVariables};
+ghost use Rattle.term_lists.specs.Vectors.{HasVariables};
 ghost use Rattle.poly_text.specs.Texts.{poly_text, powers_texts, term_text};
 ghost use Rattle.poly_text.specs.Writing.{IsFront, factor_start, power_text, powers_rest};
 

@@ -5,7 +5,7 @@ ghost use Rattle.std.specs.Fmt.{signed_decimal};
 ghost use Rattle.std.specs.declared.cmp.Ordering.{Ordering};
 ghost use Rattle.formal_sums.specs.FormalSums.{Each, Key as KeyOf};
 ghost use Rattle.orders.specs.KeyOrders.{IsKeyOrder};
-ghost use Rattle.module_vectors.specs.declared.key.Key.{Key};
+ghost use Rattle.term_lists.specs.declared.key.Key.{Key};
 ghost use Rattle.poly_text.specs.Names.{AreDistinctNames};
 ghost use Rattle.poly_text.specs.Printable.{IsPrintableNumber, IsPrintablePolynomial, IsPrintableVector};
 ghost use Rattle.poly_text.specs.Texts.{list_text, poly_text, vector_text};

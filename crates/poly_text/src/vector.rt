@@ -1,7 +1,7 @@
 // The text of a vector, written from left to right. After an error what was written so far stands there.
 ghost use Rattle.std.specs.Prelude.{◌≡◌, ◌≢◌, ◌++◌, ◌+◌, ◌-◌, ◌<◌, ◌≤◌, [], IsTrue, OnOk, OnErr, length, map, string_bytes, ℕ};
 ghost use Rattle.formal_sums.specs.FormalSums.{Each};
-ghost use Rattle.module_vectors.specs.Vectors.{HasVariables};
+ghost use Rattle.term_lists.specs.Vectors.{HasVariables};
 ghost use Rattle.poly_text.specs.Texts.{terms_at, entries_text, entry_texts, joined, poly_text, term_text};
 ghost use Rattle.poly_text.specs.Writing.{AscendsFrom, IsFront, IsStretch, entries_rest, later_entries, term_start};
 

@@ -16,8 +16,8 @@ use Rattle.poly_grammar.specs.Degrees.{bounded}
 use Rattle.poly_grammar.specs.Numerals.{text_of, value_of}
 use Rattle.poly_grammar.specs.declared.step.PolyStep.{PolyStep}
 use Rattle.poly_grammar.specs.declared.step.PolyStep.TheVariants.{Add, Multiply, Name, Negate, Number, Power, Subtract}
-use Rattle.module_vectors.specs.Rings.{variables}
-use Rattle.module_vectors.specs.declared.ring.Ring.{Ring}
+use Rattle.term_lists.specs.Rings.{variables}
+use Rattle.term_lists.specs.declared.ring.Ring.{Ring}
 use Rattle.sparse_poly.proofs.Bounding.{HasDegreeWithin_constant, HasDegreeWithin_power, HasDegreeWithin_product}
 use Rattle.sparse_poly.specs.Degrees.{HasDegreeWithin}
 use Rattle.sparse_poly.specs.Powers.{constant, power}

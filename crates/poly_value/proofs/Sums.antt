@@ -8,13 +8,13 @@ use Rattle.formal_sums.specs.FormalSums.{Each, FormalSum, IsSame, Key as KeyOf, 
 use Rattle.orders.specs.KeyOrders.{IsKeyOrder}
 use Rattle.monomial_orders.specs.Kept.{IsWeighed}
 use Rattle.monomial_orders.specs.Monomials.{IsMonomial, variable}
-use Rattle.module_vectors.proofs.Merges.{sum_of-append}
-use Rattle.module_vectors.proofs.Rescaling.{rescaled_sum}
-use Rattle.module_vectors.specs.Multiples.{rescaled}
-use Rattle.module_vectors.specs.Rings.{variables}
-use Rattle.module_vectors.specs.Vectors.{AreTermsOver, HasPositions, IsMonomialOver, IsTerm, IsVector, IsVectorOver, StandsFor, sum_of}
-use Rattle.module_vectors.specs.declared.key.Key.{Key}
-use Rattle.module_vectors.specs.declared.ring.Ring.{Ring}
+use Rattle.term_lists.proofs.Merges.{sum_of-append}
+use Rattle.term_lists.proofs.Rescaling.{rescaled_sum}
+use Rattle.term_lists.specs.Multiples.{rescaled}
+use Rattle.term_lists.specs.Rings.{variables}
+use Rattle.term_lists.specs.Vectors.{AreTermsOver, HasPositions, IsMonomialOver, IsTerm, IsVector, IsVectorOver, StandsFor, sum_of}
+use Rattle.term_lists.specs.declared.key.Key.{Key}
+use Rattle.term_lists.specs.declared.ring.Ring.{Ring}
 use Rattle.sparse_poly.proofs.Powering.{IsSame_power, IsSame_product_both}
 use Rattle.sparse_poly.proofs.Bounding.{HasDegreeWithin_same}
 use Rattle.sparse_poly.proofs.Terms.{HasPositions_of, IsPolynomial_of, IsWithinDegree_of}

@@ -10,10 +10,10 @@ use Rattle.poly_grammar.specs.Trees.{Poly}
 use Rattle.monomials.specs.Exponents.{unit}
 use Rattle.formal_sums.specs.FormalSums.{FormalSum, product, scale}
 use Rattle.monomial_orders.specs.Monomials.{variable}
-use Rattle.module_vectors.specs.Rings.{variables}
-use Rattle.module_vectors.specs.Vectors.{StandsFor}
-use Rattle.module_vectors.specs.declared.key.Key.{Key}
-use Rattle.module_vectors.specs.declared.ring.Ring.{Ring}
+use Rattle.term_lists.specs.Rings.{variables}
+use Rattle.term_lists.specs.Vectors.{StandsFor}
+use Rattle.term_lists.specs.declared.key.Key.{Key}
+use Rattle.term_lists.specs.declared.ring.Ring.{Ring}
 use Rattle.sparse_poly.specs.Powers.{constant, power}
 
 -- the place, from 0, at which a name stands first among names

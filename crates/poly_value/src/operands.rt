@@ -3,7 +3,7 @@
 
 ghost use Rattle.std.specs.Prelude.{◌≡◌, ◌++◌, IfOk};
 ghost use Rattle.formal_sums.specs.FormalSums.{FormalSum};
-ghost use Rattle.module_vectors.specs.Rings.{variables};
+ghost use Rattle.term_lists.specs.Rings.{variables};
 ghost use Rattle.poly_value.specs.Parts.{IsOperandPart, IsSum};
 
 use crate::parts::normal;

@@ -5,10 +5,10 @@
 ghost use Rattle.std.specs.Prelude.{◌≡◌, ◌-◌, ◌<◌, IfOk};
 ghost use Rattle.monomials.specs.Exponents.{unit};
 ghost use Rattle.formal_sums.specs.FormalSums.{Each, FormalSum, product, scale};
-ghost use Rattle.module_vectors.specs.Multiples.{rescaled};
-ghost use Rattle.module_vectors.specs.Rings.{variables};
-ghost use Rattle.module_vectors.specs.Vectors.{HasPositions, IsVectorOver, StandsFor, sum_of};
-ghost use Rattle.module_vectors.specs.declared.stop.VectStop.TheVariants.{Memory};
+ghost use Rattle.term_lists.specs.Multiples.{rescaled};
+ghost use Rattle.term_lists.specs.Rings.{variables};
+ghost use Rattle.term_lists.specs.Vectors.{HasPositions, IsVectorOver, StandsFor, sum_of};
+ghost use Rattle.term_lists.specs.declared.stop.VectStop.TheVariants.{Memory};
 ghost use Rattle.sparse_poly.specs.Powers.{constant, power};
 ghost use Rattle.poly_value.specs.Parts.{IsOperandPart, IsSum, PowerFits, ProductFitsBounds};
 ghost use Rattle.poly_value.specs.Values.{variable_sum};

@@ -6,8 +6,8 @@ ghost use Rattle.formal_sums.specs.FormalSums.{FormalSum};
 ghost use Rattle.poly_grammar.specs.Algebras.{worth_of_steps};
 ghost use Rattle.poly_grammar.specs.Numerals.{value_of};
 ghost use Rattle.poly_grammar.specs.Steps.{numbers_of_steps};
-ghost use Rattle.module_vectors.specs.Rings.{variables};
-ghost use Rattle.module_vectors.specs.Vectors.{HasPositions, IsVectorOver, StandsFor};
+ghost use Rattle.term_lists.specs.Rings.{variables};
+ghost use Rattle.term_lists.specs.Vectors.{HasPositions, IsVectorOver, StandsFor};
 ghost use Rattle.poly_value.specs.Values.{degrees_of, polynomials_of};
 
 use crate::parts::normal;

@@ -4,10 +4,10 @@ use Rattle.std.specs.declared.cmp.Ordering.{Ordering}
 use Rattle.formal_sums.specs.FormalSums.{FormalSum, Key}
 use Rattle.orders.specs.KeyOrders.{induced}
 use Rattle.bases.specs.Leads.{leads}
-use Rattle.module_vectors.specs.Rings.{ring_comparison}
-use Rattle.module_vectors.specs.Vectors.{sums_of}
-use Rattle.module_vectors.specs.declared.key.Key.{Key as CodeKey}
-use Rattle.module_vectors.specs.declared.ring.Ring.{Ring}
+use Rattle.term_lists.specs.Rings.{ring_comparison}
+use Rattle.term_lists.specs.Vectors.{sums_of}
+use Rattle.term_lists.specs.declared.key.Key.{Key as CodeKey}
+use Rattle.term_lists.specs.declared.ring.Ring.{Ring}
 
 -- the columns of maps, the first map first
 abbrev pub Columns : Type 0

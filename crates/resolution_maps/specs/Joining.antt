@@ -1,6 +1,6 @@
 -- Maps of a resolution that are joined one after another
 use Rattle.std.specs.Prelude.{List, [], ℕ, ◌∷◌, ◌≡◌}
-use Rattle.module_vectors.specs.declared.ring.Ring.{Ring}
+use Rattle.term_lists.specs.declared.ring.Ring.{Ring}
 use Rattle.resolution_maps.specs.Resolved.{HasRows, degrees_of}
 use Rattle.resolution_maps.specs.declared.maps.Map.{Map}
 

@@ -4,11 +4,11 @@ use Rattle.formal_sums.specs.FormalSums.{Each, FormalSum}
 use Rattle.bases.specs.Settings.{Setting}
 use Rattle.resolution_laws.specs.Resolutions.{IsCanonicalStart}
 use Rattle.minimal_laws.specs.Gradings.{lead_degrees}
-use Rattle.module_vectors.specs.Rings.{ring_comparison, setting, variables}
+use Rattle.term_lists.specs.Rings.{ring_comparison, setting, variables}
+use Rattle.term_lists.specs.Vectors.{AreVectorsOver, HasPositions, sums_of}
+use Rattle.term_lists.specs.declared.key.Key.{Key as CodeKey}
+use Rattle.term_lists.specs.declared.ring.Ring.{Ring}
 use Rattle.module_vectors.specs.Trails.{IsTrail}
-use Rattle.module_vectors.specs.Vectors.{AreVectorsOver, HasPositions, sums_of}
-use Rattle.module_vectors.specs.declared.key.Key.{Key as CodeKey}
-use Rattle.module_vectors.specs.declared.ring.Ring.{Ring}
 use Rattle.module_vectors.specs.declared.trail.KeptTrail.{KeptTrail}
 use Rattle.module_vectors.specs.declared.trail.TrailStart.TheVariants.{Pair}
 use Rattle.module_vectors.specs.declared.trail.WorkStop.{WorkStop}

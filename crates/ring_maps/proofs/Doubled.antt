@@ -11,9 +11,9 @@ use Rattle.monomial_orders.specs.Comparisons.{key_comparison}
 use Rattle.monomial_orders.specs.Monomials.{IsMonomial, variable as monomial_variable}
 use Rattle.monomial_orders.specs.declared.order.Order.TheVariants.{Elim}
 use Rattle.monomial_orders.specs.declared.order.ModOrder.TheVariants.{Top}
-use Rattle.module_vectors.specs.Doubling.{IsDoubled, second_name}
-use Rattle.module_vectors.specs.Rings.{ring_comparison, setting, variables}
-use Rattle.module_vectors.specs.declared.ring.Ring.{Ring}
+use Rattle.term_lists.specs.Doubling.{IsDoubled, second_name}
+use Rattle.term_lists.specs.Rings.{ring_comparison, setting, variables}
+use Rattle.term_lists.specs.declared.ring.Ring.{Ring}
 
 -- ---- the ring
 pub doubled_count : (ring graph : Ring) → IsDoubled ring graph → variables graph ≡ variables ring + variables ring

@@ -10,11 +10,11 @@ use Rattle.formal_sums.proofs.WeightedSums.{Each_append}
 use Rattle.formal_sums.specs.FormalSums.{Each, FormalSum, IsSame, Key, Term, indicator, scale}
 use Rattle.map_laws.specs.Graphs.{fitted, in_first}
 use Rattle.monomial_orders.specs.Kept.{Monomial}
-use Rattle.module_vectors.proofs.Merges.{sum_of-append}
-use Rattle.module_vectors.proofs.Scaling.{take_item}
-use Rattle.module_vectors.specs.Vectors.{AreTermsOver, IsMonomialOver, sum_of}
-use Rattle.module_vectors.specs.declared.key.Key.{Key as CodeKey}
-use Rattle.module_vectors.specs.declared.ring.Ring.{Ring}
+use Rattle.term_lists.proofs.Merges.{sum_of-append}
+use Rattle.term_lists.proofs.Scaling.{take_item}
+use Rattle.term_lists.specs.Vectors.{AreTermsOver, IsMonomialOver, sum_of}
+use Rattle.term_lists.specs.declared.key.Key.{Key as CodeKey}
+use Rattle.term_lists.specs.declared.ring.Ring.{Ring}
 use Rattle.syzygy_engine.proofs.Standing.{Terms}
 
 -- one more term of the ring

@@ -9,10 +9,10 @@ use Rattle.operation_laws.proofs.Linear.{Each_at}
 use Rattle.operation_laws.specs.Operations.{listed}
 use Rattle.map_laws.proofs.Evaluating.{graph_list_rank}
 use Rattle.map_laws.specs.Graphs.{behind, graph_list, graph_member, in_first, variable}
-use Rattle.module_vectors.proofs.Scaling.{take_item}
-use Rattle.module_vectors.specs.Rings.{ring_comparison, setting, variables}
-use Rattle.module_vectors.specs.Vectors.{HasPositions, IsVectorOver, StandsFor, sum_of, sums_of}
-use Rattle.module_vectors.specs.declared.ring.Ring.{Ring}
+use Rattle.term_lists.proofs.Scaling.{take_item}
+use Rattle.term_lists.specs.Rings.{ring_comparison, setting, variables}
+use Rattle.term_lists.specs.Vectors.{HasPositions, IsVectorOver, StandsFor, sum_of, sums_of}
+use Rattle.term_lists.specs.declared.ring.Ring.{Ring}
 use Rattle.module_vectors.specs.declared.trail.KeptTrail.{KeptTrail}
 use Rattle.module_vectors.specs.declared.trail.WorkStop.{WorkStop}
 use Rattle.module_vectors.specs.declared.trail.WorkStop.TheVariants as works

@@ -6,9 +6,9 @@ use Rattle.division_laws.specs.Elimination.{has_none_of_first}
 use Rattle.syzygy_laws.specs.Kernels.{all_kept}
 use Rattle.operation_laws.specs.Operations.{eliminated}
 use Rattle.map_laws.specs.Graphs.{from_second, of_second}
-use Rattle.module_vectors.proofs.Merges.{sum_of-append}
-use Rattle.module_vectors.specs.Vectors.{sum_of}
-use Rattle.module_vectors.specs.declared.key.Key.{Key as CodeKey}
+use Rattle.term_lists.proofs.Merges.{sum_of-append}
+use Rattle.term_lists.specs.Vectors.{sum_of}
+use Rattle.term_lists.specs.declared.key.Key.{Key as CodeKey}
 use Rattle.syzygy_engine.proofs.Standing.{Terms}
 use Rattle.ideal_ops.proofs.Free.{free_kept, free_left}
 

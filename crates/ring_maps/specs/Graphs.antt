@@ -1,11 +1,11 @@
 -- The runs of a preimage and of an expression, and where its degree is met (IVA chapter 3, section 3)
 use Rattle.std.specs.Prelude.{List, [], ℕ, ◌≡◌}
 use Rattle.map_laws.specs.Graphs.{graph_list, in_first, of_second}
-use Rattle.module_vectors.specs.Doubling.{IsDoubled}
-use Rattle.module_vectors.specs.Rings.{ring_comparison, variables}
-use Rattle.module_vectors.specs.Vectors.{IsVectorOver, StandsFor, sum_of, sums_of}
-use Rattle.module_vectors.specs.declared.key.Key.{Key as CodeKey}
-use Rattle.module_vectors.specs.declared.ring.Ring.{Ring}
+use Rattle.term_lists.specs.Doubling.{IsDoubled}
+use Rattle.term_lists.specs.Rings.{ring_comparison, variables}
+use Rattle.term_lists.specs.Vectors.{IsVectorOver, StandsFor, sum_of, sums_of}
+use Rattle.term_lists.specs.declared.key.Key.{Key as CodeKey}
+use Rattle.term_lists.specs.declared.ring.Ring.{Ring}
 use Rattle.module_vectors.specs.declared.trail.KeptTrail.{KeptTrail}
 use Rattle.vector_division.specs.Divisions.{IsDivisionTrail}
 use Rattle.groebner_iface.specs.Runs.{IsReducedBasisOf}

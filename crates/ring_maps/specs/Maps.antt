@@ -7,10 +7,10 @@ use Rattle.bases.specs.Settings.{Setting}
 use Rattle.map_laws.specs.Substitution.{substituted}
 use Rattle.monomial_orders.specs.declared.order.Order.TheVariants.{Grevlex}
 use Rattle.monomial_orders.specs.declared.order.ModOrder.TheVariants.{Top}
-use Rattle.module_vectors.specs.Rings.{ring_comparison, setting, variables}
-use Rattle.module_vectors.specs.Vectors.{HasPositions, IsVectorOver, sum_of, sums_of}
-use Rattle.module_vectors.specs.declared.key.Key.{Key as CodeKey}
-use Rattle.module_vectors.specs.declared.ring.Ring.{Ring}
+use Rattle.term_lists.specs.Rings.{ring_comparison, setting, variables}
+use Rattle.term_lists.specs.Vectors.{HasPositions, IsVectorOver, sum_of, sums_of}
+use Rattle.term_lists.specs.declared.key.Key.{Key as CodeKey}
+use Rattle.term_lists.specs.declared.ring.Ring.{Ring}
 
 -- the image of v, each variable replaced by its polynomial
 abbrev pub image : (ring : Ring) → List (List (CodeKey × ℕ)) → FormalSum (variables ring) → FormalSum (variables ring)

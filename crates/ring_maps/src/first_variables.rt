@@ -3,9 +3,9 @@ ghost use Rattle.std.specs.Prelude.{◌≡◌, ◌<◌, ◌≤◌, ◌++◌, IfO
 ghost use Rattle.monomials.specs.Exponents.{exponents_of, unit};
 ghost use Rattle.formal_sums.specs.FormalSums.{scale};
 ghost use Rattle.map_laws.specs.Graphs.{fitted, in_first};
-ghost use Rattle.module_vectors.specs.Doubling.{IsDoubled};
-ghost use Rattle.module_vectors.specs.Rings.{ring_comparison, variables};
-ghost use Rattle.module_vectors.specs.Vectors.{AreTermsOver, IsMonomialOver, IsVectorOver, StandsFor, sum_of};
+ghost use Rattle.term_lists.specs.Doubling.{IsDoubled};
+ghost use Rattle.term_lists.specs.Rings.{ring_comparison, variables};
+ghost use Rattle.term_lists.specs.Vectors.{AreTermsOver, IsMonomialOver, IsVectorOver, StandsFor, sum_of};
 
 use module_vectors::{Key, NoMemory, Ring, Vect};
 use monomial_orders::Mono;

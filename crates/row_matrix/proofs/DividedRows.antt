@@ -9,11 +9,11 @@ use Rattle.formal_sums.specs.FormalSums.{Each, shift}
 use Rattle.monomial_orders.specs.Kept.{Monomial}
 use Rattle.monomial_orders.specs.Monomials.{IsMonomial}
 use Rattle.bases.specs.Leads.{head_coefficient}
-use Rattle.module_vectors.proofs.Merges.{sum_of-append}
-use Rattle.module_vectors.proofs.Scaling.{take_item}
-use Rattle.module_vectors.specs.Multiples.{rescaled}
-use Rattle.module_vectors.specs.Vectors.{key_of, sum_of}
-use Rattle.module_vectors.specs.declared.key.Key.{Key as CodeKey}
+use Rattle.term_lists.proofs.Merges.{sum_of-append}
+use Rattle.term_lists.proofs.Scaling.{take_item}
+use Rattle.term_lists.specs.Multiples.{rescaled}
+use Rattle.term_lists.specs.Vectors.{key_of, sum_of}
+use Rattle.term_lists.specs.declared.key.Key.{Key as CodeKey}
 use Rattle.zp_field.specs.Moduli.{IsInverse}
 use Rattle.row_matrix.proofs.KeyProducts.{key_product_key}
 use Rattle.row_matrix.proofs.Names.{named_more, named_step}

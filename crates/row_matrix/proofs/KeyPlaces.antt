@@ -18,10 +18,10 @@ use Rattle.monomials.specs.Exponents.{exponents_of}
 use Rattle.monomials.specs.Weights.{weighted_degree}
 use Rattle.monomial_orders.proofs.PlaceByPlace.{exponents_exact}
 use Rattle.monomial_orders.specs.Kept.{IsWeighed, Monomial}
-use Rattle.module_vectors.proofs.Scaling.{Each_at}
-use Rattle.module_vectors.proofs.SumsOfProducts.{Each_member}
-use Rattle.module_vectors.specs.Vectors.{key_of}
-use Rattle.module_vectors.specs.declared.key.Key.{Key as CodeKey}
+use Rattle.term_lists.proofs.Scaling.{Each_at}
+use Rattle.term_lists.proofs.Parts.{Each_member}
+use Rattle.term_lists.specs.Vectors.{key_of}
+use Rattle.term_lists.specs.declared.key.Key.{Key as CodeKey}
 use Rattle.row_matrix.specs.Hashes.{IsNumbered, no_key}
 use Rattle.row_matrix.specs.Naming.{Falls, IsNumbering, IsPlaced, IsPlacing, by_descent, lack_of}
 use Rattle.row_matrix.specs.Rows.{AreKeys, Descend, column_key}

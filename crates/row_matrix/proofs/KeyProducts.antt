@@ -9,8 +9,8 @@ use Rattle.monomial_orders.proofs.Over.{over_times}
 use Rattle.monomial_orders.proofs.PlaceByPlace.{sums_times}
 use Rattle.monomial_orders.specs.Kept.{IsWeighed, Monomial}
 use Rattle.monomial_orders.specs.Monomials.{IsMonomial, IsPlaceByPlace}
-use Rattle.module_vectors.specs.Vectors.{key_of}
-use Rattle.module_vectors.specs.declared.key.Key.{Key}
+use Rattle.term_lists.specs.Vectors.{key_of}
+use Rattle.term_lists.specs.declared.key.Key.{Key}
 use Rattle.row_matrix.specs.Hashes.{factor_hash, hash_of, hash_step, key_product, sums}
 
 pub length_sums : (xs ys : List ℕ) → length xs ≡ length ys → length (sums xs ys) ≡ length xs

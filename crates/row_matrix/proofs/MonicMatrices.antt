@@ -10,11 +10,11 @@ use Rattle.formal_sums.specs.Combinations.{combination}
 use Rattle.formal_sums.specs.FormalSums.{Each, FormalSum, IsSame, Key, coefficient, scale}
 use Rattle.orders.specs.KeyOrders.{IsKeyOrder}
 use Rattle.bases.specs.Leads.{head_coefficient}
-use Rattle.module_vectors.proofs.Rescaling.{rescaled_sum, rescaled_vector}
-use Rattle.module_vectors.proofs.Scaling.{Each_at}
-use Rattle.module_vectors.specs.Multiples.{rescaled}
-use Rattle.module_vectors.specs.Vectors.{IsTerm, IsVector, sum_of, sums_of}
-use Rattle.module_vectors.specs.declared.key.Key.{Key as CodeKey}
+use Rattle.term_lists.proofs.Rescaling.{rescaled_sum, rescaled_vector}
+use Rattle.term_lists.proofs.Scaling.{Each_at}
+use Rattle.term_lists.specs.Multiples.{rescaled}
+use Rattle.term_lists.specs.Vectors.{IsTerm, IsVector, sum_of, sums_of}
+use Rattle.term_lists.specs.declared.key.Key.{Key as CodeKey}
 use Rattle.zp_field.specs.Moduli.{IsInverse}
 use Rattle.row_laws.proofs.RowSpans.{IsInSpan_itself, IsInSpan_same, IsInSpan_scale}
 use Rattle.row_laws.specs.Rows.{HasSameSpan, IsInSpan}

@@ -8,10 +8,10 @@ use Rattle.formal_sums.proofs.Sameness.{scale-append}
 use Rattle.formal_sums.proofs.WeightedSums.{Each_append}
 use Rattle.formal_sums.specs.FormalSums.{Each, FormalSum, Key, scale, shift}
 use Rattle.monomial_orders.specs.Kept.{IsWeighed}
-use Rattle.module_vectors.proofs.Scaling.{take_item}
-use Rattle.module_vectors.proofs.Merges.{sum_of-append}
-use Rattle.module_vectors.specs.Vectors.{key_of, sum_of}
-use Rattle.module_vectors.specs.declared.key.Key.{Key as CodeKey}
+use Rattle.term_lists.proofs.Scaling.{take_item}
+use Rattle.term_lists.proofs.Merges.{sum_of-append}
+use Rattle.term_lists.specs.Vectors.{key_of, sum_of}
+use Rattle.term_lists.specs.declared.key.Key.{Key as CodeKey}
 use Rattle.row_matrix.specs.Hashes.{IsNumbered, no_key}
 use Rattle.row_matrix.specs.Naming.{AreNamed, IsGrown, NamesNumber}
 use Rattle.row_matrix.specs.Rows.{AreKeys, Entry, column_key, row_sum}

@@ -3,10 +3,10 @@ use Rattle.std.proofs.Common.{List, [], ap, get_or, inl, length, map, refl, subs
 use Rattle.std.proofs.lemmas.List.{get_or-map, length-map, length_push}
 use Rattle.monomials.specs.Exponents.{exponents_of}
 use Rattle.formal_sums.specs.FormalSums.{FormalSum, scale}
-use Rattle.module_vectors.proofs.Scaling.{Each_at, Each_more}
-use Rattle.module_vectors.specs.Stops.{Fits}
-use Rattle.module_vectors.specs.Vectors.{sum_of}
-use Rattle.module_vectors.specs.declared.key.Key.{Key}
+use Rattle.term_lists.proofs.Scaling.{Each_at, Each_more}
+use Rattle.term_lists.specs.Stops.{Fits}
+use Rattle.term_lists.specs.Vectors.{sum_of}
+use Rattle.term_lists.specs.declared.key.Key.{Key}
 use Rattle.monomial_orders.specs.Kept.{IsWeighed, Monomial}
 use Rattle.row_matrix.proofs.Names.{grown_step, keys_step, product_step}
 use Rattle.row_matrix.proofs.KeyProducts.{hash_sum, key_product_key, key_product_weighed}

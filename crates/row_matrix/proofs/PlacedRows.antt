@@ -5,8 +5,8 @@ use Rattle.formal_sums.specs.FormalSums.{Each, FormalSum, Key}
 use Rattle.orders.proofs.KeyOrdering.{equal_itself, less_of_greater}
 use Rattle.orders.specs.KeyOrders.{Descends, IsKeyOrder}
 use Rattle.bases.specs.Leads.{head_coefficient}
-use Rattle.module_vectors.specs.Vectors.{key_of}
-use Rattle.module_vectors.specs.declared.key.Key.{Key as CodeKey}
+use Rattle.term_lists.specs.Vectors.{key_of}
+use Rattle.term_lists.specs.declared.key.Key.{Key as CodeKey}
 use Rattle.row_matrix.specs.Naming.{IsNumbering}
 use Rattle.row_matrix.specs.Placed.{placed_entries}
 use Rattle.row_matrix.specs.Rows.{AreEntries, Descend, Entry, column_key, first_residue, row_sum}

@@ -7,8 +7,8 @@ use Rattle.formal_sums.proofs.WeightedSums.{Each_append}
 use Rattle.formal_sums.specs.FormalSums.{Each}
 use Rattle.monomials.specs.Weights.{weighted_degree}
 use Rattle.monomial_orders.specs.Kept.{IsWeighed, Monomial}
-use Rattle.module_vectors.proofs.Scaling.{Each_at, Each_more}
-use Rattle.module_vectors.specs.declared.key.Key.{Key}
+use Rattle.term_lists.proofs.Scaling.{Each_at, Each_more}
+use Rattle.term_lists.specs.declared.key.Key.{Key}
 use Rattle.row_matrix.proofs.Digits.{digits_same, sums_few}
 use Rattle.row_matrix.proofs.KeyProducts.{key_product_weighed}
 use Rattle.row_matrix.specs.Hashes.{IsNumbered, key_product, no_key}

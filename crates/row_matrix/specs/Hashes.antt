@@ -2,7 +2,7 @@
 use Rattle.std.specs.Prelude.{List, [], fold, get_or, length, map, ℕ, ◌%◌, ◌*◌, ◌+◌, ◌++◌, ◌-◌, ◌/◌, ◌<◌, ◌∷◌, ◌^◌, ◌≡◌, ◌≤◌, ◌⊎◌}
 use Rattle.std.specs.Simd.Lanes.{zip2}
 use Rattle.monomial_orders.specs.Kept.{Monomial}
-use Rattle.module_vectors.specs.declared.key.Key.{Key}
+use Rattle.term_lists.specs.declared.key.Key.{Key}
 
 -- the monomial 1 of no variables, where a list has no key
 abbrev pub no_key : Key

@@ -2,9 +2,9 @@
 use Rattle.std.specs.Prelude.{List, [], get_or, length, map, ℕ, ◌+◌, ◌<◌, ◌∷◌, ◌≡◌}
 use Rattle.formal_sums.specs.FormalSums.{Each}
 use Rattle.bases.specs.Leads.{head_coefficient}
-use Rattle.module_vectors.specs.Multiples.{rescaled}
-use Rattle.module_vectors.specs.Vectors.{sum_of}
-use Rattle.module_vectors.specs.declared.key.Key.{Key as CodeKey}
+use Rattle.term_lists.specs.Multiples.{rescaled}
+use Rattle.term_lists.specs.Vectors.{sum_of}
+use Rattle.term_lists.specs.declared.key.Key.{Key as CodeKey}
 use Rattle.zp_field.specs.Moduli.{IsInverse}
 use Rattle.row_matrix.specs.Naming.{AreNamed}
 use Rattle.row_matrix.specs.Rows.{AreKeys, RowShown, first_column}

@@ -2,7 +2,7 @@
 use Rattle.std.specs.Prelude.{List, get_or, map, ℕ, ◌≡◌}
 use Rattle.std.specs.declared.cmp.Ordering.{Ordering}
 use Rattle.formal_sums.specs.FormalSums.{Key}
-use Rattle.module_vectors.specs.declared.key.Key.{Key as CodeKey}
+use Rattle.term_lists.specs.declared.key.Key.{Key as CodeKey}
 use Rattle.row_matrix.specs.Naming.{IsNumbering}
 use Rattle.row_matrix.specs.Rows.{Entry, MatrixShown, RowShown}
 

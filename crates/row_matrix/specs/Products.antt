@@ -1,8 +1,8 @@
 -- Products that are too great
 use Rattle.std.specs.Prelude.{List, get_or, length, ⊤, ℕ, ◌<◌}
 use Rattle.monomial_orders.specs.Kept.{Monomial}
-use Rattle.module_vectors.specs.Stops.{IsTooGreat}
-use Rattle.module_vectors.specs.declared.key.Key.{Key}
+use Rattle.term_lists.specs.Stops.{IsTooGreat}
+use Rattle.term_lists.specs.declared.key.Key.{Key}
 use Rattle.row_matrix.specs.Hashes.{no_key}
 use Rattle.row_matrix.specs.declared.products.ProductStop.{ProductStop}
 use Rattle.row_matrix.specs.declared.products.ProductStop.TheVariants.{Memory, Degree}

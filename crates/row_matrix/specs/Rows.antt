@@ -6,8 +6,8 @@ use Rattle.monomials.specs.Exponents.{unit}
 use Rattle.formal_sums.specs.Combinations.{combination}
 use Rattle.formal_sums.specs.FormalSums.{Each, FormalSum, IsSame, Key}
 use Rattle.monomial_orders.specs.Kept.{IsWeighed}
-use Rattle.module_vectors.specs.Vectors.{key_of}
-use Rattle.module_vectors.specs.declared.key.Key.{Key as CodeKey}
+use Rattle.term_lists.specs.Vectors.{key_of}
+use Rattle.term_lists.specs.declared.key.Key.{Key as CodeKey}
 use Rattle.row_matrix.specs.Hashes.{no_key}
 
 -- a column and a residue

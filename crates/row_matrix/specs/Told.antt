@@ -2,7 +2,7 @@
 use Rattle.std.specs.Prelude.{List, get_or, length, ℕ, ◌+◌, ◌<◌, ◌≡◌, ◌≤◌}
 use Rattle.formal_sums.specs.FormalSums.{Each}
 use Rattle.monomial_orders.specs.Kept.{Monomial}
-use Rattle.module_vectors.specs.declared.key.Key.{Key}
+use Rattle.term_lists.specs.declared.key.Key.{Key}
 use Rattle.row_matrix.specs.Hashes.{hash_of, key_product, no_key, term_hashes}
 
 -- what contracts see of the hashes of terms: the hashes, and a position and a degree that none of the keys is above

@@ -3,7 +3,7 @@ ghost use Rattle.std.specs.Prelude.{◌≡◌, ◌<◌, ◌≤◌, ◌+◌, ◌+
 ghost use Rattle.std.specs.Prelude.{IfErr, IfOk, IfSome, IfNone, IsTrue, OnOk, OnErr};
 ghost use Rattle.std.specs.Vec.{vec_len, vec_capacity};
 ghost use Rattle.formal_sums.specs.FormalSums.{Each};
-ghost use Rattle.module_vectors.specs.Vectors.{HasVariables};
+ghost use Rattle.term_lists.specs.Vectors.{HasVariables};
 ghost use Rattle.monomial_orders.specs.Monomials.{StopsAbove};
 ghost use Rattle.row_matrix.specs.Hashes.{AreDistinctKeys, Lacks, IsChained, IsTable, IsNumbered};
 ghost use Rattle.row_matrix.specs.Hashes.{bucket_of, factor_hash, hash_of, hash_step, no_key, key_product, sums, term_hashes};
@@ -167,7 +167,7 @@ impl Drop for KeyTable {
 
 impl Model for KeyTable {
     ghost use Rattle.std.specs.Prelude.{List, true, ◌≡◌};
-    ghost use Rattle.module_vectors.specs.declared.key.Key.{Key};
+    ghost use Rattle.term_lists.specs.declared.key.Key.{Key};
     ghost use Rattle.row_matrix.specs.Hashes.{IsTable};
     ghost use Rattle.row_matrix.specs.Told.{AreTold};
 

@@ -5,7 +5,7 @@ ghost use Rattle.std.specs.List.Sorted.{IsPermutation, IsSortedBy};
 ghost use Rattle.std.specs.Ordering.{is_lt};
 ghost use Rattle.std.specs.Vec.{vec_len, vec_capacity};
 ghost use Rattle.formal_sums.specs.FormalSums.{Each};
-ghost use Rattle.module_vectors.specs.Rings.{variables};
+ghost use Rattle.term_lists.specs.Rings.{variables};
 ghost use Rattle.row_matrix.specs.Hashes.{IsNumbered, no_key};
 ghost use Rattle.row_matrix.specs.Naming.{Falls, IsNumbering, by_descent};
 ghost use Rattle.row_matrix.specs.Rows.{AreKeys};

@@ -2,7 +2,7 @@
 ghost use Rattle.std.specs.Prelude.{◌≡◌, ◌<◌, ◌≤◌, ◌+◌, ◌++◌, List, [], ◌∷◌, ℕ, length, get_or, map, IfOk, OnOk};
 ghost use Rattle.std.specs.Vec.{vec_len, vec_capacity};
 ghost use Rattle.formal_sums.specs.FormalSums.{Each};
-ghost use Rattle.module_vectors.specs.Rings.{variables};
+ghost use Rattle.term_lists.specs.Rings.{variables};
 ghost use Rattle.row_matrix.specs.Rows.{AreKeys};
 ghost use Rattle.row_matrix.specs.Placed.{IsPlacedMatrix, placed_entries, placed_row};
 

@@ -2,8 +2,8 @@
 ghost use Rattle.std.specs.Prelude.{◌≡◌, ◌<◌, ◌≤◌, ◌+◌, ◌++◌, List, [], ◌∷◌, ℕ, length, get_or, true, IfOk, IfErr, OnOk};
 ghost use Rattle.monomials.specs.Exponents.{exponents_of};
 ghost use Rattle.formal_sums.specs.FormalSums.{Each, scale};
-ghost use Rattle.module_vectors.specs.Stops.{Fits};
-ghost use Rattle.module_vectors.specs.Vectors.{sum_of};
+ghost use Rattle.term_lists.specs.Stops.{Fits};
+ghost use Rattle.term_lists.specs.Vectors.{sum_of};
 ghost use Rattle.monomial_orders.specs.Kept.{IsWeighed};
 ghost use Rattle.row_matrix.specs.Told.{AreHashesOf};
 ghost use Rattle.row_matrix.specs.Naming.{AreNamed, IsGrown};

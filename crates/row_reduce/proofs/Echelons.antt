@@ -17,8 +17,8 @@ use Rattle.std.specs.List.Sorted.{IsPermutation}
 use Rattle.std.specs.List.{AllByRecursion, IsDistinct, list_any, range_with_len}
 use Rattle.formal_sums.proofs.WeightedSums.{Each_append}
 use Rattle.formal_sums.specs.FormalSums.{Each, Key}
-use Rattle.module_vectors.proofs.Gathers.{Each_permutation}
-use Rattle.module_vectors.proofs.Scaling.{Each_at, take_item}
+use Rattle.term_lists.proofs.Gathers.{Each_permutation}
+use Rattle.term_lists.proofs.Scaling.{Each_at, take_item}
 use Rattle.pivot_table.specs.Law.{LeadsFit}
 use Rattle.row_laws.proofs.RowSpans.{IsInSpan_itself, IsInSpan_through}
 use Rattle.row_laws.specs.Rows.{IsInSpan}

@@ -8,8 +8,8 @@ use Rattle.orders.specs.KeyOrders.{Descends}
 use Rattle.bases.proofs.NormalForms.{IsMonicLead_normal}
 use Rattle.bases.specs.Leads.{HasReducedResidues, IsMonicLead, IsNormal, head_coefficient, head_key}
 use Rattle.bases.specs.Settings.{IsLawful, Setting}
-use Rattle.module_vectors.proofs.Scaling.{Each_at}
-use Rattle.module_vectors.specs.declared.key.Key.{Key as CodeKey}
+use Rattle.term_lists.proofs.Scaling.{Each_at}
+use Rattle.term_lists.specs.declared.key.Key.{Key as CodeKey}
 use Rattle.row_laws.specs.Jobs.{IsEchelonForm}
 use Rattle.row_laws.specs.Rows.{HasDistinctLeads}
 use Rattle.row_matrix.specs.Rows.{AreEntries, Descend, Entry, IsRow, RowShown, column_key, first_column, first_residue, row_sum, vector_of, vectors_of}

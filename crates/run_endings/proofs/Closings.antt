@@ -2,10 +2,10 @@
 use Rattle.std.proofs.Common.{List, [], ap, subst, sym, ℕ, ◌∷◌, ◌≡◌, refl}
 use Rattle.formal_sums.specs.FormalSums.{Each, FormalSum}
 use Rattle.bases.specs.Bases.{IsGroebnerBasis, IsReducedBasis}
-use Rattle.module_vectors.specs.Rings.{ring_comparison, setting, variables}
-use Rattle.module_vectors.specs.Vectors.{AreVectorsOver, HasPositions, sum_of, sums_of}
-use Rattle.module_vectors.specs.declared.key.Key.{Key as CodeKey}
-use Rattle.module_vectors.specs.declared.ring.Ring.{Ring}
+use Rattle.term_lists.specs.Rings.{ring_comparison, setting, variables}
+use Rattle.term_lists.specs.Vectors.{AreVectorsOver, HasPositions, sum_of, sums_of}
+use Rattle.term_lists.specs.declared.key.Key.{Key as CodeKey}
+use Rattle.term_lists.specs.declared.ring.Ring.{Ring}
 use Rattle.member_products.specs.Generators.{AreGenerators}
 use Rattle.basis_steps.specs.Invariant.{HoldsInvariant}
 use Rattle.basis_steps.specs.States.{IsLawfulRun, vectors}

@@ -1,6 +1,6 @@
 -- The first items of a list, copied
 use Rattle.std.proofs.Common.{List, [], ap, get_or, length, sym, take, ℕ, ◌++◌, ◌+◌, ◌<◌, ◌∙◌, ◌∷◌, ◌≡◌}
-use Rattle.module_vectors.proofs.Scaling.{take_item}
+use Rattle.term_lists.proofs.Scaling.{take_item}
 
 -- one item more
 pub copied_more :

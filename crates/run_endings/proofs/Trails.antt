@@ -1,8 +1,8 @@
 -- Copies of trails are trails of the same run
 use Rattle.std.proofs.Common.{List, Some, [], ap, subst, sym, ℕ, ◌∙◌, ◌∷◌, ◌≡◌}
-use Rattle.module_vectors.specs.Rings.{ring_comparison}
+use Rattle.term_lists.specs.Rings.{ring_comparison}
+use Rattle.term_lists.specs.Vectors.{AreVectorsOver, sums_of}
 use Rattle.module_vectors.specs.Trails.{IsTrail as IsKeptTrail, KeptProduct, last_product, no_product}
-use Rattle.module_vectors.specs.Vectors.{AreVectorsOver, sums_of}
 use Rattle.module_vectors.specs.declared.trail.KeptTrail.{KeptTrail}
 use Rattle.basis_steps.specs.States.{vectors}
 use Rattle.basis_steps.specs.Invariant.{HoldsInvariant}

@@ -1,8 +1,8 @@
 -- What is kept of a run that stopped
 use Rattle.std.specs.Prelude.{List, None, Option, Some, ⊤, ℕ, ◌<◌, ◌≡◌, ◌⊎◌}
-use Rattle.module_vectors.specs.Rings.{variables}
-use Rattle.module_vectors.specs.declared.key.Key.{Key as CodeKey}
-use Rattle.module_vectors.specs.declared.ring.Ring.{Ring}
+use Rattle.term_lists.specs.Rings.{variables}
+use Rattle.term_lists.specs.declared.key.Key.{Key as CodeKey}
+use Rattle.term_lists.specs.declared.ring.Ring.{Ring}
 use Rattle.module_vectors.specs.declared.trail.KeptTrail.{KeptTrail}
 use Rattle.queue_updates.specs.declared.Update.{Update}
 use Rattle.queue_updates.specs.declared.Update.TheVariants.{Gebauer, Plain}

@@ -2,8 +2,8 @@
 ghost use Rattle.std.specs.Prelude.{◌≡◌, IfOk, IfErr, List, ℕ};
 ghost use Rattle.formal_sums.specs.FormalSums.{Each, FormalSum};
 ghost use Rattle.bases.specs.Bases.{IsGroebnerBasis, IsReducedBasis};
-ghost use Rattle.module_vectors.specs.Rings.{ring_comparison, setting, variables};
-ghost use Rattle.module_vectors.specs.Vectors.{AreVectorsOver, HasPositions, sums_of};
+ghost use Rattle.term_lists.specs.Rings.{ring_comparison, setting, variables};
+ghost use Rattle.term_lists.specs.Vectors.{AreVectorsOver, HasPositions, sums_of};
 ghost use Rattle.basis_core.specs.Rows.{vectors_in};
 ghost use Rattle.groebner_iface.specs.Runs.{IsReducedBasisOf};
 ghost use Rattle.interreduce.specs.Trails.{InterreductionStops, IsInterreductionTrail};

@@ -3,8 +3,8 @@ use Rattle.std.proofs.Common.{List, [], ap, arith, get_or, length, map, refl, su
 use Rattle.std.proofs.lemmas.List.{length-map}
 use Rattle.formal_sums.specs.FormalSums.{Each}
 use Rattle.monomial_orders.specs.Kept.{IsWeighed}
-use Rattle.module_vectors.proofs.Scaling.{take_item}
-use Rattle.module_vectors.specs.Rings.{variables}
+use Rattle.term_lists.proofs.Scaling.{take_item}
+use Rattle.term_lists.specs.Rings.{variables}
 use Rattle.module_vectors.specs.Trails.{KeptProduct}
 use Rattle.member_products.specs.declared.member.Reduct.{Reduct as CodeReduct}
 use Rattle.pair_criteria.specs.declared.pair.Pair.{Pair as CodePair}

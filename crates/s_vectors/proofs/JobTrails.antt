@@ -5,15 +5,15 @@ use Rattle.monomials.specs.Weights.{weighted_degree}
 use Rattle.formal_sums.specs.FormalSums.{Each, FormalSum}
 use Rattle.bases.specs.Representations.{key_lcm}
 use Rattle.monomial_orders.specs.Kept.{IsWeighed, Monomial}
-use Rattle.module_vectors.proofs.Monomials.{monomial_at}
-use Rattle.module_vectors.proofs.Scaling.{Each_at}
-use Rattle.module_vectors.proofs.SumsOfProducts.{Each_split}
-use Rattle.module_vectors.specs.Rings.{ring_comparison, variables}
-use Rattle.module_vectors.specs.Stops.{HasMonomial}
+use Rattle.term_lists.proofs.Monomials.{monomial_at}
+use Rattle.term_lists.proofs.Scaling.{Each_at}
+use Rattle.term_lists.proofs.Parts.{Each_split}
+use Rattle.term_lists.specs.Rings.{ring_comparison, variables}
+use Rattle.term_lists.specs.Stops.{HasMonomial}
+use Rattle.term_lists.specs.Vectors.{AreVectorsOver, key_of, sum_of, sums_of}
+use Rattle.term_lists.specs.declared.key.Key.{Key as CodeKey}
+use Rattle.term_lists.specs.declared.ring.Ring.{Ring}
 use Rattle.module_vectors.specs.Trails.{AreMet, IsStart, HasKey, IsChain, IsOfProduct, IsTrail as IsKeptTrail, KeptProduct, last_product, lead_at}
-use Rattle.module_vectors.specs.Vectors.{AreVectorsOver, key_of, sum_of, sums_of}
-use Rattle.module_vectors.specs.declared.key.Key.{Key as CodeKey}
-use Rattle.module_vectors.specs.declared.ring.Ring.{Ring}
 use Rattle.module_vectors.specs.declared.trail.KeptTrail.{KeptTrail}
 use Rattle.module_vectors.specs.declared.trail.TrailStart.TheVariants as starts
 use Rattle.pair_criteria.specs.declared.pair.Pair.{Pair as CodePair}

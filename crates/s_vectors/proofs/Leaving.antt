@@ -16,13 +16,13 @@ use Rattle.bases.proofs.SVectors.{s_vector_below}
 use Rattle.bases.specs.Leads.{IsLead, IsMonicList, head_key, leads}
 use Rattle.bases.specs.Representations.{IsLower, key_lcm, place, s_vector}
 use Rattle.bases.specs.Settings.{IsLawful, Setting}
-use Rattle.module_vectors.proofs.NormalVectors.{residues_of, vector_lead}
+use Rattle.term_lists.proofs.NormalVectors.{residues_of, vector_lead}
 use Rattle.monomial_orders.specs.Kept.{IsWeighed}
-use Rattle.module_vectors.specs.Rings.{ring_comparison, variables}
+use Rattle.term_lists.specs.Rings.{ring_comparison, variables}
+use Rattle.term_lists.specs.Vectors.{IsVectorOver, StandsFor, key_of, sum_of, sums_of}
+use Rattle.term_lists.specs.declared.key.Key.{Key as CodeKey}
+use Rattle.term_lists.specs.declared.ring.Ring.{Ring}
 use Rattle.module_vectors.specs.Trails.{AreMet, HasKey, IsMet, product_lead}
-use Rattle.module_vectors.specs.Vectors.{IsVectorOver, StandsFor, key_of, sum_of, sums_of}
-use Rattle.module_vectors.specs.declared.key.Key.{Key as CodeKey}
-use Rattle.module_vectors.specs.declared.ring.Ring.{Ring}
 use Rattle.pair_criteria.specs.declared.pair.Pair.{Pair as CodePair}
 use Rattle.vector_division.proofs.Members.{sums_at}
 use Rattle.vector_division.proofs.Occurring.{at_key, occurring}

@@ -6,11 +6,11 @@ use Rattle.monomials.specs.Exponents.{exponents_of}
 use Rattle.formal_sums.proofs.WeightedSums.{Each_append}
 use Rattle.formal_sums.specs.Combinations.{combination}
 use Rattle.formal_sums.specs.FormalSums.{Each, FormalSum, Key, scale}
-use Rattle.module_vectors.proofs.SumsOfProducts.{Each_split}
+use Rattle.term_lists.proofs.Parts.{Each_split}
 use Rattle.monomial_orders.specs.Kept.{IsWeighed}
+use Rattle.term_lists.specs.Vectors.{sums_of}
+use Rattle.term_lists.specs.declared.key.Key.{Key as CodeKey}
 use Rattle.module_vectors.specs.Trails.{AreMet, HasKey, IsInProduct, IsMet, KeptProduct, product_lead}
-use Rattle.module_vectors.specs.Vectors.{sums_of}
-use Rattle.module_vectors.specs.declared.key.Key.{Key as CodeKey}
 use Rattle.vector_division.proofs.Members.{sums_at}
 use Rattle.vector_division.proofs.Occurring.{Contains_here, Contains_later, key_of_sum, scaled_key}
 use Rattle.vector_division.specs.Reductions.{AreMetFrom, cofactors_of, unscaled}

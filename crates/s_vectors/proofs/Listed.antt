@@ -5,10 +5,10 @@ use Rattle.formal_sums.proofs.Combining.{Each_map}
 use Rattle.formal_sums.proofs.OfRank.{IsOfRank_of}
 use Rattle.formal_sums.specs.FormalSums.{Each, HasRank}
 use Rattle.monomial_orders.specs.Kept.{IsWeighed}
-use Rattle.module_vectors.proofs.NormalVectors.{residues_of}
-use Rattle.module_vectors.specs.Rings.{variables}
-use Rattle.module_vectors.specs.Vectors.{StandsFor, sum_of}
-use Rattle.module_vectors.specs.declared.key.Key.{Key as CodeKey}
+use Rattle.term_lists.proofs.NormalVectors.{residues_of}
+use Rattle.term_lists.specs.Rings.{variables}
+use Rattle.term_lists.specs.Vectors.{StandsFor, sum_of}
+use Rattle.term_lists.specs.declared.key.Key.{Key as CodeKey}
 use Rattle.member_products.proofs.Ranks.{ranked_by}
 use Rattle.member_products.specs.Generators.{IsRanked, IsVectorOf}
 use Rattle.vector_division.proofs.Occurring.{occurring}

@@ -2,7 +2,7 @@
 use Rattle.std.proofs.Common.{List, [], ap, arith, false, length, refl, sym, true, true≢false, ℕ, ◌<◌, ◌==◌, ◌∙◌, ◌∷◌, ◌≡◌}
 use Rattle.std.proofs.lemmas.Bool.Decides.{nat_tests}
 use Rattle.std.proofs.lemmas.List.{length-map}
-use Rattle.module_vectors.specs.Vectors.{sum_of, sums_of}
+use Rattle.term_lists.specs.Vectors.{sum_of, sums_of}
 use Rattle.basis_steps.specs.States.{vectors}
 use Rattle.basis_core.specs.Members.{MemberShown, members_of}
 use Rattle.basis_core.specs.Rows.{vectors_in}

@@ -5,9 +5,9 @@ use Rattle.monomials.specs.Exponents.{unit}
 use Rattle.formal_sums.proofs.Items.{item_of}
 use Rattle.formal_sums.specs.FormalSums.{Each, Key}
 use Rattle.bases.specs.Settings.{IsLawful, Setting}
+use Rattle.term_lists.specs.Vectors.{IsVector, sum_of, sums_of}
+use Rattle.term_lists.specs.declared.key.Key.{Key as CodeKey}
 use Rattle.module_vectors.specs.Trails.{AreMet, HasKey, IsInProduct, IsMet, KeptProduct, no_product, product_lead}
-use Rattle.module_vectors.specs.Vectors.{IsVector, sum_of, sums_of}
-use Rattle.module_vectors.specs.declared.key.Key.{Key as CodeKey}
 use Rattle.vector_division.proofs.Members.{sums_at}
 use Rattle.basis_steps.proofs.Counting.{is_same_pair-refl}
 use Rattle.basis_steps.proofs.JobProducts.{job_products_from}

@@ -6,13 +6,15 @@ use Rattle.formal_sums.specs.Combinations.{combination}
 use Rattle.formal_sums.specs.FormalSums.{Each}
 use Rattle.monomials.specs.Exponents.{exponents_of}
 use Rattle.monomial_orders.specs.Kept.{IsWeighed, Monomial}
-use Rattle.module_vectors.proofs.SumsOfProducts.{Each_member, products_combination}
+use Rattle.term_lists.proofs.Parts.{Each_member}
+use Rattle.term_lists.specs.Stops.{Fits, HasMonomial, IsTooGreat}
+use Rattle.term_lists.specs.Vectors.{sum_of, sums_of}
+use Rattle.term_lists.specs.declared.key.Key.{Key as CodeKey}
+use Rattle.term_lists.specs.declared.stop.VectStop.TheVariants.{Degree}
+use Rattle.module_vectors.proofs.SumsOfProducts.{products_combination}
 use Rattle.module_vectors.specs.Products.{AreProducts, sum_of_products}
-use Rattle.module_vectors.specs.Stops.{Fits, HasMonomial, IsTooGreat, ProductsStop}
-use Rattle.module_vectors.specs.Vectors.{sum_of, sums_of}
-use Rattle.module_vectors.specs.declared.key.Key.{Key as CodeKey}
+use Rattle.module_vectors.specs.ProductStops.{ProductsStop}
 use Rattle.module_vectors.specs.declared.product.Product.{Product}
-use Rattle.module_vectors.specs.declared.stop.VectStop.TheVariants.{Degree}
 use Rattle.vector_division.specs.Reductions.{cofactors_of, term_of}
 use Rattle.vector_division.specs.declared.reduction.ScaledProduct.{ScaledProduct}
 use Rattle.s_vectors.specs.Parts.{GreatStops, IsGreatPart, IsGreatProduct, IsPart, PartsStop}

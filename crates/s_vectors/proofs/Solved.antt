@@ -8,10 +8,10 @@ use Rattle.bases.proofs.Leading.{positive}
 use Rattle.bases.specs.Leads.{head_key}
 use Rattle.bases.specs.Representations.{IsLower, IsSumBelow, s_vector}
 use Rattle.bases.specs.Settings.{Setting}
-use Rattle.module_vectors.proofs.NormalVectors.{vector_lead}
-use Rattle.module_vectors.specs.Rings.{ring_comparison, variables}
-use Rattle.module_vectors.specs.Vectors.{StandsFor, key_of, sum_of, sums_of}
-use Rattle.module_vectors.specs.declared.key.Key.{Key as CodeKey}
+use Rattle.term_lists.proofs.NormalVectors.{vector_lead}
+use Rattle.term_lists.specs.Rings.{ring_comparison, variables}
+use Rattle.term_lists.specs.Vectors.{StandsFor, key_of, sum_of, sums_of}
+use Rattle.term_lists.specs.declared.key.Key.{Key as CodeKey}
 use Rattle.pair_criteria.specs.declared.pair.Pair.{Pair as CodePair}
 use Rattle.vector_division.specs.Reductions.{cofactors_of, unscaled}
 use Rattle.vector_division.specs.declared.reduction.ScaledProduct.{ScaledProduct}

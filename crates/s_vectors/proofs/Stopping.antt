@@ -2,12 +2,12 @@
 use Rattle.std.proofs.Common.{List, [], ap, append-nil, append_assoc, arith, get_or, inl, length, length-append, map, refl, subst, suc, sym, take, zero, ℕ, ◌++◌, ◌+◌, ◌<◌, ◌∙◌, ◌∷◌, ◌≡◌}
 use Rattle.formal_sums.specs.FormalSums.{Each, Key}
 use Rattle.monomial_orders.specs.Kept.{IsWeighed, Monomial}
-use Rattle.module_vectors.specs.Rings.{variables}
-use Rattle.module_vectors.specs.Stops.{HasMonomial}
+use Rattle.term_lists.specs.Rings.{variables}
+use Rattle.term_lists.specs.Stops.{HasMonomial}
+use Rattle.term_lists.specs.Vectors.{sum_of}
+use Rattle.term_lists.specs.declared.key.Key.{Key as CodeKey}
+use Rattle.term_lists.specs.declared.ring.Ring.{Ring}
 use Rattle.module_vectors.specs.Trails.{AreMet, HasKey, IsChain, IsMet, IsTrail, KeptProduct, last_product, product_lead}
-use Rattle.module_vectors.specs.Vectors.{sum_of}
-use Rattle.module_vectors.specs.declared.key.Key.{Key as CodeKey}
-use Rattle.module_vectors.specs.declared.ring.Ring.{Ring}
 use Rattle.module_vectors.specs.declared.trail.KeptTrail.{KeptTrail}
 use Rattle.vector_division.proofs.Occurring.{at_key}
 use Rattle.vector_division.specs.Divisions.{IsDivisionTrail}

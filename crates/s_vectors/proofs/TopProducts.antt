@@ -5,9 +5,9 @@ use Rattle.formal_sums.specs.Combinations.{combination}
 use Rattle.formal_sums.specs.FormalSums.{Each, FormalSum, scale, shift}
 use Rattle.bases.specs.Leads.{head_key}
 use Rattle.bases.specs.Representations.{s_vector}
+use Rattle.term_lists.specs.Vectors.{key_of, sum_of, sums_of}
+use Rattle.term_lists.specs.declared.key.Key.{Key as CodeKey}
 use Rattle.module_vectors.specs.Trails.{HasKey, lead_at, product_lead}
-use Rattle.module_vectors.specs.Vectors.{key_of, sum_of, sums_of}
-use Rattle.module_vectors.specs.declared.key.Key.{Key as CodeKey}
 use Rattle.pair_criteria.specs.declared.pair.Pair.{Pair as CodePair}
 use Rattle.vector_division.proofs.Members.{sums_at}
 use Rattle.vector_division.proofs.Occurring.{Contains_here}

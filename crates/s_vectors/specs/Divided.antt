@@ -5,10 +5,10 @@ use Rattle.formal_sums.specs.Combinations.{combination}
 use Rattle.formal_sums.specs.FormalSums.{Each, FormalSum, IsSame, Key}
 use Rattle.bases.specs.Leads.{IsLead}
 use Rattle.bases.specs.Representations.{IsLower, s_vector}
-use Rattle.module_vectors.specs.Rings.{ring_comparison, variables}
+use Rattle.term_lists.specs.Rings.{ring_comparison, variables}
+use Rattle.term_lists.specs.Vectors.{IsVectorOver, StandsFor, key_of, sum_of, sums_of}
+use Rattle.term_lists.specs.declared.key.Key.{Key as CodeKey}
 use Rattle.module_vectors.specs.Trails.{IsMet, KeptProduct}
-use Rattle.module_vectors.specs.Vectors.{IsVectorOver, StandsFor, key_of, sum_of, sums_of}
-use Rattle.module_vectors.specs.declared.key.Key.{Key as CodeKey}
 use Rattle.pair_criteria.specs.declared.pair.Pair.{Pair as CodePair}
 use Rattle.vector_division.specs.Reductions.{cofactors_of, unscaled}
 use Rattle.vector_division.specs.declared.reduction.ScaledProduct.{ScaledProduct}

@@ -2,8 +2,8 @@
 use Rattle.std.specs.Prelude.{List, [], length, ⊤, ℕ, ◌++◌, ◌+◌, ◌<◌, ◌∷◌, ◌≡◌}
 use Rattle.formal_sums.specs.FormalSums.{Each, Key}
 use Rattle.monomial_orders.specs.Kept.{IsWeighed, Monomial}
+use Rattle.term_lists.specs.declared.key.Key.{Key as CodeKey}
 use Rattle.module_vectors.specs.Trails.{AreMet, IsOfProduct, KeptProduct, product_lead}
-use Rattle.module_vectors.specs.declared.key.Key.{Key as CodeKey}
 use Rattle.basis_core.specs.Members.{MemberShown}
 use Rattle.basis_core.specs.Rows.{vectors_in}
 use Rattle.s_vectors.specs.declared.stops.PairStop.{PairStop}

@@ -2,9 +2,9 @@
 use Rattle.std.specs.Prelude.{List, [], get_or, length, ⊤, ℕ, ◌++◌, ◌-◌, ◌<◌, ◌∷◌, ◌≡◌}
 use Rattle.monomials.specs.Exponents.{exponents_of, quotient, times}
 use Rattle.monomial_orders.specs.Kept.{IsWeighed, Monomial}
-use Rattle.module_vectors.specs.Stops.{HasMonomial, IsTooGreat}
+use Rattle.term_lists.specs.Stops.{HasMonomial, IsTooGreat}
+use Rattle.term_lists.specs.declared.key.Key.{Key as CodeKey}
 use Rattle.module_vectors.specs.Trails.{lead_at}
-use Rattle.module_vectors.specs.declared.key.Key.{Key as CodeKey}
 use Rattle.module_vectors.specs.declared.product.Product.{Product}
 use Rattle.vector_division.specs.declared.reduction.ScaledProduct.{ScaledProduct}
 use Rattle.s_vectors.specs.declared.sums.SumStop.{SumStop}

@@ -8,7 +8,7 @@ use Rattle.basis_steps.specs.Pairs.{Pair}
 use Rattle.basis_steps.specs.States.{Member, Product, vectors}
 use Rattle.member_products.specs.declared.member.Reduct.{Reduct as CodeReduct}
 use Rattle.monomial_orders.specs.Kept.{IsWeighed}
-use Rattle.module_vectors.specs.Rings.{variables}
+use Rattle.term_lists.specs.Rings.{variables}
 use Rattle.pair_criteria.specs.declared.pair.Pair.{Pair as CodePair}
 use Rattle.basis_core.specs.Jobs.{pair_of}
 use Rattle.basis_core.specs.Members.{IsRunRow, MembersShown, members_of, rows_of, setting_of}

@@ -1,10 +1,10 @@
 // The division of an S-vector by the members.
 ghost use Rattle.std.specs.Prelude.{◌≡◌, ◌<◌, ◌+◌, ◌++◌, ℕ, List, IfOk, IfErr, OnOk, length, map, take};
 ghost use Rattle.formal_sums.specs.FormalSums.{Each, Key as KeyOf};
-ghost use Rattle.module_vectors.specs.Rings.{variables};
-ghost use Rattle.module_vectors.specs.Vectors.{key_of};
-ghost use Rattle.module_vectors.specs.declared.key.Key.{Key as KeyValue};
-ghost use Rattle.module_vectors.specs.declared.ring.Ring.{Ring as RingValue};
+ghost use Rattle.term_lists.specs.Rings.{variables};
+ghost use Rattle.term_lists.specs.Vectors.{key_of};
+ghost use Rattle.term_lists.specs.declared.key.Key.{Key as KeyValue};
+ghost use Rattle.term_lists.specs.declared.ring.Ring.{Ring as RingValue};
 ghost use Rattle.vector_division.specs.Divisions.{DivisionStops};
 ghost use Rattle.vector_division.specs.Reductions.{unscaled};
 ghost use Rattle.basis_core.specs.Members.{MemberShown};

@@ -1,8 +1,8 @@
 // The two products of an S-vector.
 ghost use Rattle.std.specs.Prelude.{◌≡◌, IfOk};
 ghost use Rattle.formal_sums.specs.FormalSums.{Each};
-ghost use Rattle.module_vectors.specs.Rings.{ring_comparison, variables};
-ghost use Rattle.module_vectors.specs.Vectors.{AreVectorsOver};
+ghost use Rattle.term_lists.specs.Rings.{ring_comparison, variables};
+ghost use Rattle.term_lists.specs.Vectors.{AreVectorsOver};
 ghost use Rattle.basis_steps.specs.Criteria.{IsPair};
 ghost use Rattle.basis_steps.specs.Divisions.{IsMonicMember};
 ghost use Rattle.basis_steps.specs.States.{vectors};

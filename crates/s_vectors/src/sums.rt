@@ -2,10 +2,10 @@
 ghost use Rattle.std.specs.Prelude.{◌≡◌, ◌<◌, ◌↔◌, IsTrue, IfOk, IfErr, IfNone, IfSome, length, map};
 ghost use Rattle.formal_sums.specs.FormalSums.{Each};
 ghost use Rattle.formal_sums.specs.Combinations.{combination};
+ghost use Rattle.term_lists.specs.Rings.{ring_comparison, variables};
+ghost use Rattle.term_lists.specs.Stops.{Fits, HasMonomial, IsTooGreat};
+ghost use Rattle.term_lists.specs.Vectors.{AreVectorsOver, IsMonomialOver, IsVectorOver, StandsFor, sums_of};
 ghost use Rattle.module_vectors.specs.Products.{AreProducts, sum_of_products};
-ghost use Rattle.module_vectors.specs.Rings.{ring_comparison, variables};
-ghost use Rattle.module_vectors.specs.Stops.{Fits, HasMonomial, IsTooGreat};
-ghost use Rattle.module_vectors.specs.Vectors.{AreVectorsOver, IsMonomialOver, IsVectorOver, StandsFor, sums_of};
 ghost use Rattle.vector_division.specs.Reductions.{cofactors_of, term_of};
 ghost use Rattle.s_vectors.specs.Parts.{GreatStops, IsGreatProduct, IsPart, PartsStop};
 ghost use Rattle.s_vectors.specs.declared.sums.SumStop.TheVariants.{Memory};

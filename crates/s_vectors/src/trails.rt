@@ -1,7 +1,7 @@
 // The trail of a job that meets a product of too great a degree.
 ghost use Rattle.std.specs.Prelude.{◌≡◌, ◌<◌, IfOk, length, get_or};
-ghost use Rattle.module_vectors.specs.Rings.{variables};
-ghost use Rattle.module_vectors.specs.Vectors.{key_of};
+ghost use Rattle.term_lists.specs.Rings.{variables};
+ghost use Rattle.term_lists.specs.Vectors.{key_of};
 ghost use Rattle.basis_core.specs.Jobs.{pairs_of};
 ghost use Rattle.basis_core.specs.Stops.{IsTrailBy};
 ghost use Rattle.pair_criteria.specs.declared.pair.Pair.{Pair as CodePair};

@@ -20,14 +20,14 @@ use Rattle.bases.specs.Bases.{IsCovered, IsGroebnerBasis}
 use Rattle.bases.specs.Leads.{IsLead, IsMonicList, head_key, leads}
 use Rattle.bases.specs.Settings.{IsLawful, Setting}
 use Rattle.monomial_orders.specs.Kept.{Monomial}
-use Rattle.module_vectors.proofs.SumsOfProducts.{Each_member}
-use Rattle.module_vectors.specs.Rings.{setting, variables}
+use Rattle.term_lists.proofs.Parts.{Each_member}
+use Rattle.term_lists.specs.Rings.{setting, variables}
+use Rattle.term_lists.specs.Vectors.{AreVectorsOver, IsMonomialOver, IsTerm, IsVectorOver, key_of, sum_of, sums_of}
+use Rattle.term_lists.specs.declared.key.Key.{Key as CodeKey}
+use Rattle.term_lists.specs.declared.ring.Ring.{Ring}
+use Rattle.term_lists.specs.declared.stop.VectStop.{VectStop}
+use Rattle.term_lists.specs.declared.stop.VectStop.TheVariants.{Degree}
 use Rattle.module_vectors.specs.Trails.{HasKey, KeptProduct, lead_at}
-use Rattle.module_vectors.specs.Vectors.{AreVectorsOver, IsMonomialOver, IsTerm, IsVectorOver, key_of, sum_of, sums_of}
-use Rattle.module_vectors.specs.declared.key.Key.{Key as CodeKey}
-use Rattle.module_vectors.specs.declared.ring.Ring.{Ring}
-use Rattle.module_vectors.specs.declared.stop.VectStop.{VectStop}
-use Rattle.module_vectors.specs.declared.stop.VectStop.TheVariants.{Degree}
 use Rattle.vector_division.proofs.Carrying.{below_total, carried, failing_product, not_in_total}
 use Rattle.vector_division.proofs.Keeping.{kept_first, kept_same}
 use Rattle.vector_division.proofs.Occurring.{at_key, occurs}

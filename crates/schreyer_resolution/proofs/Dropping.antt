@@ -5,11 +5,11 @@ use Rattle.residues.proofs.Congruences.{IsCongruent_of}
 use Rattle.formal_sums.proofs.Sameness.{IsSame_of, IsSame_trans}
 use Rattle.formal_sums.proofs.WeightedSums.{Each_append, coefficient-append}
 use Rattle.formal_sums.specs.FormalSums.{Each, IsSame, Key, Term, coefficient}
-use Rattle.module_vectors.proofs.Descending.{descends_skip, over_join, over_split}
-use Rattle.module_vectors.specs.Rings.{variables}
-use Rattle.module_vectors.specs.Vectors.{IsMonomialOver, IsTerm, IsVectorOver, key_of, sum_of, sums_of}
-use Rattle.module_vectors.specs.declared.key.Key.{Key as CodeKey}
-use Rattle.module_vectors.specs.declared.ring.Ring.{Ring}
+use Rattle.term_lists.proofs.Descending.{descends_skip, over_join, over_split}
+use Rattle.term_lists.specs.Rings.{variables}
+use Rattle.term_lists.specs.Vectors.{IsMonomialOver, IsTerm, IsVectorOver, key_of, sum_of, sums_of}
+use Rattle.term_lists.specs.declared.key.Key.{Key as CodeKey}
+use Rattle.term_lists.specs.declared.ring.Ring.{Ring}
 use Rattle.orders.specs.KeyOrders.{Descends}
 use Rattle.vector_division.specs.Divisions.{IsUncovered}
 use Rattle.vector_division.specs.Runs.{IsOver}

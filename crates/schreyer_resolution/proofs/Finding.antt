@@ -8,10 +8,10 @@ use Rattle.formal_sums.specs.FormalSums.{Key, shift}
 use Rattle.orders.specs.KeyOrders.{KeyDivides}
 use Rattle.bases.specs.Leads.{head_key}
 use Rattle.monomials.specs.Exponents.{exponents_of}
-use Rattle.module_vectors.specs.Vectors.{key_of, sum_of, sums_of}
+use Rattle.term_lists.specs.Vectors.{key_of, sum_of, sums_of}
 use Rattle.vector_division.specs.declared.marks.Mark.{Mark}
+use Rattle.term_lists.specs.declared.key.Key.{Key as CodeKey}
 use Rattle.module_vectors.specs.Trails.{KeptProduct, lead_at}
-use Rattle.module_vectors.specs.declared.key.Key.{Key as CodeKey}
 use Rattle.vector_division.proofs.Members.{sums_at, uncovered}
 use Rattle.vector_division.specs.Divisions.{IsUncovered}
 use Rattle.schreyer_resolution.specs.Columns.{AreTriedFrom, IsFoundLast}

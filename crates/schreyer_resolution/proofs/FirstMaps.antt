@@ -11,10 +11,10 @@ use Rattle.bases.specs.Settings.{IsLawful, Setting}
 use Rattle.syzygy_laws.specs.Syzygies.{induced_setting}
 use Rattle.resolution_laws.proofs.Starts.{start_whole}
 use Rattle.resolution_laws.specs.Resolutions.{IsCanonical, IsCanonicalFrom, IsCanonicalMap, IsCanonicalStart, IsCanonicalStartFrom, IsExact}
-use Rattle.module_vectors.specs.Rings.{ring_comparison, setting, variables}
-use Rattle.module_vectors.specs.Vectors.{AreVectorsOver, HasPositions, IsVectorOver, key_of, sum_of, sums_of}
-use Rattle.module_vectors.specs.declared.key.Key.{Key as CodeKey}
-use Rattle.module_vectors.specs.declared.ring.Ring.{Ring}
+use Rattle.term_lists.specs.Rings.{ring_comparison, setting, variables}
+use Rattle.term_lists.specs.Vectors.{AreVectorsOver, HasPositions, IsVectorOver, key_of, sum_of, sums_of}
+use Rattle.term_lists.specs.declared.key.Key.{Key as CodeKey}
+use Rattle.term_lists.specs.declared.ring.Ring.{Ring}
 use Rattle.module_vectors.specs.declared.trail.WorkStop.{WorkStop}
 use Rattle.module_vectors.specs.declared.trail.WorkStop.TheVariants.{Degree, Memory}
 use Rattle.vector_division.proofs.Members.{sums_at}

@@ -7,8 +7,8 @@ use Rattle.monomials.specs.Weights.{weighted_degree}
 use Rattle.formal_sums.proofs.Sameness.{shift-unit}
 use Rattle.formal_sums.specs.FormalSums.{FormalSum, Key, shift}
 use Rattle.bases.specs.Leads.{head_key, leads}
-use Rattle.module_vectors.specs.Vectors.{sum_of, sums_of}
-use Rattle.module_vectors.specs.declared.key.Key.{Key as CodeKey}
+use Rattle.term_lists.specs.Vectors.{sum_of, sums_of}
+use Rattle.term_lists.specs.declared.key.Key.{Key as CodeKey}
 use Rattle.vector_division.proofs.Members.{sums_at}
 use Rattle.resolution_maps.specs.Inducing.{Columns, maps_of}
 use Rattle.schreyer_resolution.specs.Heads.{AreExponentSums, IsHead, IsLeadOf, IsLow}

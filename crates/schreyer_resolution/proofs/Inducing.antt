@@ -13,9 +13,9 @@ use Rattle.monomial_orders.specs.Laws.{key_comparison_order}
 use Rattle.monomial_orders.specs.declared.order.ModOrder.{ModOrder}
 use Rattle.monomial_orders.specs.declared.order.ModOrder.TheVariants.{Pot, Top}
 use Rattle.monomial_orders.specs.declared.order.Order.{Order}
-use Rattle.module_vectors.specs.Rings.{ring_comparison, variables}
-use Rattle.module_vectors.specs.Vectors.{IsMonomialOver, key_of}
-use Rattle.module_vectors.specs.declared.key.Key.{Key as CodeKey}
+use Rattle.term_lists.specs.Rings.{ring_comparison, variables}
+use Rattle.term_lists.specs.Vectors.{IsMonomialOver, key_of}
+use Rattle.term_lists.specs.declared.key.Key.{Key as CodeKey}
 use Rattle.resolution_maps.specs.Inducing.{Tower, induced_through, maps_of, tower_comparison}
 use Rattle.schreyer_resolution.specs.Heads.{IsHead, summed}
 use Rattle.schreyer_resolution.specs.Ways.{bottom, by_way, way}

@@ -19,9 +19,9 @@ use Rattle.orders.specs.MonomialOrders.{lex}
 use Rattle.syzygy_laws.specs.Syzygies.{pair_lead_key}
 use Rattle.bases.specs.Leads.{head_key, leads}
 use Rattle.monomial_orders.specs.Kept.{IsWeighed, Monomial}
+use Rattle.term_lists.specs.Vectors.{key_of, sum_of, sums_of}
+use Rattle.term_lists.specs.declared.key.Key.{Key as CodeKey}
 use Rattle.module_vectors.specs.Trails.{lead_at}
-use Rattle.module_vectors.specs.Vectors.{key_of, sum_of, sums_of}
-use Rattle.module_vectors.specs.declared.key.Key.{Key as CodeKey}
 use Rattle.vector_division.proofs.Members.{sums_at}
 use Rattle.schreyer_resolution.specs.Pairs.{AreMinimalMonomials, AreLeastSoFar, ArePairLeadsTo, ArePairMonomials, KeysFall, IsBefore, RisesLex}
 use Rattle.schreyer_resolution.specs.Steps.{ArePairLeads, IsPairKey, key_at}

@@ -20,12 +20,12 @@ use Rattle.bases.specs.Leads.{IsLead, IsMonicList, IsNormal, head_key, leads}
 use Rattle.bases.specs.Settings.{IsLawful, Setting}
 use Rattle.syzygy_laws.specs.Syzygies.{induced_setting}
 use Rattle.monomial_orders.specs.Kept.{IsWeighed}
-use Rattle.module_vectors.proofs.NormalVectors.{residues_of, vector_lead, vector_positions}
-use Rattle.module_vectors.specs.Rings.{setting, variables}
+use Rattle.term_lists.proofs.NormalVectors.{residues_of, vector_lead, vector_positions}
+use Rattle.term_lists.specs.Rings.{setting, variables}
+use Rattle.term_lists.specs.Vectors.{HasPositions, IsVectorOver, StandsFor, key_of, sum_of, sums_of}
+use Rattle.term_lists.specs.declared.key.Key.{Key as CodeKey}
+use Rattle.term_lists.specs.declared.ring.Ring.{Ring}
 use Rattle.module_vectors.specs.Trails.{product_lead}
-use Rattle.module_vectors.specs.Vectors.{HasPositions, IsVectorOver, StandsFor, key_of, sum_of, sums_of}
-use Rattle.module_vectors.specs.declared.key.Key.{Key as CodeKey}
-use Rattle.module_vectors.specs.declared.ring.Ring.{Ring}
 use Rattle.vector_division.proofs.Members.{sums_at}
 use Rattle.vector_division.specs.Reductions.{HaveLeadsUpTo, IsScaledProduct, cofactors_of, unscaled}
 use Rattle.vector_division.specs.declared.reduction.ScaledProduct.{ScaledProduct}

@@ -21,13 +21,13 @@ use Rattle.bases.specs.Settings.{IsLawful, Setting}
 use Rattle.monomial_orders.proofs.Comparing.{lex-slice}
 use Rattle.monomial_orders.specs.Kept.{IsWeighed, Monomial}
 use Rattle.monomial_orders.specs.Monomials.{IsMonomial, IsQuotient}
-use Rattle.module_vectors.proofs.Scaling.{take_item}
+use Rattle.term_lists.proofs.Scaling.{take_item}
+use Rattle.term_lists.specs.Vectors.{key_of, sum_of, sums_of}
+use Rattle.term_lists.specs.declared.key.Key.{Key as CodeKey}
 use Rattle.module_vectors.specs.Trails.{lead_at}
-use Rattle.module_vectors.specs.Vectors.{key_of, sum_of, sums_of}
-use Rattle.module_vectors.specs.declared.key.Key.{Key as CodeKey}
 use Rattle.vector_division.proofs.Members.{sums_at}
 use Rattle.schreyer_resolution.specs.Pairs.{AreLeastSoFar, ArePairMonomials, AreNonzero, IsPairMonomial, IsPairPut, IsPutUnlessCovered, RisesLex}
-use Rattle.module_vectors.proofs.SumsOfProducts.{Each_member}
+use Rattle.term_lists.proofs.Parts.{Each_member}
 use Rattle.schreyer_resolution.specs.Spans.{ArePast}
 use Rattle.schreyer_resolution.proofs.LeastLeads.{contains_cases, contains_left, contains_one, contains_only, contains_right, each_all, each_at, least_push, least_skip}
 

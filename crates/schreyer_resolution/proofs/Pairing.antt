@@ -3,7 +3,7 @@ use Rattle.std.specs.Prelude.{Bool, IsTrue, ◌↔◌}
 use Rattle.std.proofs.Common.{List, length, subst, sym, ℕ, ◌∙◌, ◌≡◌}
 use Rattle.monomials.specs.Exponents.{exponents_of, lcm, quotient}
 use Rattle.monomial_orders.specs.Kept.{IsWeighed, Monomial}
-use Rattle.module_vectors.specs.declared.key.Key.{Key as CodeKey}
+use Rattle.term_lists.specs.declared.key.Key.{Key as CodeKey}
 use Rattle.schreyer_resolution.specs.Columns.{IsWhetherPair}
 
 -- at one position they do where the monomial of their pair is the same

@@ -24,12 +24,12 @@ use Rattle.reduced_bases.proofs.Dropping.{KeyDivides_refl}
 use Rattle.resolution_laws.proofs.Bound.{IsMonicList_reduced}
 use Rattle.resolution_laws.specs.Resolutions.{IsCanonicalMap}
 use Rattle.monomial_orders.proofs.Comparing.{lex-slice}
-use Rattle.module_vectors.proofs.Gathers.{Each_permutation}
-use Rattle.module_vectors.proofs.SumsOfProducts.{Each_member}
-use Rattle.module_vectors.specs.Rings.{ring_comparison, setting, variables}
-use Rattle.module_vectors.specs.Vectors.{AreVectorsOver, HasPositions, IsVectorOver, key_of, sum_of, sums_of}
-use Rattle.module_vectors.specs.declared.key.Key.{Key as CodeKey}
-use Rattle.module_vectors.specs.declared.ring.Ring.{Ring}
+use Rattle.term_lists.proofs.Gathers.{Each_permutation}
+use Rattle.term_lists.proofs.Parts.{Each_member}
+use Rattle.term_lists.specs.Rings.{ring_comparison, setting, variables}
+use Rattle.term_lists.specs.Vectors.{AreVectorsOver, HasPositions, IsVectorOver, key_of, sum_of, sums_of}
+use Rattle.term_lists.specs.declared.key.Key.{Key as CodeKey}
+use Rattle.term_lists.specs.declared.ring.Ring.{Ring}
 use Rattle.vector_division.proofs.Members.{sums_at}
 use Rattle.schreyer_resolution.specs.Progress.{IsTopMap}
 use Rattle.schreyer_resolution.specs.Sorting.{by_place, place_of}

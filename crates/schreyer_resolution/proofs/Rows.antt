@@ -6,12 +6,12 @@ use Rattle.formal_sums.specs.FormalSums.{Each, FormalSum, Key, scale, shift}
 use Rattle.orders.specs.KeyOrders.{KeyDivides}
 use Rattle.bases.specs.Leads.{head_key, leads}
 use Rattle.monomial_orders.specs.Kept.{Monomial}
-use Rattle.module_vectors.proofs.SumsOfProducts.{Each_member}
-use Rattle.module_vectors.specs.Rings.{variables}
+use Rattle.term_lists.proofs.Parts.{Each_member}
+use Rattle.term_lists.specs.Rings.{variables}
+use Rattle.term_lists.specs.Vectors.{IsMonomialOver, sum_of, sums_of}
+use Rattle.term_lists.specs.declared.key.Key.{Key as CodeKey}
+use Rattle.term_lists.specs.declared.ring.Ring.{Ring}
 use Rattle.module_vectors.specs.Trails.{KeptProduct, lead_at}
-use Rattle.module_vectors.specs.Vectors.{IsMonomialOver, sum_of, sums_of}
-use Rattle.module_vectors.specs.declared.key.Key.{Key as CodeKey}
-use Rattle.module_vectors.specs.declared.ring.Ring.{Ring}
 use Rattle.vector_division.proofs.Members.{sums_at}
 use Rattle.row_matrix.proofs.Names.{named_more}
 use Rattle.row_matrix.specs.Naming.{AreNamed, IsGrown}

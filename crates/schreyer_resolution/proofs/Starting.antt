@@ -2,10 +2,10 @@
 use Rattle.std.proofs.Common.{List, Ordering, [], arith, refl, subst, suc, sym, zero, ℕ, ◌<◌, ◌∷◌, ◌≡◌}
 use Rattle.formal_sums.specs.FormalSums.{Each, Key}
 use Rattle.resolution_laws.specs.Resolutions.{IsCanonicalMap, IsCanonicalStart}
-use Rattle.module_vectors.specs.Rings.{ring_comparison, setting, variables}
-use Rattle.module_vectors.specs.Vectors.{AreVectorsOver, HasPositions, sums_of}
-use Rattle.module_vectors.specs.declared.key.Key.{Key as CodeKey}
-use Rattle.module_vectors.specs.declared.ring.Ring.{Ring}
+use Rattle.term_lists.specs.Rings.{ring_comparison, setting, variables}
+use Rattle.term_lists.specs.Vectors.{AreVectorsOver, HasPositions, sums_of}
+use Rattle.term_lists.specs.declared.key.Key.{Key as CodeKey}
+use Rattle.term_lists.specs.declared.ring.Ring.{Ring}
 use Rattle.resolution_maps.specs.Inducing.{Columns, Tower, over, tower_comparison}
 use Rattle.schreyer_resolution.specs.Columns.{AreColumnsTo, IsBase}
 use Rattle.schreyer_resolution.specs.Progress.{AreResolvedTo, IsTopMap}

@@ -9,10 +9,10 @@ use Rattle.formal_sums.proofs.Sameness.{IsSame_append, IsSame_of, IsSame_refl, I
 use Rattle.formal_sums.proofs.WeightedSums.{Each_append, coefficient-append, weighted_sum-scale}
 use Rattle.formal_sums.specs.Combinations.{combination}
 use Rattle.formal_sums.specs.FormalSums.{FormalSum, IsSame, coefficient, indicator, scale, shift, weighted_sum}
-use Rattle.module_vectors.specs.Rings.{variables}
-use Rattle.module_vectors.specs.Vectors.{sum_of, sums_of}
-use Rattle.module_vectors.specs.declared.key.Key.{Key as CodeKey}
-use Rattle.module_vectors.specs.declared.ring.Ring.{Ring}
+use Rattle.term_lists.specs.Rings.{variables}
+use Rattle.term_lists.specs.Vectors.{sum_of, sums_of}
+use Rattle.term_lists.specs.declared.key.Key.{Key as CodeKey}
+use Rattle.term_lists.specs.declared.ring.Ring.{Ring}
 use Rattle.vector_division.proofs.Members.{sums_at}
 use Rattle.vector_division.specs.Reductions.{cofactors_of}
 use Rattle.vector_division.specs.declared.reduction.ScaledProduct.{ScaledProduct}

@@ -7,11 +7,11 @@ use Rattle.orders.specs.KeyOrders.{KeyDivides, induced}
 use Rattle.bases.specs.Bases.{IsGroebnerBasis}
 use Rattle.bases.specs.Leads.{IsMonicList, leads}
 use Rattle.monomial_orders.specs.Kept.{Monomial}
-use Rattle.module_vectors.specs.Rings.{setting, variables}
+use Rattle.term_lists.specs.Rings.{setting, variables}
+use Rattle.term_lists.specs.Vectors.{AreVectorsOver, HasPositions, IsVectorOver, StandsFor, key_of, sum_of, sums_of}
+use Rattle.term_lists.specs.declared.key.Key.{Key as CodeKey}
+use Rattle.term_lists.specs.declared.ring.Ring.{Ring}
 use Rattle.module_vectors.specs.Trails.{IsTrail, KeptProduct, lead_at}
-use Rattle.module_vectors.specs.Vectors.{AreVectorsOver, HasPositions, IsVectorOver, StandsFor, key_of, sum_of, sums_of}
-use Rattle.module_vectors.specs.declared.key.Key.{Key as CodeKey}
-use Rattle.module_vectors.specs.declared.ring.Ring.{Ring}
 use Rattle.module_vectors.specs.declared.trail.KeptTrail.{KeptTrail}
 use Rattle.module_vectors.specs.declared.trail.TrailStart.TheVariants.{Pair}
 use Rattle.module_vectors.specs.declared.trail.WorkStop.{WorkStop}

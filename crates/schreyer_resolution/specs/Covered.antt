@@ -2,10 +2,10 @@
 use Rattle.std.specs.Prelude.{List, [], ℕ, ◌++◌}
 use Rattle.std.specs.declared.cmp.Ordering.{Ordering}
 use Rattle.formal_sums.specs.FormalSums.{IsSame, Key}
-use Rattle.module_vectors.specs.Rings.{variables}
-use Rattle.module_vectors.specs.Vectors.{AreVectorsOver, sum_of}
-use Rattle.module_vectors.specs.declared.key.Key.{Key as CodeKey}
-use Rattle.module_vectors.specs.declared.ring.Ring.{Ring}
+use Rattle.term_lists.specs.Rings.{variables}
+use Rattle.term_lists.specs.Vectors.{AreVectorsOver, sum_of}
+use Rattle.term_lists.specs.declared.key.Key.{Key as CodeKey}
+use Rattle.term_lists.specs.declared.ring.Ring.{Ring}
 use Rattle.vector_division.specs.Runs.{AreBelow, IsOver, total}
 use Rattle.schreyer_resolution.specs.Sifting.{IsSifting}
 

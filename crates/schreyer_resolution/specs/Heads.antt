@@ -3,8 +3,8 @@ use Rattle.std.specs.Prelude.{List, [], get_or, length, slice_index, ℕ, ◌++�
 use Rattle.monomials.specs.Exponents.{exponents_of, unit}
 use Rattle.monomials.specs.Weights.{weighted_degree}
 use Rattle.bases.specs.Leads.{leads}
-use Rattle.module_vectors.specs.Vectors.{sums_of}
-use Rattle.module_vectors.specs.declared.key.Key.{Key as CodeKey}
+use Rattle.term_lists.specs.Vectors.{sums_of}
+use Rattle.term_lists.specs.declared.key.Key.{Key as CodeKey}
 use Rattle.resolution_maps.specs.Inducing.{Columns, maps_of}
 use Rattle.schreyer_resolution.specs.Ways.{bottom, way}
 use Rattle.schreyer_resolution.specs.declared.head.Head.{Head}

@@ -7,9 +7,9 @@ use Rattle.orders.specs.KeyOrders.{KeyDivides, pot}
 use Rattle.orders.specs.MonomialOrders.{lex}
 use Rattle.syzygy_laws.specs.Syzygies.{pair_lead_key}
 use Rattle.monomial_orders.specs.Kept.{IsWeighed, Monomial}
+use Rattle.term_lists.specs.Vectors.{key_of, sums_of}
+use Rattle.term_lists.specs.declared.key.Key.{Key as CodeKey}
 use Rattle.module_vectors.specs.Trails.{lead_at}
-use Rattle.module_vectors.specs.Vectors.{key_of, sums_of}
-use Rattle.module_vectors.specs.declared.key.Key.{Key as CodeKey}
 use Rattle.schreyer_resolution.specs.Steps.{IsPairKey}
 
 -- m is the cofactor of member i in its pair with member j

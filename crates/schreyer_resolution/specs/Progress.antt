@@ -3,10 +3,10 @@ use Rattle.std.specs.Prelude.{List, [], length, ℕ, ◌++◌, ◌<◌, ◌∷�
 use Rattle.formal_sums.specs.FormalSums.{Each}
 use Rattle.syzygy_laws.specs.Syzygies.{induced_setting}
 use Rattle.resolution_laws.specs.Resolutions.{IsCanonicalMap, IsExact}
-use Rattle.module_vectors.specs.Rings.{ring_comparison, setting, variables}
-use Rattle.module_vectors.specs.Vectors.{AreVectorsOver, HasPositions, sums_of}
-use Rattle.module_vectors.specs.declared.key.Key.{Key as CodeKey}
-use Rattle.module_vectors.specs.declared.ring.Ring.{Ring}
+use Rattle.term_lists.specs.Rings.{ring_comparison, setting, variables}
+use Rattle.term_lists.specs.Vectors.{AreVectorsOver, HasPositions, sums_of}
+use Rattle.term_lists.specs.declared.key.Key.{Key as CodeKey}
+use Rattle.term_lists.specs.declared.ring.Ring.{Ring}
 use Rattle.resolution_maps.specs.Inducing.{Columns, maps_of, over, tower_comparison}
 use Rattle.resolution_maps.specs.Resolved.{AreFirstMaps, AreVectorsThrough, HavePositions}
 use Rattle.schreyer_resolution.specs.Columns.{IsBase}

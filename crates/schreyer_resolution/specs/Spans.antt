@@ -1,7 +1,7 @@
 -- Between which columns of a map the leads at one position stand
 use Rattle.std.specs.Prelude.{List, [], get_or, length, ℕ, ◌<◌, ◌≡◌, ◌≤◌}
+use Rattle.term_lists.specs.declared.key.Key.{Key as CodeKey}
 use Rattle.module_vectors.specs.Trails.{lead_at}
-use Rattle.module_vectors.specs.declared.key.Key.{Key as CodeKey}
 use Rattle.vector_division.specs.Marks.{IsMarkOf}
 use Rattle.vector_division.specs.declared.marks.Mark.{Mark}
 use Rattle.schreyer_resolution.specs.declared.divisors.LeadIndex.{LeadIndex}

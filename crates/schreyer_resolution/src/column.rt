@@ -3,9 +3,9 @@ ghost use Rattle.std.specs.Prelude.{◌≡◌, ◌<◌, ◌≤◌, ◌+◌, ◌�
 ghost use Rattle.monomials.specs.Exponents.{exponents_of};
 ghost use Rattle.bases.specs.Leads.{head_key};
 ghost use Rattle.formal_sums.specs.FormalSums.{Each, shift};
-ghost use Rattle.module_vectors.specs.Multiples.{MonomialProductStops};
-ghost use Rattle.module_vectors.specs.Rings.{variables};
-ghost use Rattle.module_vectors.specs.Vectors.{AreVectorsOver, HasPositions, IsMonomialOver, IsVectorOver, key_of, sum_of, sums_of};
+ghost use Rattle.term_lists.specs.Multiples.{MonomialProductStops};
+ghost use Rattle.term_lists.specs.Rings.{variables};
+ghost use Rattle.term_lists.specs.Vectors.{AreVectorsOver, HasPositions, IsMonomialOver, IsVectorOver, key_of, sum_of, sums_of};
 ghost use Rattle.vector_division.specs.Progress.{HasBoundedHead, IsSubtraction, SubtractionStops, last_position};
 ghost use Rattle.vector_division.specs.Runs.{AreBelow, total};
 ghost use Rattle.resolution_maps.specs.Inducing.{tower_comparison};

@@ -6,8 +6,8 @@ ghost use Rattle.orders.specs.MonomialOrders.{lex, reverse_lex};
 ghost use Rattle.orders.specs.WeightedOrders.{weighted_elimination, weighted_grevlex};
 ghost use Rattle.monomial_orders.specs.Comparisons.{comparison};
 ghost use Rattle.monomial_orders.specs.Kept.{AreWeights};
-ghost use Rattle.module_vectors.specs.Rings.{variables};
-ghost use Rattle.module_vectors.specs.Vectors.{IsMonomialOver};
+ghost use Rattle.term_lists.specs.Rings.{variables};
+ghost use Rattle.term_lists.specs.Vectors.{IsMonomialOver};
 ghost use Rattle.schreyer_resolution.specs.Heads.{AreSummands, IsHeadOver, summed};
 
 use crate::head::{Head, MAX_DEGREE};

@@ -1,7 +1,7 @@
 // The last column whose lead divides a key.
 ghost use Rattle.std.specs.Prelude.{◌≤◌, IfOk, OnOk, length};
-ghost use Rattle.module_vectors.specs.Rings.{variables};
-ghost use Rattle.module_vectors.specs.Vectors.{IsMonomialOver, key_of};
+ghost use Rattle.term_lists.specs.Rings.{variables};
+ghost use Rattle.term_lists.specs.Vectors.{IsMonomialOver, key_of};
 ghost use Rattle.vector_division.specs.Progress.{AreWeighed};
 ghost use Rattle.schreyer_resolution.specs.Columns.{IsFoundLast};
 ghost use Rattle.schreyer_resolution.specs.Spans.{ArePast, IsIndexOf, IsWidened};

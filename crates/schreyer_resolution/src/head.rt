@@ -4,9 +4,9 @@ ghost use Rattle.monomials.specs.Exponents.{exponents_of};
 ghost use Rattle.monomials.specs.Weights.{weighted_degree};
 ghost use Rattle.bases.specs.Leads.{head_key};
 ghost use Rattle.monomial_orders.specs.Kept.{AreWeights};
-ghost use Rattle.module_vectors.specs.Rings.{variables};
-ghost use Rattle.module_vectors.specs.Vectors.{sum_of};
-ghost use Rattle.module_vectors.specs.declared.key.Key.{Key as KeyValue};
+ghost use Rattle.term_lists.specs.Rings.{variables};
+ghost use Rattle.term_lists.specs.Vectors.{sum_of};
+ghost use Rattle.term_lists.specs.declared.key.Key.{Key as KeyValue};
 ghost use Rattle.resolution_maps.specs.Inducing.{Columns};
 ghost use Rattle.schreyer_resolution.specs.Heads.{AreHeads, AreExponentSums, IsHead, IsLeadOf, IsLow};
 

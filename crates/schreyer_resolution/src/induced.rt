@@ -1,8 +1,8 @@
 // The order that the columns of maps induce.
 ghost use Rattle.std.specs.Prelude.{◌≡◌, ◌<◌, ◌++◌, ◌∷◌, [], IfOk, length};
 ghost use Rattle.monomials.specs.Exponents.{exponents_of};
-ghost use Rattle.module_vectors.specs.Rings.{ring_comparison, variables};
-ghost use Rattle.module_vectors.specs.Vectors.{IsMonomialOver};
+ghost use Rattle.term_lists.specs.Rings.{ring_comparison, variables};
+ghost use Rattle.term_lists.specs.Vectors.{IsMonomialOver};
 ghost use Rattle.schreyer_resolution.specs.Heads.{IsHeadOver, summed};
 ghost use Rattle.schreyer_resolution.specs.Ways.{by_way};
 
@@ -25,7 +25,7 @@ pub struct Induced<'a> {
 }
 
 impl<'a> Model for Induced<'a> {
-    ghost use Rattle.module_vectors.specs.Rings.{variables};
+    ghost use Rattle.term_lists.specs.Rings.{variables};
     ghost use Rattle.schreyer_resolution.specs.Heads.{AreHeads};
     ghost use Rattle.resolution_maps.specs.Inducing.{Tower};
 

@@ -3,9 +3,9 @@ ghost use Rattle.std.specs.Prelude.{◌≡◌, ◌<◌, ◌++◌, ◌↔◌, ℕ
 ghost use Rattle.monomials.specs.Exponents.{Divides, exponents_of, lcm, quotient};
 ghost use Rattle.formal_sums.specs.FormalSums.{Each};
 ghost use Rattle.monomial_orders.specs.Kept.{Monomial};
-ghost use Rattle.module_vectors.specs.Rings.{variables};
+ghost use Rattle.term_lists.specs.Rings.{variables};
+ghost use Rattle.term_lists.specs.Vectors.{AreVectorsOver, IsMonomialOver, key_of, sums_of};
 ghost use Rattle.module_vectors.specs.Trails.{lead_at};
-ghost use Rattle.module_vectors.specs.Vectors.{AreVectorsOver, IsMonomialOver, key_of, sums_of};
 ghost use Rattle.vector_division.specs.Progress.{AreWeighed};
 ghost use Rattle.schreyer_resolution.specs.Columns.{IsBase};
 ghost use Rattle.schreyer_resolution.specs.Pairs.{AreLeastSoFar, ArePairMonomials, AreNonzero, IsPairPut, IsPutUnlessCovered, key_at_position};

@@ -3,9 +3,9 @@ ghost use Rattle.std.specs.Prelude.{◌≡◌, ◌<◌, ◌≤◌, ◌++◌, ◌
 ghost use Rattle.formal_sums.specs.FormalSums.{Each};
 ghost use Rattle.bases.specs.Bases.{IsReducedBasis};
 ghost use Rattle.resolution_laws.specs.Resolutions.{IsCanonical, IsCanonicalStart};
-ghost use Rattle.module_vectors.specs.Rings.{ring_comparison, setting, variables};
-ghost use Rattle.module_vectors.specs.Vectors.{AreVectorsOver, HasPositions, IsMonomialOver, key_of, sums_of};
-ghost use Rattle.module_vectors.specs.declared.key.Key.{Key as KeyValue};
+ghost use Rattle.term_lists.specs.Rings.{ring_comparison, setting, variables};
+ghost use Rattle.term_lists.specs.Vectors.{AreVectorsOver, HasPositions, IsMonomialOver, key_of, sums_of};
+ghost use Rattle.term_lists.specs.declared.key.Key.{Key as KeyValue};
 ghost use Rattle.resolution_maps.specs.Inducing.{Columns, maps_of};
 ghost use Rattle.resolution_maps.specs.Resolved.{AreJoined, AreVectorsThrough, HavePositions, ResolutionStops, columns_of};
 ghost use Rattle.schreyer_resolution.specs.Columns.{AreColumnsTo, ColumnStops, IsAbove, IsBase};

@@ -1,7 +1,7 @@
 // The terms of a vector that leads of the columns divide. In a member of the columns' module all others cancel.
 ghost use Rattle.std.specs.Prelude.{[], IfOk, OnOk};
-ghost use Rattle.module_vectors.specs.Rings.{variables};
-ghost use Rattle.module_vectors.specs.Vectors.{AreVectorsOver, IsMonomialOver, IsVectorOver};
+ghost use Rattle.term_lists.specs.Rings.{variables};
+ghost use Rattle.term_lists.specs.Vectors.{AreVectorsOver, IsMonomialOver, IsVectorOver};
 ghost use Rattle.vector_division.specs.Progress.{AreWeighed};
 ghost use Rattle.schreyer_resolution.specs.Sifting.{IsSifting, IsTermSifted};
 ghost use Rattle.schreyer_resolution.specs.Spans.{IsIndexOf};

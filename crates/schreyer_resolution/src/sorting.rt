@@ -3,8 +3,8 @@ ghost use Rattle.std.specs.Prelude.{◌≡◌, ◌<◌, [], IfOk, length};
 ghost use Rattle.formal_sums.specs.FormalSums.{Each};
 ghost use Rattle.bases.specs.Bases.{IsReducedBasis};
 ghost use Rattle.resolution_laws.specs.Resolutions.{IsCanonicalMap};
-ghost use Rattle.module_vectors.specs.Rings.{ring_comparison, setting, variables};
-ghost use Rattle.module_vectors.specs.Vectors.{AreVectorsOver, HasPositions, sums_of};
+ghost use Rattle.term_lists.specs.Rings.{ring_comparison, setting, variables};
+ghost use Rattle.term_lists.specs.Vectors.{AreVectorsOver, HasPositions, sums_of};
 ghost use Rattle.schreyer_resolution.specs.Progress.{IsTopMap};
 ghost use Rattle.schreyer_resolution.specs.Sorting.{by_place, place_of};
 

@@ -1,10 +1,10 @@
 // The trail of a column that meets a product of too great a degree.
 ghost use Rattle.std.specs.Prelude.{◌≡◌, ◌++◌, ◌∷◌, [], List, IfOk, OnOk, get_or, map};
-ghost use Rattle.module_vectors.specs.Rings.{variables};
-ghost use Rattle.module_vectors.specs.Stops.{HasMonomial, IsTooGreat, ScaledStops};
+ghost use Rattle.term_lists.specs.Rings.{variables};
+ghost use Rattle.term_lists.specs.Stops.{HasMonomial, IsTooGreat, ScaledStops};
+ghost use Rattle.term_lists.specs.Vectors.{AreVectorsOver, IsMonomialOver, key_of, sums_of};
+ghost use Rattle.term_lists.specs.declared.stop.VectStop.TheVariants.{Degree};
 ghost use Rattle.module_vectors.specs.Trails.{KeptProduct};
-ghost use Rattle.module_vectors.specs.Vectors.{AreVectorsOver, IsMonomialOver, key_of, sums_of};
-ghost use Rattle.module_vectors.specs.declared.stop.VectStop.TheVariants.{Degree};
 ghost use Rattle.monomial_orders.specs.Kept.{Monomial};
 ghost use Rattle.vector_division.specs.Progress.{AreWeighed};
 ghost use Rattle.vector_division.specs.Reductions.{unscaled};

@@ -5,7 +5,7 @@ use Rattle.std.specs.Prelude.{Contains}
 use Rattle.poly_grammar.specs.Numerals.{value_of}
 use Rattle.poly_grammar.specs.declared.step.PolyStep.{PolyStep}
 use Rattle.zp_field.specs.Moduli.{is_modulus}
-use Rattle.module_vectors.specs.declared.ring.Ring.{Ring}
+use Rattle.term_lists.specs.declared.ring.Ring.{Ring}
 use Rattle.script_forms.specs.Forms.{IsFormOf, IsLineOf, head_of}
 use Rattle.script_forms.specs.RingForms.{ring_line_of}
 use Rattle.script_forms.specs.Written.{IsLine, RingLine, Written, given_by, nothing, polys_of, ring_line, value_places}

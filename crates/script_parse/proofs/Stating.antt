@@ -11,10 +11,10 @@ use Rattle.poly_grammar.specs.Trees.{Poly}
 use Rattle.poly_grammar.specs.declared.step.PolyStep.{PolyStep}
 use Rattle.poly_grammar.specs.declared.step.PolyStep.TheVariants.{Name}
 use Rattle.poly_grammar.proofs.Worths.{worth_is_left}
-use Rattle.module_vectors.specs.Rings.{ring_comparison, variables}
-use Rattle.module_vectors.specs.Vectors.{HasPositions, IsVectorOver}
-use Rattle.module_vectors.specs.declared.key.Key.{Key}
-use Rattle.module_vectors.specs.declared.ring.Ring.{Ring}
+use Rattle.term_lists.specs.Rings.{ring_comparison, variables}
+use Rattle.term_lists.specs.Vectors.{HasPositions, IsVectorOver}
+use Rattle.term_lists.specs.declared.key.Key.{Key}
+use Rattle.term_lists.specs.declared.ring.Ring.{Ring}
 use Rattle.poly_value.specs.Values.{degrees_of, place_of, polynomials_of}
 use Rattle.script_forms.specs.Forms.{IsLineOf, operands_of, shape_behind}
 use Rattle.script_forms.specs.Written.{Written, WrittenOperation, divide_line, express_line, ideal_line, module_line, of_polynomial, operation_polys, preimage, show_line}

@@ -23,13 +23,13 @@ use Rattle.formal_sums.proofs.WeightedSums.{Each_append}
 use Rattle.bases.specs.Settings.{IsLawful}
 use Rattle.zp_field.proofs.TableFields.{is_modulus-domain}
 use Rattle.monomial_orders.specs.Laws.{key_comparison_order}
-use Rattle.module_vectors.specs.Rings.{ring_comparison, setting, variables}
-use Rattle.module_vectors.specs.Vectors.{AreTermsOver, HasPositions, IsTerm, IsVectorOver, StandsFor, sum_of}
-use Rattle.module_vectors.specs.declared.key.Key.{Key}
-use Rattle.module_vectors.specs.declared.ring.Ring.{Ring}
-use Rattle.module_vectors.proofs.Merges.{sum_of-append}
-use Rattle.module_vectors.proofs.NormalVectors.{vector_positions}
-use Rattle.module_vectors.proofs.Scaling.{take_item}
+use Rattle.term_lists.specs.Rings.{ring_comparison, setting, variables}
+use Rattle.term_lists.specs.Vectors.{AreTermsOver, HasPositions, IsTerm, IsVectorOver, StandsFor, sum_of}
+use Rattle.term_lists.specs.declared.key.Key.{Key}
+use Rattle.term_lists.specs.declared.ring.Ring.{Ring}
+use Rattle.term_lists.proofs.Merges.{sum_of-append}
+use Rattle.term_lists.proofs.NormalVectors.{vector_positions}
+use Rattle.term_lists.proofs.Scaling.{take_item}
 use Rattle.poly_value.specs.Values.{degrees_of, name_weight, place_of, polynomials, polynomials_of}
 use Rattle.script_parse.specs.Tests.{AreWorths, HasEntryTerms, IsWorkable, IsWorth, moved_to, knows, low_degree}
 use Rattle.script_parse.specs.Statements.{entries_from}

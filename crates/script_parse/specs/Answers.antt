@@ -1,6 +1,6 @@
 -- What is answered to a line
 use Rattle.std.specs.Prelude.{Err, List, Ok, Option, Result, ℕ}
-use Rattle.module_vectors.specs.declared.ring.Ring.{Ring}
+use Rattle.term_lists.specs.declared.ring.Ring.{Ring}
 use Rattle.script_parse.specs.Refusals.{Refuses}
 use Rattle.script_parse.specs.Statements.{States}
 use Rattle.script_parse.specs.declared.kind.ParseStop.{ParseStop}

@@ -9,8 +9,8 @@ use Rattle.poly_grammar.specs.Lexemes.{names_in}
 use Rattle.poly_grammar.specs.Numerals.{text_of, value_of}
 use Rattle.poly_grammar.specs.Trees.{Poly, spelling}
 use Rattle.zp_field.specs.Moduli.{is_modulus}
-use Rattle.module_vectors.specs.Rings.{variables}
-use Rattle.module_vectors.specs.declared.ring.Ring.{Ring}
+use Rattle.term_lists.specs.Rings.{variables}
+use Rattle.term_lists.specs.declared.ring.Ring.{Ring}
 use Rattle.poly_value.specs.Values.{name_weight}
 use Rattle.script_forms.specs.Written.{IsLine, RingLine, Written, WrittenOperation, change_line, divide_line, elimination, equal_line, express_line, ext_line, given_by, ideal_line, let_line, module_line, nothing, of_two, polys_of, preimage, ring_line, syzygies, value_places}
 use Rattle.script_forms.specs.declared.operands.Binary.TheVariants.{Colon, Intersect, Product, Sum}

@@ -11,10 +11,10 @@ use Rattle.monomial_orders.specs.declared.order.ModOrder.{ModOrder}
 use Rattle.monomial_orders.specs.declared.order.ModOrder.TheVariants.{Pot, Top}
 use Rattle.monomial_orders.specs.declared.order.Order.{Order}
 use Rattle.monomial_orders.specs.declared.order.Order.TheVariants as orders
-use Rattle.module_vectors.specs.Rings.{ring_comparison, variables}
-use Rattle.module_vectors.specs.Vectors.{HasPositions, IsVectorOver, StandsFor}
-use Rattle.module_vectors.specs.declared.key.Key.{Key}
-use Rattle.module_vectors.specs.declared.ring.Ring.{Ring}
+use Rattle.term_lists.specs.Rings.{ring_comparison, variables}
+use Rattle.term_lists.specs.Vectors.{HasPositions, IsVectorOver, StandsFor}
+use Rattle.term_lists.specs.declared.key.Key.{Key}
+use Rattle.term_lists.specs.declared.ring.Ring.{Ring}
 use Rattle.script_forms.specs.Written.{IsLine, RingLine, Written, WrittenOperation, ask_line, change_line, divide_line, elimination, equal_line, express_line, ext_line, ideal_line, let_line, module_line, nothing, of_polynomial, of_two, preimage, ring_line, show_line, syzygies}
 use Rattle.script_forms.specs.declared.form.DivisionWord.TheVariants as divisions
 use Rattle.script_forms.specs.declared.form.QuestionWord.TheVariants as questions

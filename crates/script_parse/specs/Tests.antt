@@ -13,10 +13,10 @@ use Rattle.poly_grammar.specs.declared.step.PolyStep.{PolyStep}
 use Rattle.poly_grammar.specs.declared.step.PolyStep.TheVariants as acts
 use Rattle.formal_sums.specs.FormalSums.{FormalSum}
 use Rattle.poly_value.specs.Values.{degrees_of, place_of, polynomials_of}
-use Rattle.module_vectors.specs.Rings.{ring_comparison, variables}
-use Rattle.module_vectors.specs.Vectors.{AreTermsOver, HasPositions, IsVectorOver, StandsFor}
-use Rattle.module_vectors.specs.declared.key.Key.{Key}
-use Rattle.module_vectors.specs.declared.ring.Ring.{Ring}
+use Rattle.term_lists.specs.Rings.{ring_comparison, variables}
+use Rattle.term_lists.specs.Vectors.{AreTermsOver, HasPositions, IsVectorOver, StandsFor}
+use Rattle.term_lists.specs.declared.key.Key.{Key}
+use Rattle.term_lists.specs.declared.ring.Ring.{Ring}
 use Rattle.script_forms.specs.Forms.{IsFormOf, IsLineOf, operands_of}
 use Rattle.script_forms.specs.Written.{IsLine, Written, WrittenOperation, operation_polys}
 use Rattle.script_forms.specs.declared.form.Form.{Form}

@@ -1,7 +1,7 @@
 //! Laws of lines: one thing is true of each.
 
 ghost use Rattle.std.specs.Prelude.{◌≡◌, ℕ, List, Option};
-ghost use Rattle.module_vectors.specs.declared.ring.Ring.{Ring as RingValue};
+ghost use Rattle.term_lists.specs.declared.ring.Ring.{Ring as RingValue};
 ghost use Rattle.script_parse.specs.Refusals.{Refuses};
 ghost use Rattle.script_parse.specs.Statements.{IsSameStatement, States};
 ghost use Rattle.script_parse.specs.declared.named.NameInfo.{NameInfo as NameValue};

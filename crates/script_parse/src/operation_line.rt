@@ -7,7 +7,7 @@ ghost use Rattle.std.specs.Str.{IsAscii};
 ghost use Rattle.poly_grammar.specs.Numerals.{text_of};
 ghost use Rattle.poly_grammar.specs.Steps.{steps};
 ghost use Rattle.poly_grammar.specs.declared.step.PolyStep.{PolyStep as StepValue};
-ghost use Rattle.module_vectors.specs.declared.ring.Ring.{Ring as RingValue};
+ghost use Rattle.term_lists.specs.declared.ring.Ring.{Ring as RingValue};
 ghost use Rattle.script_forms.specs.Forms.{operands_of};
 ghost use Rattle.script_forms.specs.Written.{WrittenOperation, operation_polys};
 ghost use Rattle.script_forms.specs.declared.form.Head.TheVariants as heads;

@@ -7,7 +7,7 @@ ghost use Rattle.std.specs.List.{AllByRecursion};
 ghost use Rattle.std.specs.Option.{option_map};
 ghost use Rattle.poly_grammar.specs.Numerals.{text_of, value_of};
 ghost use Rattle.zp_field.specs.Moduli.{is_modulus};
-ghost use Rattle.module_vectors.specs.declared.ring.Ring.{Ring as RingValue};
+ghost use Rattle.term_lists.specs.declared.ring.Ring.{Ring as RingValue};
 ghost use Rattle.script_forms.specs.RingForms.{ring_line_of};
 ghost use Rattle.script_forms.specs.Written.{ring_line};
 ghost use Rattle.script_parse.specs.declared.named.NameInfo.{NameInfo as NameValue};

@@ -2,8 +2,8 @@
 
 ghost use Rattle.std.specs.Prelude.{◌≡◌, ◌<◌, ◌++◌, IfOk, OnOk, length};
 ghost use Rattle.std.specs.List.{AllByRecursion};
-ghost use Rattle.module_vectors.specs.Rings.{ring_comparison};
-ghost use Rattle.module_vectors.specs.Vectors.{HasPositions, IsVectorOver};
+ghost use Rattle.term_lists.specs.Rings.{ring_comparison};
+ghost use Rattle.term_lists.specs.Vectors.{HasPositions, IsVectorOver};
 ghost use Rattle.script_parse.specs.Tests.{AreVectorWorths, AreWorths, HasEntryTerms, IsWorkable, IsWorth, StandsForEntries, moved_to};
 
 use module_vectors::{Key, NoMemory, Ring, Vect, VectList};

@@ -1,8 +1,8 @@
 -- The values that a session keeps, found by their names
 use Rattle.std.proofs.Common.{List, None, Option, Some, [], ap, arith, get_or, inl, inr, length, subst, sym, ℕ, ◌<◌, ◌∙◌, ◌∷◌, ◌≡◌}
 use Rattle.std.proofs.lemmas.Option.{none-some}
-use Rattle.module_vectors.specs.declared.key.Key.{Key}
-use Rattle.module_vectors.specs.declared.ring.Ring.{Ring}
+use Rattle.term_lists.specs.declared.key.Key.{Key}
+use Rattle.term_lists.specs.declared.ring.Ring.{Ring}
 use Rattle.script_parse.specs.declared.named.NameInfo.{NameInfo}
 use Rattle.session_reports.proofs.KeptValues.{length_written}
 use Rattle.session_values.proofs.Values.{found_value, kept_values, no_value}

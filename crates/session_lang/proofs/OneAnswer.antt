@@ -1,6 +1,6 @@
 -- What is asked of a value has one answer
 use Rattle.std.proofs.Common.{List, Some, [], ap, codes, inl, inr, subst₂, sym, ℕ, ◌++◌, ◌∙◌, ◌∷◌, ◌≡◌}
-use Rattle.module_vectors.specs.declared.ring.Ring.{Ring}
+use Rattle.term_lists.specs.declared.ring.Ring.{Ring}
 use Rattle.poly_text.specs.Texts.{names_of, vector_text}
 use Rattle.session_lang.proofs.OneForm.{one_form, one_reduced}
 use Rattle.session_values.specs.Answers.{Asked, Decides, IsAnswer, basis, member, normal_form, sizes_of_basis}

@@ -4,10 +4,10 @@ use Rattle.std.specs.Prelude.{◌↔◌}
 use Rattle.formal_sums.specs.FormalSums.{Each}
 use Rattle.bases.specs.Settings.{IsLawful}
 use Rattle.zp_field.proofs.TableFields.{is_modulus-below}
-use Rattle.module_vectors.specs.Rings.{ring_comparison, variables}
-use Rattle.module_vectors.specs.Vectors.{AreVectorsOver, HasPositions, IsTerm}
-use Rattle.module_vectors.specs.declared.key.Key.{Key}
-use Rattle.module_vectors.specs.declared.ring.Ring.{Ring}
+use Rattle.term_lists.specs.Rings.{ring_comparison, variables}
+use Rattle.term_lists.specs.Vectors.{AreVectorsOver, HasPositions, IsTerm}
+use Rattle.term_lists.specs.declared.key.Key.{Key}
+use Rattle.term_lists.specs.declared.ring.Ring.{Ring}
 use Rattle.poly_text.proofs.Values.{list_injective}
 use Rattle.poly_text.specs.Names.{AreDistinctNames}
 use Rattle.poly_text.specs.Printable.{IsPrintable, IsPrintableVector}

@@ -6,8 +6,8 @@ use Rattle.std.proofs.Math.Nat.{ℕ_set}
 use Rattle.std.specs.Prelude.{string_bytes}
 use Rattle.zp_field.specs.Moduli.{is_modulus}
 use Rattle.zp_field.specs.declared.modulus.Modulus.{Modulus}
-use Rattle.module_vectors.specs.declared.key.Key.{Key}
-use Rattle.module_vectors.specs.declared.ring.Ring.{Ring}
+use Rattle.term_lists.specs.declared.key.Key.{Key}
+use Rattle.term_lists.specs.declared.ring.Ring.{Ring}
 use Rattle.poly_text.specs.Texts.{names_of, poly_text}
 use Rattle.script_parse.specs.Statements.{IsSameOperation, IsSameStatement}
 use Rattle.script_parse.specs.declared.operation.Operation.{Operation}

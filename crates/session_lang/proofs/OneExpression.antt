@@ -7,11 +7,11 @@ use Rattle.bases.specs.Bases.{IsCovered}
 use Rattle.bases.specs.Leads.{leads}
 use Rattle.bases.specs.Settings.{Setting}
 use Rattle.map_laws.proofs.Images.{one_law}
-use Rattle.module_vectors.proofs.NormalVectors.{vector_unique}
-use Rattle.module_vectors.specs.Rings.{ring_comparison, variables}
-use Rattle.module_vectors.specs.Vectors.{sum_of, sums_of}
-use Rattle.module_vectors.specs.declared.key.Key.{Key as CodeKey}
-use Rattle.module_vectors.specs.declared.ring.Ring.{Ring}
+use Rattle.term_lists.proofs.NormalVectors.{vector_unique}
+use Rattle.term_lists.specs.Rings.{ring_comparison, variables}
+use Rattle.term_lists.specs.Vectors.{sum_of, sums_of}
+use Rattle.term_lists.specs.declared.key.Key.{Key as CodeKey}
+use Rattle.term_lists.specs.declared.ring.Ring.{Ring}
 use Rattle.ring_maps.specs.Maps.{IsExpression, IsExpressionAnswer, grevlex_ring, grevlex_setting}
 use Rattle.script_parse.proofs.Working.{lawful}
 use Rattle.std.proofs.lemmas.Option.{same_Some}

@@ -8,10 +8,10 @@ use Rattle.ext_laws.specs.Transposes.{IsInTransposedKernel, rank_at}
 use Rattle.ext_modules.specs.Ext.{IsExt, columns_at, image_of}
 use Rattle.ext_modules.specs.declared.presentation.Ext.{Ext}
 use Rattle.ideal_ops.specs.Answers.{IsBasisOfThose}
-use Rattle.module_vectors.specs.Rings.{variables}
-use Rattle.module_vectors.specs.Vectors.{sums_of}
-use Rattle.module_vectors.specs.declared.key.Key.{Key}
-use Rattle.module_vectors.specs.declared.ring.Ring.{Ring}
+use Rattle.term_lists.specs.Rings.{variables}
+use Rattle.term_lists.specs.Vectors.{sums_of}
+use Rattle.term_lists.specs.declared.key.Key.{Key}
+use Rattle.term_lists.specs.declared.ring.Ring.{Ring}
 use Rattle.resolution_maps.specs.Inducing.{Columns}
 use Rattle.session_lang.proofs.OneResolution.{started_once}
 use Rattle.session_lang.proofs.OneWork.{basis_once}

@@ -13,11 +13,11 @@ use Rattle.bases.specs.Leads.{IsNormal}
 use Rattle.bases.specs.Settings.{IsLawful, Setting}
 use Rattle.division_laws.proofs.Remainders.{normal_form_unique}
 use Rattle.reduced_unique.proofs.Uniqueness.{IsReducedBasis_unique}
-use Rattle.module_vectors.proofs.NormalVectors.{vector_normal, vector_unique}
-use Rattle.module_vectors.specs.Rings.{ring_comparison, setting, variables}
-use Rattle.module_vectors.specs.Vectors.{AreVectorsOver, sum_of, sums_of}
-use Rattle.module_vectors.specs.declared.key.Key.{Key as CodeKey}
-use Rattle.module_vectors.specs.declared.ring.Ring.{Ring}
+use Rattle.term_lists.proofs.NormalVectors.{vector_normal, vector_unique}
+use Rattle.term_lists.specs.Rings.{ring_comparison, setting, variables}
+use Rattle.term_lists.specs.Vectors.{AreVectorsOver, sum_of, sums_of}
+use Rattle.term_lists.specs.declared.key.Key.{Key as CodeKey}
+use Rattle.term_lists.specs.declared.ring.Ring.{Ring}
 use Rattle.groebner_iface.specs.Runs.{IsReducedBasisOf}
 use Rattle.script_parse.proofs.Working.{lawful}
 use Rattle.session_values.specs.Answers.{IsNormalForm}

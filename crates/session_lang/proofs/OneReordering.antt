@@ -2,10 +2,10 @@
 use Rattle.std.proofs.Common.{List, ap, codes, refl, subst, subst₂, sym, ℕ, ◌∙◌, ◌≡◌}
 use Rattle.monomials.specs.Exponents.{Exponents}
 use Rattle.monomial_orders.specs.declared.order.Order.{Order}
-use Rattle.module_vectors.specs.Rings.{variables}
-use Rattle.module_vectors.specs.Vectors.{sums_of}
-use Rattle.module_vectors.specs.declared.key.Key.{Key}
-use Rattle.module_vectors.specs.declared.ring.Ring.{Ring}
+use Rattle.term_lists.specs.Rings.{variables}
+use Rattle.term_lists.specs.Vectors.{sums_of}
+use Rattle.term_lists.specs.declared.key.Key.{Key}
+use Rattle.term_lists.specs.declared.ring.Ring.{Ring}
 use Rattle.groebner_iface.specs.Runs.{IsReducedBasisOf}
 use Rattle.change_laws.specs.Standard.{HasMany, IsInfinite, lead_monomials}
 use Rattle.order_change.specs.Reordered.{with_order}

@@ -5,11 +5,11 @@ use Rattle.std.specs.Prelude.{codes}
 use Rattle.formal_sums.proofs.OfRank.{IsOfRank_of}
 use Rattle.formal_sums.specs.FormalSums.{HasRank, IsOfRank, Key as FormalKey}
 use Rattle.bases.specs.Settings.{Setting}
-use Rattle.module_vectors.proofs.NormalVectors.{one_terms}
-use Rattle.module_vectors.specs.Rings.{ring_comparison, setting, variables}
-use Rattle.module_vectors.specs.Vectors.{AreVectorsOver, sums_of}
-use Rattle.module_vectors.specs.declared.key.Key.{Key}
-use Rattle.module_vectors.specs.declared.ring.Ring.{Ring}
+use Rattle.term_lists.proofs.NormalVectors.{one_terms}
+use Rattle.term_lists.specs.Rings.{ring_comparison, setting, variables}
+use Rattle.term_lists.specs.Vectors.{AreVectorsOver, sums_of}
+use Rattle.term_lists.specs.declared.key.Key.{Key}
+use Rattle.term_lists.specs.declared.ring.Ring.{Ring}
 use Rattle.operation_laws.proofs.Linear.{Each_at}
 use Rattle.resolution_laws.proofs.OneResolution.{start_unique}
 use Rattle.resolution_laws.proofs.Starts.{start_whole}

@@ -1,8 +1,8 @@
 -- A line has one outcome
 use Rattle.std.proofs.Common.{List, inl, inr, ℕ, ◌≡◌}
 use Rattle.std.specs.Prelude.{string_bytes}
-use Rattle.module_vectors.specs.declared.key.Key.{Key}
-use Rattle.module_vectors.specs.declared.ring.Ring.{Ring}
+use Rattle.term_lists.specs.declared.key.Key.{Key}
+use Rattle.term_lists.specs.declared.ring.Ring.{Ring}
 use Rattle.script_parse.proofs.OneAnswer.{apart, one_kind, one_statement}
 use Rattle.script_parse.specs.Statements.{IsSameStatement}
 use Rattle.script_parse.specs.declared.kind.Kind.{Kind}

@@ -7,10 +7,10 @@ use Rattle.hilbert_laws.proofs.Recurrence.{IsNumerator_unique}
 use Rattle.hilbert_laws.specs.Numerators.{module_count}
 use Rattle.hilbert_series.specs.Large.{IsLarge}
 use Rattle.hilbert_series.specs.Leads.{EndsInNonzero, keys_of}
-use Rattle.module_vectors.specs.Rings.{variables}
-use Rattle.module_vectors.specs.Vectors.{sum_of, sums_of}
-use Rattle.module_vectors.specs.declared.key.Key.{Key}
-use Rattle.module_vectors.specs.declared.ring.Ring.{Ring}
+use Rattle.term_lists.specs.Rings.{variables}
+use Rattle.term_lists.specs.Vectors.{sum_of, sums_of}
+use Rattle.term_lists.specs.declared.key.Key.{Key}
+use Rattle.term_lists.specs.declared.ring.Ring.{Ring}
 use Rattle.script_parse.proofs.Working.{lawful}
 use Rattle.script_parse.specs.declared.kind.Kind.{Kind}
 use Rattle.script_parse.specs.declared.kind.Kind.TheVariants as kinds

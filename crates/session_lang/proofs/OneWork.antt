@@ -6,10 +6,10 @@ use Rattle.formal_sums.specs.Combinations.{IsSameModule}
 use Rattle.formal_sums.specs.FormalSums.{FormalSum}
 use Rattle.bases.specs.Bases.{IsReducedBasis}
 use Rattle.reduced_bases.proofs.Comparing.{IsReducedBasis_same}
-use Rattle.module_vectors.specs.Rings.{ring_comparison, setting, variables}
-use Rattle.module_vectors.specs.Vectors.{sums_of}
-use Rattle.module_vectors.specs.declared.key.Key.{Key}
-use Rattle.module_vectors.specs.declared.ring.Ring.{Ring}
+use Rattle.term_lists.specs.Rings.{ring_comparison, setting, variables}
+use Rattle.term_lists.specs.Vectors.{sums_of}
+use Rattle.term_lists.specs.declared.key.Key.{Key}
+use Rattle.term_lists.specs.declared.ring.Ring.{Ring}
 use Rattle.script_parse.proofs.Working.{lawful}
 use Rattle.script_parse.specs.Statements.{IsSameOperation}
 use Rattle.script_parse.specs.declared.operation.Operation.{Operation}

@@ -1,7 +1,7 @@
 -- A value at the place of its name: what it is to the state, and what a call that works on it leaves
 use Rattle.std.proofs.Common.{List, Option, Some, ap, arith, get_or, length, refl, slice_set, subst, subst₂, sym, ℕ, ◌<◌, ◌∙◌, ◌≡◌}
 use Rattle.std.specs.Prelude.{IsSome}
-use Rattle.module_vectors.specs.declared.ring.Ring.{Ring}
+use Rattle.term_lists.specs.declared.ring.Ring.{Ring}
 use Rattle.script_parse.specs.declared.named.NameInfo.{NameInfo}
 use Rattle.session_lang.proofs.Finding.{has_value, kept_after, no_stored, sound_over}
 use Rattle.session_reports.proofs.KeptValues.{at_place, written_same}

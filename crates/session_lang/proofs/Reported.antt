@@ -1,6 +1,6 @@
 -- A reader that is told the ring and the names of a state: what it says is so of the state
 use Rattle.std.proofs.Common.{List, Option, inl, subst, subst₂, ℕ, ◌≡◌}
-use Rattle.module_vectors.specs.declared.ring.Ring.{Ring}
+use Rattle.term_lists.specs.declared.ring.Ring.{Ring}
 use Rattle.script_parse.specs.Refusals as refusals
 use Rattle.script_parse.specs.Statements as readings
 use Rattle.script_parse.specs.declared.kind.Kind.{Kind}

@@ -13,7 +13,7 @@ use Rattle.script_tokens.specs.declared.token.TokenKind.{TokenKind}
 use Rattle.script_tokens.specs.declared.token.TokenKind.TheVariants as kinds
 use Rattle.poly_grammar.specs.Lexemes.{Lexeme, lexeme, lexeme_as, name, names_in}
 use Rattle.poly_grammar.specs.Numerals.{text_of}
-use Rattle.module_vectors.specs.declared.ring.Ring.{Ring}
+use Rattle.term_lists.specs.declared.ring.Ring.{Ring}
 use Rattle.poly_text.specs.Names.{AreAllDistinct, AreDistinctNames, IsLetter, IsName, IsNameByte}
 use Rattle.script_forms.specs.Written.{AreListedNames, IsLine, IsWritten, RingLine, Written, ask_line, change_line, comma_list, divide_line, equal_line, express_line, ext_line, ideal_line, let_line, module_line, nothing, ring_line, show_line}
 use Rattle.script_forms.specs.declared.form.DivisionWord.TheVariants as divisions

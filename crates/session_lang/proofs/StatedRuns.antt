@@ -2,7 +2,7 @@
 use Rattle.std.proofs.Common.{List, Option, Some, ap, get_or, inr, length, refl, subst, subst₂, sym, ℕ, ◌*◌, ◌+◌, ◌∙◌, ◌≡◌}
 use Rattle.std.specs.Global.{Global}
 use Rattle.std.specs.Prelude.{String, string_bytes}
-use Rattle.module_vectors.specs.declared.ring.Ring.{Ring}
+use Rattle.term_lists.specs.declared.ring.Ring.{Ring}
 use Rattle.risen_counts.specs.Counts.{RoseAtMost, count_after}
 use Rattle.script_parse.specs.Places.{place_named}
 use Rattle.script_parse.specs.declared.named.NameInfo.{NameInfo}

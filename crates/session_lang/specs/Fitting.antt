@@ -1,10 +1,10 @@
 -- Which statements are fit to be done: their names are those of values, and their vectors and lists are over the ring
 use Rattle.std.specs.Prelude.{List, Some, length, string_bytes, ℕ, ◌≡◌, ◌≤◌}
 use Rattle.formal_sums.specs.FormalSums.{Each}
-use Rattle.module_vectors.specs.Rings.{ring_comparison, variables}
-use Rattle.module_vectors.specs.Vectors.{AreVectorsOver, HasPositions, IsVectorOver}
-use Rattle.module_vectors.specs.declared.key.Key.{Key}
-use Rattle.module_vectors.specs.declared.ring.Ring.{Ring}
+use Rattle.term_lists.specs.Rings.{ring_comparison, variables}
+use Rattle.term_lists.specs.Vectors.{AreVectorsOver, HasPositions, IsVectorOver}
+use Rattle.term_lists.specs.declared.key.Key.{Key}
+use Rattle.term_lists.specs.declared.ring.Ring.{Ring}
 use Rattle.script_parse.specs.declared.operation.Operation.{Operation}
 use Rattle.script_parse.specs.declared.operation.Operation.TheVariants as operations
 use Rattle.script_parse.specs.declared.stated.Statement.{Statement}

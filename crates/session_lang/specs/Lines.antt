@@ -1,8 +1,8 @@
 -- What a line does to a session
 use Rattle.std.specs.Prelude.{List, Some, [], codes, false, string_bytes, true, ℕ, ◌++◌, ◌∷◌, ◌≡◌, ◌⊎◌}
 use Rattle.monomial_orders.specs.declared.order.Order.{Order}
-use Rattle.module_vectors.specs.declared.key.Key.{Key}
-use Rattle.module_vectors.specs.declared.ring.Ring.{Ring}
+use Rattle.term_lists.specs.declared.key.Key.{Key}
+use Rattle.term_lists.specs.declared.ring.Ring.{Ring}
 use Rattle.poly_text.specs.Texts.{names_of, poly_text}
 use Rattle.script_parse.specs.Refusals as refusals
 use Rattle.script_parse.specs.Statements as readings

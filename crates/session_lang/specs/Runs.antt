@@ -1,6 +1,6 @@
 -- How often a line asks the engine for a basis
 use Rattle.std.specs.Prelude.{List, None, Option, Some, if◌then◌else◌, string_bytes, ℕ, ◌*◌, ◌+◌, ◌≡◌, ◌⊎◌}
-use Rattle.module_vectors.specs.declared.ring.Ring.{Ring}
+use Rattle.term_lists.specs.declared.ring.Ring.{Ring}
 use Rattle.risen_counts.specs.Counts.{RoseAtMost}
 use Rattle.script_parse.specs.declared.stated.Statement.{Statement}
 use Rattle.script_parse.specs.declared.stated.Statement.TheVariants as statements

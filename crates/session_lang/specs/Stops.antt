@@ -1,7 +1,7 @@
 -- What each answer to a line says
 use Rattle.std.specs.Prelude.{List, Some, string_bytes, ℕ, ◌++◌, ◌≡◌}
-use Rattle.module_vectors.specs.declared.key.Key.{Key}
-use Rattle.module_vectors.specs.declared.ring.Ring.{Ring}
+use Rattle.term_lists.specs.declared.key.Key.{Key}
+use Rattle.term_lists.specs.declared.ring.Ring.{Ring}
 use Rattle.module_vectors.specs.declared.trail.KeptTrail.{KeptTrail}
 use Rattle.groebner_iface.specs.Runs.{IsReducedBasisOf}
 use Rattle.ring_maps.specs.Graphs.{IsExpressionTrail}

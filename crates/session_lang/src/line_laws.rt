@@ -2,9 +2,9 @@
 
 ghost use Rattle.std.specs.Prelude.{◌≡◌, ◌≤◌, ◌↔◌, ◌++◌, ℕ, List, codes};
 ghost use Rattle.formal_sums.specs.FormalSums.{Each};
-ghost use Rattle.module_vectors.specs.Vectors.{HasPositions};
-ghost use Rattle.module_vectors.specs.declared.key.Key.{Key as KeyValue};
-ghost use Rattle.module_vectors.specs.declared.ring.Ring.{Ring as RingValue};
+ghost use Rattle.term_lists.specs.Vectors.{HasPositions};
+ghost use Rattle.term_lists.specs.declared.key.Key.{Key as KeyValue};
+ghost use Rattle.term_lists.specs.declared.ring.Ring.{Ring as RingValue};
 ghost use Rattle.poly_text.specs.Names.{AreDistinctNames};
 ghost use Rattle.poly_text.specs.Texts.{names_of};
 ghost use Rattle.script_parse.specs.Statements.{IsSameStatement};

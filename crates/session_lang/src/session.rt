@@ -77,7 +77,7 @@ impl Model for Session {
 
 impl Session {
     ghost use Rattle.std.specs.Prelude.{◌++◌, List, Some, [], is_some, string_bytes, ℕ};
-    ghost use Rattle.module_vectors.specs.declared.ring.Ring.{Ring as RingValue};
+    ghost use Rattle.term_lists.specs.declared.ring.Ring.{Ring as RingValue};
     ghost use Rattle.script_parse.specs.declared.stated.Statement.TheVariants as statements;
     ghost use Rattle.session_reports.specs.Asking.{asked_of};
     ghost use Rattle.session_lang.specs.Fitting.{IsFit, IsGiven, IsOperable};

@@ -3,9 +3,9 @@ use Rattle.std.proofs.Common.{Bool, List, None, Option, Some, [], ap, ap₂, ari
 use Rattle.std.proofs.lemmas.Bool.{false≢true, true≢false}
 use Rattle.std.specs.Prelude.{IfSome, IsSome, IsTrue, is_some}
 use Rattle.formal_sums.specs.FormalSums.{Each}
-use Rattle.module_vectors.specs.Vectors.{HasPositions}
-use Rattle.module_vectors.specs.declared.key.Key.{Key}
-use Rattle.module_vectors.specs.declared.ring.Ring.{Ring}
+use Rattle.term_lists.specs.Vectors.{HasPositions}
+use Rattle.term_lists.specs.declared.key.Key.{Key}
+use Rattle.term_lists.specs.declared.ring.Ring.{Ring}
 use Rattle.groebner_iface.specs.Runs.{IsReducedBasisOf}
 use Rattle.script_parse.specs.declared.named.NameInfo.{NameInfo}
 use Rattle.session_values.proofs.Values.{sound_at}

@@ -1,8 +1,8 @@
 -- Stops of a call: by which runs and which trails, said of others
 use Rattle.std.proofs.Common.{List, None, Option, ap, get_or, length, refl, subst₂, ℕ, ◌<◌, ◌≡◌}
 use Rattle.std.specs.Prelude.{is_some}
-use Rattle.module_vectors.specs.declared.key.Key.{Key}
-use Rattle.module_vectors.specs.declared.ring.Ring.{Ring}
+use Rattle.term_lists.specs.declared.key.Key.{Key}
+use Rattle.term_lists.specs.declared.ring.Ring.{Ring}
 use Rattle.module_vectors.specs.declared.trail.KeptTrail.{KeptTrail}
 use Rattle.groebner_iface.specs.Calls.{CallStops, NoTrail}
 use Rattle.groebner_iface.specs.Runs.{StoppedRun, StopsRun}

@@ -2,10 +2,10 @@
 use Rattle.std.proofs.Common.{List, [], ℕ, ◌∷◌}
 use Rattle.formal_sums.proofs.Combining.{Each_map}
 use Rattle.formal_sums.specs.FormalSums.{Each}
-use Rattle.module_vectors.specs.Rings.{ring_comparison, variables}
-use Rattle.module_vectors.specs.Vectors.{AreVectorsOver, HasVariables, IsVectorOver}
-use Rattle.module_vectors.specs.declared.key.Key.{Key}
-use Rattle.module_vectors.specs.declared.ring.Ring.{Ring}
+use Rattle.term_lists.specs.Rings.{ring_comparison, variables}
+use Rattle.term_lists.specs.Vectors.{AreVectorsOver, HasVariables, IsVectorOver}
+use Rattle.term_lists.specs.declared.key.Key.{Key}
+use Rattle.term_lists.specs.declared.ring.Ring.{Ring}
 
 -- a vector over a ring has its variables
 pub of_variables : (ring : Ring) (v : List (Key × ℕ)) → IsVectorOver ring (ring_comparison ring) v → Each (HasVariables (variables ring)) v

@@ -1,9 +1,9 @@
 -- Questions in the code
 use Rattle.std.specs.Prelude.{List, ℕ, ⊤}
-use Rattle.module_vectors.specs.Rings.{ring_comparison}
-use Rattle.module_vectors.specs.Vectors.{IsVectorOver}
-use Rattle.module_vectors.specs.declared.key.Key.{Key}
-use Rattle.module_vectors.specs.declared.ring.Ring.{Ring}
+use Rattle.term_lists.specs.Rings.{ring_comparison}
+use Rattle.term_lists.specs.Vectors.{IsVectorOver}
+use Rattle.term_lists.specs.declared.key.Key.{Key}
+use Rattle.term_lists.specs.declared.ring.Ring.{Ring}
 use Rattle.module_vectors.specs.declared.trail.KeptTrail.{KeptTrail}
 use Rattle.vector_division.specs.Divisions.{IsDivisionTrail}
 use Rattle.groebner_iface.specs.Runs.{IsReducedBasisOf}

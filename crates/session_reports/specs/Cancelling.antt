@@ -6,9 +6,9 @@ use Rattle.minimal_betti.specs.declared.tables.BettiEntry.{BettiEntry}
 use Rattle.minimal_laws.specs.Cancellation.{AreSameMaps}
 use Rattle.minimal_laws.specs.Gradings.{GradedMaps}
 use Rattle.betti_laws.specs.Tables.{step_count}
-use Rattle.module_vectors.specs.Rings.{variables}
-use Rattle.module_vectors.specs.declared.key.Key.{Key}
-use Rattle.module_vectors.specs.declared.ring.Ring.{Ring}
+use Rattle.term_lists.specs.Rings.{variables}
+use Rattle.term_lists.specs.declared.key.Key.{Key}
+use Rattle.term_lists.specs.declared.ring.Ring.{Ring}
 use Rattle.module_vectors.specs.declared.trail.WorkStop.{WorkStop}
 use Rattle.module_vectors.specs.declared.trail.WorkStop.TheVariants.{Degree, Memory}
 use Rattle.resolution_maps.specs.Resolved.{AreJoined}

@@ -1,7 +1,7 @@
 -- The text of a polynomial by others (IVA chapter 7, section 3)
 use Rattle.std.specs.Prelude.{List, None, Option, Some, [], false, ℕ, ◌++◌, ◌∷◌, ◌≡◌}
-use Rattle.module_vectors.specs.declared.key.Key.{Key}
-use Rattle.module_vectors.specs.declared.ring.Ring.{Ring}
+use Rattle.term_lists.specs.declared.key.Key.{Key}
+use Rattle.term_lists.specs.declared.ring.Ring.{Ring}
 use Rattle.poly_text.specs.Texts.{names_of, poly_text}
 use Rattle.ring_maps.specs.Maps.{IsExpressionAnswer}
 use Rattle.session_values.specs.Texts.{verdict}

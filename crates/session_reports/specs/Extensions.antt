@@ -1,7 +1,7 @@
 -- What the calls for Ext modules say
 use Rattle.std.specs.Prelude.{List, ℕ, ◌≡◌, ◌⊎◌}
-use Rattle.module_vectors.specs.declared.key.Key.{Key}
-use Rattle.module_vectors.specs.declared.ring.Ring.{Ring}
+use Rattle.term_lists.specs.declared.key.Key.{Key}
+use Rattle.term_lists.specs.declared.ring.Ring.{Ring}
 use Rattle.ext_laws.specs.Transposes.{rank_at}
 use Rattle.resolution_maps.specs.Inducing.{Columns}
 use Rattle.ext_modules.specs.Ext.{IsExt}

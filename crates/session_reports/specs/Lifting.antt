@@ -1,9 +1,9 @@
 -- The text of a lift (UAG chapter 5, section 3)
 use Rattle.std.specs.Prelude.{List, [], false, length, ℕ, ◌++◌, ◌∷◌, ◌≡◌, ◌⊎◌}
-use Rattle.module_vectors.specs.Rings.{ring_comparison}
-use Rattle.module_vectors.specs.Vectors.{IsVectorOver}
-use Rattle.module_vectors.specs.declared.key.Key.{Key}
-use Rattle.module_vectors.specs.declared.ring.Ring.{Ring}
+use Rattle.term_lists.specs.Rings.{ring_comparison}
+use Rattle.term_lists.specs.Vectors.{IsVectorOver}
+use Rattle.term_lists.specs.declared.key.Key.{Key}
+use Rattle.term_lists.specs.declared.ring.Ring.{Ring}
 use Rattle.poly_text.specs.Texts.{entries_text, names_of}
 use Rattle.syzygy_engine.specs.Lifts.{IsLiftOf}
 use Rattle.session_values.specs.Answers.{IsInModule}

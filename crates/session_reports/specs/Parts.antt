@@ -1,7 +1,7 @@
 -- What the calls for values at places say
 use Rattle.std.specs.Prelude.{IsSome, List, false, get_or, slice_set, ℕ, ◌≡◌, ◌⊎◌}
-use Rattle.module_vectors.specs.declared.key.Key.{Key}
-use Rattle.module_vectors.specs.declared.ring.Ring.{Ring}
+use Rattle.term_lists.specs.declared.key.Key.{Key}
+use Rattle.term_lists.specs.declared.ring.Ring.{Ring}
 use Rattle.script_parse.specs.declared.named.NameInfo.{NameInfo}
 use Rattle.session_values.specs.Kept.{value_of}
 use Rattle.session_values.specs.Names.{Value}

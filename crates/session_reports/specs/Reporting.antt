@@ -2,9 +2,9 @@
 use Rattle.std.specs.Prelude.{Bool, IsSome, List, string_bytes, ⊤, ℕ, ◌++◌, ◌≡◌}
 use Rattle.resolution_maps.specs.Resolved.{IsResolutionTrail}
 use Rattle.formal_sums.specs.FormalSums.{Each}
-use Rattle.module_vectors.specs.Vectors.{HasPositions}
-use Rattle.module_vectors.specs.declared.key.Key.{Key}
-use Rattle.module_vectors.specs.declared.ring.Ring.{Ring}
+use Rattle.term_lists.specs.Vectors.{HasPositions}
+use Rattle.term_lists.specs.declared.key.Key.{Key}
+use Rattle.term_lists.specs.declared.ring.Ring.{Ring}
 use Rattle.module_vectors.specs.declared.trail.KeptTrail.{KeptTrail}
 use Rattle.module_vectors.specs.declared.trail.WorkStop.{WorkStop}
 use Rattle.module_vectors.specs.declared.trail.WorkStop.TheVariants.{Degree, Memory}

@@ -1,8 +1,8 @@
 // The Hilbert numbers of a value, or why they are refused.
 ghost use Rattle.std.specs.Prelude.{◌≡◌, ◌≤◌, IfOk, List, OnErr, ℕ};
 ghost use Rattle.groebner_iface.specs.Runs.{IsReducedBasisOf};
-ghost use Rattle.module_vectors.specs.declared.key.Key.{Key as KeyValue};
-ghost use Rattle.module_vectors.specs.declared.ring.Ring.{Ring as RingValue};
+ghost use Rattle.term_lists.specs.declared.key.Key.{Key as KeyValue};
+ghost use Rattle.term_lists.specs.declared.ring.Ring.{Ring as RingValue};
 ghost use Rattle.session_reports.specs.Reporting.{Reports, ReportsAs};
 ghost use Rattle.session_reports.specs.declared.reports.Report.TheVariants as reports;
 ghost use Rattle.session_values.specs.Counting.{NumbersStop};

@@ -1,8 +1,8 @@
 // Lifts to the stored list of a value.
 ghost use Rattle.std.specs.Prelude.{◌≡◌, ◌≤◌, ◌++◌, ◌∷◌, [], IfErr, IfNone, IfSome, List, OnErr, OnOk, false, ℕ};
 ghost use Rattle.formal_sums.specs.FormalSums.{Each};
-ghost use Rattle.module_vectors.specs.Rings.{ring_comparison, variables};
-ghost use Rattle.module_vectors.specs.Vectors.{HasPositions, HasVariables, IsVectorOver};
+ghost use Rattle.term_lists.specs.Rings.{ring_comparison, variables};
+ghost use Rattle.term_lists.specs.Vectors.{HasPositions, HasVariables, IsVectorOver};
 ghost use Rattle.poly_text.specs.Texts.{entries_text, names_of};
 ghost use Rattle.session_values.specs.Texts.{verdict};
 ghost use Rattle.risen_counts.specs.Counts.{RoseAtMost};

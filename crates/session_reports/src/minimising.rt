@@ -4,7 +4,7 @@ ghost use Rattle.std.specs.Prelude.{◌≡◌, ◌++◌, ◌∷◌, [], IfErr, I
 ghost use Rattle.minimal_betti.specs.Tables.{IsBettiTable};
 ghost use Rattle.formal_sums.specs.FormalSums.{Each};
 ghost use Rattle.groebner_iface.specs.Runs.{IsReducedBasisOf};
-ghost use Rattle.module_vectors.specs.Vectors.{HasPositions};
+ghost use Rattle.term_lists.specs.Vectors.{HasPositions};
 ghost use Rattle.poly_text.specs.Writing.{IsFront};
 ghost use Rattle.session_reports.specs.Cancelling.{IsCancelledAs, IsTableOfBasis, StopsAsMinimal};
 ghost use Rattle.session_reports.specs.Minimising.{AreInvariants, HasTwoDegrees, IsInhomogeneous, entry_line, regularity_text, table_text};

@@ -1,7 +1,7 @@
 // What is told of a value once its reduced basis is known, or why it is refused then.
 ghost use Rattle.std.specs.Prelude.{◌≡◌, ◌≤◌, IfErr, IfOk, List, OnErr, OnOk};
 ghost use Rattle.formal_sums.specs.FormalSums.{Each};
-ghost use Rattle.module_vectors.specs.Vectors.{HasPositions};
+ghost use Rattle.term_lists.specs.Vectors.{HasPositions};
 ghost use Rattle.risen_counts.specs.Counts.{count_after};
 ghost use Rattle.groebner_iface.specs.Calls.{CallStops};
 ghost use Rattle.groebner_iface.specs.Runs.{IsReducedBasisOf};

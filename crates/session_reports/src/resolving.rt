@@ -2,7 +2,7 @@
 ghost use Rattle.std.specs.Prelude.{◌≡◌, IfErr, IfOk, List, OnErr};
 ghost use Rattle.formal_sums.specs.FormalSums.{Each};
 ghost use Rattle.groebner_iface.specs.Runs.{IsReducedBasisOf};
-ghost use Rattle.module_vectors.specs.Vectors.{HasPositions};
+ghost use Rattle.term_lists.specs.Vectors.{HasPositions};
 ghost use Rattle.resolution_maps.specs.Resolved.{ResolutionStops};
 ghost use Rattle.session_reports.specs.Reporting.{Reports};
 ghost use Rattle.session_reports.specs.declared.reports.Report.TheVariants as reports;

@@ -4,7 +4,7 @@ use Rattle.std.specs.Fmt.{decimal}
 use Rattle.monomials.specs.Exponents.{exponents_of}
 use Rattle.monomials.specs.Weights.{weighted_degree}
 use Rattle.monomial_orders.specs.Kept.{Monomial}
-use Rattle.module_vectors.specs.Rings.{variables}
+use Rattle.term_lists.specs.Rings.{variables}
 use Rattle.module_vectors.specs.Trails.{KeptProduct, last_product}
 use Rattle.module_vectors.specs.declared.trail.KeptTrail.{KeptTrail}
 use Rattle.basis_steps.specs.Steps.{Replays}

@@ -5,7 +5,7 @@ use Rattle.std.proofs.lemmas.List.{append-nil, drop_all, drop_more, flat_map_mor
 use Rattle.std.specs.Prelude.{OnErr, OnOk}
 use Rattle.poly_text.proofs.Writing.{begins_more}
 use Rattle.poly_text.specs.Writing.{IsFront}
-use Rattle.module_vectors.specs.declared.ring.Ring.{Ring}
+use Rattle.term_lists.specs.declared.ring.Ring.{Ring}
 use Rattle.resolution_maps.specs.declared.maps.Map.{Map}
 use Rattle.session_values.specs.Resolving.{map_text}
 use Rattle.session_values.specs.Writing.{written_maps}

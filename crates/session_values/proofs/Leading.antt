@@ -6,10 +6,10 @@ use Rattle.hilbert_series.specs.Large.{DimensionStops}
 use Rattle.hilbert_series.specs.Leads.{AreLeads, EndsInNonzero, IsFirstOver, NumeratorStops, keys_of}
 use Rattle.hilbert_series.specs.declared.stop.HilbertStop.{HilbertStop}
 use Rattle.hilbert_series.specs.declared.stop.HilbertStop.TheVariants as stops
-use Rattle.module_vectors.specs.Rings.{ring_comparison, variables}
-use Rattle.module_vectors.specs.Vectors.{AreVectorsOver}
-use Rattle.module_vectors.specs.declared.key.Key.{Key}
-use Rattle.module_vectors.specs.declared.ring.Ring.{Ring}
+use Rattle.term_lists.specs.Rings.{ring_comparison, variables}
+use Rattle.term_lists.specs.Vectors.{AreVectorsOver}
+use Rattle.term_lists.specs.declared.key.Key.{Key}
+use Rattle.term_lists.specs.declared.ring.Ring.{Ring}
 use Rattle.session_values.specs.Counting.{CountsFirst, NumbersStop}
 use Rattle.session_values.specs.Numbers.{HasManyLeads, IsNumeratorFor, leads_of}
 

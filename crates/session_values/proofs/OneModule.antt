@@ -5,11 +5,11 @@ use Rattle.formal_sums.proofs.OfRank.{IsOfRank_of}
 use Rattle.formal_sums.specs.FormalSums.{Each, HasRank, IsOfRank}
 use Rattle.bases.specs.Settings.{IsLawful, Setting}
 use Rattle.reduced_bases.proofs.Comparing.{IsReducedBasis_same, IsSameModule_equal}
-use Rattle.module_vectors.proofs.SumsOfProducts.{Each_member}
-use Rattle.module_vectors.specs.Rings.{ring_comparison, setting, variables}
-use Rattle.module_vectors.specs.Vectors.{HasPositions, sum_of, sums_of}
-use Rattle.module_vectors.specs.declared.key.Key.{Key as CodeKey}
-use Rattle.module_vectors.specs.declared.ring.Ring.{Ring}
+use Rattle.term_lists.proofs.Parts.{Each_member}
+use Rattle.term_lists.specs.Rings.{ring_comparison, setting, variables}
+use Rattle.term_lists.specs.Vectors.{HasPositions, sum_of, sums_of}
+use Rattle.term_lists.specs.declared.key.Key.{Key as CodeKey}
+use Rattle.term_lists.specs.declared.ring.Ring.{Ring}
 use Rattle.vector_division.proofs.Members.{sums_at}
 use Rattle.groebner_iface.specs.Runs.{IsReducedBasisOf}
 use Rattle.session_values.specs.Answers.{IsOneModule}

@@ -4,10 +4,10 @@ use Rattle.monomials.specs.Exponents.{unit}
 use Rattle.formal_sums.specs.Combinations.{IsMember, IsSameModule}
 use Rattle.formal_sums.specs.FormalSums.{Each, scale}
 use Rattle.bases.specs.Bases.{HasFreeTerms}
-use Rattle.module_vectors.specs.Rings.{ring_comparison, setting, variables}
-use Rattle.module_vectors.specs.Vectors.{IsVectorOver, sum_of, sums_of}
-use Rattle.module_vectors.specs.declared.key.Key.{Key}
-use Rattle.module_vectors.specs.declared.ring.Ring.{Ring}
+use Rattle.term_lists.specs.Rings.{ring_comparison, setting, variables}
+use Rattle.term_lists.specs.Vectors.{IsVectorOver, sum_of, sums_of}
+use Rattle.term_lists.specs.declared.key.Key.{Key}
+use Rattle.term_lists.specs.declared.ring.Ring.{Ring}
 use Rattle.groebner_iface.specs.Runs.{IsReducedBasisOf}
 use Rattle.poly_text.specs.Texts.{list_text, names_of, vector_text}
 use Rattle.session_values.specs.Names.{Value}

@@ -1,8 +1,8 @@
 -- What the calls for the numbers of a value say
 use Rattle.std.specs.Prelude.{List, ⊤, ℕ, ℤ}
-use Rattle.module_vectors.specs.Rings.{variables}
-use Rattle.module_vectors.specs.declared.key.Key.{Key}
-use Rattle.module_vectors.specs.declared.ring.Ring.{Ring}
+use Rattle.term_lists.specs.Rings.{variables}
+use Rattle.term_lists.specs.declared.key.Key.{Key}
+use Rattle.term_lists.specs.declared.ring.Ring.{Ring}
 use Rattle.hilbert_series.specs.Large.{IsLarge}
 use Rattle.hilbert_series.specs.Leads.{IsFirstOver, keys_of}
 use Rattle.hilbert_series.specs.declared.stop.HilbertStop.{HilbertStop}

@@ -1,10 +1,10 @@
 -- Ext modules of a value, against the ring (UAG chapter 6, section 1; Eisenbud, Commutative Algebra, appendix A3.11)
 use Rattle.std.specs.Fmt.{decimal}
 use Rattle.std.specs.Prelude.{List, [], codes, length, suc, ℕ, ◌++◌, ◌∷◌, ◌≡◌}
-use Rattle.module_vectors.specs.Rings.{ring_comparison, setting, variables}
-use Rattle.module_vectors.specs.Vectors.{sums_of}
-use Rattle.module_vectors.specs.declared.key.Key.{Key}
-use Rattle.module_vectors.specs.declared.ring.Ring.{Ring}
+use Rattle.term_lists.specs.Rings.{ring_comparison, setting, variables}
+use Rattle.term_lists.specs.Vectors.{sums_of}
+use Rattle.term_lists.specs.declared.key.Key.{Key}
+use Rattle.term_lists.specs.declared.ring.Ring.{Ring}
 use Rattle.groebner_iface.specs.Runs.{IsReducedBasisOf}
 use Rattle.ideal_ops.specs.Runs.{OfRuns}
 use Rattle.resolution_laws.specs.Resolutions.{IsCanonicalStart}

@@ -1,6 +1,6 @@
 -- What is kept of a value beside its name
 use Rattle.std.specs.Prelude.{List, None, Option, Some, ℕ}
-use Rattle.module_vectors.specs.declared.key.Key.{Key}
+use Rattle.term_lists.specs.declared.key.Key.{Key}
 use Rattle.session_values.specs.declared.stored.Basis.{Basis}
 use Rattle.session_values.specs.declared.stored.Basis.TheVariants as bases
 

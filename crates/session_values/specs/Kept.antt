@@ -1,10 +1,10 @@
 -- What the code keeps of values
 use Rattle.std.specs.Prelude.{IfSome, List, None, Option, Some, [], is_some, length, string_bytes, ℕ, ◌∷◌, ◌≡◌, ◌≤◌}
 use Rattle.formal_sums.specs.FormalSums.{Each}
-use Rattle.module_vectors.specs.Rings.{ring_comparison}
-use Rattle.module_vectors.specs.Vectors.{AreVectorsOver, HasPositions, IsVectorOver}
-use Rattle.module_vectors.specs.declared.key.Key.{Key}
-use Rattle.module_vectors.specs.declared.ring.Ring.{Ring}
+use Rattle.term_lists.specs.Rings.{ring_comparison}
+use Rattle.term_lists.specs.Vectors.{AreVectorsOver, HasPositions, IsVectorOver}
+use Rattle.term_lists.specs.declared.key.Key.{Key}
+use Rattle.term_lists.specs.declared.ring.Ring.{Ring}
 use Rattle.groebner_iface.specs.Runs.{IsReducedBasisOf}
 use Rattle.script_parse.specs.declared.named.NameInfo.{NameInfo}
 use Rattle.session_values.specs.Names.{Value}

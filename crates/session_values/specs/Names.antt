@@ -1,8 +1,8 @@
 -- What a session keeps from line to line
 use Rattle.std.specs.Prelude.{Bool, List, None, Option, Some, [], if◌then◌else◌, length, nat_eq, string_bytes, true, ℕ, ◌∷◌, ◌≡◌}
 use Rattle.std.specs.Cmp.Lexicographic.{pointwise}
-use Rattle.module_vectors.specs.declared.key.Key.{Key}
-use Rattle.module_vectors.specs.declared.ring.Ring.{Ring}
+use Rattle.term_lists.specs.declared.key.Key.{Key}
+use Rattle.term_lists.specs.declared.ring.Ring.{Ring}
 use Rattle.script_parse.specs.declared.named.NameInfo.{NameInfo}
 
 -- a value: its name, its rank, its list as it was typed or as an operation gave it, and whether its reduced basis is kept: a line

@@ -3,9 +3,9 @@ use Rattle.std.specs.Fmt.{signed_decimal}
 use Rattle.std.specs.Prelude.{List, [], codes, flat_map, length, ℕ, ℤ, ◌++◌, ◌<◌, ◌∷◌, ◌≡◌}
 use Rattle.hilbert_laws.specs.Dimensions.{HasDimension}
 use Rattle.hilbert_laws.specs.Numerators.{IsNumerator, leads_at, module_count}
-use Rattle.module_vectors.specs.Rings.{variables}
-use Rattle.module_vectors.specs.declared.key.Key.{Key}
-use Rattle.module_vectors.specs.declared.ring.Ring.{Ring}
+use Rattle.term_lists.specs.Rings.{variables}
+use Rattle.term_lists.specs.declared.key.Key.{Key}
+use Rattle.term_lists.specs.declared.ring.Ring.{Ring}
 use Rattle.groebner_iface.specs.Runs.{IsReducedBasisOf}
 use Rattle.hilbert_series.specs.Large.{IsLarge}
 use Rattle.hilbert_series.specs.Leads.{EndsInNonzero, keys_of}

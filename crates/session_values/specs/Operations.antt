@@ -4,10 +4,10 @@ use Rattle.formal_sums.specs.Combinations.{IsMember, IsSyzygy}
 use Rattle.formal_sums.specs.FormalSums.{Each, FormalSum, IsOfRank, product}
 use Rattle.division_laws.specs.Elimination.{has_none_of_first}
 use Rattle.operation_laws.specs.Operations.{IsCombinationOfKept, IsInSaturation, products_of}
-use Rattle.module_vectors.specs.Rings.{variables}
-use Rattle.module_vectors.specs.Vectors.{sum_of, sums_of}
-use Rattle.module_vectors.specs.declared.key.Key.{Key}
-use Rattle.module_vectors.specs.declared.ring.Ring.{Ring}
+use Rattle.term_lists.specs.Rings.{variables}
+use Rattle.term_lists.specs.Vectors.{sum_of, sums_of}
+use Rattle.term_lists.specs.declared.key.Key.{Key}
+use Rattle.term_lists.specs.declared.ring.Ring.{Ring}
 use Rattle.module_vectors.specs.declared.trail.KeptTrail.{KeptTrail}
 use Rattle.syzygy_engine.specs.Kernels.{IsSyzygyRun}
 use Rattle.ideal_ops.specs.Answers.{IsBasisOfThose}

@@ -1,10 +1,10 @@
 -- The canonical resolution of a value (UAG chapter 6, section 1; Eisenbud, section 15.5)
 use Rattle.std.specs.Fmt.{decimal}
 use Rattle.std.specs.Prelude.{List, [], codes, flat_map, length, ℕ, ◌+◌, ◌++◌, ◌∷◌, ◌≡◌}
-use Rattle.module_vectors.specs.Rings.{ring_comparison, setting, variables}
-use Rattle.module_vectors.specs.Vectors.{sums_of}
-use Rattle.module_vectors.specs.declared.key.Key.{Key}
-use Rattle.module_vectors.specs.declared.ring.Ring.{Ring}
+use Rattle.term_lists.specs.Rings.{ring_comparison, setting, variables}
+use Rattle.term_lists.specs.Vectors.{sums_of}
+use Rattle.term_lists.specs.declared.key.Key.{Key}
+use Rattle.term_lists.specs.declared.ring.Ring.{Ring}
 use Rattle.module_vectors.specs.declared.trail.KeptTrail.{KeptTrail}
 use Rattle.groebner_iface.specs.Runs.{IsReducedBasisOf}
 use Rattle.poly_text.specs.Texts.{entries_text, names_of}

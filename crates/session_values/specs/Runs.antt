@@ -1,6 +1,6 @@
 -- How often the engine is asked for a value
 use Rattle.std.specs.Prelude.{if◌then◌else◌, is_some, ℕ}
-use Rattle.module_vectors.specs.declared.ring.Ring.{Ring}
+use Rattle.term_lists.specs.declared.ring.Ring.{Ring}
 use Rattle.syzygy_engine.specs.Kernels.{runs_in_order}
 use Rattle.session_values.specs.Held.{StoredShown}
 use Rattle.session_values.specs.Operations.{TaskShown, colon, eliminate, intersect, multiply, preimage, quotient, saturate, sum, syzygies}

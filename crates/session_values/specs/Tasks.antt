@@ -1,9 +1,9 @@
 -- Operations in the code
 use Rattle.std.specs.Prelude.{List, String, length, string_bytes, ℕ, ◌≡◌}
 use Rattle.std.specs.Global.{Global}
-use Rattle.module_vectors.specs.Rings.{variables}
-use Rattle.module_vectors.specs.declared.key.Key.{Key}
-use Rattle.module_vectors.specs.declared.ring.Ring.{Ring}
+use Rattle.term_lists.specs.Rings.{variables}
+use Rattle.term_lists.specs.declared.key.Key.{Key}
+use Rattle.term_lists.specs.declared.ring.Ring.{Ring}
 use Rattle.session_values.specs.Kept.{IsListOver, IsPolynomialOver, IsValueRank}
 use Rattle.session_values.specs.Names.{HasValue, ScriptState, Value}
 use Rattle.session_values.specs.Operations.{TaskShown, colon, eliminate, intersect, multiply, preimage, quotient, result_rank, saturate, sum, syzygies}

@@ -1,9 +1,9 @@
 -- The maps of a resolution as they are written
 use Rattle.std.specs.Prelude.{List, [], length, ℕ, ◌+◌, ◌++◌, ◌∷◌}
 use Rattle.formal_sums.specs.FormalSums.{Each}
-use Rattle.module_vectors.specs.Rings.{variables}
-use Rattle.module_vectors.specs.Vectors.{HasVariables}
-use Rattle.module_vectors.specs.declared.ring.Ring.{Ring}
+use Rattle.term_lists.specs.Rings.{variables}
+use Rattle.term_lists.specs.Vectors.{HasVariables}
+use Rattle.term_lists.specs.declared.ring.Ring.{Ring}
 use Rattle.resolution_maps.specs.declared.maps.Map.{Map}
 use Rattle.session_values.specs.Resolving.{map_text}
 use Rattle.session_values.specs.Texts.{heading}

@@ -1,8 +1,8 @@
 // Presentations of Ext modules as they are written.
 ghost use Rattle.std.specs.Prelude.{◌≡◌, ◌++◌, OnErr, OnOk, codes, length};
 ghost use Rattle.formal_sums.specs.FormalSums.{Each};
-ghost use Rattle.module_vectors.specs.Rings.{variables};
-ghost use Rattle.module_vectors.specs.Vectors.{HasVariables};
+ghost use Rattle.term_lists.specs.Rings.{variables};
+ghost use Rattle.term_lists.specs.Vectors.{HasVariables};
 ghost use Rattle.poly_text.specs.Writing.{IsFront};
 ghost use Rattle.session_values.specs.Extending.{ext_line, ext_text};
 ghost use Rattle.session_values.specs.Texts.{verdict};

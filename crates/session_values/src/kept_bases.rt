@@ -1,9 +1,9 @@
 // The reduced bases that are kept, and what they are compared and divided by.
 ghost use Rattle.std.specs.Prelude.{◌≡◌, ◌≤◌, ◌↔◌, IfErr, IfOk, IsSome, IsTrue, List, None, OnErr, OnOk, Some, [], false, true, ℕ};
 ghost use Rattle.formal_sums.specs.FormalSums.{Each};
-ghost use Rattle.module_vectors.specs.Rings.{ring_comparison};
-ghost use Rattle.module_vectors.specs.Vectors.{HasPositions, IsVectorOver};
-ghost use Rattle.module_vectors.specs.declared.key.Key.{Key};
+ghost use Rattle.term_lists.specs.Rings.{ring_comparison};
+ghost use Rattle.term_lists.specs.Vectors.{HasPositions, IsVectorOver};
+ghost use Rattle.term_lists.specs.declared.key.Key.{Key};
 ghost use Rattle.risen_counts.specs.Counts.{count_after};
 ghost use Rattle.groebner_iface.specs.Runs.{IsReducedBasisOf, StopsRun};
 ghost use Rattle.session_values.specs.Answers.{IsInModule, IsNormalForm, IsOneModule};

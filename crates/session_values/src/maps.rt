@@ -1,8 +1,8 @@
 // The maps of a resolution as they are written.
 ghost use Rattle.std.specs.Prelude.{◌≡◌, ◌++◌, ◌+◌, OnErr, OnOk};
 ghost use Rattle.formal_sums.specs.FormalSums.{Each};
-ghost use Rattle.module_vectors.specs.Rings.{variables};
-ghost use Rattle.module_vectors.specs.Vectors.{HasVariables};
+ghost use Rattle.term_lists.specs.Rings.{variables};
+ghost use Rattle.term_lists.specs.Vectors.{HasVariables};
 ghost use Rattle.poly_text.specs.Writing.{IsFront};
 ghost use Rattle.session_values.specs.Resolving.{columns_text, counts_text, map_line, map_text};
 ghost use Rattle.session_values.specs.Writing.{AreOverVariables, resolution_written, written_maps};

@@ -1,6 +1,6 @@
 // The values by their names.
 ghost use Rattle.std.specs.Prelude.{◌≡◌, OnErr, OnOk, is_some, length, string_bytes};
-ghost use Rattle.module_vectors.specs.declared.ring.Ring.{Ring};
+ghost use Rattle.term_lists.specs.declared.ring.Ring.{Ring};
 ghost use Rattle.session_values.specs.Kept.{AreSound, IsSound, values_of};
 ghost use Rattle.session_values.specs.Names.{with_value};
 

@@ -3,7 +3,7 @@ ghost use Rattle.std.specs.Prelude.{◌≡◌, ◌≤◌, ◌++◌, ◌∷◌, I
 ghost use Rattle.groebner_iface.specs.Runs.{IsReducedBasisOf};
 ghost use Rattle.hilbert_laws.specs.Dimensions.{HasDimension};
 ghost use Rattle.hilbert_series.specs.Large.{IsLarge};
-ghost use Rattle.module_vectors.specs.Rings.{variables};
+ghost use Rattle.term_lists.specs.Rings.{variables};
 ghost use Rattle.poly_text.specs.Writing.{IsFront};
 ghost use Rattle.std.specs.Fmt.{signed_decimal};
 ghost use Rattle.session_values.specs.Counting.{CountsFirst, NumbersStop};

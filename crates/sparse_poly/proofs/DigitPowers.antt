@@ -7,10 +7,10 @@ use Rattle.monomials.specs.Weights.{weighted_degree}
 use Rattle.formal_sums.proofs.Sameness.{IsSame_of, IsSame_sym, IsSame_trans}
 use Rattle.formal_sums.specs.FormalSums.{Each, FormalSum, IsSame, Key, product}
 use Rattle.orders.specs.KeyOrders.{IsKeyOrder}
-use Rattle.module_vectors.specs.Rings.{variables}
-use Rattle.module_vectors.specs.Vectors.{AreTermsOver, HasPositions, IsTerm, IsVectorOver, StandsFor, sum_of}
-use Rattle.module_vectors.specs.declared.key.Key.{Key as CodeKey}
-use Rattle.module_vectors.specs.declared.ring.Ring.{Ring}
+use Rattle.term_lists.specs.Rings.{variables}
+use Rattle.term_lists.specs.Vectors.{AreTermsOver, HasPositions, IsTerm, IsVectorOver, StandsFor, sum_of}
+use Rattle.term_lists.specs.declared.key.Key.{Key as CodeKey}
+use Rattle.term_lists.specs.declared.ring.Ring.{Ring}
 use Rattle.sparse_poly.proofs.Bounding.{HasDegreeWithin_power}
 use Rattle.sparse_poly.proofs.Expanding.{power_power}
 use Rattle.sparse_poly.proofs.Frobenius.{frobenius}

@@ -9,10 +9,10 @@ use Rattle.formal_sums.proofs.Combining.{scale-one}
 use Rattle.formal_sums.proofs.Multiplying.{product_comm}
 use Rattle.formal_sums.proofs.Sameness.{IsSame_of, IsSame_trans}
 use Rattle.formal_sums.specs.FormalSums.{FormalSum, IsPolynomial, IsSame, product, scale}
-use Rattle.module_vectors.specs.Rings.{variables}
-use Rattle.module_vectors.specs.Vectors.{StandsFor, key_of, sum_of}
-use Rattle.module_vectors.specs.declared.key.Key.{Key as CodeKey}
-use Rattle.module_vectors.specs.declared.ring.Ring.{Ring}
+use Rattle.term_lists.specs.Rings.{variables}
+use Rattle.term_lists.specs.Vectors.{StandsFor, key_of, sum_of}
+use Rattle.term_lists.specs.declared.key.Key.{Key as CodeKey}
+use Rattle.term_lists.specs.declared.ring.Ring.{Ring}
 use Rattle.sparse_poly.proofs.Expanding.{expanding_goes_on, mixed_product}
 use Rattle.sparse_poly.proofs.Powering.{IsPolynomial_power, product_one}
 use Rattle.sparse_poly.specs.Binomials.{IsExpanding, choose}

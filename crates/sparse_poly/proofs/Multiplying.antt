@@ -3,13 +3,14 @@ use Rattle.std.proofs.Common.{List, [], ap, ap₂, arith, refl, suc, subst, sym,
 use Rattle.monomials.specs.Exponents.{exponents_of}
 use Rattle.formal_sums.specs.FormalSums.{Each, product, scale}
 use Rattle.monomial_orders.specs.Kept.{IsWeighed}
+use Rattle.term_lists.specs.Stops.{Fits, HasMonomial}
+use Rattle.term_lists.specs.Vectors.{IsTerm, sum_of}
+use Rattle.term_lists.specs.declared.key.Key.{Key as CodeKey}
+use Rattle.term_lists.specs.declared.stop.VectStop.{VectStop}
+use Rattle.term_lists.specs.declared.stop.VectStop.TheVariants.{Degree, Memory}
 use Rattle.module_vectors.specs.Products.{product_of, sum_of_products}
-use Rattle.module_vectors.specs.Stops.{Fits, HasMonomial, ProductsFit, ProductsStop}
-use Rattle.module_vectors.specs.Vectors.{IsTerm, sum_of}
-use Rattle.module_vectors.specs.declared.key.Key.{Key as CodeKey}
+use Rattle.module_vectors.specs.ProductStops.{ProductsFit, ProductsStop}
 use Rattle.module_vectors.specs.declared.product.Product.{Product}
-use Rattle.module_vectors.specs.declared.stop.VectStop.{VectStop}
-use Rattle.module_vectors.specs.declared.stop.VectStop.TheVariants.{Degree, Memory}
 use Rattle.sparse_poly.proofs.Terms.{each_at, each_of}
 use Rattle.sparse_poly.specs.Multiples.{AreTermMultiples, exchanged}
 use Rattle.sparse_poly.specs.Stops.{ProductFits, PolynomialProductStops}

@@ -9,13 +9,13 @@ use Rattle.formal_sums.proofs.Multiplying.{product_comm}
 use Rattle.formal_sums.proofs.Sameness.{IsSame_of, IsSame_sym, IsSame_trans}
 use Rattle.formal_sums.specs.FormalSums.{FormalSum, IsPolynomial, IsSame, Key, product}
 use Rattle.orders.specs.KeyOrders.{IsKeyOrder}
-use Rattle.module_vectors.specs.Stops.{Fits}
-use Rattle.module_vectors.specs.Rings.{variables}
-use Rattle.module_vectors.specs.Vectors.{HasPositions, IsTerm, IsVector, IsVectorOver, StandsFor, sum_of}
-use Rattle.module_vectors.specs.declared.key.Key.{Key as CodeKey}
-use Rattle.module_vectors.specs.declared.ring.Ring.{Ring}
-use Rattle.module_vectors.specs.declared.stop.VectStop.{VectStop}
-use Rattle.module_vectors.specs.declared.stop.VectStop.TheVariants.{Degree, Memory}
+use Rattle.term_lists.specs.Stops.{Fits}
+use Rattle.term_lists.specs.Rings.{variables}
+use Rattle.term_lists.specs.Vectors.{HasPositions, IsTerm, IsVector, IsVectorOver, StandsFor, sum_of}
+use Rattle.term_lists.specs.declared.key.Key.{Key as CodeKey}
+use Rattle.term_lists.specs.declared.ring.Ring.{Ring}
+use Rattle.term_lists.specs.declared.stop.VectStop.{VectStop}
+use Rattle.term_lists.specs.declared.stop.VectStop.TheVariants.{Degree, Memory}
 use Rattle.sparse_poly.proofs.Bounding.{HasDegreeWithin_constant, HasDegreeWithin_power, HasDegreeWithin_same}
 use Rattle.sparse_poly.proofs.Powering.{IsSame_product_both, power_add, product_one}
 use Rattle.sparse_poly.proofs.Results.{one_err}

@@ -4,10 +4,10 @@ use Rattle.formal_sums.proofs.Multiplying.{product_comm}
 use Rattle.formal_sums.proofs.Sameness.{IsSame_sym, IsSame_trans}
 use Rattle.formal_sums.specs.FormalSums.{IsSame, Key, product}
 use Rattle.orders.specs.KeyOrders.{IsKeyOrder}
-use Rattle.module_vectors.specs.Vectors.{HasPositions, IsVector, sum_of}
-use Rattle.module_vectors.specs.declared.key.Key.{Key as CodeKey}
-use Rattle.module_vectors.specs.declared.stop.VectStop.{VectStop}
-use Rattle.module_vectors.specs.declared.stop.VectStop.TheVariants.{Degree, Memory}
+use Rattle.term_lists.specs.Vectors.{HasPositions, IsVector, sum_of}
+use Rattle.term_lists.specs.declared.key.Key.{Key as CodeKey}
+use Rattle.term_lists.specs.declared.stop.VectStop.{VectStop}
+use Rattle.term_lists.specs.declared.stop.VectStop.TheVariants.{Degree, Memory}
 use Rattle.sparse_poly.proofs.Bounding.{HasDegreeWithin_product, HasDegreeWithin_same}
 use Rattle.sparse_poly.proofs.Powering.{IsPolynomial_product}
 use Rattle.sparse_poly.proofs.Terms.{HasDegreeWithin_of, HasPositions_of, IsPolynomial_of, IsWithinDegree_of, each_at, each_weighed}

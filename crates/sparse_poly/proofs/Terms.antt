@@ -11,9 +11,9 @@ use Rattle.formal_sums.specs.FormalSums.{Each, FormalSum, IsPolynomial, IsSame, 
 use Rattle.orders.proofs.KeyOrdering.{less_of_greater, not_itself}
 use Rattle.orders.specs.KeyOrders.{Descends, IsKeyOrder}
 use Rattle.monomial_orders.specs.Kept.{IsWeighed, Monomial}
-use Rattle.module_vectors.specs.Stops.{HasMonomial}
-use Rattle.module_vectors.specs.Vectors.{HasPositions, IsTerm, IsVector, key_of, sum_of}
-use Rattle.module_vectors.specs.declared.key.Key.{Key as CodeKey}
+use Rattle.term_lists.specs.Stops.{HasMonomial}
+use Rattle.term_lists.specs.Vectors.{HasPositions, IsTerm, IsVector, key_of, sum_of}
+use Rattle.term_lists.specs.declared.key.Key.{Key as CodeKey}
 use Rattle.sparse_poly.proofs.TopDegrees.{coefficient_elsewhere}
 use Rattle.sparse_poly.specs.Degrees.{HasDegreeWithin, IsWithinDegree}
 use Rattle.sparse_poly.specs.Stops.{OccursInPolynomial}

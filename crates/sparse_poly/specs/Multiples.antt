@@ -1,9 +1,9 @@
 -- Products of the terms of one polynomial with another
 use Rattle.std.specs.Prelude.{List, [], ◌∷◌, ℕ, ◌≡◌}
-use Rattle.module_vectors.specs.declared.key.Key.{Key as CodeKey}
+use Rattle.term_lists.specs.declared.key.Key.{Key as CodeKey}
+use Rattle.term_lists.specs.declared.stop.VectStop.{VectStop}
+use Rattle.term_lists.specs.declared.stop.VectStop.TheVariants.{Memory, Degree}
 use Rattle.module_vectors.specs.declared.product.Product.{Product}
-use Rattle.module_vectors.specs.declared.stop.VectStop.{VectStop}
-use Rattle.module_vectors.specs.declared.stop.VectStop.TheVariants.{Memory, Degree}
 
 -- item by item, xs are the products of the terms and v
 abbrev pub AreTermMultiples : List (CodeKey × ℕ) → List (CodeKey × ℕ) → List Product → Type 0

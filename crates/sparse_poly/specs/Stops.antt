@@ -5,10 +5,10 @@ use Rattle.monomials.specs.Exponents.{Exponents, exponents_of}
 use Rattle.monomials.specs.Weights.{weighted_degree}
 use Rattle.formal_sums.specs.FormalSums.{Each, FormalSum, coefficient}
 use Rattle.monomial_orders.specs.Kept.{IsWeighed}
-use Rattle.module_vectors.specs.declared.key.Key.{Key as CodeKey}
-use Rattle.module_vectors.specs.declared.stop.VectStop.{VectStop}
-use Rattle.module_vectors.specs.declared.stop.VectStop.TheVariants.{Memory, Degree}
-use Rattle.module_vectors.specs.Stops.{Fits, HasMonomial, IsTooGreat}
+use Rattle.term_lists.specs.declared.key.Key.{Key as CodeKey}
+use Rattle.term_lists.specs.declared.stop.VectStop.{VectStop}
+use Rattle.term_lists.specs.declared.stop.VectStop.TheVariants.{Memory, Degree}
+use Rattle.term_lists.specs.Stops.{Fits, HasMonomial, IsTooGreat}
 use Rattle.sparse_poly.specs.Powers.{power}
 
 -- each monomial of a times each of b fits

@@ -2,10 +2,10 @@
 use Rattle.std.specs.Prelude.{List, map, ℕ, ◌%◌, ◌*◌, ◌<◌, ◌^◌, ◌≡◌, ◌≤◌}
 use Rattle.monomials.specs.Exponents.{Exponents, cons, exponents_of, nil, times}
 use Rattle.formal_sums.specs.FormalSums.{Each, FormalSum}
-use Rattle.module_vectors.specs.Rings.{variables}
-use Rattle.module_vectors.specs.Vectors.{AreTermsOver, IsMonomialOver, IsTerm, StandsFor, key_of, sum_of}
-use Rattle.module_vectors.specs.declared.key.Key.{Key as CodeKey}
-use Rattle.module_vectors.specs.declared.ring.Ring.{Ring}
+use Rattle.term_lists.specs.Rings.{variables}
+use Rattle.term_lists.specs.Vectors.{AreTermsOver, IsMonomialOver, IsTerm, StandsFor, key_of, sum_of}
+use Rattle.term_lists.specs.declared.key.Key.{Key as CodeKey}
+use Rattle.term_lists.specs.declared.ring.Ring.{Ring}
 use Rattle.sparse_poly.specs.Powers.{power}
 
 -- the monomial to the power k

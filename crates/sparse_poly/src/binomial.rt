@@ -1,7 +1,7 @@
 // Powers of sums of two terms.
 ghost use Rattle.std.specs.Prelude.{◌≡◌, ◌∷◌, [], ◌+◌, ◌*◌, ◌%◌, ◌<◌, ◌≤◌, IfOk};
-ghost use Rattle.module_vectors.specs.Rings.{variables};
-ghost use Rattle.module_vectors.specs.Vectors.{AreTermsOver, StandsFor, sum_of};
+ghost use Rattle.term_lists.specs.Rings.{variables};
+ghost use Rattle.term_lists.specs.Vectors.{AreTermsOver, StandsFor, sum_of};
 ghost use Rattle.sparse_poly.specs.Binomials.{choose};
 ghost use Rattle.sparse_poly.specs.Powers.{power};
 ghost use Rattle.sparse_poly.specs.TermPowers.{IsTermWithin};

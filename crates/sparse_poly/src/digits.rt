@@ -1,7 +1,7 @@
 // Powers by the digits of their exponent to the base of the modulus.
 ghost use Rattle.std.specs.Prelude.{◌≡◌, ◌+◌, ◌*◌, ◌<◌, ◌≤◌, IfOk, IfSome, OnErr, Err};
-ghost use Rattle.module_vectors.specs.Rings.{variables};
-ghost use Rattle.module_vectors.specs.Vectors.{AreTermsOver, IsVectorOver, HasPositions, StandsFor, sum_of};
+ghost use Rattle.term_lists.specs.Rings.{variables};
+ghost use Rattle.term_lists.specs.Vectors.{AreTermsOver, IsVectorOver, HasPositions, StandsFor, sum_of};
 ghost use Rattle.sparse_poly.specs.Degrees.{IsWithinDegree};
 ghost use Rattle.sparse_poly.specs.PowerParts.{IsPowerOver};
 ghost use Rattle.sparse_poly.specs.Powers.{power};

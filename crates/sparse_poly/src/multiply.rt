@@ -1,8 +1,8 @@
 // Products of two polynomials.
 ghost use Rattle.std.specs.Prelude.{◌≡◌, ◌+◌, ◌≤◌, ℕ, IfOk, IfErr, IfSome, OnOk, OnErr, OnSome, Err};
 ghost use Rattle.formal_sums.specs.FormalSums.{product};
-ghost use Rattle.module_vectors.specs.Rings.{variables};
-ghost use Rattle.module_vectors.specs.Vectors.{sum_of, IsVectorOver, StandsFor, HasPositions};
+ghost use Rattle.term_lists.specs.Rings.{variables};
+ghost use Rattle.term_lists.specs.Vectors.{sum_of, IsVectorOver, StandsFor, HasPositions};
 ghost use Rattle.sparse_poly.specs.Degrees.{IsWithinDegree};
 ghost use Rattle.sparse_poly.specs.Multiples.{AreTermMultiples, exchanged};
 ghost use Rattle.sparse_poly.specs.Stops.{ProductFits, PolynomialProductStops};

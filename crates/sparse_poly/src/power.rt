@@ -1,7 +1,7 @@
 // Powers of a polynomial.
 ghost use Rattle.std.specs.Prelude.{◌≡◌, ◌*◌, ◌/◌, ◌≤◌, ℕ, IfOk, IfErr, OnOk, OnErr, Err};
-ghost use Rattle.module_vectors.specs.Rings.{variables};
-ghost use Rattle.module_vectors.specs.Vectors.{sum_of, IsVectorOver, StandsFor, HasPositions};
+ghost use Rattle.term_lists.specs.Rings.{variables};
+ghost use Rattle.term_lists.specs.Vectors.{sum_of, IsVectorOver, StandsFor, HasPositions};
 ghost use Rattle.sparse_poly.specs.Degrees.{IsWithinDegree};
 ghost use Rattle.sparse_poly.specs.PowerParts.{IsPowerOver, PowerStopsOver};
 ghost use Rattle.sparse_poly.specs.Powers.{power};

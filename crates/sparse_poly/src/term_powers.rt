@@ -2,7 +2,7 @@
 ghost use Rattle.std.specs.Prelude.{◌≡◌, ◌<◌, ◌≤◌, ◌+◌, ◌*◌, IfOk, length, map, slice_index};
 ghost use Rattle.monomials.specs.Exponents.{exponents_of, times};
 ghost use Rattle.monomial_orders.specs.Kept.{IsWeighed};
-ghost use Rattle.module_vectors.specs.Vectors.{IsMonomialOver};
+ghost use Rattle.term_lists.specs.Vectors.{IsMonomialOver};
 ghost use Rattle.sparse_poly.specs.TermPowers.{IsMixedTerm, IsRaisedTerm, monomial_power};
 
 use module_vectors::{Key, NoMemory, Ring};

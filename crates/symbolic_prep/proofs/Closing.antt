@@ -8,10 +8,10 @@ use Rattle.formal_sums.specs.FormalSums.{Each, Key}
 use Rattle.pair_criteria.specs.Pairs.{IsFactorOf}
 use Rattle.pair_criteria.specs.declared.pair.Pair.{Pair as CodePair}
 use Rattle.monomial_orders.specs.Kept.{IsWeighed, Monomial}
-use Rattle.module_vectors.proofs.Scaling.{Each_at}
+use Rattle.term_lists.proofs.Scaling.{Each_at}
+use Rattle.term_lists.specs.Vectors.{key_of, sums_of}
+use Rattle.term_lists.specs.declared.key.Key.{Key as CodeKey}
 use Rattle.module_vectors.specs.Trails.{KeptProduct, lead_at, no_product, product_lead, kept_at}
-use Rattle.module_vectors.specs.Vectors.{key_of, sums_of}
-use Rattle.module_vectors.specs.declared.key.Key.{Key as CodeKey}
 use Rattle.row_matrix.proofs.KeyPlaces.{key_exact}
 use Rattle.row_matrix.specs.Hashes.{AreDistinctKeys, no_key}
 use Rattle.row_matrix.specs.Rows.{AreKeys, RowShown, column_key, first_column}

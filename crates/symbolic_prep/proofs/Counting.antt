@@ -4,9 +4,9 @@ use Rattle.std.proofs.lemmas.Bool.{cases_eq}
 use Rattle.std.proofs.lemmas.List.{get_or_append_left, get_or_push, length_push}
 use Rattle.formal_sums.proofs.WeightedSums.{Each_append}
 use Rattle.formal_sums.specs.FormalSums.{Each}
-use Rattle.module_vectors.proofs.SumsOfProducts.{Each_member}
+use Rattle.term_lists.proofs.Parts.{Each_member}
+use Rattle.term_lists.specs.declared.key.Key.{Key as CodeKey}
 use Rattle.module_vectors.specs.Trails.{KeptProduct}
-use Rattle.module_vectors.specs.declared.key.Key.{Key as CodeKey}
 use Rattle.row_matrix.specs.Rows.{RowShown, first_column}
 use Rattle.symbolic_prep.specs.Plans.{IsPlan, lead_number, no_row}
 use Rattle.symbolic_prep.specs.Counts.{IsSparse}

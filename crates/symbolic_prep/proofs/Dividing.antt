@@ -8,10 +8,10 @@ use Rattle.std.specs.List.Sorted.{IsNonDecreasingBy, IsPartitionPoint, IsPermuta
 use Rattle.bases.specs.Leads.{head_key}
 use Rattle.formal_sums.proofs.WeightedSums.{Each_append}
 use Rattle.formal_sums.specs.FormalSums.{Each, Key}
-use Rattle.module_vectors.proofs.Gathers.{Each_permutation}
-use Rattle.module_vectors.proofs.Scaling.{Each_at}
-use Rattle.module_vectors.specs.Vectors.{key_of, sum_of, sums_of}
-use Rattle.module_vectors.specs.declared.key.Key.{Key as CodeKey}
+use Rattle.term_lists.proofs.Gathers.{Each_permutation}
+use Rattle.term_lists.proofs.Scaling.{Each_at}
+use Rattle.term_lists.specs.Vectors.{key_of, sum_of, sums_of}
+use Rattle.term_lists.specs.declared.key.Key.{Key as CodeKey}
 use Rattle.orders.specs.KeyOrders.{KeyDivides}
 use Rattle.symbolic_prep.specs.Divisors.{AreAll, AreSortedDivisors, IsDivisorOf, position_of}
 use Rattle.symbolic_prep.specs.declared.divisors.Divisor.{Divisor}

@@ -3,8 +3,8 @@ use Rattle.std.proofs.Common.{List, [], ap, arith, get_or, get_or-set_other, get
 use Rattle.std.proofs.lemmas.Bool.{cases_eq}
 use Rattle.std.proofs.lemmas.List.{get_or_default, length-set}
 use Rattle.formal_sums.specs.FormalSums.{Each}
-use Rattle.module_vectors.proofs.Scaling.{Each_at}
-use Rattle.module_vectors.specs.declared.key.Key.{Key as CodeKey}
+use Rattle.term_lists.proofs.Scaling.{Each_at}
+use Rattle.term_lists.specs.declared.key.Key.{Key as CodeKey}
 use Rattle.row_matrix.specs.Told.{AreHashesOf, HashesShown}
 use Rattle.symbolic_prep.specs.Hashed.{AreHashed, IsHashedAt}
 

@@ -9,11 +9,11 @@ use Rattle.formal_sums.specs.FormalSums.{Each, FormalSum, IsSame, Key, scale, sh
 use Rattle.orders.proofs.KeyOrdering.{equal_itself, less_of_greater}
 use Rattle.orders.specs.KeyOrders.{Descends, IsKeyOrder, KeyDivides}
 use Rattle.bases.specs.Leads.{head_coefficient, head_key, leads}
-use Rattle.module_vectors.proofs.Scaling.{Each_at, descends_scale}
-use Rattle.module_vectors.proofs.SumsOfProducts.{Each_member}
+use Rattle.term_lists.proofs.Scaling.{Each_at, descends_scale}
+use Rattle.term_lists.proofs.Parts.{Each_member}
+use Rattle.term_lists.specs.Vectors.{IsTerm, IsVector, key_of, sum_of, sums_of}
+use Rattle.term_lists.specs.declared.key.Key.{Key as CodeKey}
 use Rattle.module_vectors.specs.Trails.{HasKey, KeptProduct, no_product, kept_at}
-use Rattle.module_vectors.specs.Vectors.{IsTerm, IsVector, key_of, sum_of, sums_of}
-use Rattle.module_vectors.specs.declared.key.Key.{Key as CodeKey}
 use Rattle.pair_criteria.specs.declared.pair.Pair.{Pair as CodePair}
 use Rattle.row_laws.specs.Jobs.{AreProductRows, HasPairRows, HasReducers}
 use Rattle.row_laws.specs.Rows.{ContainsLead}

@@ -9,10 +9,10 @@ use Rattle.module_vectors.specs.Trails.{KeptProduct, no_product, product_lead, k
 use Rattle.formal_sums.proofs.Combining.{Each_map}
 use Rattle.monomial_orders.proofs.Over.{weighed_at}
 use Rattle.monomial_orders.specs.Kept.{IsWeighed, Monomial}
-use Rattle.module_vectors.proofs.SumsOfProducts.{Each_member}
-use Rattle.module_vectors.specs.Vectors.{HasVariables, sum_of}
+use Rattle.term_lists.proofs.Parts.{Each_member}
+use Rattle.term_lists.specs.Vectors.{HasVariables, sum_of}
 use Rattle.vector_division.specs.Progress.{AreWeighed}
-use Rattle.module_vectors.specs.declared.key.Key.{Key as CodeKey}
+use Rattle.term_lists.specs.declared.key.Key.{Key as CodeKey}
 use Rattle.row_matrix.proofs.Names.{named_more}
 use Rattle.row_matrix.specs.Naming.{AreNamed, IsGrown, NamesNumber}
 use Rattle.row_matrix.specs.Rows.{AreKeys, Entry, RowShown, column_key, first_column, row_sum}

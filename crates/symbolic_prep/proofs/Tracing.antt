@@ -8,12 +8,12 @@ use Rattle.bases.specs.Leads.{head_key}
 use Rattle.formal_sums.proofs.WeightedSums.{Each_append}
 use Rattle.formal_sums.specs.FormalSums.{Each, FormalSum, Key, scale, shift}
 use Rattle.monomial_orders.specs.Kept.{IsWeighed, Monomial}
-use Rattle.module_vectors.proofs.Scaling.{Each_at}
-use Rattle.module_vectors.proofs.SumsOfProducts.{Each_member}
-use Rattle.module_vectors.specs.Stops.{HasMonomial, IsTooGreat}
+use Rattle.term_lists.proofs.Scaling.{Each_at}
+use Rattle.term_lists.proofs.Parts.{Each_member}
+use Rattle.term_lists.specs.Stops.{HasMonomial, IsTooGreat}
+use Rattle.term_lists.specs.Vectors.{key_of, sum_of}
+use Rattle.term_lists.specs.declared.key.Key.{Key as CodeKey}
 use Rattle.module_vectors.specs.Trails.{HasKey, IsInProduct, IsKeptProduct, KeptProduct, lead_at, no_product, product_lead, kept_at}
-use Rattle.module_vectors.specs.Vectors.{key_of, sum_of}
-use Rattle.module_vectors.specs.declared.key.Key.{Key as CodeKey}
 use Rattle.pair_criteria.specs.declared.pair.Pair.{Pair as CodePair}
 use Rattle.vector_division.specs.Progress.{AreWeighed, IsDivisor}
 use Rattle.row_matrix.specs.Naming.{NamesNumber}

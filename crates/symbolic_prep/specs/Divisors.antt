@@ -2,7 +2,7 @@
 use Rattle.std.specs.Prelude.{Contains, List, [], get_or, length, ℕ, ◌<◌, ◌≡◌}
 use Rattle.std.specs.List.Sorted.{IsNonDecreasingBy}
 use Rattle.formal_sums.specs.FormalSums.{Each}
-use Rattle.module_vectors.specs.declared.key.Key.{Key as CodeKey}
+use Rattle.term_lists.specs.declared.key.Key.{Key as CodeKey}
 use Rattle.symbolic_prep.specs.declared.divisors.Divisor.{Divisor}
 use Rattle.vector_division.specs.Marks.{IsMarkOf}
 

@@ -1,6 +1,6 @@
 -- The hashes of the members' keys, made when a member is first used
 use Rattle.std.specs.Prelude.{List, [], get_or, length, ℕ, ◌<◌, ◌≡◌, ◌⊎◌}
-use Rattle.module_vectors.specs.declared.key.Key.{Key as CodeKey}
+use Rattle.term_lists.specs.declared.key.Key.{Key as CodeKey}
 use Rattle.row_matrix.specs.Told.{AreHashesOf, HashesShown}
 
 -- for each vector of the list none, or the hashes of its keys

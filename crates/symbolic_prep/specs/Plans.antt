@@ -4,11 +4,11 @@ use Rattle.monomials.specs.Exponents.{exponents_of, quotient}
 use Rattle.formal_sums.specs.FormalSums.{FormalSum, scale}
 use Rattle.module_vectors.specs.Trails.{KeptProduct, lead_at, product_lead, kept_at}
 use Rattle.monomial_orders.specs.Kept.{IsWeighed}
-use Rattle.module_vectors.specs.Vectors.{key_of, sum_of, sums_of}
+use Rattle.term_lists.specs.Vectors.{key_of, sum_of, sums_of}
 use Rattle.bases.specs.Representations.{key_lcm}
 use Rattle.pair_criteria.specs.declared.pair.Pair.{Pair as CodePair}
 use Rattle.vector_division.specs.Divisions.{IsUncovered}
-use Rattle.module_vectors.specs.declared.key.Key.{Key as CodeKey}
+use Rattle.term_lists.specs.declared.key.Key.{Key as CodeKey}
 use Rattle.row_matrix.specs.Naming.{AreNamed, NamesNumber}
 use Rattle.row_matrix.specs.Rows.{AreKeys, RowShown, column_key, first_column}
 

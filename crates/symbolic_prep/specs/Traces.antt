@@ -2,9 +2,9 @@
 use Rattle.std.specs.Prelude.{List, [], length, ⊤, ℕ, ◌++◌, ◌-◌, ◌<◌, ◌∷◌, ◌≡◌}
 use Rattle.formal_sums.specs.FormalSums.{Each}
 use Rattle.monomial_orders.specs.Kept.{IsWeighed, Monomial}
-use Rattle.module_vectors.specs.Stops.{HasMonomial, IsTooGreat}
+use Rattle.term_lists.specs.Stops.{HasMonomial, IsTooGreat}
+use Rattle.term_lists.specs.declared.key.Key.{Key as CodeKey}
 use Rattle.module_vectors.specs.Trails.{IsInProduct, IsOfProduct, IsKeptProduct, KeptProduct, product_lead, kept_at}
-use Rattle.module_vectors.specs.declared.key.Key.{Key as CodeKey}
 use Rattle.pair_criteria.specs.Pairs.{IsLcmOf}
 use Rattle.pair_criteria.specs.Traces.{AreTraced}
 use Rattle.pair_criteria.specs.declared.pair.Pair.{Pair as CodePair}

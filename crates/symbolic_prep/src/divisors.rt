@@ -2,8 +2,8 @@
 ghost use Rattle.std.specs.Prelude.{◌≡◌, ◌<◌, ◌≤◌, ◌+◌, ◌*◌, ◌^◌, ◌%◌, length, IfOk};
 ghost use Rattle.std.specs.List.Sorted.{IsNonDecreasingBy, IsPartitionPoint};
 ghost use Rattle.formal_sums.specs.FormalSums.{Each};
-ghost use Rattle.module_vectors.specs.Rings.{variables};
-ghost use Rattle.module_vectors.specs.Vectors.{key_of, IsMonomialOver};
+ghost use Rattle.term_lists.specs.Rings.{variables};
+ghost use Rattle.term_lists.specs.Vectors.{key_of, IsMonomialOver};
 ghost use Rattle.vector_division.specs.Progress.{AreWeighed, IsFound};
 ghost use Rattle.symbolic_prep.specs.Divisors.{AreAll, AreSortedDivisors, IsDivisorOf, position_of};
 

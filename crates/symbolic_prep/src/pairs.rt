@@ -2,9 +2,9 @@
 ghost use Rattle.std.specs.Prelude.{◌≡◌, ◌<◌, ◌≤◌, ◌+◌, ◌*◌, List, [], ℕ, Bool, Contains, IsTrue, false, true, length, get_or, IfErr, OnOk};
 ghost use Rattle.monomials.specs.Exponents.{Divides, exponents_of};
 ghost use Rattle.formal_sums.specs.FormalSums.{Each};
-ghost use Rattle.module_vectors.specs.Rings.{variables};
+ghost use Rattle.term_lists.specs.Rings.{variables};
+ghost use Rattle.term_lists.specs.Vectors.{IsMonomialOver};
 ghost use Rattle.module_vectors.specs.Trails.{lead_at};
-ghost use Rattle.module_vectors.specs.Vectors.{IsMonomialOver};
 ghost use Rattle.vector_division.specs.Progress.{AreWeighed};
 ghost use Rattle.symbolic_prep.specs.Hashed.{AreHashed};
 ghost use Rattle.symbolic_prep.specs.Plans.{HasPairProducts, IsLaterPlan, IsMemberPair, IsPlan, IsTopProduct};

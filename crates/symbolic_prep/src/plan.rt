@@ -2,7 +2,7 @@
 ghost use Rattle.std.specs.Prelude.{◌≡◌, ◌<◌, ◌≤◌, ◌+◌, ◌++◌, ◌⊎◌, List, [], ◌∷◌, ℕ, Bool, false, true, length, get_or, map, IfOk, IfErr, OnOk};
 ghost use Rattle.std.specs.Vec.{vec_len};
 ghost use Rattle.formal_sums.specs.FormalSums.{Each};
-ghost use Rattle.module_vectors.specs.Rings.{variables};
+ghost use Rattle.term_lists.specs.Rings.{variables};
 ghost use Rattle.vector_division.specs.Progress.{AreWeighed};
 ghost use Rattle.symbolic_prep.specs.Hashed.{AreHashed};
 ghost use Rattle.row_matrix.specs.Products.{ProductStops};

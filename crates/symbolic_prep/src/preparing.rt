@@ -1,9 +1,9 @@
 // The matrix of a job.
 ghost use Rattle.std.specs.Prelude.{◌≡◌, ◌<◌, ◌*◌, ◌-◌, List, ℕ, length, get_or, IfOk, IfErr};
 ghost use Rattle.formal_sums.specs.FormalSums.{Each};
-ghost use Rattle.module_vectors.specs.Rings.{ring_comparison, setting, variables};
-ghost use Rattle.module_vectors.specs.Vectors.{AreVectorsOver};
-ghost use Rattle.module_vectors.specs.declared.key.Key.{Key as KeyValue};
+ghost use Rattle.term_lists.specs.Rings.{ring_comparison, setting, variables};
+ghost use Rattle.term_lists.specs.Vectors.{AreVectorsOver};
+ghost use Rattle.term_lists.specs.declared.key.Key.{Key as KeyValue};
 ghost use Rattle.pair_criteria.specs.declared.pair.Pair.{Pair as PairValue};
 ghost use Rattle.symbolic_prep.specs.Counts.{IsSparse};
 ghost use Rattle.symbolic_prep.specs.Plans.{HasPairProducts, IsMemberPair, IsPlan, AreClosed};

@@ -1,7 +1,7 @@
 // For each key that a member's lead divides a product with that lead.
 ghost use Rattle.std.specs.Prelude.{◌≡◌, ◌<◌, ◌≤◌, ◌+◌, ◌⊎◌, List, [], ℕ, Bool, false, true, length, get_or, IfOk, IfErr, OnOk};
-ghost use Rattle.module_vectors.specs.Rings.{variables};
-ghost use Rattle.module_vectors.specs.Vectors.{key_of, sums_of};
+ghost use Rattle.term_lists.specs.Rings.{variables};
+ghost use Rattle.term_lists.specs.Vectors.{key_of, sums_of};
 ghost use Rattle.vector_division.specs.Divisions.{IsUncovered};
 ghost use Rattle.row_matrix.specs.Rows.{column_key};
 ghost use Rattle.vector_division.specs.Progress.{AreWeighed, IsFound};

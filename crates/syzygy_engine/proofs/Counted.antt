@@ -2,7 +2,7 @@
 use Rattle.std.proofs.Common.{ap, arith, subst, suc, sym, ℕ, ◌∙◌, ◌≡◌, ◌≤◌}
 use Rattle.monomial_orders.specs.declared.order.ModOrder.{ModOrder}
 use Rattle.monomial_orders.specs.declared.order.ModOrder.TheVariants.{Pot, Top}
-use Rattle.module_vectors.specs.declared.ring.Ring.{Ring}
+use Rattle.term_lists.specs.declared.ring.Ring.{Ring}
 use Rattle.risen_counts.specs.Counts.{RoseAtMost, next_count}
 use Rattle.syzygy_engine.specs.Kernels.{runs_in_module_order, runs_in_order}
 

@@ -17,9 +17,9 @@ use Rattle.operation_laws.proofs.Running.{run_itself}
 use Rattle.monomial_orders.specs.Comparisons.{comparison, key_comparison}
 use Rattle.monomial_orders.specs.Laws.{comparison_order, key_comparison_order}
 use Rattle.monomial_orders.specs.declared.order.ModOrder.TheVariants.{Pot}
-use Rattle.module_vectors.specs.Rings.{ring_comparison, setting, variables}
-use Rattle.module_vectors.specs.Vectors.{AreVectorsOver, HasPositions, sum_of, sums_of}
-use Rattle.module_vectors.specs.declared.ring.Ring.{Ring}
+use Rattle.term_lists.specs.Rings.{ring_comparison, setting, variables}
+use Rattle.term_lists.specs.Vectors.{AreVectorsOver, HasPositions, sum_of, sums_of}
+use Rattle.term_lists.specs.declared.ring.Ring.{Ring}
 use Rattle.groebner_iface.specs.Runs.{IsReducedBasisOf}
 use Rattle.syzygy_engine.specs.Kernels.{GeneratesSyzygies, IsKernelOf}
 use Rattle.syzygy_engine.specs.Marking.{AreMarked, StandOneByOne, position_ring, position_setting}

@@ -4,9 +4,9 @@ use Rattle.std.proofs.lemmas.List.{append_assoc, map-append}
 use Rattle.std.proofs.lemmas.List.Elements.{filter-append}
 use Rattle.division_laws.specs.Elimination.{is_from_position}
 use Rattle.formal_sums.specs.FormalSums.{FormalSum}
-use Rattle.module_vectors.specs.Rings.{ring_comparison, variables}
-use Rattle.module_vectors.specs.Vectors.{AreVectorsOver, sum_of, sums_of}
-use Rattle.module_vectors.specs.declared.ring.Ring.{Ring}
+use Rattle.term_lists.specs.Rings.{ring_comparison, variables}
+use Rattle.term_lists.specs.Vectors.{AreVectorsOver, sum_of, sums_of}
+use Rattle.term_lists.specs.declared.ring.Ring.{Ring}
 use Rattle.syzygy_engine.specs.Marking.{StandOneByOne}
 use Rattle.syzygy_engine.proofs.Standing.{Terms}
 use Rattle.syzygy_laws.specs.Kernels.{all_kept, kept_list, kernel_of, lowered}

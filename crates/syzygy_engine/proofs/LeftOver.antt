@@ -25,10 +25,10 @@ use Rattle.operation_laws.proofs.Lifting.{IsLift_same, lift_found, lift_vanishes
 use Rattle.operation_laws.specs.Lifts.{IsLift}
 use Rattle.monomial_orders.specs.Comparisons.{comparison}
 use Rattle.monomial_orders.specs.Laws.{comparison_order}
-use Rattle.module_vectors.proofs.NormalVectors.{residues_of, vector_positions}
-use Rattle.module_vectors.specs.Rings.{ring_comparison, setting, variables}
-use Rattle.module_vectors.specs.Vectors.{HasPositions, IsVectorOver, StandsFor, sum_of, sums_of}
-use Rattle.module_vectors.specs.declared.ring.Ring.{Ring}
+use Rattle.term_lists.proofs.NormalVectors.{residues_of, vector_positions}
+use Rattle.term_lists.specs.Rings.{ring_comparison, setting, variables}
+use Rattle.term_lists.specs.Vectors.{HasPositions, IsVectorOver, StandsFor, sum_of, sums_of}
+use Rattle.term_lists.specs.declared.ring.Ring.{Ring}
 use Rattle.module_vectors.specs.declared.trail.WorkStop.{WorkStop}
 use Rattle.module_vectors.specs.declared.trail.WorkStop.TheVariants as works
 use Rattle.vector_division.proofs.Freeing.{HasFreeTerms_of_uncovered}

@@ -7,9 +7,9 @@ use Rattle.monomials.specs.Exponents.{exponents_of}
 use Rattle.division_laws.specs.Elimination.{is_from_position}
 use Rattle.syzygy_laws.specs.Kernels.{all_kept, lowered}
 use Rattle.formal_sums.specs.FormalSums.{Each}
-use Rattle.module_vectors.specs.Vectors.{AreTermsOver, sum_of}
-use Rattle.module_vectors.specs.declared.key.Key.{Key as CodeKey}
-use Rattle.module_vectors.specs.declared.ring.Ring.{Ring}
+use Rattle.term_lists.specs.Vectors.{AreTermsOver, sum_of}
+use Rattle.term_lists.specs.declared.key.Key.{Key as CodeKey}
+use Rattle.term_lists.specs.declared.ring.Ring.{Ring}
 use Rattle.syzygy_engine.specs.Marking.{lowered_terms}
 
 le_of : (q a : ℕ) → nat_le q a ≡ true → q ≤ a

@@ -20,9 +20,9 @@ use Rattle.monomial_orders.specs.Kept.{IsWeighed, Monomial}
 use Rattle.monomial_orders.specs.Laws.{comparison_order}
 use Rattle.monomial_orders.specs.Monomials.{IsMonomial}
 use Rattle.monomial_orders.specs.declared.order.ModOrder.TheVariants.{Pot}
-use Rattle.module_vectors.specs.Rings.{ring_comparison, setting, variables}
-use Rattle.module_vectors.specs.Vectors.{AreTermsOver, HasPositions, IsTerm, IsVector, IsVectorOver, StandsFor, key_of, sum_of, sums_of}
-use Rattle.module_vectors.specs.declared.ring.Ring.{Ring}
+use Rattle.term_lists.specs.Rings.{ring_comparison, setting, variables}
+use Rattle.term_lists.specs.Vectors.{AreTermsOver, HasPositions, IsTerm, IsVector, IsVectorOver, StandsFor, key_of, sum_of, sums_of}
+use Rattle.term_lists.specs.declared.ring.Ring.{Ring}
 use Rattle.vector_division.proofs.Members.{sums_at}
 use Rattle.groebner_iface.specs.Runs.{IsReducedBasisOf}
 use Rattle.syzygy_engine.specs.Marking.{AreMarked, StandOneByOne, position_ring, position_setting}

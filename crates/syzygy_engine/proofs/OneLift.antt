@@ -5,14 +5,14 @@ use Rattle.formal_sums.specs.FormalSums.{FormalSum}
 use Rattle.bases.specs.Settings.{IsLawful, Setting}
 use Rattle.bases.specs.Bases.{IsReducedBasis}
 use Rattle.formal_sums.specs.Combinations.{IsSameModule}
-use Rattle.module_vectors.proofs.NormalVectors.{vector_unique}
+use Rattle.term_lists.proofs.NormalVectors.{vector_unique}
 use Rattle.reduced_bases.proofs.Comparing.{IsReducedBasis_same}
 use Rattle.reduced_unique.proofs.Uniqueness.{IsReducedBasis_unique}
 use Rattle.operation_laws.proofs.Lifting.{lift_one}
 use Rattle.operation_laws.specs.Lifts.{IsLift}
-use Rattle.module_vectors.specs.Rings.{ring_comparison, setting, variables}
-use Rattle.module_vectors.specs.Vectors.{IsVectorOver, sum_of, sums_of}
-use Rattle.module_vectors.specs.declared.ring.Ring.{Ring}
+use Rattle.term_lists.specs.Rings.{ring_comparison, setting, variables}
+use Rattle.term_lists.specs.Vectors.{IsVectorOver, sum_of, sums_of}
+use Rattle.term_lists.specs.declared.ring.Ring.{Ring}
 use Rattle.syzygy_engine.specs.Kernels.{GeneratesSyzygies}
 use Rattle.syzygy_engine.specs.Lifts.{IsLiftOf}
 use Rattle.syzygy_engine.specs.Marking.{position_setting}

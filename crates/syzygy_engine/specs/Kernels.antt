@@ -7,10 +7,10 @@ use Rattle.syzygy_laws.specs.Kernels.{kernel_of}
 use Rattle.syzygy_laws.specs.Syzygies.{marked}
 use Rattle.monomial_orders.specs.declared.order.ModOrder.{ModOrder}
 use Rattle.monomial_orders.specs.declared.order.ModOrder.TheVariants.{Pot, Top}
-use Rattle.module_vectors.specs.Rings.{ring_comparison, variables}
-use Rattle.module_vectors.specs.Vectors.{AreVectorsOver, sums_of}
-use Rattle.module_vectors.specs.declared.key.Key.{Key as CodeKey}
-use Rattle.module_vectors.specs.declared.ring.Ring.{Ring}
+use Rattle.term_lists.specs.Rings.{ring_comparison, variables}
+use Rattle.term_lists.specs.Vectors.{AreVectorsOver, sums_of}
+use Rattle.term_lists.specs.declared.key.Key.{Key as CodeKey}
+use Rattle.term_lists.specs.declared.ring.Ring.{Ring}
 use Rattle.syzygy_engine.specs.Marking.{IsMarkedRun, StandOneByOne, position_setting}
 
 -- K generates the syzygies of F: a vector is in its module exactly where it is one

@@ -4,10 +4,10 @@ use Rattle.formal_sums.specs.FormalSums.{FormalSum}
 use Rattle.bases.specs.Settings.{Setting}
 use Rattle.syzygy_laws.specs.Syzygies.{marked}
 use Rattle.monomial_orders.specs.declared.order.ModOrder.TheVariants.{Pot}
-use Rattle.module_vectors.specs.Rings.{ring_comparison, setting, variables}
-use Rattle.module_vectors.specs.Vectors.{AreVectorsOver, StandsFor, sums_of}
-use Rattle.module_vectors.specs.declared.key.Key.{Key as CodeKey}
-use Rattle.module_vectors.specs.declared.ring.Ring.{Ring}
+use Rattle.term_lists.specs.Rings.{ring_comparison, setting, variables}
+use Rattle.term_lists.specs.Vectors.{AreVectorsOver, StandsFor, sums_of}
+use Rattle.term_lists.specs.declared.key.Key.{Key as CodeKey}
+use Rattle.term_lists.specs.declared.ring.Ring.{Ring}
 
 -- the ring with its order of monomials, position over term (UAG chapter 5, section 2)
 abbrev pub position_ring : Ring → Ring

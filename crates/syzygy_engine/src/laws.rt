@@ -3,9 +3,9 @@
 ghost use Rattle.std.specs.Prelude.{◌≡◌, ℕ, List, length};
 ghost use Rattle.formal_sums.specs.FormalSums.{Each};
 ghost use Rattle.monomial_orders.specs.declared.order.ModOrder.TheVariants.{Pot};
-ghost use Rattle.module_vectors.specs.Rings.{ring_comparison, variables};
-ghost use Rattle.module_vectors.specs.Vectors.{AreVectorsOver, HasPositions, IsVectorOver, sums_of};
-ghost use Rattle.module_vectors.specs.declared.key.Key.{Key as KeyValue};
+ghost use Rattle.term_lists.specs.Rings.{ring_comparison, variables};
+ghost use Rattle.term_lists.specs.Vectors.{AreVectorsOver, HasPositions, IsVectorOver, sums_of};
+ghost use Rattle.term_lists.specs.declared.key.Key.{Key as KeyValue};
 ghost use Rattle.groebner_iface.specs.Runs.{IsReducedBasisOf};
 ghost use Rattle.syzygy_engine.specs.Kernels.{GeneratesSyzygies, IsKernelOf};
 ghost use Rattle.syzygy_engine.specs.Lifts.{IsLiftOf};

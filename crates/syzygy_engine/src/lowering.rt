@@ -3,8 +3,8 @@ ghost use Rattle.std.specs.Prelude.{◌≡◌, ◌++◌, ◌∷◌, ◌≤◌, [
 ghost use Rattle.formal_sums.specs.FormalSums.{Each, FormalSum};
 ghost use Rattle.division_laws.specs.Elimination.{is_from_position};
 ghost use Rattle.syzygy_laws.specs.Kernels.{all_kept, kernel_of, lowered};
-ghost use Rattle.module_vectors.specs.Rings.{ring_comparison, variables};
-ghost use Rattle.module_vectors.specs.Vectors.{AreTermsOver, AreVectorsOver, IsVectorOver, StandsFor, sum_of, sums_of};
+ghost use Rattle.term_lists.specs.Rings.{ring_comparison, variables};
+ghost use Rattle.term_lists.specs.Vectors.{AreTermsOver, AreVectorsOver, IsVectorOver, StandsFor, sum_of, sums_of};
 ghost use Rattle.syzygy_engine.specs.Marking.{StandOneByOne, lowered_terms};
 
 use module_vectors::{Key, NoMemory, Ring, Vect, VectList};

@@ -1,8 +1,8 @@
 // The list of the run: each vector with a mark of its own.
 ghost use Rattle.std.specs.Prelude.{◌≡◌, ◌<◌, ◌++◌, ◌∷◌, [], IfOk};
 ghost use Rattle.monomials.specs.Exponents.{unit};
-ghost use Rattle.module_vectors.specs.Rings.{ring_comparison, variables};
-ghost use Rattle.module_vectors.specs.Vectors.{AreTermsOver, AreVectorsOver, IsVectorOver, StandsFor, sum_of};
+ghost use Rattle.term_lists.specs.Rings.{ring_comparison, variables};
+ghost use Rattle.term_lists.specs.Vectors.{AreTermsOver, AreVectorsOver, IsVectorOver, StandsFor, sum_of};
 ghost use Rattle.syzygy_engine.specs.Marking.{AreMarked, position_ring};
 
 use module_vectors::{Key, NoMemory, Ring, Vect, VectList};

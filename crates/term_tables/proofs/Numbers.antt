@@ -6,9 +6,9 @@ use Rattle.monomials.specs.Exponents.{Exponents, cons, exponents_of, times}
 use Rattle.formal_sums.proofs.Combining.{Each_map}
 use Rattle.formal_sums.proofs.WeightedSums.{Each_append}
 use Rattle.formal_sums.specs.FormalSums.{Each, Key, Term}
-use Rattle.module_vectors.proofs.Scaling.{Each_at}
-use Rattle.module_vectors.specs.Vectors.{key_of, sum_of}
-use Rattle.module_vectors.specs.declared.key.Key.{Key as CodeKey}
+use Rattle.term_lists.proofs.Scaling.{Each_at}
+use Rattle.term_lists.specs.Vectors.{key_of, sum_of}
+use Rattle.term_lists.specs.declared.key.Key.{Key as CodeKey}
 use Rattle.term_tables.specs.Digits.{ArePacked, EachPair, HasDigitsWithin, HaveNoCarry, IsPackedTerm, base_of, digits, limit_of, monomial_at, packed_sum}
 
 joined : (r x y s t a b : ℕ) → x * r + s ≡ a → y * r + t ≡ b → (x + y) * r + (s + t) ≡ a + b

@@ -12,10 +12,10 @@ use Rattle.monomials.specs.Exponents.{times}
 use Rattle.formal_sums.proofs.Sameness.{IsSame_append, IsSame_of, IsSame_refl, IsSame_sym, IsSame_trans}
 use Rattle.formal_sums.proofs.WeightedSums.{Each_append, weighted_sum-append}
 use Rattle.formal_sums.specs.FormalSums.{Each, FormalSum, IsSame, Key, Term, indicator, product, scale, weighted_sum}
-use Rattle.module_vectors.specs.Rings.{variables}
-use Rattle.module_vectors.specs.Vectors.{StandsFor, sum_of}
-use Rattle.module_vectors.specs.declared.key.Key.{Key as CodeKey}
-use Rattle.module_vectors.specs.declared.ring.Ring.{Ring}
+use Rattle.term_lists.specs.Rings.{variables}
+use Rattle.term_lists.specs.Vectors.{StandsFor, sum_of}
+use Rattle.term_lists.specs.declared.key.Key.{Key as CodeKey}
+use Rattle.term_lists.specs.declared.ring.Ring.{Ring}
 use Rattle.term_tables.proofs.Numbers.{monomial_at-sum}
 use Rattle.term_tables.specs.Digits.{HaveNoCarry, monomial_at, packed_sum}
 use Rattle.term_tables.specs.Tables.{IsOpen, no_slot, ranked_sum, table_sum}

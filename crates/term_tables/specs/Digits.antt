@@ -2,7 +2,7 @@
 use Rattle.std.specs.Prelude.{Bool, List, [], cond, map, ℕ, ◌%◌, ◌+◌, ◌/◌, ◌<◌, ◌∷◌, ◌≡◌, ◌≤◌}
 use Rattle.monomials.specs.Exponents.{Exponents, exponents_of}
 use Rattle.formal_sums.specs.FormalSums.{Each, FormalSum}
-use Rattle.module_vectors.specs.declared.key.Key.{Key as CodeKey}
+use Rattle.term_lists.specs.declared.key.Key.{Key as CodeKey}
 
 -- the base of a variable: its greatest exponents in two factors are at most these, so their sum is below it
 abbrev pub base_of : ℕ × ℕ → ℕ

@@ -2,7 +2,7 @@
 use Rattle.std.specs.Prelude.{List, [], get_or, length, map, ℕ, ◌+◌, ◌<◌, ◌∷◌, ◌≡◌, ◌⊎◌}
 use Rattle.formal_sums.specs.FormalSums.{FormalSum}
 use Rattle.monomial_orders.specs.Kept.{IsWeighed}
-use Rattle.module_vectors.specs.declared.key.Key.{Key as CodeKey}
+use Rattle.term_lists.specs.declared.key.Key.{Key as CodeKey}
 use Rattle.term_tables.specs.Digits.{digits, monomial_at}
 
 -- the polynomial whose coefficients at the monomials k, k + 1 and so on are these

@@ -1,7 +1,7 @@
 // Monomials as numbers.
 ghost use Rattle.std.specs.Prelude.{ℕ, ◌≡◌, ◌<◌, ◌≤◌, ◌+◌, ◌*◌, IfOk, IfSome, cond};
 ghost use Rattle.formal_sums.specs.FormalSums.{Each};
-ghost use Rattle.module_vectors.specs.Vectors.{sum_of};
+ghost use Rattle.term_lists.specs.Vectors.{sum_of};
 ghost use Rattle.term_tables.specs.Digits.{ArePacked, HasDigitsWithin, IsPackedTerm, digits, limit_of, packed_sum};
 
 use module_vectors::{Key, NoMemory};

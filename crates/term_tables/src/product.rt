@@ -2,8 +2,8 @@
 ghost use Rattle.std.specs.Prelude.{ℕ, ◌≡◌, ◌<◌, ◌≤◌, ◌+◌, ◌*◌, true, false, IfOk, IfSome, length};
 ghost use Rattle.residues.specs.Residues.{IsCongruent};
 ghost use Rattle.formal_sums.specs.FormalSums.{Each, IsSame, product};
-ghost use Rattle.module_vectors.specs.Rings.{variables};
-ghost use Rattle.module_vectors.specs.Vectors.{AreTermsOver, IsVectorOver, StandsFor, sum_of};
+ghost use Rattle.term_lists.specs.Rings.{variables};
+ghost use Rattle.term_lists.specs.Vectors.{AreTermsOver, IsVectorOver, StandsFor, sum_of};
 ghost use Rattle.term_tables.specs.Digits.{ArePacked, EachPair, packed_sum};
 ghost use Rattle.term_tables.specs.Tables.{ranked_sum};
 

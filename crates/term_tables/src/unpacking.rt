@@ -2,7 +2,7 @@
 ghost use Rattle.std.specs.Prelude.{ℕ, ◌≡◌, ◌<◌, ◌%◌, IfOk, IfSome, IsTrue, length};
 ghost use Rattle.std.specs.List.Sorted.{IsPermutation};
 ghost use Rattle.formal_sums.specs.FormalSums.{Each, IsSame};
-ghost use Rattle.module_vectors.specs.Vectors.{AreTermsOver, sum_of};
+ghost use Rattle.term_lists.specs.Vectors.{AreTermsOver, sum_of};
 ghost use Rattle.term_tables.specs.Digits.{digits, packed_sum};
 ghost use Rattle.term_tables.specs.Tables.{IsUnpackedTerm, ranked_sum, table_sum};
 

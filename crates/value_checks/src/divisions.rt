@@ -1,6 +1,6 @@
 // Divisions of a vector by a list, and interreductions.
-ghost use Rattle.module_vectors.specs.Rings.{ring_comparison};
-ghost use Rattle.module_vectors.specs.Vectors.{AreVectorsOver, IsVectorOver};
+ghost use Rattle.term_lists.specs.Rings.{ring_comparison};
+ghost use Rattle.term_lists.specs.Vectors.{AreVectorsOver, IsVectorOver};
 
 use crate::trails::write_stop;
 use crate::vectors::write_list;

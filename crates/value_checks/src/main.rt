@@ -29,8 +29,8 @@ mod trails;
 mod vectors;
 
 ghost use Rattle.formal_sums.specs.FormalSums.{Each};
-ghost use Rattle.module_vectors.specs.Rings.{ring_comparison};
-ghost use Rattle.module_vectors.specs.Vectors.{AreVectorsOver, HasPositions};
+ghost use Rattle.term_lists.specs.Rings.{ring_comparison};
+ghost use Rattle.term_lists.specs.Vectors.{AreVectorsOver, HasPositions};
 
 use crate::divisions::{write_division, write_interreduction};
 use crate::members::write_tracked;

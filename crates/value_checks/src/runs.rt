@@ -1,7 +1,7 @@
 // Runs: their beginning, their first job, and reduced bases.
 ghost use Rattle.formal_sums.specs.FormalSums.{Each};
-ghost use Rattle.module_vectors.specs.Rings.{ring_comparison};
-ghost use Rattle.module_vectors.specs.Vectors.{AreVectorsOver, HasPositions};
+ghost use Rattle.term_lists.specs.Rings.{ring_comparison};
+ghost use Rattle.term_lists.specs.Vectors.{AreVectorsOver, HasPositions};
 
 use crate::members::write_member;
 use crate::trails::{write_run_stop, write_trail};

@@ -1,8 +1,8 @@
 // Residues, sums and combinations.
 ghost use Rattle.std.specs.Prelude.{IsOk};
 ghost use Rattle.formal_sums.specs.FormalSums.{Each};
-ghost use Rattle.module_vectors.specs.Rings.{ring_comparison};
-ghost use Rattle.module_vectors.specs.Vectors.{AreVectorsOver, HasPositions};
+ghost use Rattle.term_lists.specs.Rings.{ring_comparison};
+ghost use Rattle.term_lists.specs.Vectors.{AreVectorsOver, HasPositions};
 
 use check_texts::{NoValue, Sheet, product_of, setting_of, vector_of};
 use module_vectors::{Ring, Vect, VectList, VectStop};

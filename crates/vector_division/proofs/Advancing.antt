@@ -6,9 +6,9 @@ use Rattle.formal_sums.specs.FormalSums.{Each, FormalSum, Key, Term}
 use Rattle.orders.proofs.KeyOrdering.{less_of_greater}
 use Rattle.orders.proofs.RoomBelow.{room_falls}
 use Rattle.orders.specs.KeyOrders.{IsKeyOrder}
+use Rattle.term_lists.specs.Vectors.{sum_of}
+use Rattle.term_lists.specs.declared.key.Key.{Key as CodeKey}
 use Rattle.module_vectors.specs.Trails.{IsMet, KeptProduct, product_lead}
-use Rattle.module_vectors.specs.Vectors.{sum_of}
-use Rattle.module_vectors.specs.declared.key.Key.{Key as CodeKey}
 use Rattle.vector_division.specs.Progress.{HasBoundedHead, last_position, room_of}
 use Rattle.vector_division.specs.Reductions.{AreMetFrom, unscaled}
 use Rattle.vector_division.specs.declared.reduction.ScaledProduct.{ScaledProduct}

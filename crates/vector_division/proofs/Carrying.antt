@@ -15,17 +15,17 @@ use Rattle.orders.specs.KeyOrders.{Descends, IsKeyOrder}
 use Rattle.bases.proofs.NormalForms.{at_head}
 use Rattle.bases.specs.Leads.{HasReducedResidues, head_coefficient, head_key}
 use Rattle.bases.specs.Settings.{IsLawful, Setting}
-use Rattle.module_vectors.proofs.Descending.{over_join}
-use Rattle.module_vectors.proofs.NormalVectors.{residues_of}
-use Rattle.module_vectors.proofs.SumsOfProducts.{Each_member}
-use Rattle.module_vectors.proofs.Monomials.{monomial_at}
+use Rattle.term_lists.proofs.Descending.{over_join}
+use Rattle.term_lists.proofs.NormalVectors.{residues_of}
+use Rattle.term_lists.proofs.Parts.{Each_member}
+use Rattle.term_lists.proofs.Monomials.{monomial_at}
 use Rattle.monomial_orders.specs.Kept.{IsWeighed, Monomial}
-use Rattle.module_vectors.specs.Stops.{IsTooGreat}
+use Rattle.term_lists.specs.Stops.{IsTooGreat}
+use Rattle.term_lists.specs.Vectors.{IsVector, key_of, sum_of, sums_of}
+use Rattle.term_lists.specs.declared.key.Key.{Key as CodeKey}
+use Rattle.term_lists.specs.declared.stop.VectStop.{VectStop}
+use Rattle.term_lists.specs.declared.stop.VectStop.TheVariants.{Degree}
 use Rattle.module_vectors.specs.Trails.{HasKey, IsMet, KeptProduct, product_lead}
-use Rattle.module_vectors.specs.Vectors.{IsVector, key_of, sum_of, sums_of}
-use Rattle.module_vectors.specs.declared.key.Key.{Key as CodeKey}
-use Rattle.module_vectors.specs.declared.stop.VectStop.{VectStop}
-use Rattle.module_vectors.specs.declared.stop.VectStop.TheVariants.{Degree}
 use Rattle.vector_division.specs.Progress.{IsDivisor, IsFailingProduct, IsSubtraction, SubtractionStops}
 use Rattle.vector_division.specs.Reductions.{IsScaledProduct, cofactors_of, unscaled}
 use Rattle.vector_division.specs.Runs.{AreBelow, IsOver, IsUnderway, StandsWith, total}

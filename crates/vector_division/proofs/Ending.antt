@@ -1,8 +1,8 @@
 -- How the loop of a division ends
 use Rattle.std.proofs.Common.{List, Ordering, [], ap, arith, false, inl, inr, length, length-append, refl, subst, sym, true, ℕ, Bool, ◌++◌, ◌+◌, ◌<◌, ◌∙◌, ◌∷◌, ◌≡◌, ◌⊎◌}
 use Rattle.formal_sums.specs.FormalSums.{Key}
-use Rattle.module_vectors.specs.Vectors.{key_of}
-use Rattle.module_vectors.specs.declared.key.Key.{Key as CodeKey}
+use Rattle.term_lists.specs.Vectors.{key_of}
+use Rattle.term_lists.specs.declared.key.Key.{Key as CodeKey}
 use Rattle.vector_division.specs.Runs.{AreBelow, IsEnded, IsWhether, total}
 use Rattle.vector_division.proofs.Subtracting.{Terms}
 

@@ -8,9 +8,9 @@ use Rattle.std.proofs.lemmas.List.Sorted.{Contains-permutation, IsPermutation-in
 use Rattle.formal_sums.specs.FormalSums.{Each}
 use Rattle.orders.specs.KeyOrders.{KeyDivides}
 use Rattle.bases.specs.Leads.{head_key}
-use Rattle.module_vectors.proofs.Gathers.{Each_permutation}
-use Rattle.module_vectors.proofs.SumsOfProducts.{Each_member}
-use Rattle.module_vectors.specs.Vectors.{sum_of}
+use Rattle.term_lists.proofs.Gathers.{Each_permutation}
+use Rattle.term_lists.proofs.Parts.{Each_member}
+use Rattle.term_lists.specs.Vectors.{sum_of}
 use Rattle.vector_division.specs.Divisors.{AreDivisors, AreLeast, AreLeastFrom, IsDividedAt, IsNoHigher, IsOf, indexed}
 use Rattle.vector_division.specs.Marks.{IsMarkOf}
 use Rattle.vector_division.specs.declared.divisors.Divisor.{Divisor}

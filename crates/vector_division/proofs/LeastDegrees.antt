@@ -9,10 +9,10 @@ use Rattle.monomials.specs.Weights.{weighted_degree}
 use Rattle.orders.specs.KeyOrders.{KeyDivides}
 use Rattle.bases.specs.Leads.{head_key}
 use Rattle.monomial_orders.specs.Kept.{IsWeighed}
-use Rattle.module_vectors.proofs.Scaling.{Each_at}
-use Rattle.module_vectors.proofs.SumsOfProducts.{Each_member}
-use Rattle.module_vectors.specs.Vectors.{key_of, sum_of}
-use Rattle.module_vectors.specs.declared.key.Key.{Key as CodeKey}
+use Rattle.term_lists.proofs.Scaling.{Each_at}
+use Rattle.term_lists.proofs.Parts.{Each_member}
+use Rattle.term_lists.specs.Vectors.{key_of, sum_of}
+use Rattle.term_lists.specs.declared.key.Key.{Key as CodeKey}
 use Rattle.vector_division.specs.Divisors.{AreBy, AreDivisors, AreLeast, AreLeastFrom, AreTriedTo, IsLeastFrom, IsNoHigher, indexed}
 use Rattle.vector_division.specs.Marks.{IsMarkOf}
 use Rattle.vector_division.specs.Progress.{AreWeighed}

@@ -9,9 +9,9 @@ use Rattle.orders.proofs.KeyOrdering.{KeyDivides_trans}
 use Rattle.monomials.specs.Exponents.{unit}
 use Rattle.formal_sums.proofs.Sameness.{shift-unit}
 use Rattle.bases.specs.Leads.{head_key}
+use Rattle.term_lists.specs.Vectors.{sum_of, sums_of}
+use Rattle.term_lists.specs.declared.key.Key.{Key as CodeKey}
 use Rattle.module_vectors.specs.Trails.{lead_at}
-use Rattle.module_vectors.specs.Vectors.{sum_of, sums_of}
-use Rattle.module_vectors.specs.declared.key.Key.{Key as CodeKey}
 use Rattle.vector_division.specs.Divisions.{IsUncovered}
 use Rattle.vector_division.specs.Divisors.{AreBy, AreDivisors, AreEnough, AreLeast, AreTriedTo, IsDividedAt, IsOf}
 use Rattle.vector_division.specs.Marks.{IsMarkOf}

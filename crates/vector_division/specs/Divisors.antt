@@ -3,9 +3,9 @@ use Rattle.std.specs.Prelude.{Contains, List, [], get_or, length, ⊤, ℕ, ◌<
 use Rattle.formal_sums.specs.FormalSums.{Each, Key}
 use Rattle.orders.specs.KeyOrders.{KeyDivides}
 use Rattle.bases.specs.Leads.{head_key}
+use Rattle.term_lists.specs.Vectors.{sum_of}
+use Rattle.term_lists.specs.declared.key.Key.{Key as CodeKey}
 use Rattle.module_vectors.specs.Trails.{lead_at}
-use Rattle.module_vectors.specs.Vectors.{sum_of}
-use Rattle.module_vectors.specs.declared.key.Key.{Key as CodeKey}
 use Rattle.vector_division.specs.Marks.{IsMarkOf}
 use Rattle.vector_division.specs.declared.divisors.Divisor.{Divisor}
 use Rattle.vector_division.specs.declared.marks.Mark.{Mark}

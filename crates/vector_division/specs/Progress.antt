@@ -7,12 +7,12 @@ use Rattle.orders.specs.KeyOrders.{KeyDivides}
 use Rattle.orders.specs.Room.{room}
 use Rattle.bases.specs.Leads.{head_coefficient, head_key}
 use Rattle.monomial_orders.specs.Kept.{IsWeighed, Monomial}
-use Rattle.module_vectors.specs.Stops.{Fits, HasMonomial, IsTooGreat}
+use Rattle.term_lists.specs.Stops.{Fits, HasMonomial, IsTooGreat}
+use Rattle.term_lists.specs.Vectors.{HasVariables, IsVector, sum_of, sums_of}
+use Rattle.term_lists.specs.declared.key.Key.{Key as CodeKey}
+use Rattle.term_lists.specs.declared.stop.VectStop.{VectStop}
+use Rattle.term_lists.specs.declared.stop.VectStop.TheVariants.{Memory, Degree}
 use Rattle.module_vectors.specs.Trails.{IsMet, KeptProduct, product_lead}
-use Rattle.module_vectors.specs.Vectors.{HasVariables, IsVector, sum_of, sums_of}
-use Rattle.module_vectors.specs.declared.key.Key.{Key as CodeKey}
-use Rattle.module_vectors.specs.declared.stop.VectStop.{VectStop}
-use Rattle.module_vectors.specs.declared.stop.VectStop.TheVariants.{Memory, Degree}
 use Rattle.vector_division.specs.Divisions.{IsUncovered}
 use Rattle.vector_division.specs.Reductions.{unscaled}
 use Rattle.vector_division.specs.declared.reduction.ScaledProduct.{ScaledProduct}

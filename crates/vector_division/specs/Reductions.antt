@@ -5,9 +5,9 @@ use Rattle.std.specs.declared.cmp.Ordering.TheVariants.{Greater}
 use Rattle.monomials.specs.Exponents.{exponents_of}
 use Rattle.formal_sums.specs.FormalSums.{Each, FormalSum, Key}
 use Rattle.monomial_orders.specs.Kept.{IsWeighed}
-use Rattle.module_vectors.specs.Stops.{Fits}
+use Rattle.term_lists.specs.Stops.{Fits}
+use Rattle.term_lists.specs.declared.key.Key.{Key as CodeKey}
 use Rattle.module_vectors.specs.Trails.{AreMet, KeptProduct, product_lead}
-use Rattle.module_vectors.specs.declared.key.Key.{Key as CodeKey}
 use Rattle.vector_division.specs.declared.reduction.ScaledProduct.{ScaledProduct}
 
 -- the product without its residue

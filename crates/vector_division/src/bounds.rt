@@ -1,6 +1,6 @@
 // Which keys the code can hold.
 ghost use Rattle.std.specs.Prelude.{◌≤◌, ℕ, drop};
-ghost use Rattle.module_vectors.specs.Vectors.{sum_of};
+ghost use Rattle.term_lists.specs.Vectors.{sum_of};
 ghost use Rattle.vector_division.specs.Progress.{HasBoundedHead, last_position};
 
 use module_vectors::Vect;

@@ -3,8 +3,8 @@ ghost use Rattle.std.specs.Prelude.{◌++◌, ◌<◌, ◌≡◌, [], length, tr
 ghost use Rattle.formal_sums.specs.FormalSums.{Each};
 ghost use Rattle.formal_sums.specs.Combinations.{combination};
 ghost use Rattle.bases.specs.Leads.{head_key};
-ghost use Rattle.module_vectors.specs.Rings.{variables};
-ghost use Rattle.module_vectors.specs.Vectors.{sum_of, sums_of, IsVectorOver, AreVectorsOver, StandsFor};
+ghost use Rattle.term_lists.specs.Rings.{variables};
+ghost use Rattle.term_lists.specs.Vectors.{sum_of, sums_of, IsVectorOver, AreVectorsOver, StandsFor};
 ghost use Rattle.vector_division.specs.Divisors.{AreDivisors};
 ghost use Rattle.vector_division.specs.Divisions.{IsFreeOfLeads, HasReducedLead, DivisionStops};
 ghost use Rattle.vector_division.specs.Reductions.{cofactors_of, IsScaledProduct, AreMetFrom, HaveLeadsUpTo};

@@ -1,5 +1,5 @@
 use Rattle.std.proofs.Common.{subst}
-use Rattle.module_vectors.specs.Rings.{variables}
+use Rattle.term_lists.specs.Rings.{variables}
 use Rattle.basis_core.specs.Rows.{RowStops}
 use Rattle.basis_core.proofs.beginning.beginning_stop.Goals as goal
 

@@ -1,6 +1,6 @@
 use Rattle.std.proofs.Common.{[], get_or, subst, sym, ◌≡◌}
-use Rattle.module_vectors.specs.Rings.{variables}
-use Rattle.module_vectors.specs.declared.ring.Ring.{Ring}
+use Rattle.term_lists.specs.Rings.{variables}
+use Rattle.term_lists.specs.declared.ring.Ring.{Ring}
 use Rattle.member_products.specs.Generators.{IsVectorOf}
 use Rattle.basis_core.proofs.Starting.{generator_member, made_monic, made_more}
 use Rattle.basis_core.specs.Beginning.{HaveMade, IsUnitMultiple}

@@ -1,7 +1,7 @@
 use Rattle.std.proofs.Common.{[], subst, ◌∷◌, ◌≡◌}
 use Rattle.formal_sums.specs.FormalSums.{IsSame}
-use Rattle.module_vectors.specs.Rings.{variables}
-use Rattle.module_vectors.specs.Vectors.{sum_of}
+use Rattle.term_lists.specs.Rings.{variables}
+use Rattle.term_lists.specs.Vectors.{sum_of}
 use Rattle.basis_core.proofs.Quotients.{unit_sum}
 use Rattle.basis_core.proofs.beginning.unit_multiple.Goals as goal
 

@@ -2,9 +2,9 @@ use Rattle.std.proofs.Common.{[], ap, arith, drop, length, map, subst, sym, ◌+
 use Rattle.std.proofs.lemmas.List.{take_all}
 use Rattle.formal_sums.proofs.WeightedSums.{Each_append}
 use Rattle.formal_sums.specs.FormalSums.{Each}
-use Rattle.module_vectors.proofs.Scaling.{Each_at}
-use Rattle.module_vectors.specs.Vectors.{IsMonomialOver}
-use Rattle.module_vectors.specs.declared.key.Key.{Key as CodeKey}
+use Rattle.term_lists.proofs.Scaling.{Each_at}
+use Rattle.term_lists.specs.Vectors.{IsMonomialOver}
+use Rattle.term_lists.specs.declared.key.Key.{Key as CodeKey}
 use Rattle.basis_core.specs.Leads.{first_key}
 use Rattle.basis_core.specs.Members.{Shared, MemberShown}
 use Rattle.basis_core.proofs.KnownByLeads.{key_weighed, next_key, no_keys}

@@ -1,6 +1,6 @@
 use Rattle.std.proofs.Common.{◌≡◌, ◌≤◌}
 use Rattle.formal_sums.specs.FormalSums.{Each}
-use Rattle.module_vectors.specs.Vectors.{IsMonomialOver}
+use Rattle.term_lists.specs.Vectors.{IsMonomialOver}
 use Rattle.basis_core.proofs.KnownByLeads.{keys_to}
 use Rattle.basis_core.proofs.leading.lead_keys.Given as goal
 

@@ -1,7 +1,7 @@
 use Rattle.std.proofs.Common.{ap, subst, sym, ◌∙◌}
 use Rattle.formal_sums.proofs.Sameness.{IsSame_of, IsSame_trans}
-use Rattle.module_vectors.specs.Rings.{variables}
-use Rattle.module_vectors.specs.Vectors.{AreTermsOver, sum_of}
+use Rattle.term_lists.specs.Rings.{variables}
+use Rattle.term_lists.specs.Vectors.{AreTermsOver, sum_of}
 use Rattle.basis_core.proofs.Quotients.{terms_over, terms_sum}
 use Rattle.basis_core.proofs.products.quotient_products.Goals as goal
 

@@ -1,7 +1,7 @@
 use Rattle.std.proofs.Common.{List, [], drop, length, subst, sym, take, ◌+◌, ◌∙◌, ◌∷◌, ◌≡◌}
 use Rattle.formal_sums.specs.FormalSums.{Each}
-use Rattle.module_vectors.proofs.Scaling.{take_item}
-use Rattle.module_vectors.specs.Rings.{variables}
+use Rattle.term_lists.proofs.Scaling.{take_item}
+use Rattle.term_lists.specs.Rings.{variables}
 use Rattle.basis_steps.specs.Divisions.{IsMonicMember, MakesMembers}
 use Rattle.basis_steps.specs.States.{vectors}
 use Rattle.member_products.specs.declared.member.Reduct.{Reduct}

@@ -1,6 +1,6 @@
 use Rattle.std.proofs.Common.{take, ◌≡◌}
 use Rattle.formal_sums.specs.FormalSums.{Each}
-use Rattle.module_vectors.specs.Rings.{variables}
+use Rattle.term_lists.specs.Rings.{variables}
 use Rattle.basis_steps.specs.Divisions.{IsMonicMember}
 use Rattle.basis_steps.specs.States.{vectors}
 use Rattle.basis_core.specs.Makings.{HaveMadeRows}

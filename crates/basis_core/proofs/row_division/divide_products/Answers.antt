@@ -1,8 +1,8 @@
 use Rattle.std.proofs.Common.{subst, sym, ◌<◌}
 use Rattle.formal_sums.proofs.Combining.{Each_map}
 use Rattle.formal_sums.specs.FormalSums.{Each}
-use Rattle.module_vectors.specs.Vectors.{IsMonomialOver}
-use Rattle.module_vectors.specs.declared.ring.Ring.{Ring}
+use Rattle.term_lists.specs.Vectors.{IsMonomialOver}
+use Rattle.term_lists.specs.declared.ring.Ring.{Ring}
 use Rattle.member_products.specs.Generators.{IsVectorOf}
 use Rattle.basis_core.proofs.Leaving.{row_products}
 use Rattle.basis_core.proofs.row_division.divide_products.Goals as goal

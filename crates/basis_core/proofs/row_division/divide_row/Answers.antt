@@ -1,5 +1,5 @@
 use Rattle.std.proofs.Common.{[], eqb-true, length, sym, ◌∙◌, ◌≡◌}
-use Rattle.module_vectors.specs.Rings.{variables}
+use Rattle.term_lists.specs.Rings.{variables}
 use Rattle.vector_division.specs.Reductions.{cofactors_of}
 use Rattle.basis_core.proofs.Leaving.{none_of_length, nothing_left}
 use Rattle.basis_core.proofs.row_division.divide_row.Goals as goal

@@ -1,5 +1,5 @@
 use Rattle.std.proofs.Common.{[], inr, refl, subst, ◌∷◌}
-use Rattle.module_vectors.specs.Rings.{variables}
+use Rattle.term_lists.specs.Rings.{variables}
 use Rattle.basis_core.specs.Members.{member_of}
 use Rattle.basis_core.specs.RowDivision.{IsMemberLeft, with_multiple}
 use Rattle.basis_core.proofs.row_division.make_member.Goals as goal

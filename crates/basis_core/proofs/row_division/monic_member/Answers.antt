@@ -1,5 +1,5 @@
 use Rattle.std.proofs.Common.{List, subst, sym, ◌<◌}
-use Rattle.module_vectors.specs.declared.ring.Ring.{Ring}
+use Rattle.term_lists.specs.declared.ring.Ring.{Ring}
 use Rattle.member_products.specs.Generators.{IsVectorOf}
 use Rattle.vector_division.specs.declared.reduction.ScaledProduct.{ScaledProduct}
 use Rattle.basis_core.proofs.Leaving.{lead_reduced, left_member}

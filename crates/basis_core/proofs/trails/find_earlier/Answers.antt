@@ -1,7 +1,7 @@
 use Rattle.std.proofs.Common.{List, arith, subst, sym, ℕ}
-use Rattle.module_vectors.specs.Rings.{variables}
+use Rattle.term_lists.specs.Rings.{variables}
+use Rattle.term_lists.specs.declared.key.Key.{Key as CodeKey}
 use Rattle.module_vectors.specs.Trails.{IsInProduct, KeptProduct, product_lead, kept_at}
-use Rattle.module_vectors.specs.declared.key.Key.{Key as CodeKey}
 use Rattle.basis_core.specs.Rows.{vectors_in}
 use Rattle.basis_core.proofs.Chaining.{none_below, step_is}
 use Rattle.basis_core.proofs.trails.find_earlier.Goals as goal

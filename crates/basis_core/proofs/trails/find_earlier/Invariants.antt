@@ -1,5 +1,5 @@
 use Rattle.std.proofs.Common.{ℕ, ◌<◌}
-use Rattle.module_vectors.specs.Rings.{variables}
+use Rattle.term_lists.specs.Rings.{variables}
 use Rattle.module_vectors.specs.Trails.{IsInProduct, product_lead, kept_at}
 use Rattle.basis_core.specs.Rows.{vectors_in}
 use Rattle.basis_core.proofs.trails.find_earlier.Given as goal

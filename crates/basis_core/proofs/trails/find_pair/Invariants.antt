@@ -1,7 +1,7 @@
 use Rattle.std.proofs.Common.{get_or, ℕ, ◌<◌, ◌≡◌}
-use Rattle.module_vectors.specs.Rings.{variables}
+use Rattle.term_lists.specs.Rings.{variables}
+use Rattle.term_lists.specs.Vectors.{key_of}
 use Rattle.module_vectors.specs.Trails.{product_lead}
-use Rattle.module_vectors.specs.Vectors.{key_of}
 use Rattle.pair_criteria.specs.declared.pair.Pair.{Pair as CodePair}
 use Rattle.basis_core.specs.Rows.{vectors_in}
 use Rattle.basis_core.proofs.trails.find_pair.Given as goal

@@ -1,10 +1,10 @@
 use Rattle.std.proofs.Common.{List, [], ap, arith, get_or, length, subst, sym, ℕ, ◌∙◌, ◌≡◌}
 use Rattle.monomials.specs.Exponents.{exponents_of}
 use Rattle.formal_sums.specs.FormalSums.{shift}
-use Rattle.module_vectors.specs.Rings.{variables}
+use Rattle.term_lists.specs.Rings.{variables}
+use Rattle.term_lists.specs.Vectors.{key_of, sum_of}
+use Rattle.term_lists.specs.declared.key.Key.{Key as CodeKey}
 use Rattle.module_vectors.specs.Trails.{HasKey, product_lead}
-use Rattle.module_vectors.specs.Vectors.{key_of, sum_of}
-use Rattle.module_vectors.specs.declared.key.Key.{Key as CodeKey}
 use Rattle.basis_core.specs.Rows.{vectors_in}
 use Rattle.basis_core.proofs.Chaining.{key_index, key_there, lead_is, none_more, nonzero_at, same_in, variables_at}
 use Rattle.basis_core.proofs.trails.is_in_product.Goals as goal

@@ -1,10 +1,10 @@
 use Rattle.std.proofs.Common.{get_or, ℕ, ◌<◌, ◌≡◌}
-use Rattle.module_vectors.specs.Rings.{variables}
+use Rattle.term_lists.specs.Rings.{variables}
+use Rattle.term_lists.specs.Vectors.{key_of}
 use Rattle.module_vectors.specs.Trails.{product_lead}
-use Rattle.module_vectors.specs.Vectors.{key_of}
 use Rattle.monomials.specs.Exponents.{exponents_of}
 use Rattle.formal_sums.specs.FormalSums.{shift}
-use Rattle.module_vectors.specs.declared.key.Key.{Key as CodeKey}
+use Rattle.term_lists.specs.declared.key.Key.{Key as CodeKey}
 use Rattle.basis_core.specs.Rows.{vectors_in}
 use Rattle.basis_core.proofs.trails.is_in_product.Given as goal
 

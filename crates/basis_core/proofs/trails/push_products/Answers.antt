@@ -1,6 +1,6 @@
 use Rattle.std.proofs.Common.{List, [], ap, sym, take, ◌++◌, ◌∙◌, ◌∷◌}
 use Rattle.std.proofs.lemmas.List.{append-nil, append_assoc, take_all}
-use Rattle.module_vectors.proofs.Scaling.{take_item}
+use Rattle.term_lists.proofs.Scaling.{take_item}
 use Rattle.module_vectors.specs.Trails.{KeptProduct}
 use Rattle.basis_core.proofs.trails.push_products.Goals as goal
 

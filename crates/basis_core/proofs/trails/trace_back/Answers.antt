@@ -1,8 +1,8 @@
 use Rattle.std.proofs.Common.{List, ap, length, subst, sym, ℕ, ◌∙◌, ◌≡◌}
 use Rattle.monomials.specs.Exponents.{exponents_of, unit}
-use Rattle.module_vectors.specs.Rings.{variables}
+use Rattle.term_lists.specs.Rings.{variables}
+use Rattle.term_lists.specs.declared.key.Key.{Key as CodeKey}
 use Rattle.module_vectors.specs.Trails.{IsKeptProduct, KeptProduct}
-use Rattle.module_vectors.specs.declared.key.Key.{Key as CodeKey}
 use Rattle.basis_core.specs.Rows.{vectors_in}
 use Rattle.basis_core.proofs.Chaining.{each_item}
 use Rattle.basis_core.proofs.trails.trace_back.Goals as goal

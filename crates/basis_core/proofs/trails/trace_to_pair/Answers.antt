@@ -1,7 +1,7 @@
 use Rattle.std.proofs.Common.{List, arith, inl, inr, length, refl, reverse, subst, sym, ℕ, ◌<◌, ◌∷◌, ◌≡◌, ◌⊎◌, ◌-◌}
-use Rattle.module_vectors.specs.Rings.{variables}
+use Rattle.term_lists.specs.Rings.{variables}
+use Rattle.term_lists.specs.declared.key.Key.{Key as CodeKey}
 use Rattle.module_vectors.specs.Trails.{IsInProduct, IsKeptProduct, KeptProduct, no_product, product_lead, kept_at}
-use Rattle.module_vectors.specs.declared.key.Key.{Key as CodeKey}
 use Rattle.pair_criteria.specs.declared.pair.Pair.{Pair as CodePair}
 use Rattle.basis_core.specs.Chains.{IsChainTo}
 use Rattle.basis_core.specs.Rows.{vectors_in}

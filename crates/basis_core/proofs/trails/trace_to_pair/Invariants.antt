@@ -1,5 +1,5 @@
 use Rattle.std.proofs.Common.{length, reverse, ◌<◌, ◌∷◌}
-use Rattle.module_vectors.specs.Rings.{variables}
+use Rattle.term_lists.specs.Rings.{variables}
 use Rattle.basis_core.specs.Chains.{IsChainTo}
 use Rattle.basis_core.specs.Rows.{vectors_in}
 use Rattle.basis_core.proofs.trails.trace_to_pair.Given as goal

@@ -1,5 +1,5 @@
 use Rattle.std.proofs.Common.{length, ◌<◌, ◌≡◌}
-use Rattle.module_vectors.specs.Rings.{variables}
+use Rattle.term_lists.specs.Rings.{variables}
 use Rattle.check_texts.proofs.products.multiple_of.Given as goal
 
 abbrev pub invariant-loop-factor : goal.invariant-loop-factor

@@ -1,6 +1,6 @@
 use Rattle.std.proofs.Common.{take}
 use Rattle.formal_sums.specs.FormalSums.{Each}
-use Rattle.module_vectors.specs.Vectors.{HasVariables}
+use Rattle.term_lists.specs.Vectors.{HasVariables}
 use Rattle.check_texts.proofs.sheet.have_variables.Given as goal
 
 abbrev pub invariant-loop-term : goal.invariant-loop-term

@@ -1,4 +1,4 @@
-use Rattle.module_vectors.specs.Vectors.{AreTermsOver}
+use Rattle.term_lists.specs.Vectors.{AreTermsOver}
 use Rattle.check_texts.proofs.vectors.terms_of.Given as goal
 
 abbrev pub invariant-loop-position : goal.invariant-loop-position

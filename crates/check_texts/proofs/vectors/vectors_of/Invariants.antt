@@ -1,6 +1,6 @@
 use Rattle.formal_sums.specs.FormalSums.{Each}
-use Rattle.module_vectors.specs.Rings.{ring_comparison}
-use Rattle.module_vectors.specs.Vectors.{AreVectorsOver, HasPositions}
+use Rattle.term_lists.specs.Rings.{ring_comparison}
+use Rattle.term_lists.specs.Vectors.{AreVectorsOver, HasPositions}
 use Rattle.member_products.specs.Generators.{AreGenerators}
 use Rattle.check_texts.proofs.vectors.vectors_of.Given as goal
 

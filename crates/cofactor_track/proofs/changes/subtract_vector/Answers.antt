@@ -1,7 +1,7 @@
 use Rattle.std.proofs.lemmas.Result.{on_ok_weaker}
 use Rattle.monomials.specs.Exponents.{exponents_of}
-use Rattle.module_vectors.specs.Rings.{variables}
-use Rattle.module_vectors.specs.Vectors.{sum_of}
+use Rattle.term_lists.specs.Rings.{variables}
+use Rattle.term_lists.specs.Vectors.{sum_of}
 use Rattle.cofactor_track.proofs.Differences.{less_of_sum}
 use Rattle.cofactor_track.proofs.changes.subtract_vector.Goals as goal
 

@@ -2,8 +2,8 @@ use Rattle.std.proofs.Common.{[], subst, sym, ◌∷◌, ◌≡◌}
 use Rattle.std.proofs.lemmas.Result.{IfOk-weaker}
 use Rattle.formal_sums.specs.FormalSums.{IsSame}
 use Rattle.monomial_orders.specs.Kept.{IsWeighed}
-use Rattle.module_vectors.specs.Rings.{variables}
-use Rattle.module_vectors.specs.Vectors.{AreTermsOver, sum_of}
+use Rattle.term_lists.specs.Rings.{variables}
+use Rattle.term_lists.specs.Vectors.{AreTermsOver, sum_of}
 use Rattle.cofactor_track.proofs.Differences.{unit_sum}
 use Rattle.cofactor_track.proofs.changes.unit_vector.Goals as goal
 

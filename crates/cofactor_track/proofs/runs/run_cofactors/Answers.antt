@@ -1,7 +1,7 @@
 use Rattle.std.proofs.Common.{[], ap, arith, length, subst, sym, take, ◌++◌, ◌∙◌, ◌∷◌, ◌≡◌}
 use Rattle.std.proofs.lemmas.List.{length-take, take_all}
 use Rattle.formal_sums.specs.FormalSums.{Each}
-use Rattle.module_vectors.proofs.Scaling.{take_item}
+use Rattle.term_lists.proofs.Scaling.{take_item}
 use Rattle.member_products.specs.Generators.{IsRanked}
 use Rattle.member_products.specs.Members.{AreCofactors}
 use Rattle.member_products.proofs.Multiplied.{cofactors_none, member_there, stops_at}

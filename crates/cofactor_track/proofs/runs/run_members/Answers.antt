@@ -1,8 +1,8 @@
 use Rattle.std.proofs.Common.{List, subst, subst₂, sym, ◌≡◌}
 use Rattle.std.specs.Arc.{arc_value}
 use Rattle.formal_sums.specs.FormalSums.{Each}
-use Rattle.module_vectors.specs.Rings.{variables}
-use Rattle.module_vectors.specs.Vectors.{sums_of}
+use Rattle.term_lists.specs.Rings.{variables}
+use Rattle.term_lists.specs.Vectors.{sums_of}
 use Rattle.basis_steps.specs.Cofactors.{AreCombined}
 use Rattle.member_products.specs.Members.{members_of}
 use Rattle.basis_core.specs.Members.{Shared, MemberShown, shared_of}

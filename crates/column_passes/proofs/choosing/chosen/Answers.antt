@@ -1,6 +1,6 @@
 use Rattle.std.proofs.Common.{arith, subst, sym, ◌<◌}
-use Rattle.module_vectors.specs.Rings.{ring_comparison, variables}
-use Rattle.module_vectors.specs.Vectors.{AreVectorsOver, sums_of}
+use Rattle.term_lists.specs.Rings.{ring_comparison, variables}
+use Rattle.term_lists.specs.Vectors.{AreVectorsOver, sums_of}
 use Rattle.column_passes.specs.Passing.{AreGradedColumns, IsPassed}
 use Rattle.column_passes.proofs.ChosenSteps.{chosen_is, chosen_terms, constants_graded_columns}
 use Rattle.column_passes.proofs.choosing.chosen.Goals as goal

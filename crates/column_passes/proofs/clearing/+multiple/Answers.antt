@@ -1,6 +1,6 @@
 use Rattle.std.proofs.Common.{rules, subst, sym}
-use Rattle.module_vectors.proofs.SumsOfProducts.{Each_drop, Each_take}
-use Rattle.module_vectors.specs.Vectors.{AreTermsOver}
+use Rattle.term_lists.proofs.Parts.{Each_drop, Each_take}
+use Rattle.term_lists.specs.Vectors.{AreTermsOver}
 use Rattle.column_passes.proofs.Clearings.{multiple_halves}
 use Rattle.column_passes.proofs.clearing.+multiple.Goals as goal
 

@@ -1,6 +1,6 @@
 use Rattle.std.proofs.Common.{[], arith, subst, sym}
 use Rattle.std.proofs.lemmas.List.{take_all}
-use Rattle.module_vectors.specs.Vectors.{StandsFor}
+use Rattle.term_lists.specs.Vectors.{StandsFor}
 use Rattle.column_passes.specs.Clearing.{multiple_of}
 use Rattle.column_passes.proofs.Clearings.{clear_more, stop_of}
 use Rattle.column_passes.proofs.clearing.small_multiple.Goals as goal

@@ -1,6 +1,6 @@
 use Rattle.std.proofs.Common.{take}
-use Rattle.module_vectors.specs.Rings.{ring_comparison}
-use Rattle.module_vectors.specs.Vectors.{IsVectorOver, StandsFor}
+use Rattle.term_lists.specs.Rings.{ring_comparison}
+use Rattle.term_lists.specs.Vectors.{IsVectorOver, StandsFor}
 use Rattle.column_passes.specs.Clearing.{multiple_of}
 use Rattle.column_passes.proofs.clearing.small_multiple.Given as goal
 

@@ -1,8 +1,8 @@
 use Rattle.std.proofs.Common.{ap, not, rules, subst, sym, ◌==◌, ◌∙◌, ◌≡◌}
 use Rattle.std.proofs.lemmas.Fn.{filter_same}
 use Rattle.std.specs.List.{filter}
-use Rattle.module_vectors.specs.Rings.{ring_comparison}
-use Rattle.module_vectors.specs.Vectors.{IsVectorOver, sum_of}
+use Rattle.term_lists.specs.Rings.{ring_comparison}
+use Rattle.term_lists.specs.Vectors.{IsVectorOver, sum_of}
 use Rattle.column_passes.specs.Clearing.{lowered}
 use Rattle.column_passes.proofs.Lowering.{lowered_filter, vector_without_row, without_sum, without_terms}
 use Rattle.column_passes.proofs.clearing.vector_without.Goals as goal

@@ -2,9 +2,9 @@ use Rattle.std.specs.Prelude.{IfOk}
 use Rattle.std.proofs.Common.{ap, arith, subst, sym, ◌∙◌}
 use Rattle.std.proofs.lemmas.List.{take_all}
 use Rattle.betti_laws.specs.ConstantParts.{constant_part}
-use Rattle.module_vectors.proofs.Scaling.{Each_at}
-use Rattle.module_vectors.specs.Rings.{variables}
-use Rattle.module_vectors.specs.Vectors.{AreTermsOver, StandsFor, sum_of}
+use Rattle.term_lists.proofs.Scaling.{Each_at}
+use Rattle.term_lists.specs.Rings.{variables}
+use Rattle.term_lists.specs.Vectors.{AreTermsOver, StandsFor, sum_of}
 use Rattle.column_passes.proofs.ConstantTerms.{constants_put}
 use Rattle.column_passes.proofs.constant_parts.constant_vector.Goals as goal
 

@@ -1,7 +1,7 @@
 use Rattle.std.proofs.Common.{take, ◌≡◌}
 use Rattle.betti_laws.specs.ConstantParts.{constant_part}
-use Rattle.module_vectors.specs.Rings.{variables}
-use Rattle.module_vectors.specs.Vectors.{AreTermsOver, sum_of}
+use Rattle.term_lists.specs.Rings.{variables}
+use Rattle.term_lists.specs.Vectors.{AreTermsOver, sum_of}
 use Rattle.column_passes.proofs.constant_parts.constant_vector.Given as goal
 
 abbrev pub invariant-loop-term : goal.invariant-loop-term

@@ -1,7 +1,7 @@
 use Rattle.std.proofs.Common.{[], get_or, ℕ, ◌<◌}
 use Rattle.minimal_laws.specs.Minimal.{IsConstantAt}
-use Rattle.module_vectors.specs.Rings.{variables}
-use Rattle.module_vectors.specs.Vectors.{sums_of}
+use Rattle.term_lists.specs.Rings.{variables}
+use Rattle.term_lists.specs.Vectors.{sums_of}
 use Rattle.column_passes.proofs.constants.first_constant.Given as goal
 
 abbrev pub invariant-loop-column : goal.invariant-loop-column

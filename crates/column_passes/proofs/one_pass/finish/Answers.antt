@@ -1,7 +1,7 @@
 use Rattle.std.proofs.Common.{arith, subst, ◌<◌}
 use Rattle.formal_sums.proofs.Sameness.{IsSame_of, IsSame_trans}
 use Rattle.formal_sums.specs.FormalSums.{Each}
-use Rattle.module_vectors.specs.Rings.{variables}
+use Rattle.term_lists.specs.Rings.{variables}
 use Rattle.column_passes.specs.Passing.{IsMetOver}
 use Rattle.column_passes.proofs.Canonical.{without_all_same}
 use Rattle.column_passes.proofs.Columns.{vectors_pushed}

@@ -2,8 +2,8 @@ use Rattle.std.proofs.Common.{List, ℕ, ◌++◌}
 use Rattle.std.specs.VecDeque.{deque_len}
 use Rattle.formal_sums.specs.FormalSums.{Each}
 use Rattle.minimal_laws.specs.Cancellation.{AreSameColumns}
-use Rattle.module_vectors.specs.Rings.{ring_comparison, variables}
-use Rattle.module_vectors.specs.Vectors.{AreVectorsOver, sums_of}
+use Rattle.term_lists.specs.Rings.{ring_comparison, variables}
+use Rattle.term_lists.specs.Vectors.{AreVectorsOver, sums_of}
 use Rattle.column_passes.specs.Passing.{IsMetOver, finished_all}
 use Rattle.column_passes.specs.Placing.{ArePlacesAfter}
 use Rattle.column_passes.proofs.one_pass.finish.Given as goal

@@ -1,9 +1,9 @@
 use Rattle.std.proofs.Common.{Err, List, Ok, Result, [], ap, arith, get_or, length, subst, sym, ℕ, ◌≤◌, ◌∙◌}
 use Rattle.std.specs.Prelude.{IfOk}
 use Rattle.std.proofs.lemmas.List.{get_or_default, get_or_past}
-use Rattle.module_vectors.proofs.Scaling.{Each_at}
-use Rattle.module_vectors.specs.Rings.{ring_comparison, variables}
-use Rattle.module_vectors.specs.Vectors.{IsVectorOver, StandsFor, sum_of}
+use Rattle.term_lists.proofs.Scaling.{Each_at}
+use Rattle.term_lists.specs.Rings.{ring_comparison, variables}
+use Rattle.term_lists.specs.Vectors.{IsVectorOver, StandsFor, sum_of}
 use Rattle.vector_division.proofs.Members.{sums_at}
 use Rattle.column_passes.specs.Passing.{AreFinished, AreNumbered, IsPassed, LeaveNumbered, cleared_all, indices_in_turn}
 use Rattle.column_passes.specs.Placing.{ArePlacesAfter}

@@ -1,6 +1,6 @@
 use Rattle.std.proofs.Common.{[], rules, subst, sym, ◌∙◌, ◌≡◌}
-use Rattle.module_vectors.specs.Rings.{ring_comparison, variables}
-use Rattle.module_vectors.specs.Vectors.{AreVectorsOver}
+use Rattle.term_lists.specs.Rings.{ring_comparison, variables}
+use Rattle.term_lists.specs.Vectors.{AreVectorsOver}
 use Rattle.column_passes.proofs.Columns.{columns_done, columns_more, columns_start, vectors_pushed}
 use Rattle.column_passes.proofs.placing.columns_without.Goals as goal
 

@@ -1,7 +1,7 @@
 use Rattle.std.proofs.Common.{List, map, ℕ, ◌++◌, ◌≡◌}
 use Rattle.std.specs.VecDeque.{deque_len}
-use Rattle.module_vectors.specs.Rings.{ring_comparison, variables}
-use Rattle.module_vectors.specs.Vectors.{AreVectorsOver, sums_of}
+use Rattle.term_lists.specs.Rings.{ring_comparison, variables}
+use Rattle.term_lists.specs.Vectors.{AreVectorsOver, sums_of}
 use Rattle.column_passes.specs.Placing.{ArePlacesAfter, without_all}
 use Rattle.column_passes.proofs.placing.columns_without.Given as goal
 

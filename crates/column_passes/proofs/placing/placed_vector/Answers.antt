@@ -1,6 +1,6 @@
 use Rattle.std.proofs.Common.{[], ap, rules, subst, sym, ◌∙◌, ◌≡◌}
-use Rattle.module_vectors.specs.Rings.{ring_comparison}
-use Rattle.module_vectors.specs.Vectors.{IsVectorOver, sum_of}
+use Rattle.term_lists.specs.Rings.{ring_comparison}
+use Rattle.term_lists.specs.Vectors.{IsVectorOver, sum_of}
 use Rattle.column_passes.proofs.Places.{left_sum, left_terms, left_vector, placed_end, placed_is, placed_more}
 use Rattle.column_passes.proofs.placing.placed_vector.Goals as goal
 

@@ -1,7 +1,7 @@
 use Rattle.std.proofs.Common.{arith, drop, get_or, subst, ◌<◌, ◌≤◌}
 use Rattle.formal_sums.specs.FormalSums.{Each}
-use Rattle.module_vectors.specs.Rings.{variables}
-use Rattle.module_vectors.specs.Vectors.{sum_of}
+use Rattle.term_lists.specs.Rings.{variables}
+use Rattle.term_lists.specs.Vectors.{sum_of}
 use Rattle.column_passes.specs.Passing.{cleared_all}
 use Rattle.column_passes.proofs.Numbering.{next_cleared, next_none}
 use Rattle.column_passes.proofs.steps.clear_since.Goals as goal

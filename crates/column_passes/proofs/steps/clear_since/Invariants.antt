@@ -1,7 +1,7 @@
 use Rattle.std.proofs.Common.{drop, length, ◌-◌}
 use Rattle.formal_sums.specs.FormalSums.{IsSame}
-use Rattle.module_vectors.specs.Rings.{ring_comparison, variables}
-use Rattle.module_vectors.specs.Vectors.{IsVectorOver, sum_of}
+use Rattle.term_lists.specs.Rings.{ring_comparison, variables}
+use Rattle.term_lists.specs.Vectors.{IsVectorOver, sum_of}
 use Rattle.column_passes.specs.Passing.{cleared_all}
 use Rattle.column_passes.proofs.steps.clear_since.Given as goal
 

@@ -1,7 +1,7 @@
 use Rattle.std.proofs.Common.{}
 use Rattle.complements.specs.Complements.{IsComplement}
-use Rattle.module_vectors.specs.Rings.{ring_comparison}
-use Rattle.module_vectors.specs.Vectors.{IsVectorOver}
+use Rattle.term_lists.specs.Rings.{ring_comparison}
+use Rattle.term_lists.specs.Vectors.{IsVectorOver}
 use Rattle.complements.proofs.clearing.complement.Given as goal
 
 abbrev pub invariant-loop-level : goal.invariant-loop-level

@@ -1,5 +1,5 @@
 use Rattle.std.proofs.Common.{}
-use Rattle.module_vectors.specs.Vectors.{AreTermsOver}
+use Rattle.term_lists.specs.Vectors.{AreTermsOver}
 use Rattle.complements.proofs.factors.factors_at.Given as goal
 
 abbrev pub invariant-loop-i : goal.invariant-loop-i

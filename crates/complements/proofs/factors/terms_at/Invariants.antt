@@ -1,5 +1,5 @@
 use Rattle.std.proofs.Common.{}
-use Rattle.module_vectors.specs.Vectors.{AreTermsOver}
+use Rattle.term_lists.specs.Vectors.{AreTermsOver}
 use Rattle.complements.proofs.factors.terms_at.Given as goal
 
 abbrev pub invariant-loop-term : goal.invariant-loop-term

@@ -1,5 +1,5 @@
 use Rattle.std.proofs.Common.{subst}
-use Rattle.module_vectors.specs.declared.ring.Ring.{Ring}
+use Rattle.term_lists.specs.declared.ring.Ring.{Ring}
 use Rattle.member_products.specs.Generators.{IsVectorOf}
 use Rattle.core_histories.proofs.leading.minimal.Goals as goal
 

@@ -1,4 +1,4 @@
-use Rattle.module_vectors.specs.Vectors.{AreTermsOver}
+use Rattle.term_lists.specs.Vectors.{AreTermsOver}
 use Rattle.core_histories.proofs.leading.minimal.Given as goal
 
 abbrev pub invariant-loop-i : goal.invariant-loop-i

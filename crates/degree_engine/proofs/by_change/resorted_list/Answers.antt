@@ -1,9 +1,9 @@
 use Rattle.std.proofs.Common.{List, [], subst, subst₂, sym, take, ◌∙◌, ◌+◌}
 use Rattle.std.proofs.lemmas.List.{take_all}
 use Rattle.formal_sums.specs.FormalSums.{Each}
-use Rattle.module_vectors.proofs.Scaling.{Each_at}
-use Rattle.module_vectors.specs.Rings.{ring_comparison}
-use Rattle.module_vectors.specs.Vectors.{AreVectorsOver, IsVectorOver}
+use Rattle.term_lists.proofs.Scaling.{Each_at}
+use Rattle.term_lists.specs.Rings.{ring_comparison}
+use Rattle.term_lists.specs.Vectors.{AreVectorsOver, IsVectorOver}
 use Rattle.degree_engine.specs.Resorted.{AreResorted}
 use Rattle.degree_engine.proofs.Resorting.{Terms, resorted_more, resorted_none, vectors_more}
 use Rattle.degree_engine.proofs.by_change.resorted_list.Goals as goal

@@ -1,6 +1,6 @@
 use Rattle.std.proofs.Common.{take}
-use Rattle.module_vectors.specs.Rings.{ring_comparison}
-use Rattle.module_vectors.specs.Vectors.{AreVectorsOver}
+use Rattle.term_lists.specs.Rings.{ring_comparison}
+use Rattle.term_lists.specs.Vectors.{AreVectorsOver}
 use Rattle.degree_engine.specs.Resorted.{AreResorted}
 use Rattle.degree_engine.proofs.by_change.resorted_list.Given as goal
 

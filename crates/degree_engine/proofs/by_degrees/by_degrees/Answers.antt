@@ -1,5 +1,5 @@
-use Rattle.module_vectors.specs.Vectors.{sums_of}
-use Rattle.module_vectors.specs.Rings.{variables}
+use Rattle.term_lists.specs.Vectors.{sums_of}
+use Rattle.term_lists.specs.Rings.{variables}
 use Rattle.degree_engine.proofs.AtOne.{basis_of_lowered}
 use Rattle.degree_engine.proofs.by_degrees.by_degrees.Goals as goal
 

@@ -1,10 +1,10 @@
 use Rattle.std.proofs.Common.{List, [], ap, arith, length, subst, subst₂, sym, take, ℕ, ◌+◌, ◌∙◌, ◌∷◌}
 use Rattle.std.proofs.lemmas.List.{take_all}
 use Rattle.formal_sums.proofs.WeightedSums.{Each_append}
-use Rattle.module_vectors.proofs.Scaling.{Each_at}
-use Rattle.module_vectors.specs.Rings.{ring_comparison}
-use Rattle.module_vectors.specs.Vectors.{AreVectorsOver, IsVectorOver}
-use Rattle.module_vectors.specs.declared.key.Key.{Key as CodeKey}
+use Rattle.term_lists.proofs.Scaling.{Each_at}
+use Rattle.term_lists.specs.Rings.{ring_comparison}
+use Rattle.term_lists.specs.Vectors.{AreVectorsOver, IsVectorOver}
+use Rattle.term_lists.specs.declared.key.Key.{Key as CodeKey}
 use Rattle.degree_engine.specs.LastVariables.{AreAtOne}
 use Rattle.degree_engine.proofs.LastVariable.{at_one_none, lowered_next}
 use Rattle.degree_engine.proofs.last_variable.lowered_list.Goals as goal

@@ -1,5 +1,5 @@
 use Rattle.std.proofs.Common.{ap, ap₂, arith, length, suc, take, ◌∙◌, ◌≡◌}
-use Rattle.module_vectors.specs.Rings.{variables}
+use Rattle.term_lists.specs.Rings.{variables}
 use Rattle.degree_engine.proofs.LastVariable.{lowered_monomial_is}
 use Rattle.degree_engine.proofs.last_variable.lowered_monomial.Goals as goal
 

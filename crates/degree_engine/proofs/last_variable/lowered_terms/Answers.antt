@@ -1,8 +1,8 @@
 use Rattle.std.proofs.Common.{ap, arith, length, subst, suc, sym, take_all, ◌<◌, ◌∙◌}
 use Rattle.homogeneous_laws.specs.Homogeneous.{dehomogenised}
-use Rattle.module_vectors.proofs.Scaling.{Each_at}
-use Rattle.module_vectors.specs.Rings.{variables}
-use Rattle.module_vectors.specs.Vectors.{AreTermsOver, IsTerm, sum_of}
+use Rattle.term_lists.proofs.Scaling.{Each_at}
+use Rattle.term_lists.specs.Rings.{variables}
+use Rattle.term_lists.specs.Vectors.{AreTermsOver, IsTerm, sum_of}
 use Rattle.degree_engine.proofs.LastVariable.{lowered_more, over_more, residue_over}
 use Rattle.degree_engine.proofs.last_variable.lowered_terms.Goals as goal
 

@@ -1,8 +1,8 @@
 use Rattle.std.proofs.Common.{length, suc, take, ◌≡◌, ◌≤◌}
 use Rattle.std.specs.Vec.{vec_capacity, vec_len}
 use Rattle.homogeneous_laws.specs.Homogeneous.{dehomogenised}
-use Rattle.module_vectors.specs.Rings.{variables}
-use Rattle.module_vectors.specs.Vectors.{AreTermsOver, sum_of}
+use Rattle.term_lists.specs.Rings.{variables}
+use Rattle.term_lists.specs.Vectors.{AreTermsOver, sum_of}
 use Rattle.degree_engine.proofs.last_variable.lowered_terms.Given as goal
 
 abbrev pub invariant-loop-term : goal.invariant-loop-term

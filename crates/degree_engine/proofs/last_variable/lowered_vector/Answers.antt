@@ -1,7 +1,7 @@
 use Rattle.std.proofs.Common.{ap, subst, suc, sym, ◌∙◌}
 use Rattle.homogeneous_laws.specs.Homogeneous.{dehomogenised}
-use Rattle.module_vectors.specs.Rings.{ring_comparison, variables}
-use Rattle.module_vectors.specs.Vectors.{IsVectorOver, sum_of}
+use Rattle.term_lists.specs.Rings.{ring_comparison, variables}
+use Rattle.term_lists.specs.Vectors.{IsVectorOver, sum_of}
 use Rattle.degree_engine.proofs.LastVariable.{lowered_vector_is}
 use Rattle.degree_engine.proofs.last_variable.lowered_vector.Goals as goal
 

@@ -1,7 +1,7 @@
 use Rattle.std.proofs.Common.{length, take, ◌≡◌, ◌≤◌}
 use Rattle.std.specs.Vec.{vec_capacity, vec_len}
-use Rattle.module_vectors.specs.Rings.{ring_comparison}
-use Rattle.module_vectors.specs.Vectors.{AreVectorsOver}
+use Rattle.term_lists.specs.Rings.{ring_comparison}
+use Rattle.term_lists.specs.Vectors.{AreVectorsOver}
 use Rattle.degree_engine.specs.LastVariables.{AreAtOne}
 use Rattle.degree_engine.proofs.last_variable.raised_list.Given as goal
 

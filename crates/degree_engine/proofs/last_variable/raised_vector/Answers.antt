@@ -1,6 +1,6 @@
 use Rattle.std.proofs.Common.{ap, arith, subst, sym, ◌<◌, ◌∙◌}
-use Rattle.module_vectors.specs.Rings.{ring_comparison, variables}
-use Rattle.module_vectors.specs.Vectors.{IsVectorOver, sum_of}
+use Rattle.term_lists.specs.Rings.{ring_comparison, variables}
+use Rattle.term_lists.specs.Vectors.{IsVectorOver, sum_of}
 use Rattle.degree_engine.proofs.LastVariable.{raised_vector_is}
 use Rattle.degree_engine.proofs.last_variable.raised_vector.Goals as goal
 

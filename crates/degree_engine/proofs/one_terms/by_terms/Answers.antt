@@ -1,5 +1,5 @@
-use Rattle.module_vectors.specs.Rings.{ring_comparison, setting, variables}
-use Rattle.module_vectors.specs.Vectors.{sums_of}
+use Rattle.term_lists.specs.Rings.{ring_comparison, setting, variables}
+use Rattle.term_lists.specs.Vectors.{sums_of}
 use Rattle.degree_engine.proofs.OneTerms.{basis_as_it_stands}
 use Rattle.degree_engine.proofs.one_terms.by_terms.Goals as goal
 

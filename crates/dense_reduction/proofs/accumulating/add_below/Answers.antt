@@ -1,6 +1,6 @@
 use Rattle.std.proofs.Common.{arith, get_or, length, subst, ◌<◌}
 use Rattle.std.proofs.lemmas.List.{get_or_default, take_all}
-use Rattle.module_vectors.proofs.SumsOfProducts.{Each_member}
+use Rattle.term_lists.proofs.Parts.{Each_member}
 use Rattle.row_matrix.specs.Rows.{Entry}
 use Rattle.dense_reduction.proofs.Adding.{Each_set, adds_nothing, adds_step}
 use Rattle.dense_reduction.proofs.EightSums.{entry_at}

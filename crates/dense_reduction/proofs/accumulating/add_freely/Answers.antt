@@ -1,7 +1,7 @@
 use Rattle.std.proofs.Common.{ap, arith, drop, get_or, length, subst, ◌*◌, ◌+◌, ◌<◌, ◌∙◌, ◌≡◌}
 use Rattle.std.proofs.lemmas.List.{drop_more, get_or_default}
 use Rattle.residues.proofs.Congruences.{IsCongruent_of}
-use Rattle.module_vectors.proofs.Scaling.{Each_at}
+use Rattle.term_lists.proofs.Scaling.{Each_at}
 use Rattle.row_matrix.specs.Rows.{Entry}
 use Rattle.dense_reduction.proofs.Adding.{AreAddedTo, added_at, added_start, added_step, adds_nothing, adds_step, entries_drop, product_below}
 use Rattle.dense_reduction.proofs.accumulating.add_freely.Goals as goal

@@ -1,6 +1,6 @@
 use Rattle.std.proofs.Common.{arith, length, subst, ◌<◌}
 use Rattle.std.proofs.lemmas.List.{take_all}
-use Rattle.module_vectors.proofs.SumsOfProducts.{Each_member}
+use Rattle.term_lists.proofs.Parts.{Each_member}
 use Rattle.pivot_table.specs.Law.{told}
 use Rattle.dense_reduction.proofs.Claimed.{claimed_lost, claimed_none, claimed_won}
 use Rattle.dense_reduction.specs.LostRows.{AreClaimed}

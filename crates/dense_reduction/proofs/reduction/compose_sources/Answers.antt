@@ -1,7 +1,7 @@
 use Rattle.std.proofs.Common.{ap, arith, get_or, length, subst, sym, ◌+◌, ◌++◌, ◌<◌, ◌∙◌, ◌≡◌}
 use Rattle.std.proofs.lemmas.List.{get_or_default, length-append, length-map, length-replicate, take_all}
 use Rattle.formal_sums.specs.FormalSums.{IsSame}
-use Rattle.module_vectors.proofs.Scaling.{Each_at}
+use Rattle.term_lists.proofs.Scaling.{Each_at}
 use Rattle.row_matrix.specs.Rows.{AreEntries, Entry, RowShown}
 use Rattle.dense_reduction.proofs.Reducing.{dense_start, sources_more, sources_start}
 use Rattle.dense_reduction.specs.Dense.{IsDense, dense_sum}

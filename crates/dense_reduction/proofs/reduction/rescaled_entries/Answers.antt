@@ -1,6 +1,6 @@
 use Rattle.std.proofs.Common.{[], ap, arith, get_or, sym, take, ◌%◌, ◌*◌, ◌++◌, ◌<◌, ◌∙◌, ◌∷◌}
 use Rattle.std.proofs.lemmas.List.{map-append, take_all}
-use Rattle.module_vectors.proofs.SumsOfProducts.{Each_member}
+use Rattle.term_lists.proofs.Parts.{Each_member}
 use Rattle.row_matrix.specs.Rows.{Entry}
 use Rattle.dense_reduction.proofs.Claimed.{item_taken}
 use Rattle.dense_reduction.specs.Underway.{rescaled}

@@ -1,6 +1,6 @@
 use Rattle.std.proofs.Common.{arith, get_or, length, subst, subst₂, sym, take, ◌<◌}
 use Rattle.std.proofs.lemmas.List.{get_or_default, take_all, take_more}
-use Rattle.module_vectors.proofs.SumsOfProducts.{Each_member}
+use Rattle.term_lists.proofs.Parts.{Each_member}
 use Rattle.dense_reduction.proofs.OnTheWay.{rests_push, ways_at}
 use Rattle.dense_reduction.specs.Rests.{rows_left}
 use Rattle.dense_reduction.specs.Together.{AreRests}

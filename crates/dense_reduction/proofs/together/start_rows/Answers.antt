@@ -2,7 +2,7 @@ use Rattle.std.proofs.Common.{ap, arith, get_or, inl, inr, length, subst, substâ
 use Rattle.std.proofs.lemmas.Bool.{cases_eq}
 use Rattle.std.proofs.lemmas.List.{get_or_default}
 use Rattle.formal_sums.specs.FormalSums.{Each}
-use Rattle.module_vectors.proofs.Scaling.{Each_at}
+use Rattle.term_lists.proofs.Scaling.{Each_at}
 use Rattle.dense_reduction.proofs.Lanes.{cleared_start}
 use Rattle.dense_reduction.proofs.OnTheWay.{way_same, ways_all}
 use Rattle.dense_reduction.specs.Eights.{AreCleared}

@@ -1,8 +1,8 @@
 use Rattle.std.proofs.Common.{inl, inr, map, subst, subst₂, true, ◌≡◌}
 use Rattle.std.specs.Prelude.{◌↔◌}
 use Rattle.ext_laws.specs.Transposes.{unit_vectors}
-use Rattle.module_vectors.specs.Rings.{variables}
-use Rattle.module_vectors.specs.Vectors.{sums_of}
+use Rattle.term_lists.specs.Rings.{variables}
+use Rattle.term_lists.specs.Vectors.{sums_of}
 use Rattle.groebner_iface.specs.Calls.{CallStops, NoTrail}
 use Rattle.groebner_iface.proofs.CallingRuns.{more_stops}
 use Rattle.resolution_maps.specs.Inducing.{Columns}

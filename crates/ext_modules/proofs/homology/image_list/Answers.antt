@@ -2,8 +2,8 @@ use Rattle.std.proofs.Common.{ap, ap₂, arith, get_or, length, map, subst, subs
 use Rattle.std.proofs.lemmas.List.{length-map}
 use Rattle.formal_sums.specs.FormalSums.{Each}
 use Rattle.ext_laws.specs.Transposes.{rows_of}
-use Rattle.module_vectors.specs.Rings.{variables}
-use Rattle.module_vectors.specs.Vectors.{AreTermsOver, HasPositions, sum_of, sums_of}
+use Rattle.term_lists.specs.Rings.{variables}
+use Rattle.term_lists.specs.Vectors.{AreTermsOver, HasPositions, sum_of, sums_of}
 use Rattle.syzygy_engine.specs.Marking.{position_ring}
 use Rattle.syzygy_engine.proofs.Marks.{lawful_by_position}
 use Rattle.ideal_ops.specs.Runs.{AreVectorsFor}

@@ -1,8 +1,8 @@
 use Rattle.std.proofs.Common.{ap, get_or, map, subst, subst₂, sym}
 use Rattle.formal_sums.specs.FormalSums.{Each}
 use Rattle.ext_laws.specs.Transposes.{rank_at}
-use Rattle.module_vectors.specs.Rings.{variables}
-use Rattle.module_vectors.specs.Vectors.{AreTermsOver, HasPositions, sums_of}
+use Rattle.term_lists.specs.Rings.{variables}
+use Rattle.term_lists.specs.Vectors.{AreTermsOver, HasPositions, sums_of}
 use Rattle.groebner_iface.specs.Calls.{NoTrail}
 use Rattle.groebner_iface.proofs.CallingRuns.{more_stops}
 use Rattle.resolution_maps.specs.Inducing.{Columns}

@@ -2,8 +2,8 @@ use Rattle.std.proofs.Common.{length, subst, sym}
 use Rattle.std.proofs.lemmas.List.{length-map}
 use Rattle.formal_sums.specs.FormalSums.{Each}
 use Rattle.ext_laws.specs.Transposes.{rows_of}
-use Rattle.module_vectors.specs.Rings.{variables}
-use Rattle.module_vectors.specs.Vectors.{HasPositions, sum_of, sums_of}
+use Rattle.term_lists.specs.Rings.{variables}
+use Rattle.term_lists.specs.Vectors.{HasPositions, sum_of, sums_of}
 use Rattle.groebner_iface.specs.Calls.{NoTrail}
 use Rattle.groebner_iface.proofs.CallingRuns.{more_stops}
 use Rattle.syzygy_engine.specs.Kernels.{IsSyzygyRun}

@@ -1,6 +1,6 @@
 use Rattle.std.proofs.Common.{arith, length, map, subst, sym, ◌<◌, ◌≡◌}
-use Rattle.module_vectors.specs.Rings.{variables}
-use Rattle.module_vectors.specs.Vectors.{sums_of}
+use Rattle.term_lists.specs.Rings.{variables}
+use Rattle.term_lists.specs.Vectors.{sums_of}
 use Rattle.groebner_iface.specs.Calls.{NoTrail}
 use Rattle.groebner_iface.proofs.CallingRuns.{more_stops}
 use Rattle.ideal_ops.specs.Modulo.{AreModuloRuns}

@@ -1,5 +1,5 @@
-use Rattle.module_vectors.specs.Rings.{variables}
-use Rattle.module_vectors.specs.Vectors.{StandsFor, sum_of}
+use Rattle.term_lists.specs.Rings.{variables}
+use Rattle.term_lists.specs.Vectors.{StandsFor, sum_of}
 use Rattle.std.proofs.Common.{subst}
 use Rattle.ext_modules.proofs.RowVectors.{vectors_next}
 use Rattle.ext_modules.proofs.transposing.take_row.Goals as goal

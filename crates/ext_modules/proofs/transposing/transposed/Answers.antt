@@ -1,5 +1,5 @@
 use Rattle.std.proofs.Common.{IfOk, subst}
-use Rattle.module_vectors.specs.Rings.{variables}
+use Rattle.term_lists.specs.Rings.{variables}
 use Rattle.ideal_ops.specs.Runs.{AreVectorsFor}
 use Rattle.ext_modules.proofs.RowVectors.{rows_over, rows_sums}
 use Rattle.ext_modules.proofs.transposing.transposed.Goals as goal

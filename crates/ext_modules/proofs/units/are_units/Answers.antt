@@ -1,5 +1,5 @@
 use Rattle.std.proofs.Common.{ap, get_or, length, subst, sym, true≢false, ◌<◌, ◌∙◌, ◌≡◌}
-use Rattle.module_vectors.specs.Rings.{variables}
+use Rattle.term_lists.specs.Rings.{variables}
 use Rattle.ext_modules.proofs.UnitLists.{unit_in, units_length, units_so_far}
 use Rattle.ext_modules.proofs.units.are_units.Goals as goal
 

@@ -1,7 +1,7 @@
 use Rattle.std.proofs.Common.{take, ◌≡◌}
 use Rattle.ext_laws.specs.Transposes.{unit_vectors}
-use Rattle.module_vectors.specs.Rings.{variables}
-use Rattle.module_vectors.specs.Vectors.{sums_of}
+use Rattle.term_lists.specs.Rings.{variables}
+use Rattle.term_lists.specs.Vectors.{sums_of}
 use Rattle.ext_modules.proofs.units.are_units.Given as goal
 
 abbrev pub invariant-loop-i : goal.invariant-loop-i

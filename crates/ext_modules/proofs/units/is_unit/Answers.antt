@@ -1,8 +1,8 @@
 use Rattle.std.proofs.Common.{ap, sym, ◌∙◌}
 use Rattle.formal_sums.proofs.Sameness.{IsSame_of}
-use Rattle.module_vectors.proofs.NormalVectors.{vector_unique}
-use Rattle.module_vectors.specs.Rings.{ring_comparison, variables}
-use Rattle.module_vectors.specs.Vectors.{sum_of}
+use Rattle.term_lists.proofs.NormalVectors.{vector_unique}
+use Rattle.term_lists.specs.Rings.{ring_comparison, variables}
+use Rattle.term_lists.specs.Vectors.{sum_of}
 use Rattle.ext_modules.proofs.units.is_unit.Goals as goal
 
 pub returns : goal.returns

@@ -1,6 +1,6 @@
 use Rattle.std.proofs.Common.{List, ap, arith, false, get_or, length, subst, sym, true, ℕ, ◌<◌, ◌∙◌, ◌≡◌}
 use Rattle.std.proofs.lemmas.List.{length-replicate, length-set, take_all}
-use Rattle.module_vectors.proofs.Scaling.{Each_at}
+use Rattle.term_lists.proofs.Scaling.{Each_at}
 use Rattle.row_matrix.specs.Rows.{RowShown, first_column}
 use Rattle.dense_reduction.proofs.Reducing.{first_column_read}
 use Rattle.f4_job.specs.Flags.{AreFlags}

@@ -2,9 +2,9 @@ use Rattle.std.proofs.Common.{List, ap, length, map, subst, sym, ◌∙◌, ◌<
 use Rattle.std.specs.List.Sorted.{IsPermutation}
 use Rattle.formal_sums.proofs.Sameness.{IsSame_of, IsSame_trans}
 use Rattle.formal_sums.specs.FormalSums.{Each}
-use Rattle.module_vectors.proofs.Gathers.{Each_permutation}
-use Rattle.module_vectors.specs.Rings.{variables}
-use Rattle.module_vectors.specs.Vectors.{AreTermsOver, IsMonomialOver, StandsFor, sum_of}
+use Rattle.term_lists.proofs.Gathers.{Each_permutation}
+use Rattle.term_lists.specs.Rings.{variables}
+use Rattle.term_lists.specs.Vectors.{AreTermsOver, IsMonomialOver, StandsFor, sum_of}
 use Rattle.row_matrix.specs.Rows.{Entry}
 use Rattle.vector_division.specs.Reductions.{cofactors_of}
 use Rattle.vector_division.specs.declared.reduction.ScaledProduct.{ScaledProduct}

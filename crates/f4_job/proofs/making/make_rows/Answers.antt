@@ -1,6 +1,6 @@
 use Rattle.std.proofs.Common.{List, arith, length, subst, subst₂, sym, take}
 use Rattle.std.proofs.lemmas.List.{take_all}
-use Rattle.module_vectors.proofs.Scaling.{Each_at, take_item}
+use Rattle.term_lists.proofs.Scaling.{Each_at, take_item}
 use Rattle.member_products.specs.declared.member.Reduct.{Reduct as CodeReduct}
 use Rattle.row_matrix.specs.Rows.{IsRow, RowShown}
 use Rattle.f4_job.proofs.MadeRows.{made_more}

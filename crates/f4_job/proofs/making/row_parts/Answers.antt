@@ -1,6 +1,6 @@
 use Rattle.std.proofs.Common.{ap, arith, get_or, length, map, ◌<◌, ◌∙◌}
 use Rattle.std.proofs.lemmas.List.{get_or_default, take_all}
-use Rattle.module_vectors.proofs.Scaling.{Each_at}
+use Rattle.term_lists.proofs.Scaling.{Each_at}
 use Rattle.row_matrix.specs.Rows.{Entry}
 use Rattle.f4_job.specs.Made.{source_part}
 use Rattle.f4_job.proofs.making.row_parts.Goals as goal

@@ -1,8 +1,8 @@
 use Rattle.std.proofs.Common.{ap, length, subst, subst₂, sym, ◌<◌, ◌∙◌, ◌≡◌, List}
 use Rattle.formal_sums.specs.FormalSums.{Each}
 use Rattle.member_products.proofs.Ranks.{ring_lawful}
-use Rattle.module_vectors.specs.Rings.{ring_comparison, setting, variables}
-use Rattle.module_vectors.specs.declared.key.Key.{Key as CodeKey}
+use Rattle.term_lists.specs.Rings.{ring_comparison, setting, variables}
+use Rattle.term_lists.specs.declared.key.Key.{Key as CodeKey}
 use Rattle.row_matrix.specs.Rows.{RowShown, first_column}
 use Rattle.f4_job.proofs.Represented.{begin_within, solved}
 use Rattle.f4_job.specs.Flags.{AreFlags}

@@ -1,5 +1,5 @@
-use Rattle.module_vectors.specs.Rings.{ring_comparison, setting, variables}
-use Rattle.module_vectors.specs.Vectors.{sums_of}
+use Rattle.term_lists.specs.Rings.{ring_comparison, setting, variables}
+use Rattle.term_lists.specs.Vectors.{sums_of}
 use Rattle.reduced_unique.proofs.Uniqueness.{IsReducedBasis_unique}
 use Rattle.groebner_iface.proofs.OneBasis.{one_list_of_sums}
 use Rattle.groebner_iface.proofs.laws.one_basis.Goals as goal

@@ -1,8 +1,8 @@
 use Rattle.std.proofs.Common.{subst, subst₂, sym, suc, ◌∙◌}
 use Rattle.operation_laws.specs.Operations.{back, without_first}
-use Rattle.module_vectors.specs.FrontVariables.{front_ring}
-use Rattle.module_vectors.specs.Rings.{variables}
-use Rattle.module_vectors.specs.Vectors.{StandsFor, sum_of}
+use Rattle.term_lists.specs.FrontVariables.{front_ring}
+use Rattle.term_lists.specs.Rings.{variables}
+use Rattle.term_lists.specs.Vectors.{StandsFor, sum_of}
 use Rattle.ideal_ops.specs.Runs.{AreVectorsFor}
 use Rattle.ideal_ops.proofs.OneMoreVariable.{are_back, back_left, back_next, sum_without_front}
 use Rattle.ideal_ops.proofs.Shared.{of_terms, vectors_next}

@@ -1,8 +1,8 @@
 use Rattle.std.proofs.Common.{IfOk, [], ap, subst, ◌∙◌}
 use Rattle.monomials.specs.Exponents.{unit}
 use Rattle.monomial_orders.specs.Monomials.{IsMonomial}
-use Rattle.module_vectors.specs.Rings.{variables}
-use Rattle.module_vectors.specs.Vectors.{StandsFor, sum_of}
+use Rattle.term_lists.specs.Rings.{variables}
+use Rattle.term_lists.specs.Vectors.{StandsFor, sum_of}
 use Rattle.syzygy_engine.proofs.Marks.{marked_sum}
 use Rattle.ideal_ops.proofs.colons.one.Goals as goal
 

@@ -1,9 +1,9 @@
 use Rattle.std.proofs.Common.{[], subst, sym, take}
 use Rattle.formal_sums.specs.FormalSums.{Each}
 use Rattle.operation_laws.specs.Operations.{eliminated}
-use Rattle.module_vectors.proofs.Scaling.{Each_at}
-use Rattle.module_vectors.specs.Rings.{variables}
-use Rattle.module_vectors.specs.Vectors.{AreTermsOver, sums_of}
+use Rattle.term_lists.proofs.Scaling.{Each_at}
+use Rattle.term_lists.specs.Rings.{variables}
+use Rattle.term_lists.specs.Vectors.{AreTermsOver, sums_of}
 use Rattle.ideal_ops.specs.Runs.{AreVectorsFor}
 use Rattle.ideal_ops.proofs.Shared.{take_next, vectors_none}
 use Rattle.std.proofs.Common.{subst₂, ◌∙◌}

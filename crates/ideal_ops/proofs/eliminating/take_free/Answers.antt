@@ -1,7 +1,7 @@
 use Rattle.std.proofs.Common.{subst, subst₂, sym, ◌∙◌}
 use Rattle.operation_laws.specs.Operations.{eliminated}
-use Rattle.module_vectors.specs.Rings.{variables}
-use Rattle.module_vectors.specs.Vectors.{sum_of}
+use Rattle.term_lists.specs.Rings.{variables}
+use Rattle.term_lists.specs.Vectors.{sum_of}
 use Rattle.ideal_ops.specs.Runs.{AreVectorsFor}
 use Rattle.ideal_ops.proofs.Free.{free_kept, free_left}
 use Rattle.ideal_ops.proofs.Shared.{of_terms, vectors_next}

@@ -1,11 +1,11 @@
 use Rattle.std.proofs.Common.{[], ap, map, subst, subst₂, sym, take, ◌∙◌, ◌∷◌}
 use Rattle.std.proofs.lemmas.List.{map-append}
 use Rattle.operation_laws.specs.Operations.{with_first}
-use Rattle.module_vectors.specs.FrontVariables.{front_ring}
+use Rattle.term_lists.specs.FrontVariables.{front_ring}
 use Rattle.formal_sums.specs.FormalSums.{Each}
-use Rattle.module_vectors.specs.Rings.{variables}
-use Rattle.module_vectors.proofs.Scaling.{Each_at}
-use Rattle.module_vectors.specs.Vectors.{AreTermsOver, sum_of, sums_of}
+use Rattle.term_lists.specs.Rings.{variables}
+use Rattle.term_lists.proofs.Scaling.{Each_at}
+use Rattle.term_lists.specs.Vectors.{AreTermsOver, sum_of, sums_of}
 use Rattle.ideal_ops.specs.Runs.{AreVectorsFor}
 use Rattle.ideal_ops.proofs.Shared.{take_next, vectors_next, vectors_none}
 use Rattle.std.proofs.lemmas.List.{take_all}

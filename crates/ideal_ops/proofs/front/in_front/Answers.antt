@@ -1,6 +1,6 @@
 use Rattle.std.proofs.Common.{subst, sym}
-use Rattle.module_vectors.specs.FrontVariables.{with_front}
-use Rattle.module_vectors.specs.Vectors.{AreTermsOver}
+use Rattle.term_lists.specs.FrontVariables.{with_front}
+use Rattle.term_lists.specs.Vectors.{AreTermsOver}
 use Rattle.ideal_ops.proofs.OneMoreVariable.{front_vector, over_with_front}
 use Rattle.ideal_ops.proofs.front.in_front.Goals as goal
 

@@ -1,7 +1,7 @@
 use Rattle.std.proofs.Common.{[], ap₂, arith, get_or, length, refl, subst, sym, ◌++◌, ◌<◌, ◌∙◌, ◌∷◌}
-use Rattle.module_vectors.specs.Rings.{ring_comparison}
-use Rattle.module_vectors.specs.Stops.{CombinationStops}
-use Rattle.module_vectors.specs.Vectors.{AreVectorsOver}
+use Rattle.term_lists.specs.Rings.{ring_comparison}
+use Rattle.term_lists.specs.Vectors.{AreVectorsOver}
+use Rattle.module_vectors.specs.ProductStops.{CombinationStops}
 use Rattle.ideal_ops.specs.Products.{IsProductTrail, WorkStops}
 use Rattle.ideal_ops.proofs.front.product_stop.Goals as goal
 

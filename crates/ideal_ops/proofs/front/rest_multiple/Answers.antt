@@ -1,9 +1,9 @@
 use Rattle.std.proofs.Common.{arith, subst, sym, ◌++◌, ◌-◌, ◌<◌}
 use Rattle.monomials.specs.Exponents.{exponents_of}
 use Rattle.formal_sums.specs.FormalSums.{scale}
-use Rattle.module_vectors.specs.Rings.{variables}
-use Rattle.module_vectors.specs.Stops.{ScaledStops}
-use Rattle.module_vectors.specs.Vectors.{IsMonomialOver, StandsFor, sum_of}
+use Rattle.term_lists.specs.Rings.{variables}
+use Rattle.term_lists.specs.Stops.{ScaledStops}
+use Rattle.term_lists.specs.Vectors.{IsMonomialOver, StandsFor, sum_of}
 use Rattle.ideal_ops.proofs.OneMoreVariable.{rest_multiple}
 use Rattle.ideal_ops.proofs.front.rest_multiple.Goals as goal
 

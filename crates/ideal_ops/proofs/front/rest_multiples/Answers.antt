@@ -1,10 +1,10 @@
 use Rattle.std.proofs.Common.{[], ap, get_or, length, map, subst, subst₂, sym, take, ◌<◌, ◌∙◌, ◌∷◌, ◌≤◌, ◌-◌}
 use Rattle.std.proofs.lemmas.List.{get_or_default, map-append}
 use Rattle.operation_laws.specs.Operations.{times_rest, with_first}
-use Rattle.module_vectors.specs.FrontVariables.{front_ring}
-use Rattle.module_vectors.specs.Rings.{ring_comparison, variables}
-use Rattle.module_vectors.specs.Stops.{ScaledStops}
-use Rattle.module_vectors.specs.Vectors.{AreVectorsOver, IsVectorOver, sum_of, sums_of}
+use Rattle.term_lists.specs.FrontVariables.{front_ring}
+use Rattle.term_lists.specs.Rings.{ring_comparison, variables}
+use Rattle.term_lists.specs.Stops.{ScaledStops}
+use Rattle.term_lists.specs.Vectors.{AreVectorsOver, IsVectorOver, sum_of, sums_of}
 use Rattle.ideal_ops.specs.FrontVariable.{IsFrontTrail, IsFrontTrailOf, IsFrontVector, rest_polynomial}
 use Rattle.ideal_ops.specs.Runs.{AreVectorsFor}
 use Rattle.ideal_ops.proofs.Multiplied.{more_trails}

@@ -1,5 +1,5 @@
 use Rattle.std.proofs.Common.{[], get_or, ◌-◌}
-use Rattle.module_vectors.specs.Rings.{variables}
+use Rattle.term_lists.specs.Rings.{variables}
 use Rattle.ideal_ops.specs.FrontVariable.{IsFrontTrail, rest_polynomial}
 use Rattle.ideal_ops.specs.Products.{IsProductTrail}
 use Rattle.ideal_ops.proofs.Multiplied.{more_trails}

@@ -2,8 +2,8 @@ use Rattle.std.proofs.Common.{[], ap, subst, sym, ◌-◌, ◌<◌, ◌∙◌, �
 use Rattle.monomials.specs.Exponents.{unit}
 use Rattle.monomial_orders.specs.Kept.{IsWeighed}
 use Rattle.monomial_orders.specs.Monomials.{IsMonomial}
-use Rattle.module_vectors.specs.Rings.{ring_comparison}
-use Rattle.module_vectors.specs.Vectors.{IsVectorOver}
+use Rattle.term_lists.specs.Rings.{ring_comparison}
+use Rattle.term_lists.specs.Vectors.{IsVectorOver}
 use Rattle.ideal_ops.proofs.OneMoreVariable.{rest_is, rest_over}
 use Rattle.ideal_ops.proofs.front.rest_vector.Goals as goal
 

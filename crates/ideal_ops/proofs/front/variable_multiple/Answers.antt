@@ -1,5 +1,5 @@
 use Rattle.std.proofs.Common.{arith, subst, sym, ◌<◌}
-use Rattle.module_vectors.specs.Vectors.{IsMonomialOver}
+use Rattle.term_lists.specs.Vectors.{IsMonomialOver}
 use Rattle.ideal_ops.proofs.OneMoreVariable.{front_multiple}
 use Rattle.ideal_ops.proofs.front.variable_multiple.Goals as goal
 

@@ -1,7 +1,7 @@
 use Rattle.std.proofs.Common.{[], get_or, subst, sym, ◌∷◌}
-use Rattle.module_vectors.specs.Rings.{variables}
-use Rattle.module_vectors.specs.Stops.{CombinationStops}
-use Rattle.module_vectors.specs.Vectors.{IsMonomialOver}
+use Rattle.term_lists.specs.Rings.{variables}
+use Rattle.term_lists.specs.Vectors.{IsMonomialOver}
+use Rattle.module_vectors.specs.ProductStops.{CombinationStops}
 use Rattle.ideal_ops.specs.FrontVariable.{IsFrontTrail, front_polynomial}
 use Rattle.ideal_ops.specs.Products.{IsProductTrail}
 use Rattle.ideal_ops.proofs.Multiplied.{more_trails}

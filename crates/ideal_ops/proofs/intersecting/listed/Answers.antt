@@ -1,8 +1,8 @@
 use Rattle.std.proofs.Common.{inl, map, subst, sym}
 use Rattle.operation_laws.specs.Operations.{intersection_list, times_first, times_rest}
-use Rattle.module_vectors.specs.FrontVariables.{front_ring}
-use Rattle.module_vectors.specs.Rings.{variables}
-use Rattle.module_vectors.specs.Vectors.{sums_of}
+use Rattle.term_lists.specs.FrontVariables.{front_ring}
+use Rattle.term_lists.specs.Rings.{variables}
+use Rattle.term_lists.specs.Vectors.{sums_of}
 use Rattle.ideal_ops.specs.FrontVariable.{IsFrontTrailOf, IsTrailOfIntersection, front_polynomial}
 use Rattle.ideal_ops.specs.Runs.{AreVectorsFor}
 use Rattle.ideal_ops.proofs.Multiplied.{more_trails, vectors_after}

@@ -1,8 +1,8 @@
 use Rattle.std.proofs.Common.{ap, arith, inl, inr, length, refl, subst, sym, ◌++◌, ◌+◌, ◌∙◌}
 use Rattle.std.proofs.lemmas.List.{length-map}
 use Rattle.formal_sums.specs.FormalSums.{Each}
-use Rattle.module_vectors.specs.Rings.{variables}
-use Rattle.module_vectors.specs.Vectors.{HasPositions, sum_of, sums_of}
+use Rattle.term_lists.specs.Rings.{variables}
+use Rattle.term_lists.specs.Vectors.{HasPositions, sum_of, sums_of}
 use Rattle.syzygy_laws.specs.Kernels.{kernel_of}
 use Rattle.syzygy_laws.specs.Syzygies.{marked}
 use Rattle.groebner_iface.specs.Calls.{NoTrail}

@@ -2,9 +2,9 @@ use Rattle.std.proofs.Common.{[], ap, get_or, length, map, subst, subst₂, sym,
 use Rattle.std.proofs.lemmas.List.{get_or_default}
 use Rattle.formal_sums.specs.FormalSums.{product}
 use Rattle.operation_laws.specs.Operations.{products_of}
-use Rattle.module_vectors.proofs.Scaling.{Each_at}
-use Rattle.module_vectors.specs.Rings.{ring_comparison, variables}
-use Rattle.module_vectors.specs.Vectors.{HasPositions, IsVectorOver, sum_of, sums_of}
+use Rattle.term_lists.proofs.Scaling.{Each_at}
+use Rattle.term_lists.specs.Rings.{ring_comparison, variables}
+use Rattle.term_lists.specs.Vectors.{HasPositions, IsVectorOver, sum_of, sums_of}
 use Rattle.ideal_ops.specs.Products.{IsTrailOfProducts, IsTrailOfRow}
 use Rattle.ideal_ops.specs.Runs.{AreVectorsFor}
 use Rattle.ideal_ops.proofs.Multiplied.{more_trails, products_next, vectors_after}

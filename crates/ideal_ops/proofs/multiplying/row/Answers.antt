@@ -2,8 +2,8 @@ use Rattle.std.proofs.Common.{[], ap, get_or, length, map, subst, subst₂, sym,
 use Rattle.std.proofs.lemmas.List.{get_or_default}
 use Rattle.std.proofs.lemmas.List.{map-append}
 use Rattle.formal_sums.specs.FormalSums.{product}
-use Rattle.module_vectors.specs.Rings.{variables}
-use Rattle.module_vectors.specs.Vectors.{sum_of, sums_of}
+use Rattle.term_lists.specs.Rings.{variables}
+use Rattle.term_lists.specs.Vectors.{sum_of, sums_of}
 use Rattle.ideal_ops.specs.Products.{IsProductTrail, IsTrailOfRow}
 use Rattle.ideal_ops.specs.Runs.{AreVectorsFor}
 use Rattle.ideal_ops.proofs.Multiplied.{more_trails}

@@ -1,5 +1,5 @@
 use Rattle.std.proofs.Common.{[], get_or, subst, ◌∷◌}
-use Rattle.module_vectors.specs.Stops.{CombinationStops}
+use Rattle.module_vectors.specs.ProductStops.{CombinationStops}
 use Rattle.ideal_ops.proofs.Multiplied.{product_trail}
 use Rattle.ideal_ops.proofs.multiplying.stop_of.Goals as goal
 

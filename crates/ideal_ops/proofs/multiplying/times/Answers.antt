@@ -2,10 +2,10 @@ use Rattle.std.proofs.Common.{[], ap, get_or, length, subst, sym, ◌<◌, ◌�
 use Rattle.std.proofs.lemmas.List.{get_or_default}
 use Rattle.formal_sums.specs.Combinations.{combination}
 use Rattle.formal_sums.specs.FormalSums.{IsSame}
-use Rattle.module_vectors.proofs.Scaling.{Each_at}
-use Rattle.module_vectors.specs.Rings.{ring_comparison, variables}
-use Rattle.module_vectors.specs.Stops.{CombinationStops}
-use Rattle.module_vectors.specs.Vectors.{AreVectorsOver, HasPositions, IsVectorOver, sum_of, sums_of}
+use Rattle.term_lists.proofs.Scaling.{Each_at}
+use Rattle.term_lists.specs.Rings.{ring_comparison, variables}
+use Rattle.term_lists.specs.Vectors.{AreVectorsOver, HasPositions, IsVectorOver, sum_of, sums_of}
+use Rattle.module_vectors.specs.ProductStops.{CombinationStops}
 use Rattle.ideal_ops.proofs.Multiplied.{combination_one}
 use Rattle.ideal_ops.proofs.multiplying.times.Goals as goal
 

@@ -1,6 +1,6 @@
 use Rattle.std.proofs.Common.{IfOk, ap, subst, sym, ◌∙◌}
-use Rattle.module_vectors.specs.Rings.{variables}
-use Rattle.module_vectors.specs.Vectors.{AreTermsOver, StandsFor, sum_of}
+use Rattle.term_lists.specs.Rings.{variables}
+use Rattle.term_lists.specs.Vectors.{AreTermsOver, StandsFor, sum_of}
 use Rattle.ideal_ops.proofs.Dividing.{placed_over, sum_placed}
 use Rattle.ideal_ops.proofs.quotients.multiple_at.Goals as goal
 

@@ -1,8 +1,8 @@
 use Rattle.std.proofs.Common.{subst₂, sym}
 use Rattle.formal_sums.specs.FormalSums.{product}
 use Rattle.operation_laws.specs.Operations.{basis_vector, multiples_of}
-use Rattle.module_vectors.specs.Rings.{variables}
-use Rattle.module_vectors.specs.Vectors.{sum_of}
+use Rattle.term_lists.specs.Rings.{variables}
+use Rattle.term_lists.specs.Vectors.{sum_of}
 use Rattle.ideal_ops.specs.Runs.{AreVectorsFor}
 use Rattle.ideal_ops.proofs.Dividing.{multiples_next}
 use Rattle.ideal_ops.proofs.Shared.{vectors_next}

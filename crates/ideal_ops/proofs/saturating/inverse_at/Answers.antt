@@ -1,5 +1,5 @@
 use Rattle.std.proofs.Common.{arith, subst, sym}
-use Rattle.module_vectors.specs.Vectors.{AreTermsOver}
+use Rattle.term_lists.specs.Vectors.{AreTermsOver}
 use Rattle.ideal_ops.proofs.OneMoreVariable.{inverse_front}
 use Rattle.ideal_ops.proofs.saturating.inverse_at.Goals as goal
 

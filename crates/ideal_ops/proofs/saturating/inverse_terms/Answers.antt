@@ -2,8 +2,8 @@ use Rattle.std.proofs.Common.{[], ap, subst, sym, ◌++◌, ◌∙◌, ◌∷◌
 use Rattle.monomials.specs.Exponents.{unit}
 use Rattle.monomial_orders.specs.Kept.{IsWeighed}
 use Rattle.monomial_orders.specs.Monomials.{IsMonomial}
-use Rattle.module_vectors.specs.Rings.{variables}
-use Rattle.module_vectors.specs.Vectors.{AreTermsOver, sum_of}
+use Rattle.term_lists.specs.Rings.{variables}
+use Rattle.term_lists.specs.Vectors.{AreTermsOver, sum_of}
 use Rattle.syzygy_engine.proofs.Marks.{marked_over, marked_sum}
 use Rattle.ideal_ops.specs.Components.{placed}
 use Rattle.ideal_ops.proofs.Dividing.{placed_over}

@@ -1,6 +1,6 @@
 use Rattle.std.proofs.Common.{[], ap, arith, subst₂, sym, ◌++◌, ◌+◌, ◌∙◌, ◌∷◌, ◌≡◌}
 use Rattle.operation_laws.specs.Operations.{inverse_vector, listed}
-use Rattle.module_vectors.specs.FrontVariables.{front_ring}
+use Rattle.term_lists.specs.FrontVariables.{front_ring}
 use Rattle.ideal_ops.specs.Runs.{AreVectorsFor}
 use Rattle.ideal_ops.proofs.Dividing.{listed_next}
 use Rattle.ideal_ops.proofs.Shared.{vectors_next}

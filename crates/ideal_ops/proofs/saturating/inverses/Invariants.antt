@@ -1,9 +1,9 @@
 use Rattle.std.proofs.Common.{◌-◌}
 use Rattle.formal_sums.specs.FormalSums.{FormalSum, scale}
 use Rattle.operation_laws.specs.Operations.{first_variable, inverse_vector, listed, with_first}
-use Rattle.module_vectors.specs.FrontVariables.{front_ring}
-use Rattle.module_vectors.specs.Rings.{variables}
-use Rattle.module_vectors.specs.Vectors.{StandsFor}
+use Rattle.term_lists.specs.FrontVariables.{front_ring}
+use Rattle.term_lists.specs.Rings.{variables}
+use Rattle.term_lists.specs.Vectors.{StandsFor}
 use Rattle.ideal_ops.specs.Runs.{AreVectorsFor}
 use Rattle.ideal_ops.proofs.saturating.inverses.Given as goal
 

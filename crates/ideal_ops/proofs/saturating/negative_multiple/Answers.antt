@@ -2,9 +2,9 @@ use Rattle.std.proofs.Common.{arith, subst, sym, ◌-◌, ◌<◌}
 use Rattle.monomials.specs.Exponents.{exponents_of}
 use Rattle.formal_sums.specs.FormalSums.{scale}
 use Rattle.operation_laws.specs.Operations.{with_first}
-use Rattle.module_vectors.specs.Rings.{ring_comparison, variables}
-use Rattle.module_vectors.specs.Stops.{ScaledStops}
-use Rattle.module_vectors.specs.Vectors.{IsMonomialOver, IsVectorOver, StandsFor, sum_of}
+use Rattle.term_lists.specs.Rings.{ring_comparison, variables}
+use Rattle.term_lists.specs.Stops.{ScaledStops}
+use Rattle.term_lists.specs.Vectors.{IsMonomialOver, IsVectorOver, StandsFor, sum_of}
 use Rattle.ideal_ops.proofs.FrontBases.{front_low}
 use Rattle.ideal_ops.proofs.OneMoreVariable.{front_multiple}
 use Rattle.ideal_ops.proofs.saturating.negative_multiple.Goals as goal

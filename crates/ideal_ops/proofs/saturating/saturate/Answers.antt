@@ -1,8 +1,8 @@
 use Rattle.std.proofs.Common.{subst}
 use Rattle.operation_laws.specs.Operations.{saturation_list}
-use Rattle.module_vectors.specs.FrontVariables.{front_ring}
-use Rattle.module_vectors.specs.Rings.{variables}
-use Rattle.module_vectors.specs.Vectors.{sum_of, sums_of}
+use Rattle.term_lists.specs.FrontVariables.{front_ring}
+use Rattle.term_lists.specs.Rings.{variables}
+use Rattle.term_lists.specs.Vectors.{sum_of, sums_of}
 use Rattle.groebner_iface.specs.Calls.{NoTrail}
 use Rattle.syzygy_engine.proofs.Marks.{loose}
 use Rattle.groebner_iface.proofs.CallingRuns.{more_stops}

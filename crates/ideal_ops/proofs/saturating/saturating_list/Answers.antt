@@ -1,6 +1,6 @@
-use Rattle.module_vectors.specs.FrontVariables.{front_ring}
-use Rattle.module_vectors.specs.Rings.{variables}
-use Rattle.module_vectors.specs.Vectors.{sum_of}
+use Rattle.term_lists.specs.FrontVariables.{front_ring}
+use Rattle.term_lists.specs.Rings.{variables}
+use Rattle.term_lists.specs.Vectors.{sum_of}
 use Rattle.syzygy_engine.proofs.Marks.{loose}
 use Rattle.ideal_ops.proofs.saturating.saturating_list.Goals as goal
 

@@ -1,8 +1,8 @@
 use Rattle.std.proofs.Common.{Err, IfOk, Ok, Result, map, subst, sym, ◌++◌, ◌≡◌}
 use Rattle.operation_laws.specs.Operations.{inverse_vector, listed, saturation_list, with_first}
-use Rattle.module_vectors.specs.FrontVariables.{front_ring}
-use Rattle.module_vectors.specs.Rings.{variables}
-use Rattle.module_vectors.specs.Vectors.{sums_of}
+use Rattle.term_lists.specs.FrontVariables.{front_ring}
+use Rattle.term_lists.specs.Rings.{variables}
+use Rattle.term_lists.specs.Vectors.{sums_of}
 use Rattle.ideal_ops.specs.Runs.{AreVectorsFor}
 use Rattle.ideal_ops.proofs.Multiplied.{vectors_after}
 use Rattle.ideal_ops.proofs.saturating.with_inverses.Goals as goal

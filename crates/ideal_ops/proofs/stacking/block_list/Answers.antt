@@ -1,7 +1,7 @@
 use Rattle.std.proofs.Common.{[], arith, subst, subst₂, sym, ◌≡◌}
 use Rattle.operation_laws.specs.Operations.{blocks}
-use Rattle.module_vectors.specs.Rings.{variables}
-use Rattle.module_vectors.specs.Vectors.{sums_of}
+use Rattle.term_lists.specs.Rings.{variables}
+use Rattle.term_lists.specs.Vectors.{sums_of}
 use Rattle.ideal_ops.specs.Runs.{AreVectorsFor}
 use Rattle.ideal_ops.proofs.Shared.{vectors_none}
 use Rattle.ideal_ops.proofs.Stacked.{blocks_step}

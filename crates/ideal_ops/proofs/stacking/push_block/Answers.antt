@@ -4,9 +4,9 @@ use Rattle.std.proofs.Common.{append-nil, map, subst, sym, ◌++◌, ◌∙◌}
 use Rattle.std.proofs.lemmas.List.{take_all}
 use Rattle.formal_sums.specs.FormalSums.{Each}
 use Rattle.syzygy_laws.specs.Syzygies.{raised}
-use Rattle.module_vectors.specs.Rings.{variables}
-use Rattle.module_vectors.specs.Vectors.{AreTermsOver, HasPositions, sums_of}
-use Rattle.module_vectors.proofs.Scaling.{Each_at}
+use Rattle.term_lists.specs.Rings.{variables}
+use Rattle.term_lists.specs.Vectors.{AreTermsOver, HasPositions, sums_of}
+use Rattle.term_lists.proofs.Scaling.{Each_at}
 use Rattle.ideal_ops.specs.Runs.{AreVectorsFor}
 use Rattle.ideal_ops.proofs.stacking.push_block.Goals as goal
 

@@ -1,8 +1,8 @@
 use Rattle.std.proofs.Common.{List, map, take, ◌++◌}
 use Rattle.formal_sums.specs.FormalSums.{FormalSum}
 use Rattle.syzygy_laws.specs.Syzygies.{raised}
-use Rattle.module_vectors.specs.Rings.{variables}
-use Rattle.module_vectors.specs.Vectors.{sums_of}
+use Rattle.term_lists.specs.Rings.{variables}
+use Rattle.term_lists.specs.Vectors.{sums_of}
 use Rattle.ideal_ops.specs.Runs.{AreVectorsFor}
 use Rattle.ideal_ops.proofs.stacking.push_block.Given as goal
 

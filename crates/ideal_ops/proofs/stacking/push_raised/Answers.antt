@@ -1,5 +1,5 @@
 use Rattle.std.proofs.Common.{[], ap, ap₂, append_assoc, arith, get_or, length, suc, take, zero, ℕ, ◌++◌, ◌+◌, ◌<◌, ◌∙◌, ◌∷◌, ◌≡◌}
-use Rattle.module_vectors.specs.declared.key.Key.{Key as CodeKey}
+use Rattle.term_lists.specs.declared.key.Key.{Key as CodeKey}
 use Rattle.syzygy_engine.proofs.Standing.{Terms}
 use Rattle.ideal_ops.specs.Components.{raised_terms}
 use Rattle.std.proofs.Common.{append-nil, sym}

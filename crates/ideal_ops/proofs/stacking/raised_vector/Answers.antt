@@ -1,6 +1,6 @@
 use Rattle.std.proofs.Common.{IfOk, ap, subst, sym, ◌++◌, ◌∙◌}
-use Rattle.module_vectors.specs.Rings.{variables}
-use Rattle.module_vectors.specs.Vectors.{AreTermsOver, StandsFor, sum_of}
+use Rattle.term_lists.specs.Rings.{variables}
+use Rattle.term_lists.specs.Vectors.{AreTermsOver, StandsFor, sum_of}
 use Rattle.ideal_ops.specs.Components.{raised_terms}
 use Rattle.ideal_ops.proofs.Stacked.{raised_over, sum_raised}
 use Rattle.ideal_ops.proofs.stacking.raised_vector.Goals as goal

@@ -1,12 +1,12 @@
 use Rattle.std.proofs.Common.{ap, get_or, length, subst, sym, ◌<◌, ◌∙◌, ◌≤◌}
-use Rattle.module_vectors.proofs.Scaling.{Each_at}
-use Rattle.module_vectors.specs.Vectors.{HasPositions}
+use Rattle.term_lists.proofs.Scaling.{Each_at}
+use Rattle.term_lists.specs.Vectors.{HasPositions}
 use Rattle.ideal_ops.proofs.Room.{block_room, blocks_room}
 use Rattle.ideal_ops.proofs.Stacked.{stacked_step}
 use Rattle.std.proofs.lemmas.List.{take_all}
 use Rattle.operation_laws.specs.Operations.{stacked}
-use Rattle.module_vectors.specs.Rings.{variables}
-use Rattle.module_vectors.specs.Vectors.{AreTermsOver, sum_of, sums_of}
+use Rattle.term_lists.specs.Rings.{variables}
+use Rattle.term_lists.specs.Vectors.{AreTermsOver, sum_of, sums_of}
 use Rattle.ideal_ops.proofs.stacking.stacked_terms.Goals as goal
 
 pub loop-j-preserved : goal.loop-j-preserved

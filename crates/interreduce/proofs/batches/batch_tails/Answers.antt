@@ -1,5 +1,5 @@
 use Rattle.std.proofs.Common.{[], ap, append-nil, arith, get_or, length, map, subst, sym, take, ◌++◌, ◌-◌, ◌∙◌, ◌≡◌}
-use Rattle.module_vectors.specs.Rings.{variables}
+use Rattle.term_lists.specs.Rings.{variables}
 use Rattle.interreduce.specs.Members.{HaveReducedTails}
 use Rattle.interreduce.proofs.Earlier.{none_before}
 use Rattle.interreduce.proofs.batches.batch_tails.Goals as goal

@@ -1,5 +1,5 @@
 use Rattle.std.proofs.Common.{[], ap, arith, get_or, length, subst, sym, take, ◌++◌, ◌-◌, ◌∙◌, ◌≤◌}
-use Rattle.module_vectors.specs.Rings.{variables}
+use Rattle.term_lists.specs.Rings.{variables}
 use Rattle.vector_division.specs.Divisors.{AreDivisors}
 use Rattle.interreduce.specs.Members.{HaveReducedTails}
 use Rattle.interreduce.proofs.Earlier.{front_again, known_batch, vectors_known}

@@ -1,8 +1,8 @@
 use Rattle.std.proofs.Common.{length, reverse, subst, sym, ◌<◌, ◌∙◌, ◌≡◌}
 use Rattle.formal_sums.specs.FormalSums.{Each}
 use Rattle.bases.specs.Bases.{IsReducedBasis}
-use Rattle.module_vectors.specs.Rings.{setting, variables}
-use Rattle.module_vectors.specs.Vectors.{AreVectorsOver, HasPositions, sums_of}
+use Rattle.term_lists.specs.Rings.{setting, variables}
+use Rattle.term_lists.specs.Vectors.{AreVectorsOver, HasPositions, sums_of}
 use Rattle.interreduce.specs.Leads.{AreNeeded}
 use Rattle.interreduce.proofs.Reducing.{reduced_basis, reduced_positions, reduced_vectors}
 use Rattle.interreduce.proofs.interreduction.interreduce.Goals as goal

@@ -1,5 +1,5 @@
 use Rattle.std.proofs.Common.{IfOk, subst, sym}
-use Rattle.module_vectors.specs.Rings.{variables}
+use Rattle.term_lists.specs.Rings.{variables}
 use Rattle.vector_division.specs.Divisors.{AreDivisors}
 use Rattle.interreduce.proofs.Choosing.{needed_are_enough}
 use Rattle.interreduce.proofs.interreduction.reduced_by_list.Goals as goal

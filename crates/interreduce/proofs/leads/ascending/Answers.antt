@@ -1,4 +1,4 @@
-use Rattle.module_vectors.specs.Rings.{variables}
+use Rattle.term_lists.specs.Rings.{variables}
 use Rattle.interreduce.proofs.Leading.{neither}
 use Rattle.interreduce.proofs.leads.ascending.Goals as goal
 

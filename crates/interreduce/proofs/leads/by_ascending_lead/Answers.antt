@@ -3,8 +3,8 @@ use Rattle.std.proofs.lemmas.Fn.{always_returns_same}
 use Rattle.std.proofs.Common.{rules}
 use Rattle.std.proofs.lemmas.List.Sorted.{Contains-permutation}
 use Rattle.std.specs.Ordering.{is_lt}
-use Rattle.module_vectors.proofs.Gathers.{Each_permutation}
-use Rattle.module_vectors.specs.Rings.{variables}
+use Rattle.term_lists.proofs.Gathers.{Each_permutation}
+use Rattle.term_lists.specs.Rings.{variables}
 use Rattle.interreduce.specs.Leads.{by_lead}
 use Rattle.interreduce.proofs.Leading.{by_lead_weak, sorted_rises}
 use Rattle.interreduce.proofs.leads.by_ascending_lead.Goals as goal

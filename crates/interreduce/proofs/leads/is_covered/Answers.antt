@@ -1,8 +1,8 @@
 use Rattle.std.proofs.Common.{IsTrue, [], false, get_or, length, refl, sym, true, ◌<◌, ◌↔◌, ◌∙◌, ◌≡◌, ◌≤◌}
 use Rattle.std.proofs.lemmas.List.{get_or_default}
 use Rattle.orders.specs.KeyOrders.{KeyDivides}
-use Rattle.module_vectors.proofs.Scaling.{Each_more}
-use Rattle.module_vectors.proofs.SumsOfProducts.{Each_member}
+use Rattle.term_lists.proofs.Scaling.{Each_more}
+use Rattle.term_lists.proofs.Parts.{Each_member}
 use Rattle.module_vectors.specs.Trails.{lead_at}
 use Rattle.interreduce.proofs.Choosing.{found, none_found}
 use Rattle.interreduce.proofs.Leading.{divides_at}

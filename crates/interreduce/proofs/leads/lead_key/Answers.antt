@@ -1,6 +1,6 @@
 use Rattle.std.proofs.Common.{ap, get_or, length, subst, ◌∙◌, ◌≡◌}
+use Rattle.term_lists.specs.Vectors.{key_of}
 use Rattle.module_vectors.specs.Trails.{lead_at}
-use Rattle.module_vectors.specs.Vectors.{key_of}
 use Rattle.interreduce.proofs.Leading.{lead_key}
 use Rattle.interreduce.proofs.leads.lead_key.Goals as goal
 

@@ -3,9 +3,9 @@ use Rattle.std.proofs.lemmas.List.{drop_all, drop_more, get_or_default, take_all
 use Rattle.std.specs.Prelude.{Contains}
 use Rattle.formal_sums.proofs.WeightedSums.{Each_append}
 use Rattle.formal_sums.specs.FormalSums.{Each}
-use Rattle.module_vectors.proofs.Scaling.{take_item}
-use Rattle.module_vectors.proofs.SumsOfProducts.{Each_member}
-use Rattle.module_vectors.specs.Rings.{variables}
+use Rattle.term_lists.proofs.Scaling.{take_item}
+use Rattle.term_lists.proofs.Parts.{Each_member}
+use Rattle.term_lists.specs.Rings.{variables}
 use Rattle.vector_division.proofs.Looping.{have_variables}
 use Rattle.vector_division.specs.Progress.{HaveVariables}
 use Rattle.interreduce.specs.Leads.{AreNeededSoFar, HaveLeads, IsCoveredBy, LeadsRise}

@@ -1,6 +1,6 @@
 use Rattle.std.proofs.Common.{drop, length, take, ◌<◌}
 use Rattle.formal_sums.specs.FormalSums.{Each}
-use Rattle.module_vectors.specs.Rings.{variables}
+use Rattle.term_lists.specs.Rings.{variables}
 use Rattle.interreduce.specs.Leads.{AreNeededSoFar}
 use Rattle.interreduce.proofs.leads.needed_members.Given as goal
 

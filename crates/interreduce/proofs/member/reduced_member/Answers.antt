@@ -1,6 +1,6 @@
 use Rattle.std.proofs.Common.{[], drop, length, subst, sym, ◌<◌}
-use Rattle.module_vectors.proofs.SumsOfProducts.{Each_member}
-use Rattle.module_vectors.specs.Vectors.{IsVectorOver}
+use Rattle.term_lists.proofs.Parts.{Each_member}
+use Rattle.term_lists.specs.Vectors.{IsVectorOver}
 use Rattle.interreduce.specs.Members.{HasDivision, HasReducedTail}
 use Rattle.interreduce.proofs.Earlier.{by_list}
 use Rattle.interreduce.proofs.member.reduced_member.Goals as goal

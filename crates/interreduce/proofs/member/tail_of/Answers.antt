@@ -1,8 +1,8 @@
 use Rattle.std.proofs.Common.{drop, subst, ap, ◌∙◌, ◌≡◌}
 use Rattle.formal_sums.specs.FormalSums.{IsSame}
-use Rattle.module_vectors.proofs.NormalVectors.{vector_unique}
-use Rattle.module_vectors.specs.Rings.{variables}
-use Rattle.module_vectors.specs.Vectors.{IsVectorOver, StandsFor, sum_of}
+use Rattle.term_lists.proofs.NormalVectors.{vector_unique}
+use Rattle.term_lists.specs.Rings.{variables}
+use Rattle.term_lists.specs.Vectors.{IsVectorOver, StandsFor, sum_of}
 use Rattle.interreduce.proofs.Tails.{if_ok, tail_vector}
 use Rattle.interreduce.proofs.member.tail_of.Goals as goal
 

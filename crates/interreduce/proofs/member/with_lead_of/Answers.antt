@@ -1,9 +1,9 @@
 use Rattle.std.proofs.Common.{ap, ap₂, get_or, subst, sym, take, ℕ, ◌++◌, ◌∙◌, ◌∷◌, ◌≡◌}
 use Rattle.formal_sums.specs.FormalSums.{IsSame}
-use Rattle.module_vectors.proofs.NormalVectors.{vector_unique}
-use Rattle.module_vectors.specs.Rings.{variables}
-use Rattle.module_vectors.specs.Vectors.{AreTermsOver, IsVectorOver, StandsFor, sum_of}
-use Rattle.module_vectors.specs.declared.key.Key.{Key as CodeKey}
+use Rattle.term_lists.proofs.NormalVectors.{vector_unique}
+use Rattle.term_lists.specs.Rings.{variables}
+use Rattle.term_lists.specs.Vectors.{AreTermsOver, IsVectorOver, StandsFor, sum_of}
+use Rattle.term_lists.specs.declared.key.Key.{Key as CodeKey}
 use Rattle.interreduce.proofs.Tails.{if_ok, terms_over, whole_vector}
 use Rattle.interreduce.proofs.member.with_lead_of.Goals as goal
 

@@ -1,5 +1,5 @@
 use Rattle.std.proofs.Common.{[], below_more, drop, get_or, length, rules, subst, sym, ◌<◌}
-use Rattle.module_vectors.proofs.SumsOfProducts.{Each_member}
+use Rattle.term_lists.proofs.Parts.{Each_member}
 use Rattle.interreduce.specs.Members.{HasDivision, IsReducedMember}
 use Rattle.interreduce.proofs.Gathering.{one_more, stopped_in_turn}
 use Rattle.interreduce.proofs.turns.reduced_in_turn.Goals as goal

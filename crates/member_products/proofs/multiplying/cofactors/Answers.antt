@@ -1,6 +1,6 @@
 use Rattle.std.proofs.Common.{arith, length, subst, sym, take, ◌+◌, ◌≡◌}
 use Rattle.std.proofs.lemmas.List.{length-take, take_all}
-use Rattle.module_vectors.proofs.Scaling.{take_item}
+use Rattle.term_lists.proofs.Scaling.{take_item}
 use Rattle.member_products.proofs.Multiplied.{cofactors_none, member_at, member_there, stops_at}
 use Rattle.member_products.proofs.multiplying.cofactors.Goals as goal
 use Rattle.member_products.specs.Members.{AreCofactors, IsMemberOver}

@@ -1,7 +1,7 @@
 use Rattle.std.proofs.Common.{[], arith, length, subst, sym, ◌++◌, ◌∷◌}
 use Rattle.formal_sums.proofs.WeightedSums.{Each_append}
-use Rattle.module_vectors.specs.Rings.{variables}
-use Rattle.module_vectors.specs.Vectors.{StandsFor, sum_of}
+use Rattle.term_lists.specs.Rings.{variables}
+use Rattle.term_lists.specs.Vectors.{StandsFor, sum_of}
 use Rattle.member_products.specs.Generators.{IsRanked, IsVectorOf}
 use Rattle.member_products.specs.Members.{AreCofactors}
 use Rattle.member_products.proofs.Multiplied.{cofactors_more}

@@ -1,8 +1,8 @@
 use Rattle.std.proofs.Common.{List, map, reverse, subst, subst₂, sym, ℕ, ◌∙◌}
 use Rattle.betti_laws.specs.Tables.{step_count}
 use Rattle.formal_sums.specs.FormalSums.{Each}
-use Rattle.module_vectors.specs.Rings.{variables}
-use Rattle.module_vectors.specs.Vectors.{AreTermsOver}
+use Rattle.term_lists.specs.Rings.{variables}
+use Rattle.term_lists.specs.Vectors.{AreTermsOver}
 use Rattle.resolution_maps.proofs.Joining.{if_more}
 use Rattle.resolution_maps.specs.declared.maps.Map.{Map}
 use Rattle.column_passes.proofs.Lists.{each_unmapped}

@@ -1,7 +1,7 @@
 use Rattle.std.proofs.Common.{arith, refl, reverse, subst, sym, ◌∙◌}
 use Rattle.formal_sums.specs.FormalSums.{Each}
-use Rattle.module_vectors.specs.Rings.{ring_comparison, variables}
-use Rattle.module_vectors.specs.Vectors.{AreVectorsOver, sums_of}
+use Rattle.term_lists.specs.Rings.{ring_comparison, variables}
+use Rattle.term_lists.specs.Vectors.{AreVectorsOver, sums_of}
 use Rattle.column_passes.specs.Constants.{HasNoConstants, IsFirst}
 use Rattle.column_passes.specs.Passing.{IsGraded}
 use Rattle.minimal_betti.specs.Carried.{graded_maps}

@@ -1,6 +1,6 @@
 use Rattle.std.proofs.Common.{List, reverse, subst, subst₂, sym, ℕ}
-use Rattle.module_vectors.specs.Rings.{ring_comparison, variables}
-use Rattle.module_vectors.specs.Vectors.{AreVectorsOver, sums_of}
+use Rattle.term_lists.specs.Rings.{ring_comparison, variables}
+use Rattle.term_lists.specs.Vectors.{AreVectorsOver, sums_of}
 use Rattle.column_passes.specs.Passing.{AreGradedColumns, IsPassed}
 use Rattle.minimal_betti.proofs.Splittings.{graded_columns, ordered_here}
 use Rattle.minimal_betti.proofs.cancelling.cancelled_map.Goals as goal

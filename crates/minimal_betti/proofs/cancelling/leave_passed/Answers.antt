@@ -1,6 +1,6 @@
 use Rattle.std.proofs.Common.{arith, map, subst, sym, ◌<◌}
-use Rattle.module_vectors.specs.Rings.{variables}
-use Rattle.module_vectors.specs.Vectors.{sums_of}
+use Rattle.term_lists.specs.Rings.{variables}
+use Rattle.term_lists.specs.Vectors.{sums_of}
 use Rattle.column_passes.specs.Constants.{HasNoConstants}
 use Rattle.column_passes.specs.Passing.{Pivot}
 use Rattle.minimal_betti.proofs.Splittings.{ordered_rest}

@@ -1,7 +1,7 @@
 use Rattle.std.specs.Prelude.{IfSome}
 use Rattle.std.proofs.Common.{List, arith, reverse, subst, sym, ℕ, ◌<◌, ◌∙◌}
 use Rattle.formal_sums.specs.FormalSums.{Each}
-use Rattle.module_vectors.specs.Vectors.{AreTermsOver}
+use Rattle.term_lists.specs.Vectors.{AreTermsOver}
 use Rattle.resolution_maps.specs.declared.maps.Map.{Map}
 use Rattle.column_passes.proofs.Lists.{each_unmapped}
 use Rattle.minimal_betti.specs.Carried.{AreCarried, graded_maps}

@@ -1,6 +1,6 @@
 use Rattle.std.proofs.Common.{arith, reverse, subst, sym, ◌<◌, ◌∙◌}
 use Rattle.formal_sums.specs.FormalSums.{Each}
-use Rattle.module_vectors.specs.Vectors.{AreTermsOver}
+use Rattle.term_lists.specs.Vectors.{AreTermsOver}
 use Rattle.resolution_maps.specs.declared.maps.Map.{Map}
 use Rattle.column_passes.proofs.Lists.{each_unmapped}
 use Rattle.minimal_betti.specs.Carried.{AreCarried, LeadsTo, graded_maps}

@@ -1,7 +1,7 @@
 use Rattle.std.proofs.Common.{arith, subst₂, sym, ◌∙◌}
 use Rattle.std.proofs.lemmas.List.{take_all}
 use Rattle.formal_sums.specs.FormalSums.{FormalSum}
-use Rattle.module_vectors.specs.Rings.{variables}
+use Rattle.term_lists.specs.Rings.{variables}
 use Rattle.column_passes.proofs.Columns.{image_pushed, vectors_pushed}
 use Rattle.minimal_betti.specs.Carried.{AreOwn}
 use Rattle.minimal_betti.proofs.cancelling.own_columns.Goals as goal

@@ -1,8 +1,8 @@
 use Rattle.std.proofs.Common.{map, take}
 use Rattle.formal_sums.specs.FormalSums.{FormalSum}
 use Rattle.minimal_laws.specs.Cancellation.{AreSameColumns}
-use Rattle.module_vectors.specs.Rings.{ring_comparison, variables}
-use Rattle.module_vectors.specs.Vectors.{AreVectorsOver, sums_of}
+use Rattle.term_lists.specs.Rings.{ring_comparison, variables}
+use Rattle.term_lists.specs.Vectors.{AreVectorsOver, sums_of}
 use Rattle.minimal_betti.proofs.cancelling.own_columns.Given as goal
 
 abbrev pub invariant-loop-v : goal.invariant-loop-v

@@ -1,6 +1,6 @@
 use Rattle.std.proofs.Common.{ap, length, map, subst, subst₂, sym, take}
 use Rattle.formal_sums.specs.FormalSums.{Each}
-use Rattle.module_vectors.specs.Rings.{variables}
+use Rattle.term_lists.specs.Rings.{variables}
 use Rattle.vector_division.specs.Progress.{AreWeighed}
 use Rattle.resolution_maps.specs.Resolved.{HavePositions}
 use Rattle.minimal_betti.specs.Carried.{AreOrdered}

@@ -1,7 +1,7 @@
 use Rattle.std.proofs.Common.{arith, subst}
 use Rattle.std.proofs.lemmas.List.{take_all}
 use Rattle.formal_sums.specs.FormalSums.{Each}
-use Rattle.module_vectors.proofs.Scaling.{Each_more}
+use Rattle.term_lists.proofs.Scaling.{Each_more}
 use Rattle.minimal_betti.specs.Complementing.{IsApart}
 use Rattle.minimal_betti.proofs.complementing.are_apart.Goals as goal
 

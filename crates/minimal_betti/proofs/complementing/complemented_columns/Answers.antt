@@ -1,8 +1,8 @@
 use Rattle.std.proofs.Common.{arith, length, map, subst, sym, ◌<◌}
 use Rattle.complements.specs.Complements.{AreComplements}
 use Rattle.formal_sums.specs.FormalSums.{Each}
-use Rattle.module_vectors.specs.Rings.{ring_comparison, variables}
-use Rattle.module_vectors.specs.Vectors.{AreVectorsOver}
+use Rattle.term_lists.specs.Rings.{ring_comparison, variables}
+use Rattle.term_lists.specs.Vectors.{AreVectorsOver}
 use Rattle.column_passes.specs.Passing.{Pivot}
 use Rattle.minimal_betti.specs.Complementing.{AreGone, IsApart}
 use Rattle.minimal_betti.proofs.Complements.{complemented_in_turn}

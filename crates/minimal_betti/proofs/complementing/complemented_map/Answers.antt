@@ -1,6 +1,6 @@
 use Rattle.std.specs.Prelude.{IfSome}
 use Rattle.std.proofs.Common.{ap, map, subst, ◌∙◌}
-use Rattle.module_vectors.specs.Rings.{variables}
+use Rattle.term_lists.specs.Rings.{variables}
 use Rattle.column_passes.specs.Passing.{Pivot}
 use Rattle.column_passes.specs.Placing.{all_removed}
 use Rattle.minimal_betti.specs.Complementing.{AreComplemented}

@@ -1,7 +1,7 @@
 use Rattle.std.specs.Prelude.{IfSome}
 use Rattle.std.proofs.Common.{List, [], arith, map, refl, reverse, rules, subst, sym, ℕ, ◌<◌, ◌≡◌}
-use Rattle.module_vectors.specs.Rings.{variables}
-use Rattle.module_vectors.specs.Vectors.{sums_of}
+use Rattle.term_lists.specs.Rings.{variables}
+use Rattle.term_lists.specs.Vectors.{sums_of}
 use Rattle.column_passes.specs.Passing.{AreGradedColumns, Pivot}
 use Rattle.minimal_betti.specs.Carried.{graded_maps}
 use Rattle.minimal_betti.specs.Complementing.{ComesTo, IsComplemented}

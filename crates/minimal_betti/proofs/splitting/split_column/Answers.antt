@@ -4,8 +4,8 @@ use Rattle.formal_sums.proofs.Linear.{linear_same}
 use Rattle.formal_sums.proofs.Sameness.{IsSame_of, IsSame_trans}
 use Rattle.minimal_laws.proofs.Rows.{linear_without_row}
 use Rattle.minimal_laws.specs.Cancellation.{cleared}
-use Rattle.module_vectors.specs.Rings.{variables}
-use Rattle.module_vectors.specs.Vectors.{StandsFor, sum_of}
+use Rattle.term_lists.specs.Rings.{variables}
+use Rattle.term_lists.specs.Vectors.{StandsFor, sum_of}
 use Rattle.vector_division.proofs.Members.{sums_at}
 use Rattle.column_passes.specs.Clearing.{ClearingStops}
 use Rattle.minimal_betti.proofs.splitting.split_column.Goals as goal

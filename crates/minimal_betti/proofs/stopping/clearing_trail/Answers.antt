@@ -1,8 +1,8 @@
 use Rattle.std.proofs.Common.{[], ap, get_or, refl, subst, sym, ◌∙◌}
 use Rattle.std.proofs.lemmas.List.{get_or_default}
 use Rattle.minimal_laws.specs.Cancellation.{component}
-use Rattle.module_vectors.specs.Rings.{variables}
-use Rattle.module_vectors.specs.Vectors.{sum_of}
+use Rattle.term_lists.specs.Rings.{variables}
+use Rattle.term_lists.specs.Vectors.{sum_of}
 use Rattle.column_passes.specs.Clearing.{IsMonomialAt}
 use Rattle.minimal_betti.proofs.Entries.{clearing_is}
 use Rattle.minimal_betti.proofs.stopping.clearing_trail.Goals as goal

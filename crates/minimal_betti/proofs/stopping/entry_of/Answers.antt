@@ -1,8 +1,8 @@
 use Rattle.std.proofs.Common.{ap, arith, subst, sym, ◌∙◌, ◌≡◌}
 use Rattle.std.proofs.lemmas.List.{take_all}
-use Rattle.module_vectors.specs.Rings.{ring_comparison, variables}
-use Rattle.module_vectors.specs.Stops.{HasMonomial}
-use Rattle.module_vectors.specs.Vectors.{IsVectorOver, sum_of}
+use Rattle.term_lists.specs.Rings.{ring_comparison, variables}
+use Rattle.term_lists.specs.Stops.{HasMonomial}
+use Rattle.term_lists.specs.Vectors.{IsVectorOver, sum_of}
 use Rattle.minimal_betti.proofs.Entries.{entry_is, in_row, monomial_row, row_more, vector_row}
 use Rattle.minimal_betti.proofs.stopping.entry_of.Goals as goal
 

@@ -1,7 +1,7 @@
 use Rattle.std.proofs.Common.{ap, arith, length, subst, suc, sym, ◌+◌, ◌<◌, ◌∙◌, ◌≡◌, ◌≤◌}
 use Rattle.betti_laws.proofs.Tables.{betti}
 use Rattle.betti_laws.specs.Tables.{occurrences, step_count}
-use Rattle.module_vectors.specs.Rings.{variables}
+use Rattle.term_lists.specs.Rings.{variables}
 use Rattle.vector_division.specs.Progress.{AreWeighed}
 use Rattle.resolution_maps.specs.Resolved.{degrees_of}
 use Rattle.minimal_betti.specs.Graded.{graded_of}

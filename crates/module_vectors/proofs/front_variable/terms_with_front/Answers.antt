@@ -1,6 +1,6 @@
 use Rattle.std.proofs.Common.{ap, arith, take_all, ◌∙◌}
+use Rattle.term_lists.specs.FrontVariables.{with_front}
 use Rattle.module_vectors.proofs.Fronting.{fronted_more}
-use Rattle.module_vectors.specs.FrontVariables.{with_front}
 use Rattle.module_vectors.proofs.front_variable.terms_with_front.Goals as goal
 
 pub push_reserved-requires : goal.push_reserved-requires

@@ -1,6 +1,6 @@
 use Rattle.std.proofs.Common.{length, take, ◌≡◌, ◌≤◌}
 use Rattle.std.specs.Vec.{vec_capacity, vec_len}
-use Rattle.module_vectors.specs.FrontVariables.{with_front}
+use Rattle.term_lists.specs.FrontVariables.{with_front}
 use Rattle.module_vectors.proofs.front_variable.terms_with_front.Given as goal
 
 abbrev pub invariant-loop-term : goal.invariant-loop-term

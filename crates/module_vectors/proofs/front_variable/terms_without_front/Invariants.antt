@@ -1,6 +1,6 @@
 use Rattle.std.proofs.Common.{length, ◌++◌, ◌<◌, ◌≡◌}
 use Rattle.formal_sums.specs.FormalSums.{Each}
-use Rattle.module_vectors.specs.FrontVariables.{HaveNoFront, without_front}
+use Rattle.term_lists.specs.FrontVariables.{HaveNoFront, without_front}
 use Rattle.module_vectors.proofs.front_variable.terms_without_front.Given as goal
 
 abbrev pub invariant-loop-term : goal.invariant-loop-term

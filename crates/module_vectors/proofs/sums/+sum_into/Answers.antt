@@ -1,6 +1,6 @@
+use Rattle.term_lists.specs.Rings.{variables}
+use Rattle.term_lists.specs.Vectors.{sum_of}
 use Rattle.module_vectors.proofs.SumsOfProducts.{sum_of_parts}
-use Rattle.module_vectors.specs.Rings.{variables}
-use Rattle.module_vectors.specs.Vectors.{sum_of}
 use Rattle.module_vectors.proofs.sums.+sum_into.Goals as goal
 
 pub returns-clause-sum : goal.returns-clause-sum

@@ -1,5 +1,5 @@
 use Rattle.std.proofs.Common.{length, sum, ◌*◌, ◌-◌}
-use Rattle.module_vectors.specs.Vectors.{sums_of}
+use Rattle.term_lists.specs.Vectors.{sums_of}
 use Rattle.order_change.specs.Changing.{IsChanging}
 use Rattle.order_change.specs.Lists.{monomials}
 use Rattle.order_change.proofs.change.changed.Given as goal

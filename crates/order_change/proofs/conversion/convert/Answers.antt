@@ -1,7 +1,7 @@
 use Rattle.std.proofs.Common.{ap, arith, length, subst, sym, ◌≤◌}
 use Rattle.monomial_orders.specs.Comparisons.{comparison}
 use Rattle.monomial_orders.specs.Laws.{comparison_order}
-use Rattle.module_vectors.specs.Rings.{variables}
+use Rattle.term_lists.specs.Rings.{variables}
 use Rattle.change_laws.specs.Standard.{AreDistinct, AreStandard, Has}
 use Rattle.order_change.proofs.Finishing.{given}
 use Rattle.order_change.proofs.Sorting.{standard_sorted}

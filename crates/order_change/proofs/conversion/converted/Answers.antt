@@ -1,9 +1,9 @@
 use Rattle.std.proofs.Common.{length, subst, sym}
 use Rattle.monomials.specs.Exponents.{unit}
 use Rattle.bases.specs.Settings.{IsLawful}
-use Rattle.module_vectors.specs.Rings.{ring_comparison, setting}
-use Rattle.module_vectors.specs.Vectors.{sums_of}
-use Rattle.module_vectors.specs.declared.ring.Ring.{Ring}
+use Rattle.term_lists.specs.Rings.{ring_comparison, setting}
+use Rattle.term_lists.specs.Vectors.{sums_of}
+use Rattle.term_lists.specs.declared.ring.Ring.{Ring}
 use Rattle.groebner_iface.specs.Runs.{IsReducedBasisOf}
 use Rattle.order_change.proofs.Finishing.{answer, ready}
 use Rattle.order_change.specs.Changing.{AreVariableProducts, IsChanged, IsFormModulo}

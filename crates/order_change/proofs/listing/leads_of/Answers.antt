@@ -3,8 +3,8 @@ use Rattle.std.proofs.lemmas.List.{get_or_default}
 use Rattle.monomials.specs.Exponents.{exponents_of, unit}
 use Rattle.bases.specs.Leads.{head_key}
 use Rattle.monomial_orders.specs.Kept.{IsWeighed}
-use Rattle.module_vectors.specs.Rings.{variables}
-use Rattle.module_vectors.specs.Vectors.{sum_of}
+use Rattle.term_lists.specs.Rings.{variables}
+use Rattle.term_lists.specs.Vectors.{sum_of}
 use Rattle.order_change.proofs.BasisLeads.{basis_some, lead_is, lead_weighed, leads_all, leads_push}
 use Rattle.order_change.proofs.Listed.{AreMonomials_push}
 use Rattle.order_change.specs.Lists.{AreMonomials, monomials}

@@ -2,8 +2,8 @@ use Rattle.std.proofs.Common.{get_or, length, ℕ, [], ◌<◌, ◌≡◌, ◌�
 use Rattle.std.specs.Vec.{vec_capacity, vec_len}
 use Rattle.monomials.specs.Exponents.{unit}
 use Rattle.bases.specs.Leads.{head_key}
-use Rattle.module_vectors.specs.Rings.{variables}
-use Rattle.module_vectors.specs.Vectors.{sum_of}
+use Rattle.term_lists.specs.Rings.{variables}
+use Rattle.term_lists.specs.Vectors.{sum_of}
 use Rattle.order_change.specs.Lists.{AreMonomials, monomials}
 use Rattle.order_change.proofs.listing.leads_of.Given as goal
 

@@ -1,6 +1,6 @@
 use Rattle.std.proofs.Common.{length, subst, sym, ◌≡◌}
 use Rattle.monomial_orders.specs.Kept.{IsWeighed}
-use Rattle.module_vectors.specs.Rings.{variables}
+use Rattle.term_lists.specs.Rings.{variables}
 use Rattle.change_laws.specs.Standard.{AreStandard}
 use Rattle.order_change.proofs.BasisLeads.{each_item}
 use Rattle.order_change.specs.Lists.{AreMonomials, monomials}

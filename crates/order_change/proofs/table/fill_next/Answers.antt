@@ -2,7 +2,7 @@ use Rattle.std.proofs.Common.{MatchOption, arith, length, subst, ◌<◌}
 use Rattle.std.specs.Prelude.{slice_index}
 use Rattle.monomials.specs.Exponents.{exponents_of}
 use Rattle.monomial_orders.specs.Comparisons.{comparison}
-use Rattle.module_vectors.specs.Vectors.{sums_of}
+use Rattle.term_lists.specs.Vectors.{sums_of}
 use Rattle.order_change.proofs.Filling.{filling_candidate, filling_least, filling_more, sum_below}
 use Rattle.order_change.proofs.Items.{length_monomials}
 use Rattle.order_change.specs.Lists.{monomials}

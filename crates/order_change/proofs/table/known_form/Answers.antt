@@ -2,7 +2,7 @@ use Rattle.std.proofs.Common.{arith, length, subst, sym}
 use Rattle.monomials.specs.Exponents.{exponents_of}
 use Rattle.monomial_orders.specs.Comparisons.{comparison}
 use Rattle.monomial_orders.specs.Laws.{comparison_order}
-use Rattle.module_vectors.specs.Vectors.{sums_of}
+use Rattle.term_lists.specs.Vectors.{sums_of}
 use Rattle.order_change.proofs.Filling.{standard_normal}
 use Rattle.order_change.proofs.Items.{length_monomials}
 use Rattle.order_change.specs.Forms.{AreResidues}

@@ -1,7 +1,7 @@
 use Rattle.std.proofs.Common.{[], arith, get_or, length, sym, ◌++◌, ◌<◌, ◌∙◌}
 use Rattle.std.specs.Prelude.{slice_index}
 use Rattle.formal_sums.specs.FormalSums.{IsSame}
-use Rattle.module_vectors.specs.Vectors.{sum_of}
+use Rattle.term_lists.specs.Vectors.{sum_of}
 use Rattle.monomials.specs.Exponents.{unit}
 use Rattle.change_laws.specs.Combinations.{expansion}
 use Rattle.order_change.proofs.Filling.{empty_of, if_ok3, item_read}

@@ -5,9 +5,9 @@ use Rattle.monomials.specs.Exponents.{Divides, exponents_of}
 use Rattle.monomial_orders.proofs.Over.{weighed_at}
 use Rattle.monomial_orders.specs.Kept.{IsWeighed, Monomial}
 use Rattle.monomial_orders.specs.Monomials.{IsCofactor, IsQuotient}
-use Rattle.module_vectors.specs.Rings.{variables}
-use Rattle.module_vectors.specs.Vectors.{IsMonomialOver, sum_of}
-use Rattle.module_vectors.specs.declared.key.Key.{Key as CodeKey}
+use Rattle.term_lists.specs.Rings.{variables}
+use Rattle.term_lists.specs.Vectors.{IsMonomialOver, sum_of}
+use Rattle.term_lists.specs.declared.key.Key.{Key as CodeKey}
 use Rattle.pair_criteria.specs.Pairs.{IsFactorOf}
 use Rattle.pair_criteria.proofs.factors.factor_of.Goals as goal
 

@@ -1,6 +1,6 @@
 use Rattle.std.proofs.Common.{Bool, List, [], ap, arith, cond, false, not, refl, sym, take, true, ◌++◌, ◌+◌, ◌∙◌, ◌∷◌, ◌≡◌}
 use Rattle.std.proofs.lemmas.Bool.{false≢true}
-use Rattle.module_vectors.proofs.Scaling.{Each_at}
+use Rattle.term_lists.proofs.Scaling.{Each_at}
 use Rattle.pair_criteria.specs.declared.pair.Pair.{Pair as CodePair}
 use Rattle.basis_steps.proofs.Counting.{count-append}
 use Rattle.basis_steps.specs.Criteria.{IsPair}

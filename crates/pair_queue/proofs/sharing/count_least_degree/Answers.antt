@@ -1,6 +1,6 @@
 use Rattle.std.proofs.Common.{List, ap, arith, cond, length, nat_eq, refl, sym, ℕ, ◌<◌, ◌∙◌, ◌≡◌, ◌≤◌}
 use Rattle.std.proofs.lemmas.List.{take_all}
-use Rattle.module_vectors.proofs.Scaling.{Each_at}
+use Rattle.term_lists.proofs.Scaling.{Each_at}
 use Rattle.pair_criteria.specs.declared.pair.Pair.{Pair as CodePair}
 use Rattle.basis_steps.specs.Queues.{degree_of, number_of_degree}
 use Rattle.pair_updates.proofs.Degrees.{least_is, number_more, same_degree}

@@ -2,7 +2,7 @@ use Rattle.std.proofs.Common.{Bool, List, [], ap, arith, drop, get_or, length, s
 use Rattle.std.proofs.lemmas.List.{drop_more}
 use Rattle.formal_sums.specs.FormalSums.{Each}
 use Rattle.formal_sums.proofs.WeightedSums.{Each_append}
-use Rattle.module_vectors.proofs.Scaling.{Each_at}
+use Rattle.term_lists.proofs.Scaling.{Each_at}
 use Rattle.pair_criteria.specs.declared.pair.Pair.{Pair as CodePair}
 use Rattle.basis_steps.specs.Pairs.{Pair}
 use Rattle.basis_steps.specs.Queues.{IsSorted}

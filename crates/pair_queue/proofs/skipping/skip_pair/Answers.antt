@@ -2,7 +2,7 @@ use Rattle.std.proofs.Common.{List, ap, arith, drop, get_or, length, subst, sym,
 use Rattle.std.proofs.lemmas.List.{length-take, take-take}
 use Rattle.formal_sums.proofs.WeightedSums.{Each_append}
 use Rattle.formal_sums.specs.FormalSums.{Each}
-use Rattle.module_vectors.proofs.SumsOfProducts.{Each_drop, Each_take}
+use Rattle.term_lists.proofs.Parts.{Each_drop, Each_take}
 use Rattle.pair_criteria.specs.declared.pair.Pair.{Pair as CodePair}
 use Rattle.basis_steps.specs.Criteria.{IsPair}
 use Rattle.basis_steps.specs.Pairs.{Pair}

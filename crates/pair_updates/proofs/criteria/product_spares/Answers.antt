@@ -1,7 +1,7 @@
 use Rattle.std.proofs.Common.{length, subst, ℕ}
 use Rattle.std.specs.Prelude.{IsTrue, ◌↔◌}
 use Rattle.bases.specs.Leads.{leads}
-use Rattle.module_vectors.specs.Vectors.{key_of}
+use Rattle.term_lists.specs.Vectors.{key_of}
 use Rattle.pair_criteria.specs.Sparing as leads_spared
 use Rattle.pair_updates.proofs.CriterionTests.{product_is}
 use Rattle.pair_updates.specs.Leads.{sums_shown}

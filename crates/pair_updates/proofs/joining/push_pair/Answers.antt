@@ -2,7 +2,7 @@ use Rattle.std.proofs.Common.{List, subst, sym, ◌∷◌, []}
 use Rattle.formal_sums.proofs.WeightedSums.{Each_append}
 use Rattle.formal_sums.specs.FormalSums.{Each}
 use Rattle.monomial_orders.specs.Kept.{IsWeighed}
-use Rattle.module_vectors.specs.declared.key.Key.{Key as CodeKey}
+use Rattle.term_lists.specs.declared.key.Key.{Key as CodeKey}
 use Rattle.pair_criteria.specs.Pairs.{IsPairOfLeads, lead_at, variables_of}
 use Rattle.pair_updates.proofs.NewPairs.{lcm_made, pair_pushed, some_pair, some_weighed}
 use Rattle.pair_updates.specs.Pairs.{HasLcm}

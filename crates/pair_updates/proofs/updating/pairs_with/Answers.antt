@@ -2,7 +2,7 @@ use Rattle.std.proofs.Common.{List, arith, subst, ◌≡◌}
 use Rattle.std.specs.Prelude.{IfSome}
 use Rattle.formal_sums.specs.FormalSums.{Each}
 use Rattle.monomial_orders.specs.Kept.{IsWeighed}
-use Rattle.module_vectors.specs.declared.key.Key.{Key as CodeKey}
+use Rattle.term_lists.specs.declared.key.Key.{Key as CodeKey}
 use Rattle.pair_criteria.specs.Pairs.{IsPairOf, lead_at, variables_of}
 use Rattle.pair_updates.proofs.CopiedPairs.{made_is, new_next}
 use Rattle.pair_updates.proofs.updating.pairs_with.Goals as goal

@@ -1,7 +1,7 @@
 use Rattle.std.proofs.Common.{List, subst, sym, ℕ}
 use Rattle.member_products.specs.Generators.{AreGenerators}
-use Rattle.module_vectors.specs.declared.key.Key.{Key as CodeKey}
-use Rattle.module_vectors.specs.declared.ring.Ring.{Ring}
+use Rattle.term_lists.specs.declared.key.Key.{Key as CodeKey}
+use Rattle.term_lists.specs.declared.ring.Ring.{Ring}
 use Rattle.run_endings.proofs.Closings.{are_generators}
 use Rattle.plain_buchberger.proofs.Taking.{begins_free}
 use Rattle.plain_buchberger.proofs.runs.begin.Goals as goal

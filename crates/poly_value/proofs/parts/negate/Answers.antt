@@ -1,5 +1,5 @@
 use Rattle.std.proofs.Common.{ap, arith, ◌-◌, ◌*◌, ◌%◌, ◌∙◌}
-use Rattle.module_vectors.proofs.Rescaling.{rescale_step}
+use Rattle.term_lists.proofs.Rescaling.{rescale_step}
 use Rattle.poly_value.proofs.parts.negate.Goals as goal
 
 pub loop-i-preserved : goal.loop-i-preserved

@@ -1,5 +1,5 @@
 use Rattle.std.proofs.Common.{drop, take, ◌++◌, ◌-◌, ◌≡◌}
-use Rattle.module_vectors.specs.Multiples.{rescaled}
+use Rattle.term_lists.specs.Multiples.{rescaled}
 use Rattle.poly_value.proofs.parts.negate.Given as goal
 
 abbrev pub invariant-loop-i : goal.invariant-loop-i

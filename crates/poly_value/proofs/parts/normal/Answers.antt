@@ -1,5 +1,5 @@
-use Rattle.module_vectors.specs.Rings.{variables}
-use Rattle.module_vectors.specs.Vectors.{HasPositions}
+use Rattle.term_lists.specs.Rings.{variables}
+use Rattle.term_lists.specs.Vectors.{HasPositions}
 use Rattle.sparse_poly.proofs.Results.{both_ok}
 use Rattle.poly_value.proofs.Sums.{normal_positions}
 use Rattle.poly_value.proofs.parts.normal.Goals as goal

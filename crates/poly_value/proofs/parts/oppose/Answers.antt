@@ -1,8 +1,8 @@
 use Rattle.std.proofs.Common.{◌∙◌, ◌-◌, ◌<◌, ap, subst, sym}
 use Rattle.monomials.specs.Exponents.{unit}
 use Rattle.formal_sums.specs.FormalSums.{scale}
-use Rattle.module_vectors.specs.Multiples.{rescaled}
-use Rattle.module_vectors.specs.Rings.{variables}
+use Rattle.term_lists.specs.Multiples.{rescaled}
+use Rattle.term_lists.specs.Rings.{variables}
 use Rattle.poly_value.proofs.Sums.{rescaled_part}
 use Rattle.poly_value.specs.Parts.{IsOperandPart}
 use Rattle.poly_value.proofs.parts.oppose.Goals as goal

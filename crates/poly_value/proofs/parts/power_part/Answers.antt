@@ -1,5 +1,5 @@
 use Rattle.std.proofs.Common.{◌<◌, subst, sym}
-use Rattle.module_vectors.specs.Rings.{variables}
+use Rattle.term_lists.specs.Rings.{variables}
 use Rattle.sparse_poly.specs.Powers.{power}
 use Rattle.poly_value.specs.Parts.{IsOperandPart}
 use Rattle.poly_value.proofs.Sums.{normal_within, power_stands, vector_part}

@@ -1,6 +1,6 @@
 use Rattle.std.proofs.Common.{◌<◌, subst, sym}
 use Rattle.formal_sums.specs.FormalSums.{product}
-use Rattle.module_vectors.specs.Rings.{variables}
+use Rattle.term_lists.specs.Rings.{variables}
 use Rattle.poly_value.specs.Parts.{IsOperandPart}
 use Rattle.poly_value.proofs.Sums.{normal_within, product_stands, vector_part}
 use Rattle.poly_value.proofs.parts.product_part.Goals as goal

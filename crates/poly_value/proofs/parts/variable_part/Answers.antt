@@ -1,8 +1,8 @@
 use Rattle.std.proofs.Common.{[], ap, length, refl, subst, subst₂, ◌++◌, ◌<◌, ◌∙◌, ◌∷◌, ◌≡◌}
 use Rattle.monomial_orders.specs.Kept.{IsWeighed}
 use Rattle.monomial_orders.specs.Monomials.{IsMonomial, variable}
-use Rattle.module_vectors.specs.Rings.{variables}
-use Rattle.module_vectors.specs.declared.key.Key.{Key}
+use Rattle.term_lists.specs.Rings.{variables}
+use Rattle.term_lists.specs.declared.key.Key.{Key}
 use Rattle.poly_value.proofs.Sums.{variable_term}
 use Rattle.poly_value.proofs.parts.variable_part.Goals as goal
 

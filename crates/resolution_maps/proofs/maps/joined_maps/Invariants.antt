@@ -1,7 +1,7 @@
 use Rattle.std.proofs.Common.{length, map, ◌++◌, ◌≡◌}
 use Rattle.std.specs.VecDeque.{deque_len}
 use Rattle.formal_sums.specs.FormalSums.{Each}
-use Rattle.module_vectors.specs.Rings.{variables}
+use Rattle.term_lists.specs.Rings.{variables}
 use Rattle.vector_division.specs.Progress.{AreWeighed}
 use Rattle.resolution_maps.specs.Joining.{AreJoinedTo}
 use Rattle.resolution_maps.specs.Resolved.{HavePositions}

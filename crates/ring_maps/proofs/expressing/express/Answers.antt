@@ -2,8 +2,8 @@ use Rattle.std.proofs.Common.{[], subst, sym}
 use Rattle.formal_sums.specs.FormalSums.{Each}
 use Rattle.groebner_iface.specs.Calls.{NoTrail}
 use Rattle.groebner_iface.proofs.CallingRuns.{more_stops}
-use Rattle.module_vectors.specs.Rings.{ring_comparison}
-use Rattle.module_vectors.specs.Vectors.{AreVectorsOver, HasPositions}
+use Rattle.term_lists.specs.Rings.{ring_comparison}
+use Rattle.term_lists.specs.Vectors.{AreVectorsOver, HasPositions}
 use Rattle.ring_maps.specs.Graphs.{IsExpressionTrail, IsGraphRun}
 use Rattle.ring_maps.specs.GraphSteps.{IsGraphBasis}
 use Rattle.ring_maps.proofs.Listing.{later_work}

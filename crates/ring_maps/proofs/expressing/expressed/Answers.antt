@@ -1,8 +1,8 @@
 use Rattle.std.proofs.Common.{false, subst, sym, true, ◌∙◌, ◌≡◌}
 use Rattle.division_laws.specs.Elimination.{has_none_of_first}
 use Rattle.syzygy_laws.specs.Kernels.{all_kept}
-use Rattle.module_vectors.specs.Rings.{variables}
-use Rattle.module_vectors.specs.Vectors.{sum_of}
+use Rattle.term_lists.specs.Rings.{variables}
+use Rattle.term_lists.specs.Vectors.{sum_of}
 use Rattle.syzygy_engine.proofs.Marks.{loose}
 use Rattle.ideal_ops.proofs.Shared.{of_terms}
 use Rattle.ring_maps.proofs.GraphBases.{expression_stops, is_expression, no_expression}

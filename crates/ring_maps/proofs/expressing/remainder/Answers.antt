@@ -1,5 +1,5 @@
 use Rattle.std.proofs.Common.{subst, sym}
-use Rattle.module_vectors.specs.Rings.{variables}
+use Rattle.term_lists.specs.Rings.{variables}
 use Rattle.vector_division.specs.Divisors.{AreDivisors}
 use Rattle.vector_division.specs.Reductions.{cofactors_of}
 use Rattle.syzygy_engine.proofs.LeftOver.{cofactor_rank}

@@ -1,6 +1,6 @@
 use Rattle.std.proofs.Common.{ap, arith, length, subst, ◌∙◌, ◌≡◌}
 use Rattle.monomials.specs.Exponents.{exponents_of}
-use Rattle.module_vectors.specs.Rings.{variables}
+use Rattle.term_lists.specs.Rings.{variables}
 use Rattle.ring_maps.proofs.Doubled.{doubled_count, first_exponents}
 use Rattle.ring_maps.proofs.first_variables.first_monomial.Goals as goal
 

@@ -3,8 +3,8 @@ use Rattle.monomials.specs.Exponents.{unit}
 use Rattle.formal_sums.proofs.Sameness.{IsSame_of, IsSame_trans}
 use Rattle.formal_sums.specs.FormalSums.{scale}
 use Rattle.map_laws.specs.Graphs.{in_first}
-use Rattle.module_vectors.specs.Rings.{variables}
-use Rattle.module_vectors.specs.Vectors.{AreTermsOver, StandsFor, sum_of}
+use Rattle.term_lists.specs.Rings.{variables}
+use Rattle.term_lists.specs.Vectors.{AreTermsOver, StandsFor, sum_of}
 use Rattle.ring_maps.proofs.FirstTerms.{first_alone}
 use Rattle.ring_maps.proofs.first_variables.first_vector.Goals as goal
 

@@ -1,6 +1,6 @@
 use Rattle.std.proofs.Common.{arith, length, subst, ◌≡◌}
 use Rattle.monomial_orders.specs.Kept.{IsWeighed}
-use Rattle.module_vectors.specs.Rings.{variables}
+use Rattle.term_lists.specs.Rings.{variables}
 use Rattle.ring_maps.proofs.first_variables.monomial_of.Goals as goal
 
 pub from_exponents-requires : goal.from_exponents-requires

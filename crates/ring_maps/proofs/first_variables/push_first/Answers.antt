@@ -4,9 +4,9 @@ use Rattle.monomials.specs.Exponents.{unit}
 use Rattle.formal_sums.proofs.Sameness.{IsSame_of}
 use Rattle.formal_sums.specs.FormalSums.{scale}
 use Rattle.map_laws.specs.Graphs.{in_first}
-use Rattle.module_vectors.proofs.Scaling.{Each_at}
-use Rattle.module_vectors.specs.Rings.{variables}
-use Rattle.module_vectors.specs.Vectors.{AreTermsOver, IsMonomialOver, StandsFor, sum_of}
+use Rattle.term_lists.proofs.Scaling.{Each_at}
+use Rattle.term_lists.specs.Rings.{variables}
+use Rattle.term_lists.specs.Vectors.{AreTermsOver, IsMonomialOver, StandsFor, sum_of}
 use Rattle.ring_maps.proofs.Doubled.{doubled_modulus}
 use Rattle.ring_maps.proofs.FirstTerms.{first_more, over_more}
 use Rattle.ring_maps.proofs.first_variables.push_first.Goals as goal

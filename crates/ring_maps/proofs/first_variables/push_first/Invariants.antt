@@ -2,8 +2,8 @@ use Rattle.std.proofs.Common.{take, ◌++◌}
 use Rattle.monomials.specs.Exponents.{unit}
 use Rattle.formal_sums.specs.FormalSums.{scale}
 use Rattle.map_laws.specs.Graphs.{in_first}
-use Rattle.module_vectors.specs.Rings.{variables}
-use Rattle.module_vectors.specs.Vectors.{AreTermsOver, StandsFor, sum_of}
+use Rattle.term_lists.specs.Rings.{variables}
+use Rattle.term_lists.specs.Vectors.{AreTermsOver, StandsFor, sum_of}
 use Rattle.ring_maps.proofs.first_variables.push_first.Given as goal
 
 abbrev pub invariant-loop-term : goal.invariant-loop-term

@@ -2,8 +2,8 @@ use Rattle.std.proofs.Common.{ap₂, subst, sym, ◌++◌, ◌-◌, ◌<◌, ◌
 use Rattle.formal_sums.proofs.Sameness.{IsSame_of, IsSame_trans}
 use Rattle.formal_sums.specs.FormalSums.{IsSame, Term}
 use Rattle.map_laws.specs.Graphs.{behind, variable}
-use Rattle.module_vectors.specs.Rings.{variables}
-use Rattle.module_vectors.specs.Vectors.{AreTermsOver, IsMonomialOver, sum_of}
+use Rattle.term_lists.specs.Rings.{variables}
+use Rattle.term_lists.specs.Vectors.{AreTermsOver, IsMonomialOver, sum_of}
 use Rattle.ring_maps.proofs.FirstTerms.{both_parts, each_back, each_front, first_among, multiple}
 use Rattle.ring_maps.proofs.graph.graph_vector.Goals as goal
 

@@ -4,8 +4,8 @@ use Rattle.std.proofs.lemmas.List.{get_or_default}
 use Rattle.operation_laws.proofs.Linear.{Each_at}
 use Rattle.operation_laws.specs.Operations.{listed}
 use Rattle.map_laws.specs.Graphs.{graph_member}
-use Rattle.module_vectors.specs.Rings.{variables}
-use Rattle.module_vectors.specs.Vectors.{AreTermsOver, sums_of}
+use Rattle.term_lists.specs.Rings.{variables}
+use Rattle.term_lists.specs.Vectors.{AreTermsOver, sums_of}
 use Rattle.ideal_ops.specs.Runs.{AreVectorsFor}
 use Rattle.ideal_ops.proofs.Shared.{vectors_none}
 use Rattle.ring_maps.proofs.Listing.{member_next}

@@ -3,9 +3,9 @@ use Rattle.std.proofs.Common.{append-nil, map, subst, sym, take, ◌++◌, ◌+�
 use Rattle.std.proofs.lemmas.List.{take_all}
 use Rattle.formal_sums.specs.FormalSums.{Each}
 use Rattle.map_laws.specs.Graphs.{in_first}
-use Rattle.module_vectors.proofs.Scaling.{Each_at}
-use Rattle.module_vectors.specs.Rings.{variables}
-use Rattle.module_vectors.specs.Vectors.{AreTermsOver, sums_of}
+use Rattle.term_lists.proofs.Scaling.{Each_at}
+use Rattle.term_lists.specs.Rings.{variables}
+use Rattle.term_lists.specs.Vectors.{AreTermsOver, sums_of}
 use Rattle.ideal_ops.specs.Runs.{AreVectorsFor}
 use Rattle.ring_maps.proofs.Listing.{first_next}
 use Rattle.ring_maps.proofs.graph.push_members.Goals as goal

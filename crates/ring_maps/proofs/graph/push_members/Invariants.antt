@@ -1,8 +1,8 @@
 use Rattle.std.proofs.Common.{List, map, take, ◌++◌}
 use Rattle.formal_sums.specs.FormalSums.{FormalSum}
 use Rattle.map_laws.specs.Graphs.{in_first}
-use Rattle.module_vectors.specs.Rings.{variables}
-use Rattle.module_vectors.specs.Vectors.{sums_of}
+use Rattle.term_lists.specs.Rings.{variables}
+use Rattle.term_lists.specs.Vectors.{sums_of}
 use Rattle.ideal_ops.specs.Runs.{AreVectorsFor}
 use Rattle.ring_maps.proofs.graph.push_members.Given as goal
 

@@ -1,8 +1,8 @@
 use Rattle.syzygy_engine.proofs.Standing.{Terms}
 use Rattle.std.proofs.Common.{[], ap, subst, sym, ◌++◌, ◌∙◌, ◌∷◌}
-use Rattle.module_vectors.proofs.Merges.{sum_of-append}
-use Rattle.module_vectors.specs.Rings.{variables}
-use Rattle.module_vectors.specs.Vectors.{AreTermsOver, sum_of}
+use Rattle.term_lists.proofs.Merges.{sum_of-append}
+use Rattle.term_lists.specs.Rings.{variables}
+use Rattle.term_lists.specs.Vectors.{AreTermsOver, sum_of}
 use Rattle.ring_maps.proofs.FirstTerms.{over_more}
 use Rattle.ring_maps.proofs.graph.push_variable.Goals as goal
 

@@ -1,6 +1,6 @@
 use Rattle.std.proofs.Common.{arith, length, subst, ◌≡◌}
 use Rattle.monomial_orders.specs.Kept.{IsWeighed}
-use Rattle.module_vectors.specs.Rings.{variables}
+use Rattle.term_lists.specs.Rings.{variables}
 use Rattle.ring_maps.proofs.Doubled.{doubled_count, variable_among}
 use Rattle.ring_maps.proofs.graph.second_variable.Goals as goal
 

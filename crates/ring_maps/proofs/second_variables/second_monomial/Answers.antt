@@ -1,6 +1,6 @@
 use Rattle.std.proofs.Common.{ap, ap₂, arith, drop, length, ◌∙◌}
 use Rattle.monomials.specs.Exponents.{exponents_of}
-use Rattle.module_vectors.specs.Rings.{variables}
+use Rattle.term_lists.specs.Rings.{variables}
 use Rattle.ring_maps.proofs.Doubled.{doubled_count, second_exponents}
 use Rattle.ring_maps.proofs.second_variables.second_monomial.Goals as goal
 

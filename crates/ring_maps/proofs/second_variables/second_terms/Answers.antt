@@ -2,8 +2,8 @@ use Rattle.syzygy_engine.proofs.Standing.{Terms}
 use Rattle.std.proofs.Common.{[], subst, sym, ◌++◌, ◌<◌, ◌∷◌, ◌≡◌}
 use Rattle.formal_sums.proofs.WeightedSums.{Each_append}
 use Rattle.map_laws.specs.Graphs.{from_second}
-use Rattle.module_vectors.specs.Rings.{variables}
-use Rattle.module_vectors.specs.Vectors.{AreTermsOver, IsMonomialOver, sum_of}
+use Rattle.term_lists.specs.Rings.{variables}
+use Rattle.term_lists.specs.Vectors.{AreTermsOver, IsMonomialOver, sum_of}
 use Rattle.ring_maps.proofs.SecondTerms.{second_step}
 use Rattle.ring_maps.proofs.second_variables.second_terms.Goals as goal
 

@@ -1,6 +1,6 @@
 use Rattle.std.proofs.Common.{ap, arith, false, length, refl, sym, true, ◌+◌, ◌<◌, ◌∙◌, ◌≡◌, ◌≤◌}
 use Rattle.std.specs.Prelude.{fold}
-use Rattle.module_vectors.specs.declared.key.Key.{Key}
+use Rattle.term_lists.specs.declared.key.Key.{Key}
 use Rattle.row_matrix.proofs.Digits.{digits_few, digits_same, sums_few}
 use Rattle.row_matrix.proofs.KeyProducts.{length_sums, product_exact}
 use Rattle.row_matrix.specs.Hashes.{hash_step, sums}

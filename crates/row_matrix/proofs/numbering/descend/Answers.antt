@@ -1,6 +1,6 @@
 use Rattle.std.proofs.Common.{ap, arith, sym, ◌∙◌}
 use Rattle.std.specs.Ordering.{is_lt}
-use Rattle.module_vectors.specs.Rings.{variables}
+use Rattle.term_lists.specs.Rings.{variables}
 use Rattle.row_matrix.proofs.KeyPlaces.{sorted_more}
 use Rattle.row_matrix.specs.Naming.{by_descent}
 use Rattle.row_matrix.proofs.numbering.descend.Goals as goal

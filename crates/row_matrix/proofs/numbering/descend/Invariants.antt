@@ -1,7 +1,7 @@
 use Rattle.std.proofs.Common.{◌<◌}
 use Rattle.std.specs.List.Sorted.{IsSortedWithin}
 use Rattle.std.specs.Ordering.{is_lt}
-use Rattle.module_vectors.specs.Rings.{variables}
+use Rattle.term_lists.specs.Rings.{variables}
 use Rattle.row_matrix.specs.Naming.{by_descent}
 use Rattle.row_matrix.proofs.numbering.descend.Given as goal
 

@@ -1,5 +1,5 @@
 use Rattle.std.proofs.Common.{arith, length, sym, ◌≤◌}
-use Rattle.module_vectors.specs.Rings.{variables}
+use Rattle.term_lists.specs.Rings.{variables}
 use Rattle.row_matrix.proofs.KeyPlaces.{descent_neither}
 use Rattle.row_matrix.proofs.numbering.descending.Goals as goal
 

@@ -1,8 +1,8 @@
 use Rattle.std.proofs.Common.{[], arith, drop, get_or, length, set, subst, subst₂, sym, take, ◌++◌, ◌+◌, ◌<◌, ◌∙◌, ◌∷◌, ◌≡◌, ◌≤◌}
 use Rattle.std.proofs.lemmas.List.{drop_all, drop_more, get_or_default, take_all}
 use Rattle.std.specs.Prelude.{Contains}
-use Rattle.module_vectors.proofs.Scaling.{take_item}
-use Rattle.module_vectors.specs.Rings.{variables}
+use Rattle.term_lists.proofs.Scaling.{take_item}
+use Rattle.term_lists.specs.Rings.{variables}
 use Rattle.row_matrix.proofs.KeyPlaces.{placing_end, placing_step}
 use Rattle.row_matrix.specs.Hashes.{IsNumbered, no_key}
 use Rattle.row_matrix.specs.Naming.{IsPlacing}

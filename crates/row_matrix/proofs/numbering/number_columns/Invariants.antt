@@ -1,5 +1,5 @@
 use Rattle.std.proofs.Common.{drop, take}
-use Rattle.module_vectors.specs.Rings.{variables}
+use Rattle.term_lists.specs.Rings.{variables}
 use Rattle.row_matrix.specs.Naming.{IsPlacing}
 use Rattle.row_matrix.proofs.numbering.number_columns.Given as goal
 

@@ -4,8 +4,8 @@ use Rattle.std.proofs.lemmas.List.Sorted.{Contains-permutation, IsPermutation-tr
 use Rattle.std.specs.List.{range_with_len}
 use Rattle.std.specs.List.Sorted.{IsPermutation, IsSortedBy}
 use Rattle.std.specs.Ordering.{is_lt}
-use Rattle.module_vectors.proofs.Gathers.{Each_permutation}
-use Rattle.module_vectors.specs.Rings.{variables}
+use Rattle.term_lists.proofs.Gathers.{Each_permutation}
+use Rattle.term_lists.specs.Rings.{variables}
 use Rattle.row_matrix.proofs.KeyPlaces.{descent_weak, range_all, range_below, sorted_falls}
 use Rattle.row_matrix.specs.Naming.{by_descent}
 use Rattle.row_matrix.proofs.numbering.sorted_numbers.Goals as goal

@@ -4,10 +4,10 @@ use Rattle.monomials.specs.Exponents.{exponents_of}
 use Rattle.formal_sums.proofs.Combining.{Each_map}
 use Rattle.formal_sums.specs.FormalSums.{scale}
 use Rattle.monomial_orders.specs.Kept.{IsWeighed}
-use Rattle.module_vectors.proofs.Scaling.{Each_at}
-use Rattle.module_vectors.specs.Stops.{Fits, IsTooGreat}
-use Rattle.module_vectors.specs.Vectors.{HasVariables, sum_of}
-use Rattle.module_vectors.specs.declared.key.Key.{Key}
+use Rattle.term_lists.proofs.Scaling.{Each_at}
+use Rattle.term_lists.specs.Stops.{Fits, IsTooGreat}
+use Rattle.term_lists.specs.Vectors.{HasVariables, sum_of}
+use Rattle.term_lists.specs.declared.key.Key.{Key}
 use Rattle.row_matrix.proofs.PartProducts.{part_more}
 use Rattle.row_matrix.proofs.Telling.{told_more, tells_products}
 use Rattle.row_matrix.specs.Hashes.{IsNumbered, key_product, no_key}

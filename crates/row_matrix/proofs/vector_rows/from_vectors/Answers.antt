@@ -2,8 +2,8 @@ use Rattle.std.proofs.Common.{IfOk, length, subst}
 use Rattle.residues.specs.Residues.{IsDomain}
 use Rattle.formal_sums.specs.FormalSums.{Each}
 use Rattle.row_laws.specs.Rows.{HasSameSpan}
-use Rattle.module_vectors.specs.Rings.{variables}
-use Rattle.module_vectors.specs.Vectors.{sums_of}
+use Rattle.term_lists.specs.Rings.{variables}
+use Rattle.term_lists.specs.Vectors.{sums_of}
 use Rattle.row_matrix.proofs.MonicMatrices.{are_divided, are_from_sources, is_matrix, ok_more, one_span}
 use Rattle.row_matrix.specs.MonicRows.{AreDivided}
 use Rattle.row_matrix.specs.Placed.{IsPlacedMatrix}

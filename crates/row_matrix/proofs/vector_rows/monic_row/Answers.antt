@@ -5,10 +5,10 @@ use Rattle.formal_sums.proofs.Combining.{Each_map}
 use Rattle.formal_sums.specs.FormalSums.{Each, Key as KeyOf}
 use Rattle.monomial_orders.specs.Kept.{IsWeighed}
 use Rattle.monomial_orders.specs.Monomials.{IsMonomial}
-use Rattle.module_vectors.proofs.Scaling.{Each_at}
-use Rattle.module_vectors.specs.Rings.{variables}
-use Rattle.module_vectors.specs.Vectors.{HasVariables, IsTerm, IsVector}
-use Rattle.module_vectors.specs.declared.key.Key.{Key}
+use Rattle.term_lists.proofs.Scaling.{Each_at}
+use Rattle.term_lists.specs.Rings.{variables}
+use Rattle.term_lists.specs.Vectors.{HasVariables, IsTerm, IsVector}
+use Rattle.term_lists.specs.declared.key.Key.{Key}
 use Rattle.zp_field.specs.Moduli.{IsInverse}
 use Rattle.row_matrix.proofs.DividedRows.{named_row}
 use Rattle.row_matrix.specs.Rows.{AreKeys}

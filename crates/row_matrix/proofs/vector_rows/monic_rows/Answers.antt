@@ -2,7 +2,7 @@ use Rattle.std.proofs.Common.{[], ap, arith, get_or, length, subst, ◌+◌, ◌
 use Rattle.std.proofs.lemmas.List.{get_or_default}
 use Rattle.monomials.specs.Exponents.{unit}
 use Rattle.monomial_orders.specs.Monomials.{IsMonomial}
-use Rattle.module_vectors.specs.Rings.{variables}
+use Rattle.term_lists.specs.Rings.{variables}
 use Rattle.row_matrix.proofs.DividedRows.{AreFirstRows, rows_more, rows_same}
 use Rattle.row_matrix.proofs.vector_rows.monic_rows.Goals.{then-terms-gt0+in_ok-row+in_ok-push, else-terms-gt0}
 use Rattle.row_matrix.proofs.vector_rows.monic_rows.Goals as goal

@@ -1,6 +1,6 @@
 use Rattle.std.proofs.Common.{drop, map, ◌++◌, ◌≡◌}
 use Rattle.formal_sums.specs.FormalSums.{Each}
-use Rattle.module_vectors.specs.Rings.{variables}
+use Rattle.term_lists.specs.Rings.{variables}
 use Rattle.row_matrix.specs.MonicRows.{IsNamedRow, first_source, nonzero_from}
 use Rattle.row_matrix.specs.Rows.{AreKeys}
 use Rattle.row_matrix.proofs.vector_rows.monic_rows.Given as goal

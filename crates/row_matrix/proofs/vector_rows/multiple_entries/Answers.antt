@@ -1,9 +1,9 @@
 use Rattle.std.proofs.Common.{arith, length, subst, sym, take, ◌+◌, ◌≡◌}
 use Rattle.monomial_orders.specs.Kept.{IsWeighed}
-use Rattle.module_vectors.proofs.Scaling.{Each_at}
-use Rattle.module_vectors.specs.Multiples.{rescaled}
-use Rattle.module_vectors.specs.Vectors.{HasVariables, sum_of}
-use Rattle.module_vectors.specs.declared.key.Key.{Key}
+use Rattle.term_lists.proofs.Scaling.{Each_at}
+use Rattle.term_lists.specs.Multiples.{rescaled}
+use Rattle.term_lists.specs.Vectors.{HasVariables, sum_of}
+use Rattle.term_lists.specs.declared.key.Key.{Key}
 use Rattle.row_matrix.proofs.DividedRows.{multiple_step}
 use Rattle.row_matrix.proofs.KeyProducts.{key_product_weighed}
 use Rattle.row_matrix.proofs.Names.{grown_step, keys_step}

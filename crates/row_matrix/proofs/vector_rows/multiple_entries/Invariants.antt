@@ -2,8 +2,8 @@ use Rattle.std.proofs.Common.{List, length, take, ℕ, ◌≡◌, ◌≤◌}
 use Rattle.std.specs.Vec.{vec_capacity, vec_len}
 use Rattle.formal_sums.specs.FormalSums.{Each}
 use Rattle.monomial_orders.specs.Kept.{IsWeighed}
-use Rattle.module_vectors.specs.Multiples.{rescaled}
-use Rattle.module_vectors.specs.Vectors.{sum_of}
+use Rattle.term_lists.specs.Multiples.{rescaled}
+use Rattle.term_lists.specs.Vectors.{sum_of}
 use Rattle.row_matrix.specs.Naming.{AreNamed, IsGrown}
 use Rattle.row_matrix.specs.Rows.{AreKeys}
 use Rattle.row_matrix.proofs.vector_rows.multiple_entries.Given as goal

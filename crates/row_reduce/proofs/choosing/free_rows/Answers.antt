@@ -1,6 +1,6 @@
 use Rattle.std.proofs.Common.{ap, arith, get_or, length, ◌++◌, ◌<◌, ◌∙◌}
 use Rattle.std.proofs.lemmas.List.{length-replicate, length-set}
-use Rattle.module_vectors.proofs.SumsOfProducts.{Each_member}
+use Rattle.term_lists.proofs.Parts.{Each_member}
 use Rattle.row_reduce.proofs.HelpedRows.{dealt_last, dealt_none, dealt_other, dealt_whole}
 use Rattle.row_reduce.proofs.choosing.free_rows.Goals as goal
 use Rattle.row_reduce.proofs.choosing.free_rows.Goals.{then-is_some+in_ok-push, else-is_some+in_ok-push-2}

@@ -1,7 +1,7 @@
 use Rattle.std.proofs.Common.{[], ap, arith, get_or, length, subst, sym, ◌++◌, ◌<◌, ◌∙◌, ◌∷◌, ◌≡◌, ◌≤◌}
 use Rattle.std.proofs.lemmas.List.{take_all}
 use Rattle.std.specs.List.{range_with_len}
-use Rattle.module_vectors.proofs.SumsOfProducts.{Each_member}
+use Rattle.term_lists.proofs.Parts.{Each_member}
 use Rattle.row_matrix.specs.Rows.{RowShown, first_column}
 use Rattle.dense_reduction.proofs.Reducing.{first_column_read}
 use Rattle.dense_reduction.specs.Words.{row_leads_of}

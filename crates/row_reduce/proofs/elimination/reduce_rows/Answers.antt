@@ -1,7 +1,7 @@
 use Rattle.std.proofs.Common.{None, ap, length, replicate, reverse, subst, subst₂, sym, ◌∙◌, ◌≡◌}
 use Rattle.std.proofs.lemmas.List.{length-replicate}
 use Rattle.std.specs.List.{range_with_len}
-use Rattle.module_vectors.proofs.Gathers.{Each_permutation}
+use Rattle.term_lists.proofs.Gathers.{Each_permutation}
 use Rattle.pivot_table.specs.Law.{LeadsFit}
 use Rattle.row_matrix.specs.Rows.{IsRow}
 use Rattle.dense_reduction.specs.Words.{named}

@@ -1,6 +1,6 @@
 use Rattle.std.proofs.Common.{ap, arith, length, ◌<◌}
 use Rattle.std.proofs.lemmas.List.{length-map}
-use Rattle.module_vectors.proofs.SumsOfProducts.{Each_member}
+use Rattle.term_lists.proofs.Parts.{Each_member}
 use Rattle.row_matrix.specs.Rows.{RowShown, first_column}
 use Rattle.row_reduce.proofs.helping.claim_each.Goals as goal
 

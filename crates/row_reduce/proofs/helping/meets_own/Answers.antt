@@ -2,7 +2,7 @@ use Rattle.std.proofs.Common.{List, [], arith, get_or, length, subst, sym, take,
 use Rattle.std.proofs.lemmas.List.{get_or_default, take_all}
 use Rattle.formal_sums.proofs.WeightedSums.{Each_append}
 use Rattle.formal_sums.specs.FormalSums.{Each}
-use Rattle.module_vectors.proofs.SumsOfProducts.{Each_member}
+use Rattle.term_lists.proofs.Parts.{Each_member}
 use Rattle.row_matrix.specs.Rows.{Entry}
 use Rattle.dense_reduction.proofs.Claimed.{item_taken}
 use Rattle.row_reduce.proofs.helping.meets_own.Goals as goal

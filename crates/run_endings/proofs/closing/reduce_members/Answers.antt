@@ -1,7 +1,7 @@
 use Rattle.std.proofs.Common.{ap, subst, sym, ◌∙◌, ◌≡◌}
-use Rattle.module_vectors.specs.Rings.{ring_comparison}
-use Rattle.module_vectors.specs.Vectors.{AreVectorsOver, HasPositions}
-use Rattle.module_vectors.specs.declared.ring.Ring.{Ring}
+use Rattle.term_lists.specs.Rings.{ring_comparison}
+use Rattle.term_lists.specs.Vectors.{AreVectorsOver, HasPositions}
+use Rattle.term_lists.specs.declared.ring.Ring.{Ring}
 use Rattle.formal_sums.specs.FormalSums.{Each}
 use Rattle.member_products.specs.declared.shared.Shared.{Shared as CodeShared}
 use Rattle.basis_core.specs.Members.{Shared}

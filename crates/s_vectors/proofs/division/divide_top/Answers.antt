@@ -1,7 +1,7 @@
 use Rattle.std.proofs.Common.{[], subst, sym, ◌∙◌, ◌∷◌, ◌≡◌}
 use Rattle.formal_sums.specs.FormalSums.{Each}
 use Rattle.monomial_orders.specs.Kept.{IsWeighed}
-use Rattle.module_vectors.specs.Rings.{variables}
+use Rattle.term_lists.specs.Rings.{variables}
 use Rattle.basis_steps.specs.States.{vectors}
 use Rattle.basis_core.specs.Jobs.{pair_of}
 use Rattle.basis_core.specs.Members.{members_of, setting_of}

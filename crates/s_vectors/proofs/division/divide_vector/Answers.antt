@@ -1,8 +1,8 @@
 use Rattle.std.proofs.Common.{ap, arith, length, subst, sym, ◌<◌}
 use Rattle.formal_sums.proofs.Combining.{Each_map}
-use Rattle.module_vectors.specs.Rings.{ring_comparison, variables}
-use Rattle.module_vectors.specs.Vectors.{AreVectorsOver, IsVectorOver, key_of}
-use Rattle.module_vectors.specs.declared.ring.Ring.{Ring}
+use Rattle.term_lists.specs.Rings.{ring_comparison, variables}
+use Rattle.term_lists.specs.Vectors.{AreVectorsOver, IsVectorOver, key_of}
+use Rattle.term_lists.specs.declared.ring.Ring.{Ring}
 use Rattle.basis_core.proofs.Tracking.{vectors_over}
 use Rattle.basis_core.specs.Rows.{vectors_in}
 use Rattle.vector_division.specs.Divisions.{DivisionStops}

@@ -1,8 +1,8 @@
 use Rattle.std.proofs.Common.{[], refl, subst, sym, ◌-◌}
 use Rattle.formal_sums.specs.FormalSums.{Each}
-use Rattle.module_vectors.proofs.SumsOfProducts.{Each_member}
-use Rattle.module_vectors.specs.Rings.{ring_comparison, variables}
-use Rattle.module_vectors.specs.Vectors.{IsMonomialOver}
+use Rattle.term_lists.proofs.Parts.{Each_member}
+use Rattle.term_lists.specs.Rings.{ring_comparison, variables}
+use Rattle.term_lists.specs.Vectors.{IsMonomialOver}
 use Rattle.basis_core.specs.Rows.{vectors_in}
 use Rattle.vector_division.proofs.Looping.{are_weighed}
 use Rattle.s_vectors.proofs.TopParts.{factor_divides, factor_some, left_divides, left_within, minus_one, right_divides, right_within, top_part}

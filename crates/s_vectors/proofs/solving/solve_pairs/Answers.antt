@@ -3,7 +3,7 @@ use Rattle.formal_sums.proofs.WeightedSums.{Each_append}
 use Rattle.formal_sums.specs.FormalSums.{Each}
 use Rattle.basis_core.specs.Members.{IsRunRow, Shared, MemberShown}
 use Rattle.monomial_orders.specs.Kept.{IsWeighed}
-use Rattle.module_vectors.specs.Rings.{variables}
+use Rattle.term_lists.specs.Rings.{variables}
 use Rattle.s_vectors.proofs.Collecting.{solved_job, solved_step}
 use Rattle.s_vectors.proofs.JobTrails.{job_pair}
 use Rattle.s_vectors.specs.Divided.{AreOfPair}

@@ -1,5 +1,5 @@
 use Rattle.std.proofs.Common.{take}
-use Rattle.module_vectors.specs.Stops.{Fits}
+use Rattle.term_lists.specs.Stops.{Fits}
 use Rattle.s_vectors.proofs.sums.find_monomial.Given as goal
 
 abbrev pub invariant-loop-term : goal.invariant-loop-term

@@ -1,6 +1,6 @@
 use Rattle.std.proofs.Common.{take}
 use Rattle.formal_sums.specs.FormalSums.{Each}
-use Rattle.module_vectors.specs.Stops.{Fits}
+use Rattle.term_lists.specs.Stops.{Fits}
 use Rattle.s_vectors.proofs.sums.find_product.Given as goal
 
 abbrev pub invariant-loop-i : goal.invariant-loop-i

@@ -1,10 +1,10 @@
 use Rattle.std.proofs.Common.{IfOk, ap, subst, ◌∙◌}
 use Rattle.std.proofs.lemmas.Result.{IfErr-weaker}
 use Rattle.formal_sums.specs.FormalSums.{FormalSum, IsSame}
+use Rattle.term_lists.specs.Rings.{ring_comparison, variables}
+use Rattle.term_lists.specs.Vectors.{IsVectorOver, sum_of}
+use Rattle.term_lists.specs.declared.key.Key.{Key as CodeKey}
 use Rattle.module_vectors.specs.Products.{AreProducts, sum_of_products}
-use Rattle.module_vectors.specs.Rings.{ring_comparison, variables}
-use Rattle.module_vectors.specs.Vectors.{IsVectorOver, sum_of}
-use Rattle.module_vectors.specs.declared.key.Key.{Key as CodeKey}
 use Rattle.std.proofs.Common.{List, map, sym, ℕ}
 use Rattle.vector_division.specs.Reductions.{term_of}
 use Rattle.s_vectors.specs.Parts.{GreatStops, PartsStop}

@@ -1,5 +1,5 @@
 use Rattle.std.proofs.Common.{subst}
-use Rattle.module_vectors.specs.Stops.{ProductsStop}
+use Rattle.module_vectors.specs.ProductStops.{ProductsStop}
 use Rattle.s_vectors.proofs.Parts.{none_great}
 use Rattle.s_vectors.proofs.sums.sum_products.Goals as goal
 

@@ -2,8 +2,8 @@ use Rattle.std.proofs.Common.{map, subst, sym, ◌<◌, ◌∷◌, ◌≡◌}
 use Rattle.formal_sums.proofs.Combining.{Each_map}
 use Rattle.formal_sums.specs.FormalSums.{Each}
 use Rattle.bases.specs.Settings.{IsLawful}
-use Rattle.module_vectors.specs.Rings.{setting, variables}
-use Rattle.module_vectors.specs.Vectors.{AreTermsOver, IsVectorOver, StandsFor, sum_of}
+use Rattle.term_lists.specs.Rings.{setting, variables}
+use Rattle.term_lists.specs.Vectors.{AreTermsOver, IsVectorOver, StandsFor, sum_of}
 use Rattle.vector_division.specs.declared.reduction.ScaledProduct.{ScaledProduct}
 use Rattle.resolution_maps.specs.Inducing.{tower_comparison}
 use Rattle.schreyer_resolution.specs.Columns.{negated_term}

@@ -1,7 +1,7 @@
 use Rattle.std.proofs.Common.{[], ap, ap₂, append_assoc, map, subst, sym, ◌++◌, ◌<◌, ◌∙◌, ◌∷◌}
 use Rattle.formal_sums.specs.FormalSums.{Each}
 use Rattle.vector_division.specs.declared.reduction.ScaledProduct.{ScaledProduct}
-use Rattle.module_vectors.specs.declared.key.Key.{Key as CodeKey}
+use Rattle.term_lists.specs.declared.key.Key.{Key as CodeKey}
 use Rattle.schreyer_resolution.specs.Columns.{negated_term}
 use Rattle.schreyer_resolution.proofs.column.column_terms.Goals as goal
 

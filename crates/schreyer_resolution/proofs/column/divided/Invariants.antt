@@ -1,5 +1,5 @@
 use Rattle.std.proofs.Common.{[]}
-use Rattle.module_vectors.specs.Rings.{variables}
+use Rattle.term_lists.specs.Rings.{variables}
 use Rattle.vector_division.specs.Progress.{room_of}
 use Rattle.vector_division.specs.Runs.{IsNext, total, with_next}
 use Rattle.schreyer_resolution.specs.Columns.{IsColumnUnderway}

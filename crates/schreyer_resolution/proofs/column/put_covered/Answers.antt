@@ -1,7 +1,7 @@
 use Rattle.std.proofs.Common.{append-nil, subst, sym, ◌++◌, ◌∙◌}
 use Rattle.formal_sums.specs.FormalSums.{IsSame}
-use Rattle.module_vectors.specs.Rings.{variables}
-use Rattle.module_vectors.specs.Vectors.{IsVectorOver, sum_of}
+use Rattle.term_lists.specs.Rings.{variables}
+use Rattle.term_lists.specs.Vectors.{IsVectorOver, sum_of}
 use Rattle.vector_division.specs.Runs.{IsOver, total}
 use Rattle.schreyer_resolution.proofs.column.put_covered.Goals as goal
 

@@ -1,6 +1,6 @@
 use Rattle.std.proofs.Common.{ap, get_or, length, subst, sym, ◌<◌, ◌∙◌, ◌≡◌}
 use Rattle.std.proofs.lemmas.Result.{err_from_is_err_and}
-use Rattle.module_vectors.specs.Rings.{variables}
+use Rattle.term_lists.specs.Rings.{variables}
 use Rattle.vector_division.proofs.Cancelling.{lead_degree, subtraction_of_lead, tail_stops}
 use Rattle.schreyer_resolution.proofs.Dividing.{factor_of_one}
 use Rattle.schreyer_resolution.proofs.column.subtract_lead.Goals as goal

@@ -1,7 +1,7 @@
 use Rattle.std.proofs.Common.{[], ap, get_or, length, subst, sym, ◌<◌, ◌∷◌, ◌∙◌}
 use Rattle.std.proofs.lemmas.List.{get_or_default}
-use Rattle.module_vectors.specs.Rings.{variables}
-use Rattle.module_vectors.specs.Vectors.{IsVectorOver, key_of}
+use Rattle.term_lists.specs.Rings.{variables}
+use Rattle.term_lists.specs.Vectors.{IsVectorOver, key_of}
 use Rattle.vector_division.specs.Progress.{IsSubtraction}
 use Rattle.vector_division.specs.Runs.{total}
 use Rattle.schreyer_resolution.specs.Chains.{IsFailing}

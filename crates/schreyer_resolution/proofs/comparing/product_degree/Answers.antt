@@ -1,5 +1,5 @@
 use Rattle.std.proofs.Common.{ap₂, sym, ◌+◌, ◌∙◌}
-use Rattle.module_vectors.specs.Rings.{variables}
+use Rattle.term_lists.specs.Rings.{variables}
 use Rattle.schreyer_resolution.proofs.Summing.{summed_degree}
 use Rattle.schreyer_resolution.proofs.comparing.product_degree.Goals as goal
 

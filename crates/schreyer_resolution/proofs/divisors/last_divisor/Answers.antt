@@ -1,8 +1,8 @@
 use Rattle.std.proofs.Common.{[], arith, length, subst, sym, ◌-◌, ◌<◌, ◌∙◌}
 use Rattle.std.proofs.lemmas.List.{get_or_default}
 use Rattle.formal_sums.specs.FormalSums.{Each}
-use Rattle.module_vectors.specs.Rings.{variables}
-use Rattle.module_vectors.specs.Vectors.{IsMonomialOver, key_of}
+use Rattle.term_lists.specs.Rings.{variables}
+use Rattle.term_lists.specs.Vectors.{IsMonomialOver, key_of}
 use Rattle.vector_division.specs.Marks.{IsMarkOf}
 use Rattle.schreyer_resolution.proofs.Finding.{behind_span, none_in_span, none_spanned}
 use Rattle.schreyer_resolution.proofs.LeastLeads.{each_at}

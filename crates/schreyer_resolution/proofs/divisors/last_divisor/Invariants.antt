@@ -1,6 +1,6 @@
 use Rattle.std.proofs.Common.{length, ◌≤◌}
-use Rattle.module_vectors.specs.Rings.{variables}
-use Rattle.module_vectors.specs.Vectors.{key_of}
+use Rattle.term_lists.specs.Rings.{variables}
+use Rattle.term_lists.specs.Vectors.{key_of}
 use Rattle.schreyer_resolution.specs.Columns.{AreTriedFrom}
 use Rattle.schreyer_resolution.proofs.divisors.last_divisor.Given as goal
 

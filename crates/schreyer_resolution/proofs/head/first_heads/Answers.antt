@@ -1,5 +1,5 @@
 use Rattle.std.proofs.Common.{[], ap, arith, get_or, length, ◌+◌, ◌∙◌, ◌∷◌}
-use Rattle.module_vectors.specs.Rings.{variables}
+use Rattle.term_lists.specs.Rings.{variables}
 use Rattle.schreyer_resolution.specs.Heads.{IsHead}
 use Rattle.schreyer_resolution.proofs.Heading.{lead_of_column, lead_past}
 use Rattle.schreyer_resolution.proofs.Pushing.{length-pushed, pushed_items}

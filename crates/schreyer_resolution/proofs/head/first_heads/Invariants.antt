@@ -1,5 +1,5 @@
 use Rattle.std.proofs.Common.{[], get_or, length, ℕ, ◌<◌, ◌∷◌, ◌≡◌}
-use Rattle.module_vectors.specs.Rings.{variables}
+use Rattle.term_lists.specs.Rings.{variables}
 use Rattle.schreyer_resolution.specs.Heads.{IsHead}
 use Rattle.schreyer_resolution.specs.declared.head.Head.{Head}
 use Rattle.schreyer_resolution.proofs.head.first_heads.Given as goal

@@ -1,7 +1,7 @@
 use Rattle.std.proofs.Common.{[], ap, arith, get_or, refl, subst, sym, ◌++◌, ◌∙◌, ◌∷◌}
 use Rattle.std.proofs.lemmas.List.{get_or_default, take_all}
-use Rattle.module_vectors.proofs.Scaling.{take_item}
-use Rattle.module_vectors.specs.Rings.{variables}
+use Rattle.term_lists.proofs.Scaling.{take_item}
+use Rattle.term_lists.specs.Rings.{variables}
 use Rattle.schreyer_resolution.specs.Heads.{AreExponentSums}
 use Rattle.schreyer_resolution.proofs.Heading.{next_is}
 use Rattle.schreyer_resolution.proofs.head.next_head.Goals as goal

@@ -1,5 +1,5 @@
 use Rattle.std.proofs.Common.{[], get_or, length, ℕ, ◌++◌, ◌<◌, ◌∷◌, ◌≡◌}
-use Rattle.module_vectors.specs.Rings.{variables}
+use Rattle.term_lists.specs.Rings.{variables}
 use Rattle.resolution_maps.specs.Inducing.{Columns}
 use Rattle.schreyer_resolution.specs.Heads.{AreHeads, IsHead}
 use Rattle.schreyer_resolution.specs.declared.head.Head.{Head}

@@ -1,5 +1,5 @@
 use Rattle.formal_sums.specs.FormalSums.{Each}
-use Rattle.module_vectors.specs.Rings.{variables}
+use Rattle.term_lists.specs.Rings.{variables}
 use Rattle.row_matrix.specs.Rows.{AreKeys}
 use Rattle.schreyer_resolution.specs.Sharing.{IsLastProduct}
 use Rattle.schreyer_resolution.proofs.numbered.all_products.Given as goal

@@ -1,4 +1,4 @@
-use Rattle.module_vectors.specs.Rings.{variables}
+use Rattle.term_lists.specs.Rings.{variables}
 use Rattle.row_matrix.specs.Rows.{AreKeys}
 use Rattle.schreyer_resolution.proofs.numbered.number_products.Given as goal
 

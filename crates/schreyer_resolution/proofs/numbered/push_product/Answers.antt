@@ -1,8 +1,8 @@
 use Rattle.std.proofs.Common.{Some, [], subst, sym, ◌∷◌}
 use Rattle.formal_sums.proofs.WeightedSums.{Each_append}
 use Rattle.formal_sums.specs.FormalSums.{Each}
-use Rattle.module_vectors.specs.Rings.{variables}
-use Rattle.module_vectors.specs.Vectors.{key_of}
+use Rattle.term_lists.specs.Rings.{variables}
+use Rattle.term_lists.specs.Vectors.{key_of}
 use Rattle.schreyer_resolution.proofs.Rows.{last_found, products_more}
 use Rattle.schreyer_resolution.specs.Columns.{IsFoundLast}
 use Rattle.schreyer_resolution.specs.Sharing.{IsLastProduct}

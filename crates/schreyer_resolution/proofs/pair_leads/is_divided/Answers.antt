@@ -1,8 +1,8 @@
 use Rattle.std.proofs.Common.{arith, length, refl, subst, sym, true, false, ◌<◌, ◌∙◌, ◌≡◌}
 use Rattle.monomials.specs.Exponents.{Divides, exponents_of}
-use Rattle.module_vectors.proofs.Scaling.{Each_more}
-use Rattle.module_vectors.specs.Rings.{variables}
-use Rattle.module_vectors.specs.Vectors.{IsMonomialOver}
+use Rattle.term_lists.proofs.Scaling.{Each_more}
+use Rattle.term_lists.specs.Rings.{variables}
+use Rattle.term_lists.specs.Vectors.{IsMonomialOver}
 use Rattle.schreyer_resolution.proofs.LeastLeads.{each_at}
 use Rattle.schreyer_resolution.proofs.pair_leads.is_divided.Goals as goal
 

@@ -1,7 +1,7 @@
 use Rattle.std.proofs.Common.{take}
 use Rattle.monomials.specs.Exponents.{Divides, exponents_of}
 use Rattle.formal_sums.specs.FormalSums.{Each}
-use Rattle.module_vectors.specs.Rings.{variables}
+use Rattle.term_lists.specs.Rings.{variables}
 use Rattle.schreyer_resolution.proofs.pair_leads.is_divided.Given as goal
 
 abbrev pub invariant-loop-k : goal.invariant-loop-k

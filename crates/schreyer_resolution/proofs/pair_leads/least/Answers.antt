@@ -4,8 +4,8 @@ use Rattle.std.specs.Cmp.Lexicographic.{slice_cmp}
 use Rattle.std.specs.List.Sorted.{IsPermutation, IsSortedBy}
 use Rattle.std.specs.Ordering.{is_lt, nat_cmp}
 use Rattle.monomial_orders.specs.Kept.{IsWeighed, Monomial}
-use Rattle.module_vectors.proofs.Gathers.{Each_permutation}
-use Rattle.module_vectors.specs.Rings.{variables}
+use Rattle.term_lists.proofs.Gathers.{Each_permutation}
+use Rattle.term_lists.specs.Rings.{variables}
 use Rattle.schreyer_resolution.specs.Pairs.{AreLeastSoFar}
 use Rattle.schreyer_resolution.proofs.LeastLeads.{least_start}
 use Rattle.schreyer_resolution.proofs.PairSteps.{kept_weighed, least_all, least_next, slices_weak, sorted_rise, weighed_of}

@@ -1,5 +1,5 @@
 use Rattle.std.proofs.Common.{drop, take}
-use Rattle.module_vectors.specs.Rings.{variables}
+use Rattle.term_lists.specs.Rings.{variables}
 use Rattle.schreyer_resolution.specs.Pairs.{AreLeastSoFar}
 use Rattle.schreyer_resolution.proofs.pair_leads.least.Given as goal
 

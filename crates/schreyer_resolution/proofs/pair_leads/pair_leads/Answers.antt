@@ -1,6 +1,6 @@
 use Rattle.std.proofs.Common.{[], arith, length, subst, subst₂, sym, ◌+◌, ◌≡◌}
 use Rattle.formal_sums.proofs.Combining.{Each_map}
-use Rattle.module_vectors.specs.Rings.{setting, variables}
+use Rattle.term_lists.specs.Rings.{setting, variables}
 use Rattle.vector_division.proofs.Looping.{are_weighed}
 use Rattle.vector_division.specs.Progress.{AreWeighed}
 use Rattle.schreyer_resolution.specs.Pairs.{AreLeastSoFar, ArePairLeadsTo, ArePairMonomials, AreNonzero}

@@ -1,6 +1,6 @@
 use Rattle.std.proofs.Common.{length, subst}
 use Rattle.monomial_orders.specs.Monomials.{IsQuotient}
-use Rattle.module_vectors.specs.Rings.{variables}
+use Rattle.term_lists.specs.Rings.{variables}
 use Rattle.schreyer_resolution.proofs.PairSteps.{pair_divides, pair_quotient}
 use Rattle.schreyer_resolution.proofs.pair_leads.pair_monomial.Goals as goal
 

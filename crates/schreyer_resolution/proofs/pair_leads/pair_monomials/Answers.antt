@@ -1,5 +1,5 @@
 use Rattle.std.proofs.Common.{ap, arith}
-use Rattle.module_vectors.specs.Rings.{variables}
+use Rattle.term_lists.specs.Rings.{variables}
 use Rattle.schreyer_resolution.proofs.PairSteps.{before_end, monomials_end, monomials_next}
 use Rattle.schreyer_resolution.proofs.pair_leads.pair_monomials.Goals as goal
 

@@ -1,4 +1,4 @@
-use Rattle.module_vectors.specs.Rings.{variables}
+use Rattle.term_lists.specs.Rings.{variables}
 use Rattle.schreyer_resolution.specs.Pairs.{ArePairMonomials}
 use Rattle.schreyer_resolution.proofs.pair_leads.pair_monomials.Given as goal
 

@@ -1,6 +1,6 @@
 use Rattle.std.proofs.Common.{arith, length, subst, subst₂, sym, ◌+◌, ◌≡◌}
-use Rattle.module_vectors.specs.Rings.{variables}
-use Rattle.module_vectors.specs.Vectors.{IsMonomialOver, sums_of}
+use Rattle.term_lists.specs.Rings.{variables}
+use Rattle.term_lists.specs.Vectors.{IsMonomialOver, sums_of}
 use Rattle.schreyer_resolution.specs.Columns.{AreColumnsTo}
 use Rattle.schreyer_resolution.proofs.LeastLeads.{each_at}
 use Rattle.schreyer_resolution.proofs.FirstMaps.{columns_next, pair_at}

@@ -1,8 +1,8 @@
 use Rattle.std.specs.Prelude.{IfErr}
 use Rattle.std.proofs.Common.{[], length, map, subst, sym, ◌++◌, ◌∙◌, ◌∷◌, ◌≡◌}
 use Rattle.formal_sums.specs.FormalSums.{Each}
-use Rattle.module_vectors.specs.Rings.{variables}
-use Rattle.module_vectors.specs.Vectors.{IsMonomialOver, key_of, sums_of}
+use Rattle.term_lists.specs.Rings.{variables}
+use Rattle.term_lists.specs.Vectors.{IsMonomialOver, key_of, sums_of}
 use Rattle.resolution_maps.specs.Inducing.{tower_comparison}
 use Rattle.resolution_maps.proofs.Joining.{if_more}
 use Rattle.schreyer_resolution.specs.Columns.{AreColumnsTo, ColumnStops}

@@ -1,8 +1,8 @@
 use Rattle.std.proofs.Common.{arith, ◌+◌}
 use Rattle.resolution_laws.proofs.Starts.{start_fewer}
 use Rattle.resolution_laws.specs.Resolutions.{IsCanonical, IsCanonicalStart}
-use Rattle.module_vectors.specs.Rings.{ring_comparison, setting, variables}
-use Rattle.module_vectors.specs.Vectors.{sums_of}
+use Rattle.term_lists.specs.Rings.{ring_comparison, setting, variables}
+use Rattle.term_lists.specs.Vectors.{sums_of}
 use Rattle.resolution_maps.specs.Inducing.{maps_of}
 use Rattle.resolution_maps.specs.Resolved.{columns_of}
 use Rattle.resolution_maps.proofs.Joining.{if_more}

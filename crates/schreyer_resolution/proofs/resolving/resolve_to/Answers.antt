@@ -2,8 +2,8 @@ use Rattle.std.proofs.Common.{[], ap, length, subst, sym, ◌∙◌, ◌≤◌}
 use Rattle.std.proofs.lemmas.List.{length-map}
 use Rattle.resolution_laws.proofs.Bound.{start_length}
 use Rattle.resolution_laws.specs.Resolutions.{IsCanonicalStart}
-use Rattle.module_vectors.specs.Rings.{ring_comparison, setting, variables}
-use Rattle.module_vectors.specs.Vectors.{sums_of}
+use Rattle.term_lists.specs.Rings.{ring_comparison, setting, variables}
+use Rattle.term_lists.specs.Vectors.{sums_of}
 use Rattle.resolution_maps.specs.Inducing.{maps_of}
 use Rattle.resolution_maps.specs.Resolved.{AreJoined, AreVectorsThrough, HavePositions}
 use Rattle.resolution_maps.proofs.Joining.{length-zeros, weighed_through}

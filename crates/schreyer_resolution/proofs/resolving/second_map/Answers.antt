@@ -1,7 +1,7 @@
 use Rattle.std.proofs.Common.{[], arith, length, map, refl, subst, sym, ◌<◌, ◌∙◌, ◌∷◌}
 use Rattle.formal_sums.specs.FormalSums.{Each}
-use Rattle.module_vectors.specs.Rings.{ring_comparison, variables}
-use Rattle.module_vectors.specs.Vectors.{IsMonomialOver, key_of, sums_of}
+use Rattle.term_lists.specs.Rings.{ring_comparison, variables}
+use Rattle.term_lists.specs.Vectors.{IsMonomialOver, key_of, sums_of}
 use Rattle.resolution_maps.specs.Inducing.{over}
 use Rattle.resolution_maps.proofs.Joining.{if_more}
 use Rattle.schreyer_resolution.specs.Columns.{AreColumnsTo}

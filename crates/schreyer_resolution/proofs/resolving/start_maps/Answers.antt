@@ -1,7 +1,7 @@
 use Rattle.std.proofs.Common.{[], arith, refl, subst, subst₂, sym}
 use Rattle.resolution_laws.specs.Resolutions.{IsCanonicalStart}
-use Rattle.module_vectors.specs.Rings.{ring_comparison, setting, variables}
-use Rattle.module_vectors.specs.Vectors.{sums_of}
+use Rattle.term_lists.specs.Rings.{ring_comparison, setting, variables}
+use Rattle.term_lists.specs.Vectors.{sums_of}
 use Rattle.resolution_maps.specs.Inducing.{maps_of}
 use Rattle.resolution_maps.specs.Resolved.{AreVectorsThrough, HavePositions}
 use Rattle.schreyer_resolution.proofs.FirstMaps.{none_at_all, some_at_all}

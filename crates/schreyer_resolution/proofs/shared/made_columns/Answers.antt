@@ -1,5 +1,5 @@
 use Rattle.std.proofs.Common.{subst, sym}
-use Rattle.module_vectors.specs.Rings.{variables}
+use Rattle.term_lists.specs.Rings.{variables}
 use Rattle.row_matrix.specs.Rows.{AreKeys}
 use Rattle.schreyer_resolution.proofs.shared.made_columns.Goals as goal
 

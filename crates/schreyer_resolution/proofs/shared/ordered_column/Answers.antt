@@ -2,8 +2,8 @@ use Rattle.std.proofs.Common.{subst, sym}
 use Rattle.formal_sums.proofs.Combining.{Each_map}
 use Rattle.formal_sums.specs.FormalSums.{Each}
 use Rattle.orders.specs.KeyOrders.{Descends}
-use Rattle.module_vectors.specs.Rings.{variables}
-use Rattle.module_vectors.specs.Vectors.{IsMonomialOver, sum_of}
+use Rattle.term_lists.specs.Rings.{variables}
+use Rattle.term_lists.specs.Vectors.{IsMonomialOver, sum_of}
 use Rattle.resolution_maps.specs.Inducing.{tower_comparison}
 use Rattle.schreyer_resolution.proofs.shared.ordered_column.Goals as goal
 

@@ -2,8 +2,8 @@ use Rattle.std.proofs.Common.{subst, sym}
 use Rattle.std.specs.Prelude.{IfSome}
 use Rattle.formal_sums.proofs.Combining.{Each_map}
 use Rattle.formal_sums.specs.FormalSums.{Each}
-use Rattle.module_vectors.specs.Rings.{variables}
-use Rattle.module_vectors.specs.Vectors.{IsTerm}
+use Rattle.term_lists.specs.Rings.{variables}
+use Rattle.term_lists.specs.Vectors.{IsTerm}
 use Rattle.schreyer_resolution.proofs.SharedColumns.{column_terms_over, if_some, made_of}
 use Rattle.schreyer_resolution.specs.Sharing.{AreLastQuotients, AreZeroSums}
 use Rattle.schreyer_resolution.proofs.shared.shared_column.Goals as goal

@@ -1,8 +1,8 @@
 use Rattle.std.proofs.Common.{arith, length, subst, subst₂, sym, ◌<◌, ◌≤◌, ◌∙◌}
 use Rattle.std.specs.Prelude.{IfSome}
 use Rattle.formal_sums.specs.FormalSums.{Each}
-use Rattle.module_vectors.specs.Rings.{setting, variables}
-use Rattle.module_vectors.specs.Vectors.{IsMonomialOver}
+use Rattle.term_lists.specs.Rings.{setting, variables}
+use Rattle.term_lists.specs.Vectors.{IsMonomialOver}
 use Rattle.vector_division.proofs.Looping.{are_weighed}
 use Rattle.vector_division.specs.Progress.{AreWeighed}
 use Rattle.schreyer_resolution.proofs.PairSteps.{base_leads}

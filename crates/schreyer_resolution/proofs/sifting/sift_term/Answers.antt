@@ -1,6 +1,6 @@
 use Rattle.std.proofs.Common.{inr, subst}
-use Rattle.module_vectors.specs.Rings.{variables}
-use Rattle.module_vectors.specs.Vectors.{key_of}
+use Rattle.term_lists.specs.Rings.{variables}
+use Rattle.term_lists.specs.Vectors.{key_of}
 use Rattle.schreyer_resolution.specs.Columns.{IsFoundLast}
 use Rattle.schreyer_resolution.proofs.Finding.{not_uncovered}
 use Rattle.schreyer_resolution.proofs.sifting.sift_term.Goals as goal

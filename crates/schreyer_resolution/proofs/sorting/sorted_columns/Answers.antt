@@ -1,9 +1,9 @@
 use Rattle.std.proofs.Common.{[], rules, subst, sym}
 use Rattle.resolution_laws.specs.Resolutions.{IsCanonicalMap}
-use Rattle.module_vectors.specs.Rings.{ring_comparison, setting, variables}
+use Rattle.term_lists.specs.Rings.{ring_comparison, setting, variables}
 use Rattle.formal_sums.specs.FormalSums.{Each}
-use Rattle.module_vectors.proofs.Gathers.{Each_permutation}
-use Rattle.module_vectors.specs.Vectors.{HasPositions, sums_of}
+use Rattle.term_lists.proofs.Gathers.{Each_permutation}
+use Rattle.term_lists.specs.Vectors.{HasPositions, sums_of}
 use Rattle.schreyer_resolution.specs.Progress.{IsTopMap}
 use Rattle.std.proofs.lemmas.Fn.{always_returns_same}
 use Rattle.std.specs.List.Sorted.{IsPermutation}

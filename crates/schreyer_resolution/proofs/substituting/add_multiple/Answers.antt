@@ -1,7 +1,7 @@
 use Rattle.std.proofs.Common.{arith, get_or, length, subst, ◌*◌, ◌+◌, ◌<◌, ◌^◌, ◌∙◌, ◌≡◌}
 use Rattle.std.proofs.lemmas.List.{get_or_default}
 use Rattle.residues.specs.Residues.{IsCongruent}
-use Rattle.module_vectors.proofs.Scaling.{Each_at}
+use Rattle.term_lists.proofs.Scaling.{Each_at}
 use Rattle.row_matrix.specs.Rows.{Entry}
 use Rattle.schreyer_resolution.proofs.NumberedSums.{Each_set, adds_step, touched_more}
 use Rattle.schreyer_resolution.proofs.substituting.add_multiple.Goals as goal

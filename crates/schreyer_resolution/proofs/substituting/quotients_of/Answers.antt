@@ -1,5 +1,5 @@
 use Rattle.std.proofs.Common.{refl}
-use Rattle.module_vectors.specs.Rings.{variables}
+use Rattle.term_lists.specs.Rings.{variables}
 use Rattle.row_matrix.specs.Rows.{column_key}
 use Rattle.schreyer_resolution.proofs.Substitution.{taken_all, taken_start}
 use Rattle.schreyer_resolution.proofs.substituting.quotients_of.Goals as goal

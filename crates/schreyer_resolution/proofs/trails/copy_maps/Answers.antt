@@ -1,5 +1,5 @@
 use Rattle.std.proofs.Common.{[], ap₂, sym, ◌++◌, ◌∙◌, ◌∷◌}
-use Rattle.module_vectors.proofs.Scaling.{take_item}
+use Rattle.term_lists.proofs.Scaling.{take_item}
 use Rattle.schreyer_resolution.proofs.trails.copy_maps.Goals as goal
 
 pub loop-columns-init : goal.loop-columns-init

@@ -1,5 +1,5 @@
 use Rattle.std.proofs.Common.{[]}
-use Rattle.module_vectors.specs.Rings.{variables}
+use Rattle.term_lists.specs.Rings.{variables}
 use Rattle.schreyer_resolution.proofs.Trailing.{first_chain, key_inside}
 use Rattle.schreyer_resolution.proofs.trails.first_trail.Goals as goal
 

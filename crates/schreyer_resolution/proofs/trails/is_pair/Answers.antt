@@ -1,5 +1,5 @@
 use Rattle.std.proofs.Common.{arith}
-use Rattle.module_vectors.specs.Rings.{variables}
+use Rattle.term_lists.specs.Rings.{variables}
 use Rattle.schreyer_resolution.proofs.Pairing.{whether_pair}
 use Rattle.schreyer_resolution.proofs.trails.is_pair.Goals as goal
 

@@ -1,6 +1,6 @@
 use Rattle.std.proofs.Common.{refl, subst, subst₂, sym, ◌∙◌}
-use Rattle.module_vectors.specs.Rings.{setting, variables}
-use Rattle.module_vectors.specs.Vectors.{IsMonomialOver, key_of, sums_of}
+use Rattle.term_lists.specs.Rings.{setting, variables}
+use Rattle.term_lists.specs.Vectors.{IsMonomialOver, key_of, sums_of}
 use Rattle.vector_division.proofs.Looping.{are_weighed}
 use Rattle.vector_division.specs.Progress.{AreWeighed}
 use Rattle.schreyer_resolution.specs.Columns.{IsPartner}

@@ -1,5 +1,5 @@
 use Rattle.std.proofs.Common.{[], map, ◌++◌, ◌∷◌}
-use Rattle.module_vectors.specs.Rings.{variables}
+use Rattle.term_lists.specs.Rings.{variables}
 use Rattle.vector_division.specs.Reductions.{unscaled}
 use Rattle.schreyer_resolution.proofs.Trailing.{key_inside, later_chain}
 use Rattle.schreyer_resolution.proofs.trails.later_trail.Goals as goal

@@ -1,5 +1,5 @@
 use Rattle.std.proofs.Common.{arith, false, sym, true, ◌∙◌, ◌≡◌}
-use Rattle.module_vectors.specs.Rings.{variables}
+use Rattle.term_lists.specs.Rings.{variables}
 use Rattle.schreyer_resolution.proofs.Trailing.{key_inside, none_more, partner_no, partner_of_pair, partner_yes}
 use Rattle.schreyer_resolution.proofs.trails.partner.Goals as goal
 

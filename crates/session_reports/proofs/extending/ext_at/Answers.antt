@@ -1,8 +1,8 @@
 use Rattle.std.proofs.Common.{[], ap, length, map, subst, sym, ◌*◌, ◌∙◌}
 use Rattle.bases.specs.Bases.{IsReducedBasis}
 use Rattle.ext_modules.specs.Ext.{AreLinked}
-use Rattle.module_vectors.specs.Rings.{ring_comparison, setting, variables}
-use Rattle.module_vectors.specs.Vectors.{sums_of}
+use Rattle.term_lists.specs.Rings.{ring_comparison, setting, variables}
+use Rattle.term_lists.specs.Vectors.{sums_of}
 use Rattle.resolution_maps.proofs.Joining.{length-zeros}
 use Rattle.resolution_maps.specs.Resolved.{columns_of}
 use Rattle.resolution_maps.specs.declared.maps.Map.{Map}

@@ -1,7 +1,7 @@
 use Rattle.std.proofs.Common.{replicate, subst, sym}
 use Rattle.bases.specs.Bases.{IsReducedBasis}
-use Rattle.module_vectors.specs.Rings.{ring_comparison, setting, variables}
-use Rattle.module_vectors.specs.Vectors.{sums_of}
+use Rattle.term_lists.specs.Rings.{ring_comparison, setting, variables}
+use Rattle.term_lists.specs.Vectors.{sums_of}
 use Rattle.session_reports.proofs.MinimalMaps.{cancellation_stops, cancelled_as, graded_resolution, presents_basis}
 use Rattle.session_reports.proofs.Reporting.{own_basis}
 use Rattle.session_reports.proofs.minimising.minimal_of.Goals as goal

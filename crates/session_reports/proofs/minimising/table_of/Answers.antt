@@ -1,7 +1,7 @@
 use Rattle.std.proofs.Common.{subst, sym}
 use Rattle.bases.specs.Bases.{IsReducedBasis}
-use Rattle.module_vectors.specs.Rings.{ring_comparison, setting, variables}
-use Rattle.module_vectors.specs.Vectors.{sums_of}
+use Rattle.term_lists.specs.Rings.{ring_comparison, setting, variables}
+use Rattle.term_lists.specs.Vectors.{sums_of}
 use Rattle.session_reports.proofs.MinimalMaps.{graded_resolution, table_of_basis}
 use Rattle.session_reports.proofs.Reporting.{own_basis}
 use Rattle.session_reports.proofs.minimising.table_of.Goals as goal

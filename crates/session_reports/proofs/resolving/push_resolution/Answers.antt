@@ -1,8 +1,8 @@
 use Rattle.std.proofs.Common.{[], rules, subst, sym}
 use Rattle.std.specs.Prelude.{codes, string_bytes}
 use Rattle.bases.specs.Bases.{IsReducedBasis}
-use Rattle.module_vectors.specs.Rings.{ring_comparison, setting, variables}
-use Rattle.module_vectors.specs.Vectors.{sums_of}
+use Rattle.term_lists.specs.Rings.{ring_comparison, setting, variables}
+use Rattle.term_lists.specs.Vectors.{sums_of}
 use Rattle.session_reports.proofs.Reporting.{own_basis, resolution_shown, through_variables}
 use Rattle.session_values.specs.Writing.{resolution_written}
 use Rattle.session_reports.proofs.resolving.push_resolution.Goals as goal

@@ -1,4 +1,4 @@
-use Rattle.module_vectors.specs.Rings.{variables}
+use Rattle.term_lists.specs.Rings.{variables}
 use Rattle.session_values.proofs.Dividing.{member_by_normal_form, normal_form_by_division}
 use Rattle.vector_division.specs.Reductions.{cofactors_of}
 use Rattle.session_values.proofs.kept_bases.normal_form.Goals as goal

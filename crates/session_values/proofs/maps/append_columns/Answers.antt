@@ -1,8 +1,8 @@
 use Rattle.std.proofs.Common.{[], get_or, length, subst, ◌++◌, ◌<◌, ◌∙◌, ◌∷◌, ◌≡◌}
 use Rattle.formal_sums.specs.FormalSums.{Each}
-use Rattle.module_vectors.proofs.Scaling.{Each_at}
-use Rattle.module_vectors.specs.Rings.{variables}
-use Rattle.module_vectors.specs.Vectors.{HasVariables}
+use Rattle.term_lists.proofs.Scaling.{Each_at}
+use Rattle.term_lists.specs.Rings.{variables}
+use Rattle.term_lists.specs.Vectors.{HasVariables}
 use Rattle.poly_text.specs.Texts.{entries_text, names_of}
 use Rattle.session_values.proofs.Appending.{lines_step}
 use Rattle.session_values.proofs.maps.append_columns.Goals as goal

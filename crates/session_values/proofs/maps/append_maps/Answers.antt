@@ -1,4 +1,4 @@
-use Rattle.module_vectors.proofs.Scaling.{Each_at}
+use Rattle.term_lists.proofs.Scaling.{Each_at}
 use Rattle.session_values.proofs.Appending.{maps_done, maps_step}
 use Rattle.session_values.specs.Writing.{AreOverVariables}
 use Rattle.poly_text.proofs.Writing.{begins_more}

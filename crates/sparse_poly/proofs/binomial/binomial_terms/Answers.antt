@@ -1,7 +1,7 @@
 use Rattle.std.proofs.Common.{[], ap, arith, subst, sym, ℕ, ◌%◌, ◌<◌, ◌∙◌, ◌∷◌, ◌≡◌, ◌≤◌, mod-eq_of_lt, mod-lt}
 use Rattle.formal_sums.proofs.WeightedSums.{Each_append}
-use Rattle.module_vectors.specs.Rings.{variables}
-use Rattle.module_vectors.specs.Vectors.{AreTermsOver, IsMonomialOver, sum_of}
+use Rattle.term_lists.specs.Rings.{variables}
+use Rattle.term_lists.specs.Vectors.{AreTermsOver, IsMonomialOver, sum_of}
 use Rattle.sparse_poly.proofs.Choosing.{choose-none}
 use Rattle.sparse_poly.proofs.Expanding.{expanding_begins, expanding_ends}
 use Rattle.sparse_poly.proofs.MixedTerms.{binomial_step, mixed_room, single_polynomial}

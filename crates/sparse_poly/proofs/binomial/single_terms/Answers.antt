@@ -1,6 +1,6 @@
 use Rattle.std.proofs.Common.{[], arith, ap, mod-eq_of_lt, subst, sym, ◌%◌, ◌*◌, ◌∷◌, ◌≡◌, ◌≤◌, ◌∙◌}
-use Rattle.module_vectors.specs.Rings.{variables}
-use Rattle.module_vectors.specs.Vectors.{AreTermsOver, StandsFor, sum_of}
+use Rattle.term_lists.specs.Rings.{variables}
+use Rattle.term_lists.specs.Vectors.{AreTermsOver, StandsFor, sum_of}
 use Rattle.sparse_poly.proofs.MixedTerms.{single_same}
 use Rattle.sparse_poly.specs.Powers.{power}
 use Rattle.sparse_poly.proofs.binomial.single_terms.Goals as goal

@@ -4,9 +4,9 @@ use Rattle.formal_sums.specs.FormalSums.{IsSame}
 use Rattle.monomials.specs.Exponents.{unit}
 use Rattle.monomial_orders.specs.Kept.{IsWeighed}
 use Rattle.monomial_orders.specs.Monomials.{IsMonomial}
-use Rattle.module_vectors.specs.Rings.{variables}
-use Rattle.module_vectors.specs.Vectors.{AreTermsOver, sum_of}
-use Rattle.module_vectors.specs.declared.key.Key.{Key as CodeKey}
+use Rattle.term_lists.specs.Rings.{variables}
+use Rattle.term_lists.specs.Vectors.{AreTermsOver, sum_of}
+use Rattle.term_lists.specs.declared.key.Key.{Key as CodeKey}
 use Rattle.sparse_poly.proofs.Bounding.{HasDegreeWithin_constant, HasDegreeWithin_same}
 use Rattle.sparse_poly.proofs.PowerSteps.{constant_residue}
 use Rattle.sparse_poly.proofs.Terms.{HasPositions_of, IsWithinDegree_of}

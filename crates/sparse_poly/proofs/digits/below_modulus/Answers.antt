@@ -1,4 +1,4 @@
-use Rattle.module_vectors.specs.Rings.{variables}
+use Rattle.term_lists.specs.Rings.{variables}
 use Rattle.zp_field.proofs.TableFields.{is_modulus-domain}
 use Rattle.sparse_poly.proofs.DigitPowers.{power_over_result}
 use Rattle.sparse_poly.proofs.digits.below_modulus.Goals as goal

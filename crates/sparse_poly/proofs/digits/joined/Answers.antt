@@ -1,5 +1,5 @@
 use Rattle.std.proofs.Common.{arith, refl, ℕ, ◌*◌, ◌+◌, ◌≡◌, ◌≤◌}
-use Rattle.module_vectors.specs.Rings.{variables}
+use Rattle.term_lists.specs.Rings.{variables}
 use Rattle.zp_field.proofs.TableFields.{is_modulus-domain}
 use Rattle.sparse_poly.proofs.DigitPowers.{joined_result, lifted_over, lifted_room, power_degree}
 use Rattle.sparse_poly.proofs.digits.joined.Goals as goal

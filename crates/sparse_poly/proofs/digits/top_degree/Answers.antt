@@ -1,6 +1,6 @@
 use Rattle.std.proofs.Common.{arith, length, subst, take, take_all, ℕ, ◌<◌, ◌≤◌}
 use Rattle.formal_sums.proofs.Combining.{Each_map}
-use Rattle.module_vectors.proofs.Scaling.{Each_more}
+use Rattle.term_lists.proofs.Scaling.{Each_more}
 use Rattle.sparse_poly.specs.Degrees.{IsWithinDegree}
 use Rattle.sparse_poly.proofs.digits.top_degree.Goals as goal
 

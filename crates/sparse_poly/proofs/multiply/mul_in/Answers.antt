@@ -1,7 +1,7 @@
 use Rattle.std.proofs.Common.{◌+◌, ◌≡◌}
-use Rattle.module_vectors.specs.Rings.{variables}
-use Rattle.module_vectors.specs.Vectors.{HasPositions}
-use Rattle.module_vectors.specs.declared.stop.VectStop.TheVariants.{Memory}
+use Rattle.term_lists.specs.Rings.{variables}
+use Rattle.term_lists.specs.Vectors.{HasPositions}
+use Rattle.term_lists.specs.declared.stop.VectStop.TheVariants.{Memory}
 use Rattle.sparse_poly.proofs.Multiplying.{ProductFits_exchanged, PolynomialProductStops_exchanged}
 use Rattle.sparse_poly.proofs.Products.{PolynomialProductStops_memory, product_exchanged, product_positions, product_within}
 use Rattle.sparse_poly.proofs.Results.{both_ok, one_err}

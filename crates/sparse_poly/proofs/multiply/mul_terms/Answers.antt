@@ -1,9 +1,9 @@
 use Rattle.std.proofs.Common.{ap, subst, ◌∙◌}
 use Rattle.formal_sums.specs.FormalSums.{product}
+use Rattle.term_lists.specs.Rings.{variables}
+use Rattle.term_lists.specs.Vectors.{IsVectorOver, StandsFor, sum_of}
 use Rattle.module_vectors.specs.Products.{sum_of_products}
-use Rattle.module_vectors.specs.Rings.{variables}
-use Rattle.module_vectors.specs.Stops.{ProductsFit, ProductsStop}
-use Rattle.module_vectors.specs.Vectors.{IsVectorOver, StandsFor, sum_of}
+use Rattle.module_vectors.specs.ProductStops.{ProductsFit, ProductsStop}
 use Rattle.sparse_poly.proofs.Multiplying.{multiples_factors, multiples_fit, multiples_stop, multiples_sum, multiples_vectors}
 use Rattle.sparse_poly.proofs.Results.{each_err, each_ok}
 use Rattle.sparse_poly.specs.Stops.{ProductFits, PolynomialProductStops}

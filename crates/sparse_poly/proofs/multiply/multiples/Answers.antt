@@ -1,6 +1,6 @@
 use Rattle.std.proofs.Common.{List, [], ap, arith, get_or, length, refl, subst, sym, take, ℕ, ◌++◌, ◌+◌, ◌<◌, ◌∙◌, ◌∷◌, ◌≡◌}
 use Rattle.std.proofs.lemmas.List.{take_all, take_more}
-use Rattle.module_vectors.specs.declared.key.Key.{Key as CodeKey}
+use Rattle.term_lists.specs.declared.key.Key.{Key as CodeKey}
 use Rattle.module_vectors.specs.declared.product.Product.{Product}
 use Rattle.sparse_poly.proofs.Multiplying.{AreMultiples_push}
 use Rattle.sparse_poly.specs.Multiples.{AreTermMultiples}

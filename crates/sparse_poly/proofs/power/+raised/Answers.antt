@@ -1,7 +1,7 @@
 use Rattle.std.proofs.Common.{arith, ◌*◌, ◌/◌, ◌≤◌}
 use Rattle.std.proofs.Math.Nat.{mul-le-mul_right}
-use Rattle.module_vectors.specs.Rings.{variables}
-use Rattle.module_vectors.specs.Vectors.{sum_of}
+use Rattle.term_lists.specs.Rings.{variables}
+use Rattle.term_lists.specs.Vectors.{sum_of}
 use Rattle.zp_field.proofs.TableFields.{is_modulus-domain}
 use Rattle.sparse_poly.proofs.PowerSteps.{PowerStops_higher, PowersFit_none, result_memory, result_within}
 use Rattle.sparse_poly.proofs.Results.{each_ok}

@@ -1,5 +1,5 @@
 use Rattle.std.proofs.Common.{arith, refl, ◌+◌}
-use Rattle.module_vectors.specs.Rings.{variables}
+use Rattle.term_lists.specs.Rings.{variables}
 use Rattle.zp_field.proofs.TableFields.{is_modulus-domain}
 use Rattle.sparse_poly.proofs.PowerSteps.{IsPowerOver_next, next_stops}
 use Rattle.sparse_poly.proofs.power.multiplied_on.Goals as goal

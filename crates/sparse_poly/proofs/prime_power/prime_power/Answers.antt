@@ -1,7 +1,7 @@
 use Rattle.std.proofs.Common.{subst, sym, ◌*◌, ◌≤◌}
 use Rattle.formal_sums.proofs.Sameness.{IsSame_trans}
-use Rattle.module_vectors.specs.Rings.{variables}
-use Rattle.module_vectors.specs.Vectors.{AreTermsOver, StandsFor, sum_of}
+use Rattle.term_lists.specs.Rings.{variables}
+use Rattle.term_lists.specs.Vectors.{AreTermsOver, StandsFor, sum_of}
 use Rattle.zp_field.proofs.TableFields.{is_modulus-domain}
 use Rattle.sparse_poly.proofs.DigitPowers.{prime_same, terms_within}
 use Rattle.sparse_poly.proofs.Results.{each_ok}

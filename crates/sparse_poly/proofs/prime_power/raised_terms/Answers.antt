@@ -1,9 +1,9 @@
 use Rattle.std.proofs.Common.{[], ap, arith, length, subst, sym, take_all, ◌*◌, ◌<◌, ◌∙◌, ◌∷◌, ◌≤◌}
 use Rattle.std.proofs.Math.Nat.{mul-le-mul_left}
 use Rattle.formal_sums.proofs.WeightedSums.{Each_append}
-use Rattle.module_vectors.proofs.Scaling.{Each_at}
-use Rattle.module_vectors.specs.Rings.{variables}
-use Rattle.module_vectors.specs.Vectors.{AreTermsOver, IsMonomialOver, sum_of}
+use Rattle.term_lists.proofs.Scaling.{Each_at}
+use Rattle.term_lists.specs.Rings.{variables}
+use Rattle.term_lists.specs.Vectors.{AreTermsOver, IsMonomialOver, sum_of}
 use Rattle.sparse_poly.proofs.TermPowers.{raised_next}
 use Rattle.sparse_poly.specs.TermPowers.{IsTermWithin, raised_monomials}
 use Rattle.sparse_poly.proofs.prime_power.raised_terms.Goals as goal

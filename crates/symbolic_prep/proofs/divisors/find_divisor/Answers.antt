@@ -1,6 +1,6 @@
 use Rattle.std.proofs.Common.{arith}
-use Rattle.module_vectors.specs.Rings.{variables}
-use Rattle.module_vectors.specs.Vectors.{key_of}
+use Rattle.term_lists.specs.Rings.{variables}
+use Rattle.term_lists.specs.Vectors.{key_of}
 use Rattle.symbolic_prep.proofs.Dividing.{tried_all, tried_behind}
 use Rattle.symbolic_prep.proofs.divisors.find_divisor.Goals as goal
 

@@ -1,5 +1,5 @@
-use Rattle.module_vectors.specs.Rings.{variables}
-use Rattle.module_vectors.specs.Vectors.{key_of}
+use Rattle.term_lists.specs.Rings.{variables}
+use Rattle.term_lists.specs.Vectors.{key_of}
 use Rattle.symbolic_prep.proofs.Dividing.{AreTriedTo}
 use Rattle.symbolic_prep.proofs.divisors.find_divisor.Given as goal
 

@@ -1,6 +1,6 @@
 use Rattle.std.proofs.Common.{arith, sym, take}
-use Rattle.module_vectors.proofs.Scaling.{Each_at, Each_more}
-use Rattle.module_vectors.specs.Rings.{variables}
+use Rattle.term_lists.proofs.Scaling.{Each_at, Each_more}
+use Rattle.term_lists.specs.Rings.{variables}
 use Rattle.symbolic_prep.proofs.Closing.{both_tops, later_itself, later_trans, pair_divides, pairs_more}
 use Rattle.symbolic_prep.proofs.Tracing.{pair_position}
 use Rattle.symbolic_prep.specs.Plans.{HasPairProducts, IsMemberPair}

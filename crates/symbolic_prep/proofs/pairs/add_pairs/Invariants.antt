@@ -1,6 +1,6 @@
 use Rattle.std.proofs.Common.{length, take, ◌*◌, ◌+◌, ◌≤◌}
 use Rattle.formal_sums.specs.FormalSums.{Each}
-use Rattle.module_vectors.specs.Rings.{variables}
+use Rattle.term_lists.specs.Rings.{variables}
 use Rattle.symbolic_prep.specs.Hashed.{AreHashed}
 use Rattle.symbolic_prep.specs.Plans.{HasPairProducts, IsLaterPlan}
 use Rattle.pair_criteria.specs.Traces.{AreTraced}

@@ -3,8 +3,8 @@ use Rattle.std.proofs.lemmas.List.{length_push}
 use Rattle.monomials.specs.Exponents.{Divides, exponents_of}
 use Rattle.formal_sums.specs.FormalSums.{Each}
 use Rattle.bases.specs.Leads.{head_key}
-use Rattle.module_vectors.specs.Rings.{variables}
-use Rattle.module_vectors.specs.Vectors.{IsMonomialOver, sum_of}
+use Rattle.term_lists.specs.Rings.{variables}
+use Rattle.term_lists.specs.Vectors.{IsMonomialOver, sum_of}
 use Rattle.symbolic_prep.proofs.Closing.{later_itself, later_of_more, top_found, top_step}
 use Rattle.symbolic_prep.proofs.Planning.{terms_weighed}
 use Rattle.symbolic_prep.proofs.Tracing.{top_stop, top_traced}

@@ -1,7 +1,7 @@
 use Rattle.std.proofs.Common.{List, get_or, length, subst, sym, ℕ, ◌∙◌, ◌≡◌, []}
 use Rattle.formal_sums.specs.FormalSums.{Each}
 use Rattle.monomial_orders.specs.Kept.{IsWeighed}
-use Rattle.module_vectors.specs.Rings.{variables}
+use Rattle.term_lists.specs.Rings.{variables}
 use Rattle.module_vectors.specs.Trails.{KeptProduct}
 use Rattle.symbolic_prep.proofs.Planning.{entries_some, keys_product, lead_known, more_planned, named_product, terms_weighed}
 use Rattle.row_matrix.specs.Rows.{AreKeys}

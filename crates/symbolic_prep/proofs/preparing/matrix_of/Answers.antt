@@ -1,7 +1,7 @@
 use Rattle.std.proofs.Common.{arith, length, subst, subst₂, sym, ◌<◌, ◌∙◌, ◌≡◌}
 use Rattle.formal_sums.specs.FormalSums.{Each}
 use Rattle.monomial_orders.specs.Laws.{key_comparison_order}
-use Rattle.module_vectors.specs.Rings.{ring_comparison, variables}
+use Rattle.term_lists.specs.Rings.{ring_comparison, variables}
 use Rattle.row_matrix.specs.Hashes.{AreDistinctKeys}
 use Rattle.row_matrix.specs.Placed.{IsPlacedMatrix}
 use Rattle.row_matrix.specs.Rows.{AreKeys, Entry, RowShown}

@@ -1,5 +1,5 @@
 use Rattle.std.proofs.Common.{[], arith, length, ◌*◌, ◌-◌, ◌<◌, ◌∷◌, ◌≤◌}
-use Rattle.module_vectors.specs.Rings.{ring_comparison, variables}
+use Rattle.term_lists.specs.Rings.{ring_comparison, variables}
 use Rattle.symbolic_prep.proofs.Closing.{pairs_more, some_products}
 use Rattle.symbolic_prep.proofs.Counting.{sparse_start}
 use Rattle.vector_division.proofs.Looping.{are_weighed}

@@ -1,6 +1,6 @@
 use Rattle.std.proofs.Common.{[], arith, false, get_or, inl, length, subst, true, ◌++◌, ◌∙◌, ◌∷◌, ◌≡◌, ◌≤◌}
 use Rattle.std.proofs.lemmas.List.{get_or_past}
-use Rattle.module_vectors.specs.Rings.{variables}
+use Rattle.term_lists.specs.Rings.{variables}
 use Rattle.row_matrix.specs.Hashes.{AreDistinctKeys}
 use Rattle.row_matrix.specs.Rows.{first_column}
 use Rattle.symbolic_prep.proofs.Closing.{key_read, later_itself, lead_is, now_marked}

@@ -1,5 +1,5 @@
 use Rattle.std.proofs.Common.{arith, length, ◌<◌}
-use Rattle.module_vectors.specs.Rings.{variables}
+use Rattle.term_lists.specs.Rings.{variables}
 use Rattle.symbolic_prep.proofs.Closing.{closed_more, later_itself, later_trans}
 use Rattle.symbolic_prep.proofs.reducers.close_plan.Goals as goal
 

@@ -1,6 +1,6 @@
 use Rattle.std.proofs.Common.{List, ℕ}
 use Rattle.symbolic_prep.specs.Counts.{IsSparse}
-use Rattle.module_vectors.specs.Rings.{variables}
+use Rattle.term_lists.specs.Rings.{variables}
 use Rattle.symbolic_prep.specs.Hashed.{AreHashed}
 use Rattle.symbolic_prep.specs.Plans.{AreClosed, IsLaterPlan}
 use Rattle.pair_criteria.specs.Traces.{AreTraced}

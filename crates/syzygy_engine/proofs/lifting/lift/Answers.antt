@@ -1,8 +1,8 @@
 use Rattle.std.proofs.Common.{false, subst, sym, true, ◌∙◌, ◌≡◌}
 use Rattle.division_laws.specs.Elimination.{is_from_position}
 use Rattle.syzygy_laws.specs.Kernels.{all_kept, lowered}
-use Rattle.module_vectors.specs.Rings.{variables}
-use Rattle.module_vectors.specs.Vectors.{StandsFor, sum_of}
+use Rattle.term_lists.specs.Rings.{variables}
+use Rattle.term_lists.specs.Vectors.{StandsFor, sum_of}
 use Rattle.syzygy_engine.proofs.LeftOver.{left_out, lift_of, lift_positions, rest_stops}
 use Rattle.syzygy_engine.proofs.Marks.{loose}
 use Rattle.syzygy_engine.proofs.lifting.lift.Goals as goal

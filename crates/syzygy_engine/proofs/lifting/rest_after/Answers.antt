@@ -1,4 +1,4 @@
-use Rattle.module_vectors.specs.Rings.{variables}
+use Rattle.term_lists.specs.Rings.{variables}
 use Rattle.vector_division.specs.Reductions.{cofactors_of}
 use Rattle.syzygy_engine.proofs.LeftOver.{cofactor_rank}
 use Rattle.syzygy_engine.proofs.lifting.rest_after.Goals as goal

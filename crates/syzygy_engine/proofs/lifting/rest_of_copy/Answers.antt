@@ -2,8 +2,8 @@ use Rattle.std.proofs.Common.{length, subst, sym, ◌++◌, ◌∙◌}
 use Rattle.formal_sums.proofs.Sameness.{IsSame_sym, IsSame_trans}
 use Rattle.formal_sums.specs.Combinations.{combination}
 use Rattle.formal_sums.specs.FormalSums.{FormalSum, HasRank}
-use Rattle.module_vectors.specs.Rings.{ring_comparison, variables}
-use Rattle.module_vectors.specs.Vectors.{AreTermsOver, IsVectorOver, StandsFor, sum_of, sums_of}
+use Rattle.term_lists.specs.Rings.{ring_comparison, variables}
+use Rattle.term_lists.specs.Vectors.{AreTermsOver, IsVectorOver, StandsFor, sum_of, sums_of}
 use Rattle.vector_division.specs.Divisions.{IsFreeOfLeads}
 use Rattle.syzygy_engine.proofs.LeftOver.{division_rests}
 use Rattle.syzygy_engine.proofs.Marks.{loose}

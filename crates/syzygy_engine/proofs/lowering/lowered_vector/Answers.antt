@@ -1,7 +1,7 @@
 use Rattle.std.proofs.Common.{IfOk, ap, subst, sym, ◌∙◌, ◌≤◌}
 use Rattle.formal_sums.specs.FormalSums.{Each}
-use Rattle.module_vectors.specs.Rings.{variables}
-use Rattle.module_vectors.specs.Vectors.{AreTermsOver, StandsFor, sum_of}
+use Rattle.term_lists.specs.Rings.{variables}
+use Rattle.term_lists.specs.Vectors.{AreTermsOver, StandsFor, sum_of}
 use Rattle.syzygy_engine.specs.Marking.{lowered_terms}
 use Rattle.syzygy_engine.proofs.LoweredTerms.{each_from, lowered_over, sum_lowered}
 use Rattle.syzygy_engine.proofs.lowering.lowered_vector.Goals as goal

@@ -1,6 +1,6 @@
 use Rattle.std.proofs.Common.{subst, sym, ◌∙◌}
-use Rattle.module_vectors.specs.Rings.{variables}
-use Rattle.module_vectors.specs.Vectors.{sum_of}
+use Rattle.term_lists.specs.Rings.{variables}
+use Rattle.term_lists.specs.Vectors.{sum_of}
 use Rattle.syzygy_engine.specs.Marking.{StandOneByOne}
 use Rattle.syzygy_engine.proofs.KernelSteps.{kernel_kept}
 use Rattle.syzygy_engine.proofs.Standing.{stand_next}

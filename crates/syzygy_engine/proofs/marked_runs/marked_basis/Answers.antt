@@ -1,7 +1,7 @@
 use Rattle.std.proofs.Common.{ap, subst, subst₂, sym, ◌+◌}
 use Rattle.formal_sums.specs.FormalSums.{Each}
-use Rattle.module_vectors.specs.Rings.{ring_comparison}
-use Rattle.module_vectors.specs.Vectors.{AreVectorsOver, HasPositions}
+use Rattle.term_lists.specs.Rings.{ring_comparison}
+use Rattle.term_lists.specs.Vectors.{AreVectorsOver, HasPositions}
 use Rattle.groebner_iface.specs.Calls.{NoTrail}
 use Rattle.groebner_iface.specs.Runs.{IsReducedBasisOf}
 use Rattle.syzygy_engine.specs.Marking.{AreMarked, IsMarkedRun}

@@ -1,7 +1,7 @@
 use Rattle.std.proofs.Common.{subst}
 use Rattle.formal_sums.proofs.Combining.{Each_map}
-use Rattle.module_vectors.specs.Rings.{ring_comparison, variables}
-use Rattle.module_vectors.specs.Vectors.{AreTermsOver, IsVectorOver, sums_of}
+use Rattle.term_lists.specs.Rings.{ring_comparison, variables}
+use Rattle.term_lists.specs.Vectors.{AreTermsOver, IsVectorOver, sums_of}
 use Rattle.syzygy_laws.specs.Kernels.{kernel_of}
 use Rattle.syzygy_engine.specs.Marking.{StandOneByOne, position_ring}
 use Rattle.syzygy_engine.proofs.Generated.{kernel_of_run, kernel_positions}

@@ -4,8 +4,8 @@ use Rattle.monomials.specs.Exponents.{unit}
 use Rattle.formal_sums.proofs.WeightedSums.{Each_append}
 use Rattle.syzygy_laws.proofs.Marking.{length-marked}
 use Rattle.syzygy_laws.specs.Syzygies.{marked}
-use Rattle.module_vectors.specs.Rings.{ring_comparison, variables}
-use Rattle.module_vectors.specs.Vectors.{IsVectorOver, StandsFor, sum_of, sums_of}
+use Rattle.term_lists.specs.Rings.{ring_comparison, variables}
+use Rattle.term_lists.specs.Vectors.{IsVectorOver, StandsFor, sum_of, sums_of}
 use Rattle.syzygy_engine.specs.Marking.{AreMarked, StandOneByOne, position_ring}
 use Rattle.syzygy_engine.proofs.Marks.{marked_next}
 use Rattle.syzygy_engine.proofs.marking.marked_list.Goals as goal

@@ -1,7 +1,7 @@
 use Rattle.std.proofs.Common.{take}
 use Rattle.syzygy_laws.specs.Syzygies.{marked}
-use Rattle.module_vectors.specs.Rings.{ring_comparison, variables}
-use Rattle.module_vectors.specs.Vectors.{AreVectorsOver, sums_of}
+use Rattle.term_lists.specs.Rings.{ring_comparison, variables}
+use Rattle.term_lists.specs.Vectors.{AreVectorsOver, sums_of}
 use Rattle.syzygy_engine.specs.Marking.{StandOneByOne, position_ring}
 use Rattle.syzygy_engine.proofs.marking.marked_list.Given as goal
 

@@ -1,5 +1,5 @@
 use Rattle.std.proofs.Common.{IfOk, subst}
-use Rattle.module_vectors.specs.Vectors.{StandsFor}
+use Rattle.term_lists.specs.Vectors.{StandsFor}
 use Rattle.syzygy_engine.proofs.marking.marked_vector.Goals as goal
 
 pub returns-clause-sum : goal.returns-clause-sum

@@ -1,6 +1,6 @@
 use Rattle.std.proofs.Common.{take, ℕ, ◌<◌, ◌≡◌}
 use Rattle.formal_sums.specs.FormalSums.{Each}
-use Rattle.module_vectors.specs.Vectors.{sum_of}
+use Rattle.term_lists.specs.Vectors.{sum_of}
 use Rattle.term_tables.specs.Digits.{ArePacked, packed_sum}
 use Rattle.term_tables.proofs.packing.packed_terms.Given as goal
 

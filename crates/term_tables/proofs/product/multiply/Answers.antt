@@ -1,6 +1,6 @@
 use Rattle.std.proofs.Common.{subst, sym, ◌∙◌}
 use Rattle.formal_sums.specs.FormalSums.{IsSame, product}
-use Rattle.module_vectors.specs.Vectors.{sum_of}
+use Rattle.term_lists.specs.Vectors.{sum_of}
 use Rattle.term_tables.proofs.Sums.{product_joined}
 use Rattle.term_tables.specs.Tables.{ranked_sum}
 use Rattle.term_tables.proofs.product.multiply.Goals as goal

@@ -1,8 +1,8 @@
 use Rattle.std.proofs.Common.{subst, sym, ◌<◌}
 use Rattle.formal_sums.proofs.Sameness.{IsSame_of, IsSame_trans}
 use Rattle.formal_sums.specs.FormalSums.{IsSame}
-use Rattle.module_vectors.proofs.Gathers.{Each_permutation}
-use Rattle.module_vectors.specs.Vectors.{sum_of}
+use Rattle.term_lists.proofs.Gathers.{Each_permutation}
+use Rattle.term_lists.specs.Vectors.{sum_of}
 use Rattle.term_tables.proofs.Sums.{each_some, ranked_permuted}
 use Rattle.term_tables.specs.Tables.{ranked_sum}
 use Rattle.term_tables.proofs.product.terms_of.Goals as goal

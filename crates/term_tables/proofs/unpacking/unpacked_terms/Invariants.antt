@@ -1,5 +1,5 @@
 use Rattle.std.proofs.Common.{take, ℕ, ◌≡◌}
-use Rattle.module_vectors.specs.Vectors.{AreTermsOver, sum_of}
+use Rattle.term_lists.specs.Vectors.{AreTermsOver, sum_of}
 use Rattle.term_tables.specs.Tables.{ranked_sum}
 use Rattle.term_tables.proofs.unpacking.unpacked_terms.Given as goal
 

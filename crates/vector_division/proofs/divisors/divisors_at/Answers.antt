@@ -1,6 +1,6 @@
 use Rattle.std.proofs.Common.{List, [], ap, arith, get_or, length, refl, subst, sym, ℕ, ◌+◌, ◌<◌, ◌∙◌, ◌≡◌}
 use Rattle.std.proofs.lemmas.List.{length_push}
-use Rattle.module_vectors.proofs.SumsOfProducts.{Each_member}
+use Rattle.term_lists.proofs.Parts.{Each_member}
 use Rattle.vector_division.proofs.LeastDegrees.{by_kept}
 use Rattle.vector_division.proofs.Trying.{enough_are_divisors, items_more}
 use Rattle.vector_division.specs.Divisors.{AreBy}

@@ -1,7 +1,7 @@
 use Rattle.std.proofs.Common.{None, [], arith, length, refl, subst, sym}
 use Rattle.formal_sums.specs.FormalSums.{Each}
-use Rattle.module_vectors.proofs.SumsOfProducts.{Each_member}
-use Rattle.module_vectors.specs.Vectors.{HasVariables, key_of}
+use Rattle.term_lists.proofs.Parts.{Each_member}
+use Rattle.term_lists.specs.Vectors.{HasVariables, key_of}
 use Rattle.vector_division.specs.Progress.{IsTried}
 use Rattle.vector_division.proofs.Members.{tried_next, uncovered}
 use Rattle.vector_division.proofs.divisors.is_uncovered.Goals as goal

@@ -1,5 +1,5 @@
 use Rattle.std.proofs.Common.{length}
-use Rattle.module_vectors.specs.Vectors.{key_of}
+use Rattle.term_lists.specs.Vectors.{key_of}
 use Rattle.vector_division.specs.Progress.{AreTried}
 use Rattle.vector_division.proofs.divisors.is_uncovered.Given as goal
 

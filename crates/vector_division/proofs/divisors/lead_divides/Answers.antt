@@ -2,7 +2,7 @@ use Rattle.std.proofs.Common.{false, length, subst, sym, true, ◌∙◌, ◌≡
 use Rattle.formal_sums.specs.FormalSums.{Each}
 use Rattle.orders.specs.KeyOrders.{KeyDivides}
 use Rattle.bases.specs.Leads.{head_key}
-use Rattle.module_vectors.specs.Vectors.{HasVariables, key_of, sum_of}
+use Rattle.term_lists.specs.Vectors.{HasVariables, key_of, sum_of}
 use Rattle.vector_division.proofs.divisors.lead_divides.Goals as goal
 
 pub key_divides-requires : goal.key_divides-requires

@@ -1,6 +1,6 @@
 use Rattle.std.proofs.Common.{None, false, length, subst, sym, ◌∙◌, ◌≡◌}
 use Rattle.formal_sums.proofs.Combining.{Each_map}
-use Rattle.module_vectors.specs.Vectors.{HasVariables, IsMonomialOver, key_of}
+use Rattle.term_lists.specs.Vectors.{HasVariables, IsMonomialOver, key_of}
 use Rattle.vector_division.specs.Progress.{IsTried}
 use Rattle.vector_division.proofs.divisors.quotient_by_marked.Goals as goal
 

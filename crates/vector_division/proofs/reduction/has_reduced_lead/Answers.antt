@@ -1,6 +1,6 @@
 use Rattle.std.proofs.Common.{subst, sym}
-use Rattle.module_vectors.specs.Rings.{variables}
-use Rattle.module_vectors.specs.Vectors.{IsVectorOver, key_of, sum_of, sums_of}
+use Rattle.term_lists.specs.Rings.{variables}
+use Rattle.term_lists.specs.Vectors.{IsVectorOver, key_of, sum_of, sums_of}
 use Rattle.vector_division.specs.Divisions.{HasReducedLead, IsUncovered}
 use Rattle.vector_division.specs.Progress.{HaveVariables}
 use Rattle.vector_division.proofs.Looping.{have_variables}

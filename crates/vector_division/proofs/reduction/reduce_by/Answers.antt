@@ -1,7 +1,7 @@
 use Rattle.std.proofs.Common.{subst}
 use Rattle.residues.specs.Residues.{IsDomain}
 use Rattle.formal_sums.proofs.Combining.{Each_map}
-use Rattle.module_vectors.specs.Rings.{variables}
+use Rattle.term_lists.specs.Rings.{variables}
 use Rattle.vector_division.proofs.Keeping.{kept_reduced, kept_sum}
 use Rattle.vector_division.proofs.reduction.reduce_by.Goals as goal
 

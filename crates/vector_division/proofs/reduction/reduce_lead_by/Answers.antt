@@ -1,7 +1,7 @@
 use Rattle.std.proofs.Common.{subst}
 use Rattle.formal_sums.specs.FormalSums.{Each}
-use Rattle.module_vectors.specs.Rings.{variables}
-use Rattle.module_vectors.specs.Vectors.{IsTerm}
+use Rattle.term_lists.specs.Rings.{variables}
+use Rattle.term_lists.specs.Vectors.{IsTerm}
 use Rattle.vector_division.proofs.Ending.{ended_lead}
 use Rattle.vector_division.proofs.Keeping.{kept_lead}
 use Rattle.vector_division.proofs.reduction.reduce_lead_by.Goals as goal

@@ -1,5 +1,5 @@
 use Rattle.std.proofs.Common.{[], false, refl, subst, subst₂, sym, ◌<◌, ◌∙◌}
-use Rattle.module_vectors.specs.Rings.{variables}
+use Rattle.term_lists.specs.Rings.{variables}
 use Rattle.vector_division.specs.Progress.{room_of}
 use Rattle.vector_division.specs.Runs.{IsSplit, IsNext, total, with_next}
 use Rattle.vector_division.proofs.Ending.{ended_empty, ended_first, none_stays}

@@ -1,6 +1,6 @@
 use Rattle.std.proofs.Common.{[], ap, map, sym, take, ◌++◌, ◌∙◌, ◌∷◌}
 use Rattle.std.proofs.lemmas.List.{map-append}
-use Rattle.module_vectors.proofs.Scaling.{take_item}
+use Rattle.term_lists.proofs.Scaling.{take_item}
 use Rattle.vector_division.specs.Reductions.{unscaled}
 use Rattle.vector_division.proofs.trails.quotient_products.Goals as goal
 

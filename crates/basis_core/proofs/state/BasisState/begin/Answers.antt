@@ -1,6 +1,6 @@
 use Rattle.std.proofs.Common.{List, None, [], ap, arith, length, refl, subst, sym, ◌∙◌, ◌≡◌, ℕ}
 use Rattle.formal_sums.specs.FormalSums.{Each}
-use Rattle.module_vectors.specs.Rings.{variables}
+use Rattle.term_lists.specs.Rings.{variables}
 use Rattle.queue_updates.specs.declared.Update.{Update}
 use Rattle.basis_steps.specs.States.{vectors}
 use Rattle.basis_steps.specs.Steps.{Begins}

@@ -1,7 +1,7 @@
 use Rattle.std.proofs.Common.{subst, sym, ◌∙◌}
 use Rattle.std.specs.Arc.{arc_value}
 use Rattle.monomials.specs.Exponents.{exponents_of}
-use Rattle.module_vectors.specs.Rings.{variables}
+use Rattle.term_lists.specs.Rings.{variables}
 use Rattle.cofactor_track.proofs.CombinedSums.{combined_multiple}
 use Rattle.cofactor_track.specs.Changes.{IsTimes}
 use Rattle.member_products.specs.Generators.{IsVectorOf}

@@ -4,9 +4,9 @@ use Rattle.formal_sums.proofs.Combining.{Each_map}
 use Rattle.formal_sums.proofs.Sameness.{IsSame_append, IsSame_of, IsSame_refl, IsSame_trans}
 use Rattle.formal_sums.proofs.WeightedSums.{Each_append}
 use Rattle.formal_sums.specs.FormalSums.{IsSame, scale}
-use Rattle.module_vectors.proofs.Merges.{sum_of-append}
-use Rattle.module_vectors.specs.Rings.{variables}
-use Rattle.module_vectors.specs.Vectors.{AreTermsOver, sum_of}
+use Rattle.term_lists.proofs.Merges.{sum_of-append}
+use Rattle.term_lists.specs.Rings.{variables}
+use Rattle.term_lists.specs.Vectors.{AreTermsOver, sum_of}
 use Rattle.module_vectors.proofs.vect.Vect.multiple_and_itself.Goals as goal
 
 pub from_terms-requires : goal.from_terms-requires

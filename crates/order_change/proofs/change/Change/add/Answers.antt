@@ -1,8 +1,8 @@
 use Rattle.std.proofs.Common.{arith, get_or, length, subst, sym, ℕ, ◌+◌, ◌<◌, ◌≡◌}
 use Rattle.std.specs.Prelude.{slice_index}
 use Rattle.bases.specs.Settings.{IsLawful}
-use Rattle.module_vectors.specs.Rings.{ring_comparison, setting}
-use Rattle.module_vectors.specs.Vectors.{sums_of}
+use Rattle.term_lists.specs.Rings.{ring_comparison, setting}
+use Rattle.term_lists.specs.Vectors.{sums_of}
 use Rattle.order_change.proofs.Adding.{few, rows_wider}
 use Rattle.order_change.proofs.Borders.{behind}
 use Rattle.order_change.proofs.Items.{length_monomials}

@@ -3,8 +3,8 @@ use Rattle.std.specs.Prelude.{slice_index}
 use Rattle.monomials.specs.Exponents.{exponents_of}
 use Rattle.formal_sums.specs.FormalSums.{IsSame}
 use Rattle.bases.specs.Settings.{IsLawful}
-use Rattle.module_vectors.specs.Rings.{ring_comparison, setting}
-use Rattle.module_vectors.specs.Vectors.{sum_of, sums_of}
+use Rattle.term_lists.specs.Rings.{ring_comparison, setting}
+use Rattle.term_lists.specs.Vectors.{sum_of, sums_of}
 use Rattle.change_laws.specs.Combinations.{expansion}
 use Rattle.order_change.proofs.Adding.{member_added, positive}
 use Rattle.order_change.proofs.Items.{length_monomials}

@@ -4,8 +4,8 @@ use Rattle.residues.proofs.Congruences.{IsCongruent_mod, IsCongruent_of, IsCongr
 use Rattle.residues.specs.Residues.{IsCongruent}
 use Rattle.monomials.specs.Exponents.{exponents_of}
 use Rattle.bases.specs.Settings.{IsLawful}
-use Rattle.module_vectors.specs.Rings.{ring_comparison, setting}
-use Rattle.module_vectors.specs.Vectors.{sums_of}
+use Rattle.term_lists.specs.Rings.{ring_comparison, setting}
+use Rattle.term_lists.specs.Vectors.{sums_of}
 use Rattle.order_change.proofs.Adding.{members_kept, standard_added}
 use Rattle.order_change.proofs.Items.{monomials_push}
 use Rattle.order_change.specs.Changing.{AreNewMembers, AreNewStandard}

@@ -3,8 +3,8 @@ use Rattle.std.specs.Prelude.{slice_index}
 use Rattle.monomials.specs.Exponents.{exponents_of}
 use Rattle.bases.specs.Settings.{IsLawful}
 use Rattle.monomial_orders.specs.Comparisons.{comparison}
-use Rattle.module_vectors.specs.Rings.{ring_comparison, setting}
-use Rattle.module_vectors.specs.Vectors.{sums_of}
+use Rattle.term_lists.specs.Rings.{ring_comparison, setting}
+use Rattle.term_lists.specs.Vectors.{sums_of}
 use Rattle.order_change.proofs.Adding.{few}
 use Rattle.order_change.proofs.Filling.{sum_below}
 use Rattle.order_change.proofs.Items.{length_monomials}

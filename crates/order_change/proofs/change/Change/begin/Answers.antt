@@ -1,6 +1,6 @@
 use Rattle.std.proofs.Common.{length, subst, sym}
 use Rattle.monomial_orders.specs.Kept.{IsWeighed}
-use Rattle.module_vectors.specs.Vectors.{sums_of}
+use Rattle.term_lists.specs.Vectors.{sums_of}
 use Rattle.order_change.proofs.Items.{unit_by}
 use Rattle.order_change.proofs.Stepping.{first_next, first_turns, nothing_known}
 use Rattle.order_change.specs.Changing.{IsFormModulo}

@@ -1,7 +1,7 @@
 use Rattle.std.proofs.Common.{[], arith, get_or, length, refl, subst, sym, ◌<◌, ◌≡◌}
 use Rattle.monomials.specs.Exponents.{exponents_of, unit}
 use Rattle.formal_sums.specs.FormalSums.{Each}
-use Rattle.module_vectors.specs.Vectors.{sums_of}
+use Rattle.term_lists.specs.Vectors.{sums_of}
 use Rattle.order_change.proofs.Borders.{IsProductWhere}
 use Rattle.order_change.proofs.Filling.{item_read}
 use Rattle.order_change.proofs.Stepping.{variable_covered, variable_form, variable_rows}

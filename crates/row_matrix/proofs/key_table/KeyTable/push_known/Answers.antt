@@ -1,7 +1,7 @@
 use Rattle.std.proofs.Common.{[], ap, arith, get_or, length, map, sym, ℕ, ◌++◌, ◌∙◌, ◌∷◌, ◌<◌, ◌≡◌}
-use Rattle.module_vectors.proofs.Scaling.{Each_at}
-use Rattle.module_vectors.specs.Vectors.{HasVariables}
-use Rattle.module_vectors.specs.declared.key.Key.{Key}
+use Rattle.term_lists.proofs.Scaling.{Each_at}
+use Rattle.term_lists.specs.Vectors.{HasVariables}
+use Rattle.term_lists.specs.declared.key.Key.{Key}
 use Rattle.row_matrix.proofs.PartProducts.{known_numbered, part_more, term_hash_at}
 use Rattle.row_matrix.specs.Hashes.{IsNumbered, hash_of, key_product}
 use Rattle.row_matrix.specs.Told.{TellsProduct}

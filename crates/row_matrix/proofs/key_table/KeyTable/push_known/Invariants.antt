@@ -1,6 +1,6 @@
 use Rattle.std.proofs.Common.{List, length, ◌≡◌, ◌≤◌}
 use Rattle.std.specs.Vec.{vec_capacity}
-use Rattle.module_vectors.specs.declared.key.Key.{Key}
+use Rattle.term_lists.specs.declared.key.Key.{Key}
 use Rattle.row_matrix.specs.Naming.{IsPartOfProduct}
 use Rattle.row_matrix.proofs.key_table.KeyTable.push_known.Given as goal
 

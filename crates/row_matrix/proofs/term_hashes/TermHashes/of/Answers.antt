@@ -1,7 +1,7 @@
 use Rattle.std.proofs.Common.{List, [], ap, ap₂, arith, sym, take, ℕ, ◌++◌, ◌∙◌, ◌∷◌, ◌≡◌}
 use Rattle.std.proofs.lemmas.List.{map-append}
-use Rattle.module_vectors.proofs.Scaling.{take_item}
-use Rattle.module_vectors.specs.declared.key.Key.{Key}
+use Rattle.term_lists.proofs.Scaling.{take_item}
+use Rattle.term_lists.specs.declared.key.Key.{Key}
 use Rattle.row_matrix.specs.Hashes.{hash_of, term_hashes}
 use Rattle.row_matrix.specs.Told.{IsKeyUpTo}
 use Rattle.row_matrix.proofs.Telling.{up_to_more}

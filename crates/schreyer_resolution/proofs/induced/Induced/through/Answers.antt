@@ -1,7 +1,7 @@
 use Rattle.std.proofs.Common.{arith, length, subst, sym, take, ◌<◌}
 use Rattle.std.proofs.lemmas.List.{take_all}
-use Rattle.module_vectors.proofs.Scaling.{take_item}
-use Rattle.module_vectors.specs.Rings.{variables}
+use Rattle.term_lists.proofs.Scaling.{take_item}
+use Rattle.term_lists.specs.Rings.{variables}
 use Rattle.schreyer_resolution.specs.Heads.{AreHeads}
 use Rattle.schreyer_resolution.proofs.induced.Induced.through.Goals as goal
 

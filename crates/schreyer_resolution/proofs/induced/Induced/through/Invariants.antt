@@ -1,5 +1,5 @@
 use Rattle.std.proofs.Common.{take}
-use Rattle.module_vectors.specs.Rings.{variables}
+use Rattle.term_lists.specs.Rings.{variables}
 use Rattle.schreyer_resolution.specs.Heads.{AreHeads}
 use Rattle.schreyer_resolution.proofs.induced.Induced.through.Given as goal
 

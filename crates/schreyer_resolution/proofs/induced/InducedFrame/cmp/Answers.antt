@@ -1,6 +1,6 @@
 use Rattle.std.proofs.Common.{ap, ap₂, length, subst, sym, ◌∙◌}
-use Rattle.module_vectors.specs.Rings.{variables}
-use Rattle.module_vectors.specs.Vectors.{IsMonomialOver}
+use Rattle.term_lists.specs.Rings.{variables}
+use Rattle.term_lists.specs.Vectors.{IsMonomialOver}
 use Rattle.resolution_maps.specs.Inducing.{Tower, over}
 use Rattle.schreyer_resolution.specs.Ways.{by_way}
 use Rattle.schreyer_resolution.proofs.Inducing.{by_bottoms, by_monomials, by_positions, by_ways, same_ways}

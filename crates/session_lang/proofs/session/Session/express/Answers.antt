@@ -1,7 +1,7 @@
 use Rattle.std.proofs.Common.{ap, length, subst, sym, ◌∙◌, ◌≡◌, refl}
 use Rattle.std.proofs.lemmas.Option.{same_Some}
 use Rattle.std.proofs.lemmas.Result.{IfErr-weaker, on_ok_weaker}
-use Rattle.module_vectors.specs.Rings.{variables}
+use Rattle.term_lists.specs.Rings.{variables}
 use Rattle.groebner_iface.proofs.CallingRuns.{more_stops}
 use Rattle.session_values.specs.Kept.{IsListOver, IsPolynomialOver}
 use Rattle.session_lang.proofs.Performing.{expressed_performed}

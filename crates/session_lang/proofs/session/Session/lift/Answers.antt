@@ -1,7 +1,7 @@
 use Rattle.std.proofs.Common.{subst, sym, refl}
 use Rattle.std.proofs.lemmas.Result.{IfErr-weaker, on_ok_weaker}
-use Rattle.module_vectors.specs.Rings.{ring_comparison}
-use Rattle.module_vectors.specs.Vectors.{HasPositions, IsVectorOver}
+use Rattle.term_lists.specs.Rings.{ring_comparison}
+use Rattle.term_lists.specs.Vectors.{HasPositions, IsVectorOver}
 use Rattle.session_lang.specs.Fitting.{IsGiven}
 use Rattle.session_values.specs.Kept.{value_of}
 use Rattle.session_values.specs.Names.{HasValue}

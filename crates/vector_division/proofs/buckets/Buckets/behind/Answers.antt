@@ -1,7 +1,7 @@
 use Rattle.std.proofs.Common.{subst, sym, ◌∷◌, ◌≡◌}
 use Rattle.std.proofs.lemmas.Result.{IfOk-weaker}
-use Rattle.module_vectors.specs.Rings.{variables}
-use Rattle.module_vectors.specs.Vectors.{IsVectorOver, key_of}
+use Rattle.term_lists.specs.Rings.{variables}
+use Rattle.term_lists.specs.Vectors.{IsVectorOver, key_of}
 use Rattle.vector_division.proofs.Topping.{vector_behind}
 use Rattle.vector_division.proofs.buckets.Buckets.behind.Goals as goal
 

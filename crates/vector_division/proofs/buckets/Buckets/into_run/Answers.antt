@@ -2,8 +2,8 @@ use Rattle.std.proofs.Common.{[], ap, subst, sym, ◌++◌, ◌∙◌, ◌∷◌
 use Rattle.residues.specs.Residues.{IsDomain}
 use Rattle.formal_sums.proofs.Sameness.{IsSame_of}
 use Rattle.formal_sums.specs.FormalSums.{Each}
-use Rattle.module_vectors.specs.Rings.{variables}
-use Rattle.module_vectors.specs.Vectors.{IsVector, sum_of}
+use Rattle.term_lists.specs.Rings.{variables}
+use Rattle.term_lists.specs.Vectors.{IsVector, sum_of}
 use Rattle.vector_division.specs.Runs.{AreBelow, IsOver, total}
 use Rattle.vector_division.proofs.Topping.{Each_split, adding_more, merged_below, total-push}
 use Rattle.vector_division.proofs.buckets.Buckets.into_run.Goals as goal

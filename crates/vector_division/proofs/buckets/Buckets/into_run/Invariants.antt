@@ -1,7 +1,7 @@
 use Rattle.std.proofs.Common.{length, ◌++◌}
 use Rattle.formal_sums.specs.FormalSums.{IsSame, Key}
-use Rattle.module_vectors.specs.Rings.{variables}
-use Rattle.module_vectors.specs.Vectors.{AreVectorsOver, IsVectorOver, sum_of}
+use Rattle.term_lists.specs.Rings.{variables}
+use Rattle.term_lists.specs.Vectors.{AreVectorsOver, IsVectorOver, sum_of}
 use Rattle.vector_division.specs.Runs.{AreBelow, IsOver, total}
 use Rattle.vector_division.proofs.buckets.Buckets.into_run.Given as goal
 
