@@ -8,10 +8,10 @@
 mod doubling;
 mod frame;
 mod front_ring;
-mod gather;
+mod gathering;
 mod key;
 mod laws;
-mod merge;
+mod merging;
 mod names;
 mod ring;
 mod scaled;
@@ -19,10 +19,10 @@ mod stop;
 mod terms;
 
 pub use frame::Frame;
-pub use gather::gather;
+pub use gathering::gather;
 pub use key::Key;
 pub use laws::{lawful_setting, normal_vectors, one_list, positions_of_rank};
-pub use merge::{merge, merge_into, merge_terms};
+pub use merging::{merge, merge_into, merge_terms};
 pub use names::Names;
 pub use no_memory::NoMemory;
 pub use ring::Ring;

@@ -4,7 +4,7 @@ use Rattle.std.specs.VecDeque.{deque_len}
 use Rattle.term_lists.specs.Merging.{Merging}
 use Rattle.term_lists.specs.Rings.{variables}
 use Rattle.term_lists.specs.Vectors.{sum_of}
-use Rattle.term_lists.proofs.merge.merge_into.Given as goal
+use Rattle.term_lists.proofs.merging.merge_into.Given as goal
 
 abbrev pub invariant-loop-right : goal.invariant-loop-right
 invariant-loop-right g l =
