@@ -1,9 +1,12 @@
 -- Small exponents are the digits of a key's hash, which then tells the key
-use Rattle.std.proofs.Common.{List, [], ap, ap₂, arith, get_or, length, mul_comm, refl, sym, suc, ℕ, ◌%◌, ◌*◌, ◌+◌, ◌<◌, ◌^◌, ◌∙◌, ◌∷◌, ◌≡◌, ◌≤◌}
+use Rattle.std.proofs.Common.{List, [], ap, ap₂, arith, get_or, length, mul_comm, pow_mono, refl, subst, sym, suc, zero, ℕ, ◌%◌, ◌*◌, ◌+◌, ◌/◌, ◌<◌, ◌^◌, ◌∙◌, ◌∷◌, ◌≡◌, ◌≤◌}
+use Rattle.std.specs.Int.Count.{count_leading_zeros}
+use Rattle.std.proofs.lemmas.Nat.{leading_length, pow-add}
 use Rattle.std.specs.Prelude.{fold}
-use Rattle.std.proofs.Math.Nat.{mod-eq_of_lt, mul_assoc, mul-le-mul, mul-le-mul_right, pow-le-pow_right, pow-suc}
+use Rattle.std.proofs.Math.Nat.{mod-eq_of_lt, mul_assoc, mul-le-mul, mul-le-mul_right, pow-le-pow_left, pow-suc}
 use Rattle.formal_sums.specs.FormalSums.{Each}
 use Rattle.row_matrix.specs.Hashes.{hash_step, sums}
+use Rattle.row_matrix.specs.Told.{FitsDigits}
 
 -- one digit more
 abbrev digit : ℕ → ℕ → ℕ
@@ -51,21 +54,45 @@ digits_below a (x ∷ xs) h =
     raise : (b n : ℕ) → b * 31 * 31 ^ n ≡ b * 31 ^ suc n
     raise b n = mul_assoc b 31 (31 ^ n) ∙ ap (λ y. b * y) (mul_comm 31 (31 ^ n) ∙ sym (pow-suc 31 n))
 
--- up to 12 digits behind a number below 16 have 64 bits
-digits_room : (a : ℕ) (xs : List ℕ) → a < 16 → length xs ≤ 12 → Each (λ x. x < 31) xs → fold digit a xs < 2 ^ 64
-digits_room a xs lt le h =
+-- so they are a number of 64 bits where they fit
+digits_room : (a : ℕ) (xs : List ℕ) → FitsDigits (length xs) a → Each (λ x. x < 31) xs → fold digit a xs < 2 ^ 64
+digits_room a xs fits h =
     let below : fold digit a xs < (a + 1) * 31 ^ length xs = digits_below a xs h in
-    let power : 31 ^ length xs ≤ 31 ^ 12 = pow-le-pow_right {n = 31} (omega arith) le in
-    let top : (a + 1) * 31 ^ length xs ≤ 16 * 31 ^ 12 = mul-le-mul {n₁ = a + 1} {m₁ = 31 ^ length xs} {n₂ = 16} {m₂ = 31 ^ 12} (omega (arith, lt)) power in
-    omega (arith, below, top)
+    omega (arith, below, fits)
 
--- two numbers below 16, each before up to 12 digits, are the same, and so are the digits, where the hashes are
+-- two numbers, each before as many digits as fit, are the same, and so are the digits, where the hashes are
 pub digits_same :
-    (a b : ℕ) (xs ys : List ℕ) → a < 16 → b < 16 → length xs ≤ 12 → length xs ≡ length ys
+    (a b : ℕ) (xs ys : List ℕ) → FitsDigits (length xs) a → FitsDigits (length ys) b → length xs ≡ length ys
     → Each (λ x. x < 31) xs → Each (λ y. y < 31) ys → fold hash_step a xs ≡ fold hash_step b ys → (a ≡ b) × (xs ≡ ys)
-digits_same a b xs ys lt lt' le e h k s =
-    digits_exact a b xs ys e h k
-    (sym (digits_hash a xs (digits_room a xs lt le h)) ∙ s ∙ digits_hash b ys (digits_room b ys lt' (omega (arith, le, e)) k))
+digits_same a b xs ys fits fits' e h k s =
+    digits_exact a b xs ys e h k (sym (digits_hash a xs (digits_room a xs fits h)) ∙ s ∙ digits_hash b ys (digits_room b ys fits' k))
+
+-- digits that fit behind a number fit behind a smaller one
+pub fits_below : (n a b : ℕ) → a ≤ b → FitsDigits n b → FitsDigits n a
+fits_below n a b le fits =
+    let less : (a + 1) * 31 ^ n ≤ (b + 1) * 31 ^ n = mul-le-mul_right (31 ^ n) (omega (arith, le)) in
+    omega (arith, less, fits)
+
+-- a digit has at most 5 bits
+digit_bits : (n : ℕ) → 31 ^ n ≤ 2 ^ (5 * n)
+digit_bits n = subst (λ x. 31 ^ n ≤ x) (sym (powers n)) (pow-le-pow_left {n = 31} {m = 32} (omega arith) n)
+  where
+    powers : (n : ℕ) → 2 ^ (5 * n) ≡ 32 ^ n
+    powers zero = refl
+    powers (suc n) =
+        let more : 5 * suc n ≡ 5 + 5 * n = omega arith in
+        ap (λ k. 2 ^ k) more ∙ pow-add 2 5 (5 * n) ∙ ap (λ x. 32 * x) (powers n) ∙ mul_comm 32 (32 ^ n) ∙ sym (pow-suc 32 n)
+
+-- as many digits fit behind a number of 64 bits as 5 goes into the zeros before it
+pub digits_fit : (n a : ℕ) → a < 2 ^ 64 → n ≤ count_leading_zeros 64 a / 5 → FitsDigits n a
+digits_fit n a lt le =
+    let t = leading_length 64 a lt in
+    let wide : t.0 + 5 * n ≤ 64 = omega (arith, t.1, le) in
+    let up : a + 1 ≤ 2 ^ t.0 = omega (arith, t.2) in
+    let all : (a + 1) * 31 ^ n ≤ 2 ^ t.0 * 2 ^ (5 * n) = mul-le-mul {n₁ = a + 1} {m₁ = 31 ^ n} {n₂ = 2 ^ t.0} {m₂ = 2 ^ (5 * n)} up (digit_bits n) in
+    let joined : 2 ^ (t.0 + 5 * n) ≡ 2 ^ t.0 * 2 ^ (5 * n) = pow-add 2 t.0 (5 * n) in
+    let within : 2 ^ (t.0 + 5 * n) ≤ 2 ^ 64 = pow_mono wide in
+    omega (arith, all, joined, within)
 
 -- exponents of a degree below 31 are digits
 pub digits_few : (d : ℕ) (xs : List ℕ) → ((k : ℕ) → get_or xs k 0 ≤ d) → d < 31 → Each (λ x. x < 31) xs

@@ -9,18 +9,21 @@ use Rattle.monomials.specs.Weights.{weighted_degree}
 use Rattle.monomial_orders.specs.Kept.{IsWeighed, Monomial}
 use Rattle.term_lists.proofs.Scaling.{Each_at, Each_more}
 use Rattle.term_lists.specs.declared.key.Key.{Key}
-use Rattle.row_matrix.proofs.Digits.{digits_same, sums_few}
-use Rattle.row_matrix.proofs.KeyProducts.{key_product_weighed}
+use Rattle.row_matrix.proofs.Digits.{digits_same, fits_below, sums_few}
+use Rattle.row_matrix.proofs.KeyProducts.{key_product_weighed, length_sums}
 use Rattle.row_matrix.specs.Hashes.{IsNumbered, key_product, no_key}
 use Rattle.row_matrix.specs.Rows.{AreKeys}
-use Rattle.row_matrix.specs.Told.{AreTold, AreToldWith, HashesShown, IsToldKey, IsKeyUpTo, TellsProduct}
+use Rattle.row_matrix.specs.Told.{AreTold, AreToldWith, FitsDigits, HashesShown, IsToldKey, IsKeyUpTo, TellsProduct}
 
 -- a product within the bounds is a key that its hash tells
 product_told :
-    (keys : List Key) (t : Monomial) (h : HashesShown) (key : Key)
+    (keys : List Key) (t : Monomial) (h : HashesShown) (key : Key) → length key.monomial.exponents ≡ length t.exponents
     → AreToldWith keys t h → IsKeyUpTo h.position h.degree key → IsToldKey (key_product t key)
-product_told keys t h key a u =
-    (omega (arith, u.place, a.position), sums_few t.degree h.degree t.exponents key.monomial.exponents a.exponents u.exponents a.degree)
+product_told keys t h key sized a u = (
+  subst (λ n. FitsDigits n key.position) (sym (length_sums t.exponents key.monomial.exponents (sym sized)))
+      (fits_below (length t.exponents) key.position h.position u.place a.position),
+  sums_few t.degree h.degree t.exponents key.monomial.exponents a.exponents u.exponents a.degree,
+)
 
 -- keys with the same exponents have the same degree by the weights
 same_key :
@@ -37,7 +40,7 @@ tells_product :
     → TellsProduct keys t key
 tells_product n ws keys t h key a u wt wk known =
     let product = key_product t key in
-    let told = product_told keys t h key a u in
+    let told = product_told keys t h key (wk.variables ∙ sym wt.variables) a u in
     let weighed : IsWeighed n ws product.monomial = key_product_weighed n ws t key wt wk in
     record {
       told = λ i lt same.
@@ -46,8 +49,7 @@ tells_product n ws keys t h key a u wt wk known =
           let mine : IsToldKey k = Each_at IsToldKey keys i k a.told lt at in
           let over : IsWeighed n ws k.monomial = Each_at (λ x. IsWeighed n ws x.monomial) keys i k known lt at in
           let sized : length k.monomial.exponents ≡ length product.monomial.exponents = over.variables ∙ sym weighed.variables in
-          let few : length k.monomial.exponents ≤ 12 = omega (arith, over.variables, wt.variables, a.variables) in
-          let both = digits_same k.position product.position k.monomial.exponents product.monomial.exponents mine.0 told.0 few sized mine.1 told.1 same in
+          let both = digits_same k.position product.position k.monomial.exponents product.monomial.exponents mine.0 told.0 sized mine.1 told.1 same in
           same_key n ws k product over weighed both.0 both.1;
       small = omega (arith, u.few, a.degree);
     }
@@ -62,11 +64,10 @@ tells_products n ws keys t h (u ∷ v) a bounded wt wv known =
 
 -- the table has one key more at most, and that is the product
 pub told_more :
-    (old new : List Key) (t : Monomial) (h : HashesShown) (key : Key) (i : ℕ)
+    (old new : List Key) (t : Monomial) (h : HashesShown) (key : Key) (i : ℕ) → length key.monomial.exponents ≡ length t.exponents
     → AreToldWith old t h → IsKeyUpTo h.position h.degree key → IsNumbered old new (key_product t key) i → AreToldWith new t h
-told_more old new t h key i a u g = record {
+told_more old new t h key i sized a u g = record {
   told = more g.grown;
-  variables = a.variables;
   position = a.position;
   degree = a.degree;
   exponents = a.exponents;
@@ -74,7 +75,7 @@ told_more old new t h key i a u g = record {
   where
     more : (new ≡ old) ⊎ ((new ≡ old ++ key_product t key ∷ []) × (i ≡ length old)) → AreTold new
     more (inl e) = subst AreTold (sym e) a.told
-    more (inr e) = subst AreTold (sym e.0) (Each_append IsToldKey old (key_product t key ∷ []) a.told (product_told old t h key a u, tt))
+    more (inr e) = subst AreTold (sym e.0) (Each_append IsToldKey old (key_product t key ∷ []) a.told (product_told old t h key sized a u, tt))
 
 -- the bounds of the first terms and of one more
 pub up_to_more :

@@ -46,6 +46,14 @@ pub record RowShown : Type 0 where
   pub entries : List Entry
   pub sources : List Entry
 
+-- a row without entries
+abbrev pub no_row : RowShown
+no_row = record { entries = []; sources = [] }
+
+-- the row with this number
+abbrev pub shown_row_at : List RowShown → ℕ → RowShown
+shown_row_at rows i = get_or rows i no_row
+
 -- what contracts see of a matrix: the columns' keys, the number of input rows, the rows
 pub record MatrixShown : Type 0 where
   pub columns : List CodeKey

@@ -1,5 +1,5 @@
 -- Keys that are told by their hashes alone
-use Rattle.std.specs.Prelude.{List, get_or, length, ℕ, ◌+◌, ◌<◌, ◌≡◌, ◌≤◌}
+use Rattle.std.specs.Prelude.{List, get_or, length, ℕ, ◌*◌, ◌+◌, ◌<◌, ◌^◌, ◌≡◌, ◌≤◌}
 use Rattle.formal_sums.specs.FormalSums.{Each}
 use Rattle.monomial_orders.specs.Kept.{Monomial}
 use Rattle.term_lists.specs.declared.key.Key.{Key}
@@ -22,9 +22,13 @@ pub record AreHashesOf (h : HashesShown) (v : List (Key × ℕ)) : Type 0 where
   pub hashes : h.hashes ≡ term_hashes v
   pub bounded : Each (λ u. IsKeyUpTo h.position h.degree u.0) v
 
--- among keys in at most 12 variables the hash tells this one: its position and exponents are digits of a number of 64 bits
+-- so many digits to base 31 behind the position are a number of 64 bits
+abbrev pub FitsDigits : ℕ → ℕ → Type 0
+FitsDigits n position = (position + 1) * 31 ^ n ≤ 2 ^ 64
+
+-- among keys in as many variables the hash tells this one: its position and exponents are the digits of a number of 64 bits
 abbrev pub IsToldKey : Key → Type 0
-IsToldKey key = (key.position < 16) × Each (λ x. x < 31) key.monomial.exponents
+IsToldKey key = FitsDigits (length key.monomial.exponents) key.position × Each (λ x. x < 31) key.monomial.exponents
 
 -- they are such keys
 abbrev pub AreTold : List Key → Type 0
@@ -33,8 +37,7 @@ AreTold keys = Each IsToldKey keys
 -- the hashes tell the keys and the products of the monomial with keys within the bounds
 pub record AreToldWith (keys : List Key) (t : Monomial) (h : HashesShown) : Type 0 where
   pub told : AreTold keys
-  pub variables : length t.exponents ≤ 12
-  pub position : h.position < 16
+  pub position : FitsDigits (length t.exponents) h.position
   pub degree : t.degree + h.degree < 31
   pub exponents : (k : ℕ) → get_or t.exponents k 0 ≤ t.degree
 

@@ -8,7 +8,7 @@ ghost use Rattle.monomial_orders.specs.Monomials.{StopsAbove};
 ghost use Rattle.row_matrix.specs.Hashes.{AreDistinctKeys, Lacks, IsChained, IsTable, IsNumbered};
 ghost use Rattle.row_matrix.specs.Hashes.{bucket_of, factor_hash, hash_of, hash_step, no_key, key_product, sums, term_hashes};
 ghost use Rattle.row_matrix.specs.Naming.{IsPartOfProduct};
-ghost use Rattle.row_matrix.specs.Told.{AreTold, AreToldWith, IsToldKey, TellsProduct};
+ghost use Rattle.row_matrix.specs.Told.{AreTold, AreToldWith, FitsDigits, IsToldKey, TellsProduct};
 
 use crate::{TermHashes, kept_number};
 use module_vectors::{Key, NoMemory};
@@ -23,10 +23,8 @@ const SPREAD: u64 = 11400714819323198485;
 // Exponents are hashed as digits to this base, by which a multiplication is a shift and a subtraction.
 const DIGIT: u64 = 31;
 
-// So many digits behind a position below this one have 64 bits: of keys with such exponents the hash tells the key.
-const MOST_DIGITS: usize = 12;
-
-const POSITIONS: u64 = 16;
+// A digit has at most so many bits. While those of the position and of all exponents are 64 or fewer, the hash tells the key.
+const DIGIT_BITS: u32 = 5;
 
 const FIRST_BUCKETS: usize = 64;
 
@@ -79,25 +77,24 @@ fn are_sums(places: &[u16], left: &[u16], right: &[u16]) -> bool
 
 // Does the hash alone tell a key of this degree and position, in so many variables?
 fn is_told(position: u64, degree: u128, n: usize) -> bool
-    ensures { IsTrue result → (position < 16) × (degree < 31) × (n ≤ 12) }
+    ensures { IsTrue result → FitsDigits n position × (degree < 31) }
 {
-    if position < POSITIONS {
-        if n <= MOST_DIGITS {
-            return degree < u128::from(DIGIT);
-        }
+    if degree < u128::from(DIGIT) {
+        return n <= (position.leading_zeros() / DIGIT_BITS) as usize;
     }
     false
 }
 
-// Is it one of the keys that their hashes tell, among those in at most 12 variables?
+// Is it one of the keys that their hashes tell?
 fn is_told_key(key: &Key) -> bool
     ensures { IsTrue result → IsToldKey key.now }
 {
     key.monomial.bounds();
-    if key.position < POSITIONS {
-        return key.monomial.degree() < u128::from(DIGIT);
-    }
-    false
+    is_told(
+        key.position,
+        key.monomial.degree(),
+        key.monomial.variables(),
+    )
 }
 
 // Is the first one, which has the hash of the product of the monomial and the other key, that product?

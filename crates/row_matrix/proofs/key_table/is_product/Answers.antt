@@ -1,9 +1,10 @@
-use Rattle.std.proofs.Common.{ap, arith, false, length, refl, sym, true, ◌+◌, ◌<◌, ◌∙◌, ◌≡◌, ◌≤◌}
+use Rattle.std.proofs.Common.{ap, arith, false, length, refl, subst, sym, true, ◌+◌, ◌<◌, ◌∙◌, ◌≡◌}
 use Rattle.std.specs.Prelude.{fold}
 use Rattle.term_lists.specs.declared.key.Key.{Key}
 use Rattle.row_matrix.proofs.Digits.{digits_few, digits_same, sums_few}
 use Rattle.row_matrix.proofs.KeyProducts.{length_sums, product_exact}
 use Rattle.row_matrix.specs.Hashes.{hash_step, sums}
+use Rattle.row_matrix.specs.Told.{FitsDigits}
 use Rattle.row_matrix.proofs.key_table.is_product.Goals as goal
 
 pub returns-then-variables-n : goal.returns-then-variables-n
@@ -30,9 +31,10 @@ returns-then-is_told c =
     let low : t.degree + key.monomial.degree < 31 = omega (arith, told.1, c.degree.ensures.value, c.degree-2.ensures.value) in
     let same : length xs ≡ length ys =
     omega (arith, c.if-variables-n.false, c.variables.ensures, c.variables-n.ensures, length_sums t.exponents key.monomial.exponents c.requires.variables) in
-    let few : length xs ≤ 12 = omega (arith, told.2, c.if-variables-n.false, c.variables.ensures) in
+    let wide : length ys ≡ c.variables-n.result = omega (arith, same, c.if-variables-n.false, c.variables.ensures) in
+    let fits : FitsDigits (length ys) key.position = subst (λ n. FitsDigits n key.position) (sym wide) told.0 in
     let exponents : xs ≡ ys =
-    (digits_same key.position key.position xs ys told.0 told.0 few same
+    (digits_same key.position key.position xs ys (subst (λ n. FitsDigits n key.position) (sym same) fits) fits same
     (digits_few product.monomial.degree xs c.bounds.ensures.held (omega (arith, degree, low)))
     (sums_few t.degree key.monomial.degree t.exponents key.monomial.exponents c.bounds-2.ensures.held c.bounds-3.ensures.held low)
     (ap (λ p. fold hash_step p xs) (sym place) ∙ c.requires.hash)).1 in

@@ -67,7 +67,7 @@ loop-hashes-preserved c =
       part = part_more c.args.keys.now old new t v entries c.push_reserved.new.self.items i x number
           (c.push_known-entries.ensures.part c.args.keys.now inv.part) g (omega arith) lt c.index-v-i.is sized (omega (arith, c.in-Ok.ensures.small))
           c.push_reserved.ensures.items;
-      told = λ z. told_more old new t c.args.hashes.now x.0 number (inv.told z) bounded g;
+      told = λ z. told_more old new t c.args.hashes.now x.0 number sized (inv.told z) bounded g;
       within = omega arith;
       room = omega arith;
     }
