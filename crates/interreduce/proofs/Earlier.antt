@@ -1,8 +1,8 @@
 -- A member whose tail the list itself reduced, or the members that were reduced before it
 use Rattle.std.proofs.Common.{Greater, Less, List, Ordering, [], ap, arith, drop, get_or, inl, inr, length, map, refl, subst, suc, sym, take, zero, ℕ, ◌++◌, ◌+◌, ◌-◌, ◌<◌, ◌∙◌, ◌∷◌, ◌≡◌, ◌≤◌, ◌⊎◌}
 use Rattle.std.proofs.lemmas.Bool.{cases_lt}
-use Rattle.std.proofs.lemmas.List.{drop-append-le, get_or-append_right, get_or-drop, get_or-map, get_or-take, get_or_append_left, get_or_default, length-append, length-drop, length-map, length-take-le, take-append-drop, take-append-le, take_all}
-use Rattle.formal_sums.proofs.Combining.{IsMember_each, IsMember_through}
+use Rattle.std.proofs.lemmas.List.{drop-append-le, get_or-append_right, get_or-drop, get_or-map, get_or-take, get_or_append_left, get_or_default, get_or_past, length-append, length-drop, length-map, length-take-le, take-append-drop, take-append-le, take_all}
+use Rattle.formal_sums.proofs.Combining.{Each_map, IsMember_each, IsMember_through}
 use Rattle.formal_sums.proofs.WeightedSums.{Each_append}
 use Rattle.formal_sums.specs.Combinations.{IsMember}
 use Rattle.formal_sums.specs.FormalSums.{Each, FormalSum, Key}
@@ -13,12 +13,14 @@ use Rattle.bases.specs.Leads.{head_coefficient, head_key, leads}
 use Rattle.bases.specs.Settings.{IsLawful}
 use Rattle.term_lists.proofs.Parts.{Each_member}
 use Rattle.term_lists.specs.Rings.{setting, variables}
-use Rattle.term_lists.specs.Vectors.{AreVectorsOver, IsVectorOver, sum_of, sums_of}
+use Rattle.term_lists.specs.Vectors.{AreVectorsOver, IsVectorOver, key_of, sum_of, sums_of}
+use Rattle.term_lists.specs.declared.key.Key.{Key as CodeKey}
 use Rattle.term_lists.specs.declared.ring.Ring.{Ring}
 use Rattle.module_vectors.specs.Trails.{lead_at}
 use Rattle.vector_division.proofs.Members.{sums_at}
 use Rattle.vector_division.specs.Divisions.{IsFreeOfLeads, IsUncovered}
-use Rattle.interreduce.specs.Leads.{AreNeeded, IsCoveredBy}
+use Rattle.vector_division.specs.Divisors.{AreFreeKeys}
+use Rattle.interreduce.specs.Leads.{AreNeeded, HaveLeadsOf, IsCoveredBy}
 use Rattle.interreduce.specs.Members.{AreBatchOf, AreReducedTo, HasReducedTail, HaveReducedTails, IsReducedMember}
 use Rattle.interreduce.proofs.Choosing.{apart_at}
 use Rattle.interreduce.proofs.Leading.{Terms}
@@ -328,3 +330,59 @@ module _ (ring : Ring) (compare : (n : ℕ) → Key n → Key n → Ordering)
         count = ap length back ∙ r.0 ∙ omega (arith, long, ends.0);
         each = λ k lt. subst (λ z. IsReducedMember ring compare list (get_or kept k 0) (get_or z k [])) (sym back) (r.1 k (omega (arith, long, lt, ends.0)));
       }
+
+-- a vector that is zero or has the lead of one of the list
+abbrev HasLeadOf : ℕ → List Terms → Terms → Type 0
+HasLeadOf n list v = 0 < length v → (i : ℕ) × (0 < length (get_or list i [])) × (head_key (sum_of n v) ≡ lead_at n list i)
+
+within : (list : List Terms) (i : ℕ) → 0 < length (get_or list i []) → i < length list
+within list i some = go (cases_lt i (length list))
+  where
+    go : (i < length list) ⊎ (length list ≤ i) → i < length list
+    go (inl lt) = lt
+    go (inr le) =
+        let none : get_or list i [] ≡ [] = get_or_past list i [] le in
+        let zero_long : length (get_or list i []) ≡ 0 = ap length none in
+        absurd (omega arith)
+
+members_lead : (n : ℕ) (list : List Terms) (indices : List ℕ) → HaveLeadsOf n list (map (at_index list) indices)
+members_lead n list [] = tt
+members_lead n list (i ∷ indices) = (λ some. (i, some, refl), members_lead n list indices)
+
+-- what no lead of the list divides is not divided by those of vectors that have leads of the list
+uncovered_by : (n : ℕ) (list vectors : List Terms) (k : Key n) → HaveLeadsOf n list vectors → IsUncovered (sums_of n list) k → IsUncovered (sums_of n vectors) k
+uncovered_by n list vectors k h free i lt some d =
+    let at = sums_at n vectors i in
+    let l : i < length vectors = subst (λ z. i < z) (length-map vectors (λ w. sum_of n w)) lt in
+    let c = Each_member (HasLeadOf n list) vectors i [] h l (has_term n (get_or vectors i []) (λ e. some (at ∙ e))) in
+    free c.0 (subst (λ z. c.0 < z) (sym (length-map list (λ w. sum_of n w))) (within list c.0 c.1))
+    (λ e. some_sum n (get_or list c.0 []) c.1 (sym (sums_at n list c.0) ∙ e))
+    (subst (λ z. KeyDivides z k) (ap head_key at ∙ c.2 ∙ sym (ap head_key (sums_at n list c.0))) d)
+
+pub free_of_known :
+    (n : ℕ) (list vectors : List Terms) (keys : List CodeKey) → HaveLeadsOf n list vectors → AreFreeKeys n list keys → AreFreeKeys n vectors keys
+free_of_known n list vectors keys h free =
+    Each_map (λ k. IsUncovered (sums_of n list) (key_of n k)) (λ k. IsUncovered (sums_of n vectors) (key_of n k)) keys
+    (λ k. uncovered_by n list vectors (key_of n k) h) free
+
+-- the same with members of the list behind them
+pub leads_with :
+    (n : ℕ) (list vectors more : List Terms) (indices : List ℕ) → HaveLeadsOf n list vectors → more ≡ vectors ++ map (at_index list) indices
+    → HaveLeadsOf n list more
+leads_with n list vectors more indices h e =
+    subst (HaveLeadsOf n list) (sym e)
+    (Each_append (HasLeadOf n list) vectors (map (at_index list) indices) h (members_lead n list indices))
+
+-- the members that serve and those that are reduced have leads of the list
+pub leads_reduced :
+    (ring : Ring) (compare : (n : ℕ) → Key n → Key n → Ordering) (list : List Terms) (kept : List ℕ)
+    → AreNeeded (variables ring) (compare (variables ring)) list kept → (others : List ℕ) (w s : ℕ) (known : List Terms) → s ≤ length kept
+    → AreReducedTo ring compare list kept others w s known → HaveLeadsOf (variables ring) list known
+leads_reduced ring compare list kept needed others w s known le h =
+    subst (HaveLeadsOf (variables ring) list) (sym (in_two ring compare list kept others w s known h))
+    (Each_append (HasLeadOf (variables ring) list) (map (at_index list) others) (drop w known) (members_lead (variables ring) list others)
+    (each_index (HasLeadOf (variables ring) list) (drop w known) (λ k lt some. (
+      get_or kept k 0,
+      Each_member (λ j. 0 < length (get_or list j [])) kept k 0 needed.leads (omega (arith, lt, h.count, le)),
+      (h.each k (subst (λ z. k < z) h.count lt)).lead,
+    ))))

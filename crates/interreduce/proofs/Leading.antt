@@ -15,7 +15,7 @@ use Rattle.term_lists.specs.Vectors.{HasVariables, key_of, sum_of}
 use Rattle.term_lists.specs.declared.key.Key.{Key as CodeKey}
 use Rattle.module_vectors.specs.Trails.{lead_at}
 use Rattle.vector_division.specs.Progress.{HaveVariables}
-use Rattle.interreduce.specs.Leads.{HaveLeads, LeadsRise, by_lead, lack_of}
+use Rattle.interreduce.specs.Leads.{HaveLeads, LeadsRise, by_lead, lack_of_lead}
 
 abbrev pub Terms : Type 0
 Terms = List (CodeKey × ℕ)
@@ -25,7 +25,7 @@ pub neither :
     (n : ℕ) (compare : Key n → Key n → Ordering) → IsKeyOrder 0 compare → (list : List Terms) (i j : ℕ)
     → get_or list i [] ≡ [] → get_or list j [] ≡ [] → Equal ≡ by_lead n compare list i j
 neither n compare order list i j a b =
-    sym (ap₂ (λ (x y : Terms). ordering_then (nat_cmp (lack_of x) (lack_of y)) (compare (head_key (sum_of n x)) (head_key (sum_of n y)))) a b ∙ equal_itself order (0, unit n))
+    sym (ap₂ (λ (x y : Terms). ordering_then (nat_cmp (lack_of_lead x) (lack_of_lead y)) (compare (head_key (sum_of n x)) (head_key (sum_of n y)))) a b ∙ equal_itself order (0, unit n))
 
 by_lead_total :
     {n : ℕ} (compare : Key n → Key n → Ordering) → IsTotalOrder compare
@@ -35,9 +35,9 @@ by_lead_total compare o = then_total (on_total (λ k. k.0) nat_cmp_total) (on_to
 pub by_lead_weak :
     (n : ℕ) (compare : Key n → Key n → Ordering) (list : List Terms) → IsTotalOrder compare
     → IsStrictWeakOrder (λ i j. is_lt (by_lead n compare list i j))
-by_lead_weak n compare list o = ranks_by (by_lead_total compare o) (λ i. (lack_of (get_or list i []), lead_at n list i))
+by_lead_weak n compare list o = ranks_by (by_lead_total compare o) (λ i. (lack_of_lead (get_or list i []), lead_at n list i))
 
-lack_none : (v : Terms) → 0 < length v → lack_of v ≡ 0
+lack_none : (v : Terms) → 0 < length v → lack_of_lead v ≡ 0
 lack_none [] some = absurd (omega (arith, some))
 lack_none (t ∷ v) some = refl
 

@@ -1,5 +1,5 @@
 -- A member with its tail reduced
-use Rattle.std.proofs.Common.{Equal, Greater, Less, List, Ordering, Result, Ok, Err, IfOk, [], ap, arith, drop, get_or, inl, inr, length, map, refl, subst, suc, sym, take, zero, ℕ, ◌*◌, ◌++◌, ◌+◌, ◌-◌, ◌<◌, ◌∙◌, ◌∷◌, ◌≡◌}
+use Rattle.std.proofs.Common.{Equal, Greater, Less, List, Ordering, [], ap, ap₂, arith, drop, get_or, inl, inr, length, map, refl, subst, suc, sym, take, zero, ℕ, ◌*◌, ◌++◌, ◌+◌, ◌-◌, ◌<◌, ◌∙◌, ◌∷◌, ◌≡◌}
 use Rattle.std.proofs.lemmas.List.{length-map}
 use Rattle.residues.proofs.Congruences.{IsCongruent_add, IsCongruent_minus, IsCongruent_of, IsCongruent_refl, IsCongruent_trans}
 use Rattle.monomials.specs.Exponents.{Exponents, exponents_of, unit}
@@ -15,10 +15,10 @@ use Rattle.bases.specs.Leads.{head_key}
 use Rattle.bases.specs.Settings.{IsLawful}
 use Rattle.term_lists.proofs.NormalVectors.{residues_of}
 use Rattle.term_lists.specs.Rings.{setting, variables}
-use Rattle.term_lists.specs.Vectors.{AreTermsOver, AreVectorsOver, IsMonicOf, IsVectorOver, StandsFor, key_of, sum_of, sums_of}
+use Rattle.term_lists.specs.Vectors.{AreVectorsOver, IsMonicOf, IsVectorOver, StandsFor, key_of, sum_of, sums_of}
 use Rattle.term_lists.specs.declared.key.Key.{Key as CodeKey}
 use Rattle.term_lists.specs.declared.ring.Ring.{Ring}
-use Rattle.module_vectors.specs.Trails.{IsMet, product_lead}
+use Rattle.module_vectors.specs.Trails.{IsMet, kept_product_lead}
 use Rattle.vector_division.proofs.Members.{sums_at}
 use Rattle.vector_division.proofs.Occurring.{at_key, occurring}
 use Rattle.vector_division.proofs.Subtracting.{none_above, up_to_trans}
@@ -28,23 +28,14 @@ use Rattle.vector_division.specs.declared.reduction.ScaledProduct.{ScaledProduct
 use Rattle.interreduce.specs.Members.{HasReducedTail}
 use Rattle.interreduce.proofs.Leading.{Terms}
 
-pub if_ok :
-    {T E : Type 0} (P Q R : T → Type 0) (r : Result T E)
-    → ((x : T) → P x → Q x → R x) → IfOk r P → IfOk r Q → IfOk r R
-if_ok P Q R (Ok x) f p q = f x p q
-if_ok P Q R (Err e) f p q = tt
-
 -- ---- vectors without their lead, and with another tail
 module _ (ring : Ring) (compare : (n : ℕ) → Key n → Key n → Ordering) where
   pub tail_vector : (v : Terms) → IsVectorOver ring compare v → IsVectorOver ring compare (drop 1 v)
   tail_vector [] h = h
   tail_vector (t ∷ v) h = record { each = h.each.1; descends = h.descends.1 }
 
-  pub terms_over : (v : Terms) → IsVectorOver ring compare v → AreTermsOver ring v
-  terms_over v h = Each_map _ _ v (λ t i. (i.weighed, i.reduced)) h.each
-
   -- the lead of v and what stands below it
-  pub whole_vector :
+  whole_vector :
       (v rest : Terms) (y : CodeKey × ℕ)
       → 0 < length v → IsVectorOver ring compare v → IsVectorOver ring compare rest
       → Each (λ t. compare (variables ring) (head_key (sum_of (variables ring) v)) t.0 ≡ Greater) (sum_of (variables ring) rest)
@@ -54,6 +45,19 @@ module _ (ring : Ring) (compare : (n : ℕ) → Key n → Key n → Ordering) wh
   whole_vector (t ∷ v) rest y some h r below e =
       let whole : IsVectorOver ring compare (t ∷ rest) = record { each = (h.each.0, r.each); descends = (below, r.descends) } in
       (subst (λ z. IsVectorOver ring compare (z ∷ rest)) (sym e) whole, ap (λ z. z ∷ rest) e)
+
+  -- the same where the lead's key is a copy
+  pub with_lead :
+      (v rest terms whole : Terms) (key : CodeKey) (lead : CodeKey × ℕ)
+      → 0 < length v → IsVectorOver ring compare v → IsVectorOver ring compare rest
+      → Each (λ t. compare (variables ring) (head_key (sum_of (variables ring) v)) t.0 ≡ Greater) (sum_of (variables ring) rest)
+      → terms ≡ v → lead ≡ get_or terms 0 lead → key ≡ lead.0 → whole ≡ (key, lead.1) ∷ rest
+      → IsVectorOver ring compare whole × (whole ≡ take 1 v ++ rest)
+  with_lead v rest terms whole key lead some h r below same first copy e =
+      let y : CodeKey × ℕ = (key, lead.1) in
+      let again : y ≡ lead = ap (λ k. (k, lead.1)) copy in
+      let w = whole_vector v rest y some h r below (again ∙ first ∙ ap₂ (λ l d. get_or l 0 d) same (sym again)) in
+      (subst (IsVectorOver ring compare) (sym e) w.0, e ∙ w.1)
 
 -- ---- what division leaves stands below the lead
 moved : {n : ℕ} (p : ℕ) (v a r : FormalSum n) → 0 < p → IsSame p v (a ++ r) → IsSame p r (v ++ scale (p - 1) (unit n) a)
@@ -124,7 +128,7 @@ module _ (ring : Ring) (compare : (n : ℕ) → Key n → Key n → Ordering) (r
   nothing_below k [] h = tt
   nothing_below k (q ∷ qs) h = absurd (none h.0)
     where
-      none : IsMet (variables ring) [] list [] (product_lead (variables ring) list (unscaled q)) → ⊥
+      none : IsMet (variables ring) [] list [] (kept_product_lead (variables ring) list (unscaled q)) → ⊥
       none (inl (i, lt, e)) = omega arith
       none (inr (s, (i, lt, e), d)) = omega arith
 

@@ -4,7 +4,7 @@ use Rattle.formal_sums.specs.FormalSums.{FormalSum, Key}
 use Rattle.term_lists.specs.Rings.{variables}
 use Rattle.term_lists.specs.Vectors.{sum_of}
 use Rattle.term_lists.specs.declared.ring.Ring.{Ring}
-use Rattle.module_vectors.specs.Trails.{AreMet, IsStart, HasKey, IsMet, IsTrail, KeptProduct, product_lead}
+use Rattle.module_vectors.specs.Trails.{AreMet, IsStart, HasKey, IsMet, IsTrail, KeptProduct, kept_product_lead}
 use Rattle.module_vectors.specs.declared.trail.KeptTrail.{KeptTrail}
 use Rattle.module_vectors.specs.declared.trail.TrailStart.{TrailStart}
 use Rattle.module_vectors.specs.declared.trail.TrailStart.TheVariants as starts
@@ -23,14 +23,14 @@ module _ (n : ℕ) (v w : FormalSum n) (list : List Terms) (more : (k : Key n) �
 
   steps_met_more : (earlier products : List KeptProduct) → AreMet n v list earlier products → AreMet n w list earlier products
   steps_met_more earlier [] h = tt
-  steps_met_more earlier (s ∷ products) h = (met_more earlier (product_lead n list s) h.0, steps_met_more (earlier ++ s ∷ []) products h.1)
+  steps_met_more earlier (s ∷ products) h = (met_more earlier (kept_product_lead n list s) h.0, steps_met_more (earlier ++ s ∷ []) products h.1)
 
 begins_more :
     (n : ℕ) (start : TrailStart) (u v x : Terms) (list : List Terms) (first : KeptProduct) (later : List KeptProduct)
     → start ≡ starts.Term → u ≡ drop 1 v → x ≡ v → IsStart n start u list first later → IsStart n start x list first later
 begins_more n start u v x list first later s e f h =
-    let b : HasKey (sum_of n u) (product_lead n list first) = subst (λ z. IsStart n z u list first later) s h in
-    let c : HasKey (sum_of n x) (product_lead n list first) = subst (λ z. HasKey (sum_of n z) (product_lead n list first)) (sym f) (tail_key n v _ (subst (λ z. HasKey (sum_of n z) (product_lead n list first)) e b)) in
+    let b : HasKey (sum_of n u) (kept_product_lead n list first) = subst (λ z. IsStart n z u list first later) s h in
+    let c : HasKey (sum_of n x) (kept_product_lead n list first) = subst (λ z. HasKey (sum_of n z) (kept_product_lead n list first)) (sym f) (tail_key n v _ (subst (λ z. HasKey (sum_of n z) (kept_product_lead n list first)) e b)) in
     subst (λ z. IsStart n z x list first later) (sym s) c
 
 pub widened :

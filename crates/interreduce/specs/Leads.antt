@@ -5,6 +5,8 @@ use Rattle.std.specs.declared.cmp.Ordering.{Ordering}
 use Rattle.std.specs.declared.cmp.Ordering.TheVariants.{Greater, Less}
 use Rattle.formal_sums.specs.FormalSums.{Each, Key}
 use Rattle.orders.specs.KeyOrders.{KeyDivides}
+use Rattle.bases.specs.Leads.{head_key}
+use Rattle.term_lists.specs.Vectors.{sum_of}
 use Rattle.term_lists.specs.declared.key.Key.{Key as CodeKey}
 use Rattle.module_vectors.specs.Trails.{lead_at}
 
@@ -12,15 +14,20 @@ use Rattle.module_vectors.specs.Trails.{lead_at}
 abbrev pub HaveLeads : List (List (CodeKey × ℕ)) → List ℕ → Type 0
 HaveLeads list indices = Each (λ i. 0 < length (get_or list i [])) indices
 
+-- each of these vectors is zero or has the lead of a vector of the list
+abbrev pub HaveLeadsOf : ℕ → List (List (CodeKey × ℕ)) → List (List (CodeKey × ℕ)) → Type 0
+HaveLeadsOf n list vectors =
+    Each (λ v. 0 < length v → (i : ℕ) × (0 < length (get_or list i [])) × (head_key (sum_of n v) ≡ lead_at n list i)) vectors
+
 -- 0 for a vector with a lead, 1 for zero
-abbrev pub lack_of : List (CodeKey × ℕ) → ℕ
-lack_of [] = 1
-lack_of (t ∷ v) = 0
+abbrev pub lack_of_lead : List (CodeKey × ℕ) → ℕ
+lack_of_lead [] = 1
+lack_of_lead (t ∷ v) = 0
 
 -- two members by their leads; those that have none come last
 abbrev pub by_lead : (n : ℕ) → (Key n → Key n → Ordering) → List (List (CodeKey × ℕ)) → ℕ → ℕ → Ordering
 by_lead n compare list i j =
-    ordering_then (nat_cmp (lack_of (get_or list i [])) (lack_of (get_or list j []))) (compare (lead_at n list i) (lead_at n list j))
+    ordering_then (nat_cmp (lack_of_lead (get_or list i [])) (lack_of_lead (get_or list j []))) (compare (lead_at n list i) (lead_at n list j))
 
 -- no lead is above that of a later member
 abbrev pub LeadsRise : (n : ℕ) → (Key n → Key n → Ordering) → List (List (CodeKey × ℕ)) → List ℕ → Type 0

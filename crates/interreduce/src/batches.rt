@@ -3,16 +3,17 @@ ghost use Rattle.std.specs.Prelude.{◌≡◌, ◌<◌, ◌≤◌, ◌+◌, ◌-
 ghost use Rattle.formal_sums.specs.FormalSums.{Each};
 ghost use Rattle.term_lists.specs.Rings.{variables};
 ghost use Rattle.term_lists.specs.Vectors.{AreVectorsOver};
-ghost use Rattle.vector_division.specs.Divisors.{AreDivisors};
-ghost use Rattle.interreduce.specs.Leads.{AreNeeded, HaveLeads};
+ghost use Rattle.vector_division.specs.Divisors.{AreDivisors, AreFreeKeys};
+ghost use Rattle.interreduce.specs.Leads.{AreNeeded, HaveLeads, HaveLeadsOf};
 ghost use Rattle.interreduce.specs.Members.{AreBatchOf, AreReducedMembers, HaveReducedTails};
 
 use crate::leads::lead_degree;
 use crate::side_by_side::{is_worth_threads, reduced_by_known};
+use crate::tail_keys::free_keys;
 use module_vectors::{Frame, NoMemory, Vect, VectList, Vectors, WorkStop, lawful_setting};
 use std::alloc::Global;
 use std::thread::Threads;
-use vector_division::{Divisor, divisors_from_last, insert_divisor};
+use vector_division::{Divisor, FreeKeys, divisors_from_last, insert_divisor};
 
 // Appends the members with these indices, as they are.
 fn push_members<L: Vectors>(
@@ -107,6 +108,7 @@ fn tails_together<R: Threads + Sync, F: Frame + Sync, L: Vectors + Sync>(
     list: &L,
     known: VectList,
     divisors: &[Divisor],
+    free: &FreeKeys,
     place: usize,
     batch: &[usize],
 ) -> Result<(VectList, Vec<Vect>), WorkStop>
@@ -117,6 +119,8 @@ fn tails_together<R: Threads + Sync, F: Frame + Sync, L: Vectors + Sync>(
     requires known { AreVectorsOver (F.over frame.now) (F.compare frame.now) known }
     requires place { place ≤ length divisors.now }
     requires divisors { (n : ℕ) → AreDivisors n known divisors.now }
+    requires free { AreFreeKeys (variables (F.over frame.now)) (L.listed list.now) free.now }
+    requires serving { HaveLeadsOf (variables (F.over frame.now)) (L.listed list.now) known }
     ensures known { IfOk result (λ r. r.0 ≡ known) }
     ensures tails { IfOk result (λ r. HaveReducedTails (F.over frame.now) (F.compare frame.now) (L.listed list.now)
         (known ++ map (λ i. get_or (L.listed list.now) i []) (take (length batch.now - 1) batch.now)) batch.now r.1.items) }
@@ -128,7 +132,7 @@ fn tails_together<R: Threads + Sync, F: Frame + Sync, L: Vectors + Sync>(
     tried.extend_from_slice(divisors)?;
     let mut together = known;
     push_all(copies, &mut together, &mut tried, place)?;
-    let members = reduced_by_known(rt, alloc, frame, list, &together, &tried, batch)?;
+    let members = reduced_by_known(rt, alloc, frame, list, &together, &tried, free, batch)?;
     let mut whole = together.into_vec();
     whole.truncate(width);
     Ok((VectList::from_vec(whole), members))
@@ -144,6 +148,7 @@ fn batch_tails<R: Threads + Sync, F: Frame + Sync, L: Vectors + Sync>(
     list: &L,
     known: VectList,
     divisors: &[Divisor],
+    free: &FreeKeys,
     place: usize,
     batch: &[usize],
 ) -> Result<(VectList, Vec<Vect>), WorkStop>
@@ -154,14 +159,16 @@ fn batch_tails<R: Threads + Sync, F: Frame + Sync, L: Vectors + Sync>(
     requires known { AreVectorsOver (F.over frame.now) (F.compare frame.now) known }
     requires place { place ≤ length divisors.now }
     requires divisors { (n : ℕ) → AreDivisors n known divisors.now }
+    requires free { AreFreeKeys (variables (F.over frame.now)) (L.listed list.now) free.now }
+    requires serving { HaveLeadsOf (variables (F.over frame.now)) (L.listed list.now) known }
     ensures known { IfOk result (λ r. r.0 ≡ known) }
     ensures tails { IfOk result (λ r. HaveReducedTails (F.over frame.now) (F.compare frame.now) (L.listed list.now)
         (known ++ map (λ i. get_or (L.listed list.now) i []) (take (length batch.now - 1) batch.now)) batch.now r.1.items) }
 {
     if batch.len() > 1 {
-        return tails_together(rt, alloc, frame, list, known, divisors, place, batch);
+        return tails_together(rt, alloc, frame, list, known, divisors, free, place, batch);
     }
-    let members = reduced_by_known(rt, alloc, frame, list, &known, divisors, batch)?;
+    let members = reduced_by_known(rt, alloc, frame, list, &known, divisors, free, batch)?;
     Ok((known, members))
 }
 
@@ -173,6 +180,7 @@ fn with_batch<R: Threads + Sync, F: Frame + Sync, L: Vectors + Sync>(
     list: &L,
     known: VectList,
     divisors: &mut Vec<Divisor>,
+    free: &FreeKeys,
     place: usize,
     batch: &[usize],
 ) -> Result<VectList, WorkStop>
@@ -183,11 +191,15 @@ fn with_batch<R: Threads + Sync, F: Frame + Sync, L: Vectors + Sync>(
     requires known { AreVectorsOver (F.over frame.now) (F.compare frame.now) known }
     requires place { place ≤ length divisors.old.items }
     requires divisors { (n : ℕ) → AreDivisors n known divisors.old.items }
+    requires free { AreFreeKeys (variables (F.over frame.now)) (L.listed list.now) free.now }
+    requires serving { HaveLeadsOf (variables (F.over frame.now)) (L.listed list.now) known }
     ensures known { IfOk result (λ r. AreBatchOf (F.over frame.now) (F.compare frame.now) (L.listed list.now) known batch.now r) }
     ensures divisors { IfOk result (λ r. (n : ℕ) → AreDivisors n r divisors.new.items) }
     ensures place { OnOk result (place ≤ length divisors.new.items) }
 {
-    let (mut more, members) = batch_tails(rt, alloc, frame, list, known, divisors, place, batch)?;
+    let (mut more, members) = batch_tails(
+        rt, alloc, frame, list, known, divisors, free, place, batch,
+    )?;
     push_all(members, &mut more, divisors, place)?;
     Ok(more)
 }
@@ -211,6 +223,7 @@ pub(crate) fn reduced_by_earlier<R: Threads + Sync, F: Frame + Sync, L: Vectors 
     ensures { IfOk result (λ members. AreReducedMembers (F.over frame.now) (F.compare frame.now) (L.listed list.now) kept.now members.items) }
 {
     lawful_setting(frame);
+    let free = free_keys(alloc, frame, list, kept)?;
     let mut vectors = Vec::new(alloc);
     push_members(alloc, list, others, &mut vectors)?;
     let width = vectors.len();
@@ -221,7 +234,17 @@ pub(crate) fn reduced_by_earlier<R: Threads + Sync, F: Frame + Sync, L: Vectors 
     while start < kept.len() {
         let end = batch_end(list, kept, start);
         let batch = &kept[start..end];
-        match with_batch(rt, alloc, frame, list, known, &mut divisors, place, batch) {
+        match with_batch(
+            rt,
+            alloc,
+            frame,
+            list,
+            known,
+            &mut divisors,
+            &free,
+            place,
+            batch,
+        ) {
             Ok(more) => known = more,
             Err(stop) => return Err(stop),
         }

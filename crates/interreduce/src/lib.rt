@@ -6,6 +6,7 @@ mod interreduction;
 mod leads;
 mod member;
 mod side_by_side;
+mod tail_keys;
 mod turns;
 
 pub use interreduction::interreduce;

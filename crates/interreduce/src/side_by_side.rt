@@ -4,7 +4,7 @@ ghost use Rattle.std.specs.declared.result.Result.TheVariants.{Ok};
 ghost use Rattle.formal_sums.specs.FormalSums.{Each};
 ghost use Rattle.term_lists.specs.Rings.{variables};
 ghost use Rattle.term_lists.specs.Vectors.{AreVectorsOver};
-ghost use Rattle.vector_division.specs.Divisors.{AreDivisors};
+ghost use Rattle.vector_division.specs.Divisors.{AreDivisors, AreFreeKeys};
 ghost use Rattle.interreduce.specs.Leads.{HaveLeads};
 ghost use Rattle.interreduce.specs.Members.{AreReducedMembers, HaveReducedTails, IsFirstRefusal, ReducesMember, ReducesTail, StopsAtFirst};
 
@@ -13,7 +13,7 @@ use module_vectors::{Frame, Vect, VectList, Vectors, WorkStop};
 use rayon::prelude::*;
 use std::alloc::Global;
 use std::thread::Threads;
-use vector_division::Divisor;
+use vector_division::{Divisor, FreeKeys};
 
 // So many terms make up for the threads that divide their tails.
 const WORTH_THREADS: usize = 2_048;
@@ -88,9 +88,11 @@ pub(crate) fn reduced_by_known<R: Threads + Sync, F: Frame + Sync, L: Vectors + 
     list: &L,
     known: &VectList,
     divisors: &[Divisor],
+    free: &FreeKeys,
     indices: &[usize],
 ) -> Result<Vec<Vect>, WorkStop>
     requires divisors { AreDivisors (variables (F.over frame.now)) known.now divisors.now }
+    requires free { AreFreeKeys (variables (F.over frame.now)) known.now free.now }
     requires indices { Each (λ i. i < length (L.listed list.now)) indices.now }
     requires vectors { AreVectorsOver (F.over frame.now) (F.compare frame.now) (L.listed list.now) }
     requires known { AreVectorsOver (F.over frame.now) (F.compare frame.now) known.now }
@@ -108,12 +110,13 @@ pub(crate) fn reduced_by_known<R: Threads + Sync, F: Frame + Sync, L: Vectors + 
         .map(
             |index: &usize| -> Result<Vect, WorkStop>
                 requires divisors { AreDivisors (variables (F.over frame.now)) known.now divisors.now }
+                requires free { AreFreeKeys (variables (F.over frame.now)) known.now free.now }
                 requires index { index.now < length (L.listed list.now) }
                 requires vectors { AreVectorsOver (F.over frame.now) (F.compare frame.now) (L.listed list.now) }
                 requires known { AreVectorsOver (F.over frame.now) (F.compare frame.now) known.now }
                 requires some { 0 < length (get_or (L.listed list.now) index.now []) }
                 ensures { ReducesTail (F.over frame.entry.now) (F.compare frame.entry.now) (L.listed list.entry.now) known.entry.now index.now result }
-            { member_reduced_by(alloc, frame, list, known, divisors, *index) },
+            { member_reduced_by(alloc, frame, list, known, divisors, free, *index) },
         )
         .collect::<Vec<Result<Vect, WorkStop>>>(rt, alloc)?;
     all_or_first_refusal(alloc, answers)

@@ -8,7 +8,7 @@ use Rattle.orders.proofs.RoomBelow.{room_falls}
 use Rattle.orders.specs.KeyOrders.{IsKeyOrder}
 use Rattle.term_lists.specs.Vectors.{sum_of}
 use Rattle.term_lists.specs.declared.key.Key.{Key as CodeKey}
-use Rattle.module_vectors.specs.Trails.{IsMet, KeptProduct, product_lead}
+use Rattle.module_vectors.specs.Trails.{IsMet, KeptProduct, kept_product_lead}
 use Rattle.vector_division.specs.Progress.{HasBoundedHead, last_position, room_of}
 use Rattle.vector_division.specs.Reductions.{AreMetFrom, unscaled}
 use Rattle.vector_division.specs.declared.reduction.ScaledProduct.{ScaledProduct}
@@ -35,10 +35,10 @@ less_room compare order t r (u ∷ x) bound h =
 -- ---- one quotient more
 pub met_push :
     (n : ℕ) (v : FormalSum n) (list : List Terms) (earlier : List KeptProduct) (qs : List ScaledProduct) (q : ScaledProduct)
-    → AreMetFrom n v list earlier qs → IsMet n v list (earlier ++ map unscaled qs) (product_lead n list (unscaled q))
+    → AreMetFrom n v list earlier qs → IsMet n v list (earlier ++ map unscaled qs) (kept_product_lead n list (unscaled q))
     → AreMetFrom n v list earlier (qs ++ q ∷ [])
-met_push n v list earlier [] q h m = (subst (λ e. IsMet n v list e (product_lead n list (unscaled q))) (append-nil earlier) m, tt)
-met_push n v list earlier (x ∷ qs) q h m = (h.0, met_push n v list (earlier ++ unscaled x ∷ []) qs q h.1 (subst (λ e. IsMet n v list e (product_lead n list (unscaled q))) (sym (append_assoc earlier (unscaled x ∷ []) (map unscaled qs))) m))
+met_push n v list earlier [] q h m = (subst (λ e. IsMet n v list e (kept_product_lead n list (unscaled q))) (append-nil earlier) m, tt)
+met_push n v list earlier (x ∷ qs) q h m = (h.0, met_push n v list (earlier ++ unscaled x ∷ []) qs q h.1 (subst (λ e. IsMet n v list e (kept_product_lead n list (unscaled q))) (sym (append_assoc earlier (unscaled x ∷ []) (map unscaled qs))) m))
 
 pub met_later :
     (n : ℕ) (v : FormalSum n) (list : List Terms) (earlier : List KeptProduct) (s : KeptProduct) (k : Key n)

@@ -25,7 +25,7 @@ use Rattle.term_lists.specs.Vectors.{IsVector, key_of, sum_of, sums_of}
 use Rattle.term_lists.specs.declared.key.Key.{Key as CodeKey}
 use Rattle.term_lists.specs.declared.stop.VectStop.{VectStop}
 use Rattle.term_lists.specs.declared.stop.VectStop.TheVariants.{Degree}
-use Rattle.module_vectors.specs.Trails.{HasKey, IsMet, KeptProduct, product_lead}
+use Rattle.module_vectors.specs.Trails.{HasKey, IsMet, KeptProduct, kept_product_lead}
 use Rattle.vector_division.specs.Progress.{IsDivisor, IsFailingProduct, IsSubtraction, SubtractionStops}
 use Rattle.vector_division.specs.Reductions.{IsScaledProduct, cofactors_of, unscaled}
 use Rattle.vector_division.specs.Runs.{AreBelow, IsOver, IsUnderway, StandsWith, total}
@@ -175,7 +175,7 @@ module _
               go (inl i) = let x = scaled_key c E (u ∷ g) l i in subst P (sym x.2) (b x.0 x.1)
               go (inr z) = a l (λ q. nz (IsCongruent_trans (IsCongruent_sym (IsCongruent_trans (taken.by_key l) (IsCongruent_of p _ _ (coefficient-append (scale c E (u ∷ g)) (total n new) l ∙ ap (λ y. y + coefficient (total n new) l) z ∙ omega arith)))) q))
 
-          lead_is : product_lead n list s ≡ K
+          lead_is : kept_product_lead n list s ≡ K
           lead_is = d.lead
 
           more : combination (sums_of n list) (cofactors_of n (qs ++ quotient ∷ [])) ≡ combination (sums_of n list) (cofactors_of n qs) ++ scale c E (u ∷ g)
@@ -188,7 +188,7 @@ module _
           underway_by = record {
             quotients = Each_append (IsScaledProduct n weights p list) qs (quotient ∷ []) pr.quotients (record { index = d.index; variables = d.variables; nonzero = h.nonzero; reduced = h.reduced; fits = h.fits }, tt);
             met = met_push n V list [] qs quotient pr.met (subst (IsMet n V list (map unscaled qs)) (sym lead_is) met_here);
-            bounded = Each_append (λ q. compare (product_lead n list (unscaled q)) (head_key V) ≡ Greater → ⊥) qs (quotient ∷ []) pr.bounded (subst (λ l. compare l (head_key V) ≡ Greater → ⊥) (sym lead_is) up_to_here, tt);
+            bounded = Each_append (λ q. compare (kept_product_lead n list (unscaled q)) (head_key V) ≡ Greater → ⊥) qs (quotient ∷ []) pr.bounded (subst (λ l. compare l (head_key V) ≡ Greater → ⊥) (sym lead_is) up_to_here, tt);
             keys = subst (λ x. (l : Key n) → (IsCongruent p (coefficient (total n new) l) 0 → ⊥) → IsMet n V list x l) (sym (map-append unscaled qs (quotient ∷ [])))
                 (each (IsMet n V list (map unscaled qs ++ s ∷ [])) (λ l nz. met_later n V list (map unscaled qs) s l (pr.keys l nz))
                 (λ l i. inr (s, Contains-push (map unscaled qs) s, (l, subst (λ x. HasKey (sum_of n x) l) (sym member) i, refl))));

@@ -3,9 +3,10 @@ use Rattle.std.specs.Prelude.{Contains, List, [], get_or, length, ⊤, ℕ, ◌<
 use Rattle.formal_sums.specs.FormalSums.{Each, Key}
 use Rattle.orders.specs.KeyOrders.{KeyDivides}
 use Rattle.bases.specs.Leads.{head_key}
-use Rattle.term_lists.specs.Vectors.{sum_of}
+use Rattle.term_lists.specs.Vectors.{key_of, sum_of, sums_of}
 use Rattle.term_lists.specs.declared.key.Key.{Key as CodeKey}
 use Rattle.module_vectors.specs.Trails.{lead_at}
+use Rattle.vector_division.specs.Divisions.{IsUncovered}
 use Rattle.vector_division.specs.Marks.{IsMarkOf}
 use Rattle.vector_division.specs.declared.divisors.Divisor.{Divisor}
 use Rattle.vector_division.specs.declared.marks.Mark.{Mark}
@@ -66,3 +67,11 @@ AreTriedTo n list k divisors i =
 pub record AreBy (f : ℕ → ℕ) (total : ℕ) (list : List (List (CodeKey × ℕ))) (divisors : List Divisor) : Type 0 where
   pub count : length divisors ≡ total
   pub each : (m : ℕ) (d : Divisor) → m < total → d ≡ get_or divisors m d → (d.index ≡ f m) × IsMarkOf (get_or list (f m) []) d.mark
+
+-- no lead of the list divides any of these keys
+abbrev pub AreFreeKeys : ℕ → List (List (CodeKey × ℕ)) → List CodeKey → Type 0
+AreFreeKeys n list keys = Each (λ k. IsUncovered (sums_of n list) (key_of n k)) keys
+
+-- each slot has the number of one of so many keys, from 1, or 0
+abbrev pub HaveNumbers : ℕ → List ℕ → Type 0
+HaveNumbers count slots = (i : ℕ) → get_or slots i 0 ≤ count

@@ -12,7 +12,7 @@ use Rattle.term_lists.specs.Vectors.{HasVariables, IsVector, sum_of, sums_of}
 use Rattle.term_lists.specs.declared.key.Key.{Key as CodeKey}
 use Rattle.term_lists.specs.declared.stop.VectStop.{VectStop}
 use Rattle.term_lists.specs.declared.stop.VectStop.TheVariants.{Memory, Degree}
-use Rattle.module_vectors.specs.Trails.{IsMet, KeptProduct, product_lead}
+use Rattle.module_vectors.specs.Trails.{IsMet, KeptProduct, kept_product_lead}
 use Rattle.vector_division.specs.Divisions.{IsUncovered}
 use Rattle.vector_division.specs.Reductions.{unscaled}
 use Rattle.vector_division.specs.declared.reduction.ScaledProduct.{ScaledProduct}
@@ -39,7 +39,7 @@ pub record IsDivisor (n : ℕ) (weights : List ℕ) (list : List (List (CodeKey 
   pub index : s.0 < length list
   pub some : 0 < length (get_or list s.0 [])
   pub variables : IsWeighed n weights s.1
-  pub lead : product_lead n list s ≡ k
+  pub lead : kept_product_lead n list s ≡ k
 
 -- such a product, or none where no lead of the list divides k
 abbrev pub IsFound : (n : ℕ) → List ℕ → List (List (CodeKey × ℕ)) → Key n → Option KeptProduct → Type 0
@@ -79,7 +79,7 @@ pub record IsFailingProduct (n : ℕ) (weights : List ℕ) (v : List (CodeKey ×
     (last : Monomial) : Type 0 where
   pub index : s.0 < length list
   pub variables : IsWeighed n weights s.1
-  pub met : IsMet n (sum_of n v) list (map unscaled qs) (product_lead n list s)
+  pub met : IsMet n (sum_of n v) list (map unscaled qs) (kept_product_lead n list s)
   pub monomial : HasMonomial (get_or list s.0 []) last
   pub last_variables : IsWeighed n weights last
   pub too_great : IsTooGreat s.1 last

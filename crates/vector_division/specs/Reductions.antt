@@ -7,7 +7,7 @@ use Rattle.formal_sums.specs.FormalSums.{Each, FormalSum, Key}
 use Rattle.monomial_orders.specs.Kept.{IsWeighed}
 use Rattle.term_lists.specs.Stops.{Fits}
 use Rattle.term_lists.specs.declared.key.Key.{Key as CodeKey}
-use Rattle.module_vectors.specs.Trails.{AreMet, KeptProduct, product_lead}
+use Rattle.module_vectors.specs.Trails.{AreMet, KeptProduct, kept_product_lead}
 use Rattle.vector_division.specs.declared.reduction.ScaledProduct.{ScaledProduct}
 
 -- the product without its residue
@@ -36,4 +36,4 @@ AreMetFrom n v list earlier qs = AreMet n v list earlier (map unscaled qs)
 
 -- each product's lead is at most k
 abbrev pub HaveLeadsUpTo : (n : ℕ) → (Key n → Key n → Ordering) → List (List (CodeKey × ℕ)) → Key n → List ScaledProduct → Type 0
-HaveLeadsUpTo n compare list k qs = Each (λ q. compare (product_lead n list (unscaled q)) k ≡ Greater → ⊥) qs
+HaveLeadsUpTo n compare list k qs = Each (λ q. compare (kept_product_lead n list (unscaled q)) k ≡ Greater → ⊥) qs

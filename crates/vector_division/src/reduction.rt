@@ -5,13 +5,14 @@ ghost use Rattle.formal_sums.specs.Combinations.{combination};
 ghost use Rattle.bases.specs.Leads.{head_key};
 ghost use Rattle.term_lists.specs.Rings.{variables};
 ghost use Rattle.term_lists.specs.Vectors.{sum_of, sums_of, IsVectorOver, AreVectorsOver, StandsFor};
-ghost use Rattle.vector_division.specs.Divisors.{AreDivisors};
+ghost use Rattle.vector_division.specs.Divisors.{AreDivisors, AreFreeKeys};
 ghost use Rattle.vector_division.specs.Divisions.{IsFreeOfLeads, HasReducedLead, DivisionStops};
 ghost use Rattle.vector_division.specs.Reductions.{cofactors_of, IsScaledProduct, AreMetFrom, HaveLeadsUpTo};
 ghost use Rattle.vector_division.specs.Runs.{total, IsEnded, IsSplit, IsWhether};
 
 use crate::buckets::Buckets;
 use crate::divisors::{Divisor, divisors_from_first, is_uncovered};
+use crate::free_keys::FreeKeys;
 use crate::runs::Run;
 use crate::underway::advance;
 use module_vectors::{Frame, Key, Vect, Vectors, WorkStop};
@@ -56,11 +57,13 @@ fn take_products<F: Frame, L: Vectors>(
     v: &Vect,
     list: &L,
     divisors: &[Divisor],
+    free: &FreeKeys,
     lead_alone: bool,
 ) -> Result<Taken, WorkStop>
     requires vector { IsVectorOver (F.over frame.now) (F.compare frame.now) v.now }
     requires list { AreVectorsOver (F.over frame.now) (F.compare frame.now) (L.listed list.now) }
     requires divisors { AreDivisors (variables (F.over frame.now)) (L.listed list.now) divisors.now }
+    requires free { AreFreeKeys (variables (F.over frame.now)) (L.listed list.now) free.now }
     ensures kept { let n = variables (F.over frame.now) in
         IfOk result (λ t. IsSplit n (F.over frame.now).weights (F.over frame.now).modulus.value (F.compare frame.now n) v.now
         (L.listed list.now) t.quotients.items t.rest.items t.left (total n t.left)) }
@@ -87,6 +90,7 @@ fn take_products<F: Frame, L: Vectors>(
                     v,
                     list,
                     divisors,
+                    free,
                     term,
                     &mut left,
                     &mut quotients,
@@ -133,12 +137,41 @@ pub fn reduce_by<F: Frame, L: Vectors>(
     ensures reduced { let n = variables (F.over frame.now) in IfOk result (λ r. IsFreeOfLeads (sums_of n (L.listed list.now)) (sum_of n r.rest)) }
     ensures stop { IfErr result (DivisionStops (F.over frame.now) v.now (L.listed list.now)) }
 {
+    reduce_knowing(alloc, frame, v, list, divisors, &FreeKeys::new(alloc))
+}
+
+/// The same, where these keys are known to be divisible by no lead of the list: no divisor is looked for where the greatest key is
+/// one of them.
+pub fn reduce_knowing<F: Frame, L: Vectors>(
+    alloc: Global,
+    frame: &F,
+    v: &Vect,
+    list: &L,
+    divisors: &[Divisor],
+    free: &FreeKeys,
+) -> Result<Reduction, WorkStop>
+    requires vector { IsVectorOver (F.over frame.now) (F.compare frame.now) v.now }
+    requires list { AreVectorsOver (F.over frame.now) (F.compare frame.now) (L.listed list.now) }
+    requires divisors { AreDivisors (variables (F.over frame.now)) (L.listed list.now) divisors.now }
+    requires free { AreFreeKeys (variables (F.over frame.now)) (L.listed list.now) free.now }
+    ensures quotients { IfOk result (λ r. Each (IsScaledProduct (variables (F.over frame.now)) (F.over frame.now).weights (F.over frame.now).modulus.value
+        (L.listed list.now)) r.quotients.items) }
+    ensures met { let n = variables (F.over frame.now) in IfOk result (λ r. AreMetFrom n (sum_of n v.now) (L.listed list.now) [] r.quotients.items) }
+    ensures bounded { let n = variables (F.over frame.now) in
+        IfOk result (λ r. HaveLeadsUpTo n (F.compare frame.now n) (L.listed list.now) (head_key (sum_of n v.now)) r.quotients.items) }
+    ensures sum { let n = variables (F.over frame.now) in
+        IfOk result (λ r. StandsFor (F.over frame.now) v.now
+        (combination (sums_of n (L.listed list.now)) (cofactors_of n r.quotients.items) ++ sum_of n r.rest)) }
+    ensures rest { IfOk result (λ r. IsVectorOver (F.over frame.now) (F.compare frame.now) r.rest) }
+    ensures reduced { let n = variables (F.over frame.now) in IfOk result (λ r. IsFreeOfLeads (sums_of n (L.listed list.now)) (sum_of n r.rest)) }
+    ensures stop { IfErr result (DivisionStops (F.over frame.now) v.now (L.listed list.now)) }
+{
     frame.ring().modulus.domain();
     let Taken {
         quotients,
         rest,
         left,
-    } = take_products(alloc, frame, v, list, divisors, false)?;
+    } = take_products(alloc, frame, v, list, divisors, free, false)?;
     drop(left);
     Ok(Reduction {
         quotients,
@@ -211,7 +244,7 @@ fn reduce_lead_by<F: Frame, L: Vectors>(
         quotients,
         mut rest,
         left,
-    } = take_products(alloc, frame, v, list, divisors, true)?;
+    } = take_products(alloc, frame, v, list, divisors, &FreeKeys::new(alloc), true)?;
     match rest.pop() {
         None => Ok(Reduction {
             quotients,

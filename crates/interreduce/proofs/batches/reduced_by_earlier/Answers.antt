@@ -1,5 +1,5 @@
 use Rattle.std.proofs.Common.{arith}
-use Rattle.interreduce.proofs.Earlier.{all_vectors, first_known, next_batch}
+use Rattle.interreduce.proofs.Earlier.{all_vectors, first_known, leads_reduced, next_batch}
 use Rattle.interreduce.proofs.batches.reduced_by_earlier.Goals as goal
 
 pub loop-start-init : goal.loop-start-init
@@ -21,6 +21,15 @@ with_batch-requires-clause-known g c κs within =
 
 pub with_batch-requires-clause-divisors : goal.with_batch-requires-clause-divisors
 with_batch-requires-clause-divisors g c κs within = c.loop-start.invariant.divisors
+
+pub with_batch-requires-clause-free : goal.with_batch-requires-clause-free
+with_batch-requires-clause-free g c κs within = c.in_ok-free.ensures
+
+pub with_batch-requires-clause-serving : goal.with_batch-requires-clause-serving
+with_batch-requires-clause-serving g c κs within =
+    leads_reduced (g.F.Frame.over c.args.frame.now) (g.F.Frame.compare c.args.frame.now) (g.L.Vectors.listed c.args.list.now)
+    c.args.kept.now c.requires.needed c.args.others.now c.len-width.result c.loop-start.start c.loop-start.known
+    c.loop-start.invariant.within c.loop-start.invariant.reduced
 
 pub with_batch-requires-clause-place : goal.with_batch-requires-clause-place
 with_batch-requires-clause-place g c κs within = c.loop-start.invariant.place

@@ -2,7 +2,7 @@ use Rattle.std.proofs.Common.{[], ap, arith, get_or, length, subst, sym, take, �
 use Rattle.term_lists.specs.Rings.{variables}
 use Rattle.vector_division.specs.Divisors.{AreDivisors}
 use Rattle.interreduce.specs.Members.{HaveReducedTails}
-use Rattle.interreduce.proofs.Earlier.{front_again, known_batch, vectors_known}
+use Rattle.interreduce.proofs.Earlier.{free_of_known, front_again, known_batch, leads_with, vectors_known}
 use Rattle.interreduce.proofs.batches.tails_together.Goals as goal
 
 pub push_all-requires-clause-place : goal.push_all-requires-clause-place
@@ -28,6 +28,17 @@ reduced_by_known-requires-clause-known g c κs within =
     (take (length batch - 1) batch) c.requires.known
     (known_batch (λ i. get_or list i []) batch c.args.known c.new-copies.result.items c.push_members.new.vectors.items c.push_all.new.known _
     c.new-copies.ensures.items c.in_ok-push_members.ensures (omega arith) c.in_ok-push_all.ensures.known)
+
+pub reduced_by_known-requires-clause-free : goal.reduced_by_known-requires-clause-free
+reduced_by_known-requires-clause-free g c κs within =
+    let n = variables (g.F.Frame.over c.args.frame.now) in
+    let list = g.L.Vectors.listed c.args.list.now in
+    let batch = c.args.batch.now in
+    free_of_known n list c.push_all.new.known c.args.free.now
+    (leads_with n list c.args.known c.push_all.new.known (take (length batch - 1) batch) c.requires.serving
+    (known_batch (λ i. get_or list i []) batch c.args.known c.new-copies.result.items c.push_members.new.vectors.items c.push_all.new.known _
+    c.new-copies.ensures.items c.in_ok-push_members.ensures (omega arith) c.in_ok-push_all.ensures.known))
+    c.requires.free
 
 pub returns-clause-known : goal.returns-clause-known
 returns-clause-known g c =

@@ -10,6 +10,12 @@ pub batch_tails-requires-clause-place : goal.batch_tails-requires-clause-place
 batch_tails-requires-clause-place g c κs within =
     subst (λ z. c.args.place ≤ length z) (sym c.deref.ensures.value) c.requires.place
 
+pub batch_tails-requires-clause-free : goal.batch_tails-requires-clause-free
+batch_tails-requires-clause-free g c κs within = c.requires.free
+
+pub batch_tails-requires-clause-serving : goal.batch_tails-requires-clause-serving
+batch_tails-requires-clause-serving g c κs within = c.requires.serving
+
 pub push_all-requires-clause-place : goal.push_all-requires-clause-place
 push_all-requires-clause-place g c = c.requires.place
 

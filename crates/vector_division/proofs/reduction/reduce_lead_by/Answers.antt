@@ -1,7 +1,8 @@
-use Rattle.std.proofs.Common.{subst}
+use Rattle.std.proofs.Common.{subst, sym}
 use Rattle.formal_sums.specs.FormalSums.{Each}
 use Rattle.term_lists.specs.Rings.{variables}
 use Rattle.term_lists.specs.Vectors.{IsTerm}
+use Rattle.vector_division.specs.Divisors.{AreFreeKeys}
 use Rattle.vector_division.proofs.Ending.{ended_lead}
 use Rattle.vector_division.proofs.Keeping.{kept_lead}
 use Rattle.vector_division.proofs.reduction.reduce_lead_by.Goals as goal
@@ -14,6 +15,10 @@ take_products-requires-clause-list g c = c.requires.list
 
 pub take_products-requires-clause-divisors : goal.take_products-requires-clause-divisors
 take_products-requires-clause-divisors g c = c.requires.divisors
+
+pub take_products-requires-clause-free : goal.take_products-requires-clause-free
+take_products-requires-clause-free g c =
+    subst (AreFreeKeys (variables (g.F.Frame.over c.args.frame.now)) (g.L.Vectors.listed c.args.list.now)) (sym c.new.ensures) tt
 
 pub behind-requires-clause-runs : goal.behind-requires-clause-runs
 behind-requires-clause-runs g c = c.in_ok-quotients.ensures.kept.lists

@@ -87,6 +87,9 @@ advance-requires-clause-list g c = c.requires.list
 pub advance-requires-clause-divisors : goal.advance-requires-clause-divisors
 advance-requires-clause-divisors g c = c.requires.divisors
 
+pub advance-requires-clause-free : goal.advance-requires-clause-free
+advance-requires-clause-free g c = c.requires.free
+
 pub advance-requires-clause-kept : goal.advance-requires-clause-kept
 advance-requires-clause-kept g c =
     let ring = g.F.Frame.over c.args.frame.now in
