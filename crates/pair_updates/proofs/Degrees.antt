@@ -13,18 +13,18 @@ use Rattle.basis_steps.specs.Criteria.{lcm_of}
 use Rattle.basis_steps.specs.Pairs.{Pair}
 use Rattle.basis_steps.specs.Queues.{degree_of, number_of_degree, number_of_least_degree}
 use Rattle.pair_updates.proofs.PairOrder.{degree_is}
-use Rattle.pair_updates.specs.Pairs.{HasLcm, pair_of, pairs_of}
+use Rattle.pair_updates.specs.Pairs.{HasLcm, index_pair_of, pairs_of}
 use Rattle.pair_updates.specs.Leads.{LeadsShown, setting_of_leads, sums_shown}
 
 -- one more pair is counted where it has the degree
 pub number_more :
     {n : ℕ} (S : Setting n) (G : List (FormalSum n)) (d : ℕ) (xs : List CodePair) (k : ℕ) (x : CodePair)
     → k < length xs → x ≡ get_or xs k x
-    → number_of_degree S G d (take (k + 1) (pairs_of xs)) ≡ number_of_degree S G d (take k (pairs_of xs)) + cond (nat_eq (degree_of S G (pair_of x)) d) 1 0
+    → number_of_degree S G d (take (k + 1) (pairs_of xs)) ≡ number_of_degree S G d (take k (pairs_of xs)) + cond (nat_eq (degree_of S G (index_pair_of x)) d) 1 0
 number_more S G d [] k x l e = absurd (omega arith)
 number_more S G d (y ∷ xs) zero x l e =
-    let at : ◌≡◌ {A = ℕ} (cond (nat_eq (degree_of S G (pair_of x)) d) 1 0) (cond (nat_eq (degree_of S G (pair_of y)) d) 1 0) =
-    ap (λ (z : CodePair). cond (nat_eq (degree_of S G (pair_of z)) d) 1 0) e in
+    let at : ◌≡◌ {A = ℕ} (cond (nat_eq (degree_of S G (index_pair_of x)) d) 1 0) (cond (nat_eq (degree_of S G (index_pair_of y)) d) 1 0) =
+    ap (λ (z : CodePair). cond (nat_eq (degree_of S G (index_pair_of z)) d) 1 0) e in
     let one : 0 + 1 ≡ 1 = omega arith in
     ap (λ m. number_of_degree S G d (take m (pairs_of (y ∷ xs)))) one ∙ omega (arith, at)
 number_more S G d (y ∷ xs) (suc k) x l e =

@@ -1,5 +1,5 @@
 -- To which pair of its new member each new pair yields first
-use Rattle.std.proofs.Common.{Bool, List, None, Option, Some, [], ap, arith, false, get_or, inl, inr, is_none, is_some, length, refl, set, subst, sym, true, ℕ, ◌&&◌, ◌++◌, ◌+◌, ◌<◌, ◌∙◌, ◌∷◌, ◌≡◌, ◌≤◌, ◌⊎◌}
+use Rattle.std.proofs.Common.{List, None, Option, Some, [], ap, arith, get_or, inl, inr, length, refl, set, subst, sym, ℕ, ◌++◌, ◌+◌, ◌<◌, ◌∙◌, ◌∷◌, ◌≡◌, ◌≤◌, ◌⊎◌}
 use Rattle.std.proofs.lemmas.Bool.{cases_lt}
 use Rattle.std.proofs.lemmas.List.{get_or-set_other, get_or-set_same, get_or_append_left, get_or_push, length-set, length_push}
 use Rattle.std.specs.Prelude.{MatchOption}
@@ -13,12 +13,10 @@ use Rattle.basis_steps.specs.Criteria.{IsPair, lcm_of}
 use Rattle.basis_steps.specs.Drops.{DividesProperly, YieldsTo}
 use Rattle.basis_steps.specs.Pairs.{Pair}
 use Rattle.basis_steps.specs.Updates.{IsOfGroup, Remains, YieldsFirstTo}
-use Rattle.pair_criteria.specs.declared.pair.Pair.{Pair as CodePair}
-use Rattle.pair_updates.proofs.NewFates.{news_at}
-use Rattle.pair_updates.specs.Dropping.{AreNewPairs, IsNewPair}
+use Rattle.pair_updates.specs.Dropping.{AreNewPairs, IsNewPair, new_pair_of}
 use Rattle.pair_updates.specs.FirstYields.{AreFirstYields, AreLowerYields, AreSettled, HasGroup, IsFirstAmong, IsFirstFrom, IsLowerYield, IsYieldSettled, NumbersRise, StandsFrom}
 use Rattle.pair_updates.specs.Leads.{LeadsShown, sums_shown}
-use Rattle.pair_updates.specs.Pairs.{pair_of}
+use Rattle.pair_updates.specs.declared.meeting.NewPair.{NewPair}
 
 -- ---- numbers that rise
 -- the item with this index, and one more
@@ -205,7 +203,7 @@ no_lower_yields m h = record {
 -- ---- the second turn
 -- before it each pair has its lower yield, or waits, or is none
 pub settled_first :
-    (m : LeadsShown) (h : ℕ) (news : List (Option CodePair)) (firsts : List (Option ℕ)) (active : List ℕ) → AreNewPairs m h news
+    (m : LeadsShown) (h : ℕ) (news : List (Option NewPair)) (firsts : List (Option ℕ)) (active : List ℕ) → AreNewPairs m h news
     → AreLowerYields m h h firsts active → AreSettled m h active 0 firsts []
 settled_first m h news firsts active all low = record {
   len = low.len;
@@ -215,7 +213,7 @@ settled_first m h news firsts active all low = record {
   within = tt;
 }
   where
-    waits : (i : ℕ) → i < h → get_or firsts i None ≡ None → (o : Option CodePair) → IsNewPair m h i o
+    waits : (i : ℕ) → i < h → get_or firsts i None ≡ None → (o : Option NewPair) → IsNewPair m h i o
         → (IsPair (sums_shown m) (i, h) → ⊥) ⊎ (StandsFrom active 0 i ⊎ (Remains (sums_shown m) h i × StandsFrom [] 0 i))
     waits i lt e None none = inl none
     waits i lt e (Some y) some = inr (inl (low.all i lt e (subst (IsPair (sums_shown m)) some.1 (some.0).pair)))
@@ -367,7 +365,7 @@ all_settled m h k active firsts left end s = record {
 
 -- what the list has for the pair of i and h
 pub first_of :
-    (m : LeadsShown) (h i : ℕ) (firsts : List (Option ℕ)) (left : List ℕ) (x : CodePair) → AreFirstYields m h firsts left → i < h → pair_of x ≡ (i, h)
+    (m : LeadsShown) (h i : ℕ) (firsts : List (Option ℕ)) (left : List ℕ) (x : NewPair) → AreFirstYields m h firsts left → i < h → new_pair_of x ≡ (i, h)
     → IsPair (sums_shown m) (i, h)
     → MatchOption (get_or firsts i None) (Remains (sums_shown m) x.j x.i) (λ j. YieldsFirstTo (sums_shown m) x.j x.i j)
 first_of m h i firsts left x all lt e pair =
@@ -416,20 +414,10 @@ group_all G h i k cs P group end none l g p =
 
 -- ---- what the code meets
 pub found_first :
-    (m : LeadsShown) (h i : ℕ) (x : CodePair) (active : List ℕ) (from k : ℕ) → pair_of x ≡ (i, h) → from ≤ k → k < length active
+    (m : LeadsShown) (h i : ℕ) (x : NewPair) (active : List ℕ) (from k : ℕ) → new_pair_of x ≡ (i, h) → from ≤ k → k < length active
     → YieldsTo (sums_shown m) x.j x.i (get_or active k 0)
     → ((z : ℕ) → from ≤ z → z < k → YieldsTo (sums_shown m) x.j x.i (get_or active z 0) → ⊥)
     → IsFirstFrom (sums_shown m) h i active from (get_or active k 0)
 found_first m h i x active from k e late lt y none =
     subst (λ (p : Pair). IsFirstFrom (sums_shown m) p.1 p.0 active from (get_or active k 0)) e
     (record { stands = record { at = k; late = late; within = lt; is = refl }; yields = y; before = none })
-
-pub active_none : (r : Option ℕ) (b : Bool) → is_none r && b ≡ true → r ≡ None
-active_none None b e = refl
-active_none (Some c) b e = absurd (cc)
-
-pub not_active :
-    (m : LeadsShown) (h i : ℕ) (news : List (Option CodePair)) (o : Option CodePair) (r : Option ℕ) → AreNewPairs m h news → i < h
-    → o ≡ get_or news i o → is_none r && is_some o ≡ false → r ≡ None → IsPair (sums_shown m) (i, h) → ⊥
-not_active m h i news None r all lt is e none pair = news_at m news h i None None all lt is refl pair
-not_active m h i news (Some y) r all lt is e none pair = absurd (let f : is_none r ≡ true = ap is_none none in cc)

@@ -15,7 +15,7 @@ use Rattle.basis_steps.specs.Queues.{IsSorted, compare_pairs, degree_of, number_
 use Rattle.pair_updates.proofs.Degrees.{least_is, other_degree}
 use Rattle.pair_updates.proofs.PairOrder.{degree_is}
 use Rattle.pair_updates.proofs.PairLists.{pairs_drop}
-use Rattle.pair_updates.specs.Pairs.{HasLcm, pair_of, pairs_of}
+use Rattle.pair_updates.specs.Pairs.{HasLcm, index_pair_of, pairs_of}
 use Rattle.pair_updates.specs.Leads.{LeadsShown, setting_of_leads, sums_shown}
 
 module _ {n : ℕ} (S : Setting n) (G : List (FormalSum n)) where
@@ -50,15 +50,15 @@ module _ {n : ℕ} (S : Setting n) (G : List (FormalSum n)) where
 
   -- no pair is of a lower degree than the first
   first_least : (xs : List CodePair) (k : ℕ) (first x : CodePair) → IsSorted S G (pairs_of xs) → k < length xs → first ≡ get_or xs 0 first
-      → x ≡ get_or xs k x → degree_of S G (pair_of first) ≤ degree_of S G (pair_of x)
+      → x ≡ get_or xs k x → degree_of S G (index_pair_of first) ≤ degree_of S G (index_pair_of x)
   first_least [] k first x h l e f = absurd (omega (arith, l))
-  first_least (y ∷ xs) zero first x h l e f = (let same : first ≡ x = e ∙ sym f in omega (arith, ap (λ (z : CodePair). degree_of S G (pair_of z)) same))
-  first_least (y ∷ xs) (suc k) first x h l e f = omega (arith, at xs k h.0 (omega (arith, l)) f, ap (λ (z : CodePair). degree_of S G (pair_of z)) e)
+  first_least (y ∷ xs) zero first x h l e f = (let same : first ≡ x = e ∙ sym f in omega (arith, ap (λ (z : CodePair). degree_of S G (index_pair_of z)) same))
+  first_least (y ∷ xs) (suc k) first x h l e f = omega (arith, at xs k h.0 (omega (arith, l)) f, ap (λ (z : CodePair). degree_of S G (index_pair_of z)) e)
     where
-      at : (xs : List CodePair) (k : ℕ) → Each (λ z. compare_pairs S G (pair_of y) z ≡ Less) (pairs_of xs) → k < length xs → x ≡ get_or xs k x
-          → degree_of S G (pair_of y) ≤ degree_of S G (pair_of x)
+      at : (xs : List CodePair) (k : ℕ) → Each (λ z. compare_pairs S G (index_pair_of y) z ≡ Less) (pairs_of xs) → k < length xs → x ≡ get_or xs k x
+          → degree_of S G (index_pair_of y) ≤ degree_of S G (index_pair_of x)
       at [] k h l e = absurd (omega (arith, l))
-      at (z ∷ xs) zero h l e = subst (λ (w : CodePair). degree_of S G (pair_of y) ≤ degree_of S G (pair_of w)) (sym e) (no_less (pair_of y) (pair_of z) h.0)
+      at (z ∷ xs) zero h l e = subst (λ (w : CodePair). degree_of S G (index_pair_of y) ≤ degree_of S G (index_pair_of w)) (sym e) (no_less (index_pair_of y) (index_pair_of z) h.0)
       at (z ∷ xs) (suc k) h l e = at xs k h.1 (omega (arith, l)) e
 
   -- what is left after pairs were skipped is sorted
@@ -88,15 +88,15 @@ least_before m xs k least first x h sorted is e l at other count =
     let G = sums_shown m in
     let P : List Pair = pairs_of xs in
     let some : 0 < length xs = omega (arith, l) in
-    let first_is : degree_of S G (pair_of first) ≡ first.lcm.monomial.degree = degree_is m first (Each_at (HasLcm m) xs 0 first h some is) in
-    let x_is : degree_of S G (pair_of x) ≡ x.lcm.monomial.degree = degree_is m x (Each_at (HasLcm m) xs k x h l at) in
-    let least_of : degree_of S G (pair_of first) ≤ degree_of S G (pair_of x) = first_least S G xs k first x sorted l is at in
-    let above : least < degree_of S G (pair_of x) =
-    above_of least (degree_of S G (pair_of x)) (omega (arith, first_is, e, least_of)) (λ q. other (sym x_is ∙ sym q)) in
-    let behind : drop k P ≡ pair_of x ∷ pairs_of (drop (k + 1) xs) =
+    let first_is : degree_of S G (index_pair_of first) ≡ first.lcm.monomial.degree = degree_is m first (Each_at (HasLcm m) xs 0 first h some is) in
+    let x_is : degree_of S G (index_pair_of x) ≡ x.lcm.monomial.degree = degree_is m x (Each_at (HasLcm m) xs k x h l at) in
+    let least_of : degree_of S G (index_pair_of first) ≤ degree_of S G (index_pair_of x) = first_least S G xs k first x sorted l is at in
+    let above : least < degree_of S G (index_pair_of x) =
+    above_of least (degree_of S G (index_pair_of x)) (omega (arith, first_is, e, least_of)) (λ q. other (sym x_is ∙ sym q)) in
+    let behind : drop k P ≡ index_pair_of x ∷ pairs_of (drop (k + 1) xs) =
     sym (pairs_drop k xs) ∙ ap pairs_of (drop_more xs k x l ∙ ap (λ (z : CodePair). z ∷ drop (k + 1) xs) (sym at)) in
     let none : number_of_degree S G least (drop k P) ≡ 0 =
-    ap (number_of_degree S G least) behind ∙ none_behind S G least (pair_of x) (pairs_of (drop (k + 1) xs)) above
+    ap (number_of_degree S G least) behind ∙ none_behind S G least (index_pair_of x) (pairs_of (drop (k + 1) xs)) above
     (subst (IsSorted S G) behind (sorted_behind S G k P sorted)) in
     let whole : number_of_degree S G least P ≡ number_of_degree S G least (take k P) + number_of_degree S G least (drop k P) =
     ap (number_of_degree S G least) (sym (take-append-drop k P)) ∙ number_append S G least (take k P) (drop k P) in

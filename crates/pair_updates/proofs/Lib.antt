@@ -12,6 +12,9 @@ pub mod SameLeads
 pub mod Halving
 pub mod PairSorting
 pub mod Negating
+pub mod RowMasks
+pub mod LeadRows
+pub mod MetPairs
 pub mod ProperDivisors
 pub mod NewFates
 pub mod FirstYields

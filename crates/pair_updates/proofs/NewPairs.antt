@@ -15,11 +15,11 @@ use Rattle.basis_steps.proofs.Growing.{each_at}
 use Rattle.basis_steps.specs.Criteria.{lcm_of}
 use Rattle.basis_steps.specs.Pairs.{Pair, count, is_same_pair}
 use Rattle.basis_steps.specs.Queues.{is_new_pair}
-use Rattle.pair_criteria.specs.Pairs.{IsPairOfLeads, IsPairOf, lead_at, variables_of}
+use Rattle.pair_criteria.specs.Pairs.{IsPairOfLeads, IsPairOf, lead_with_index, key_variables}
 use Rattle.pair_criteria.specs.declared.pair.Pair.{Pair as CodePair}
 use Rattle.pair_updates.proofs.Leading.{lead_at as lead_is}
 use Rattle.pair_updates.specs.Leads.{LeadsShown, lead_sums}
-use Rattle.pair_updates.specs.Pairs.{HasLcm, pair_of, pairs_of}
+use Rattle.pair_updates.specs.Pairs.{HasLcm, index_pair_of, pairs_of}
 use Rattle.pair_updates.specs.Queueing.{are_together}
 
 and_true : (b : Bool) → (b && true) ≡ b
@@ -36,11 +36,11 @@ some_pair ks ls i j o p e f h = subst (λ (l : List CodeKey). IsPairOfLeads l i 
 
 pub some_weighed :
     (ks ls : List CodeKey) (us ws : List ℕ) (i : ℕ) (o : Option CodePair) (p : CodePair)
-    → ks ≡ ls → us ≡ ws → o ≡ Some p → IfSome o (λ q. IsWeighed (variables_of (lead_at ks i)) us q.lcm.monomial)
-    → IsWeighed (variables_of (lead_at ls i)) ws p.lcm.monomial
+    → ks ≡ ls → us ≡ ws → o ≡ Some p → IfSome o (λ q. IsWeighed (key_variables (lead_with_index ks i)) us q.lcm.monomial)
+    → IsWeighed (key_variables (lead_with_index ls i)) ws p.lcm.monomial
 some_weighed ks ls us ws i o p e w f h =
-    subst (λ (z : List CodeKey × List ℕ). IsWeighed (variables_of (lead_at z.0 i)) z.1 p.lcm.monomial) (λ t. (e t, w t))
-    (subst (λ (r : Option CodePair). IfSome r (λ q. IsWeighed (variables_of (lead_at ks i)) us q.lcm.monomial)) f h)
+    subst (λ (z : List CodeKey × List ℕ). IsWeighed (key_variables (lead_with_index z.0 i)) z.1 p.lcm.monomial) (λ t. (e t, w t))
+    (subst (λ (r : Option CodePair). IfSome r (λ q. IsWeighed (key_variables (lead_with_index ks i)) us q.lcm.monomial)) f h)
 
 module _ (m : LeadsShown) (i j : ℕ) (order : i < j) (known : j < length m.keys)
     (weighed : Each (λ k. IsWeighed m.variables m.weights k.monomial) m.keys) where
@@ -53,16 +53,16 @@ module _ (m : LeadsShown) (i j : ℕ) (order : i < j) (known : j < length m.keys
   there : i < length ks
   there = omega (arith, order, known)
 
-  pub variables_at : (k : ℕ) → k < length ks → variables_of (lead_at ks k) ≡ n
+  pub variables_at : (k : ℕ) → k < length ks → key_variables (lead_with_index ks k) ≡ n
   variables_at k l = (each_at (λ (z : CodeKey). IsWeighed n m.weights z.monomial) ks k _ weighed l).variables
 
-  at : (k : ℕ) → k < length ks → key_of n (lead_at ks k) ≡ leads (lead_sums n ks) k
-  at k l = lead_is n ks k (lead_at ks k) l (get_or_default ks k _ _ l)
+  at : (k : ℕ) → k < length ks → key_of n (lead_with_index ks k) ≡ leads (lead_sums n ks) k
+  at k l = lead_is n ks k (lead_with_index ks k) l (get_or_default ks k _ _ l)
 
-  pub together_is : nat_eq (lead_at ks i).position (lead_at ks j).position ≡ are_together (lead_sums n ks) i j
+  pub together_is : nat_eq (lead_with_index ks i).position (lead_with_index ks j).position ≡ are_together (lead_sums n ks) i j
   together_is = ap₂ nat_eq (ap (λ k. k.0) (at i there)) (ap (λ k. k.0) (at j known))
 
-  pub positions_back : (leads (lead_sums n ks) i).0 ≡ (leads (lead_sums n ks) j).0 → (lead_at ks i).position ≡ (lead_at ks j).position
+  pub positions_back : (leads (lead_sums n ks) i).0 ≡ (leads (lead_sums n ks) j).0 → (lead_with_index ks i).position ≡ (lead_with_index ks j).position
   positions_back e = ap (λ k. k.0) (at i there) ∙ e ∙ sym (ap (λ k. k.0) (at j known))
 
   -- the leads of a pair stand at one position
@@ -71,10 +71,10 @@ module _ (m : LeadsShown) (i j : ℕ) (order : i < j) (known : j < length m.keys
       ap (λ z. (leads (lead_sums n ks) z).0) h.left ∙ sym (ap (λ k. k.0) (at i there)) ∙ h.together ∙ ap (λ k. k.0) (at j known)
       ∙ sym (ap (λ z. (leads (lead_sums n ks) z).0) h.right)
 
-  pub lcm_made : (p : CodePair) → IsPairOfLeads ks i j p → IsWeighed (variables_of (lead_at ks i)) m.weights p.lcm.monomial → HasLcm m p
+  pub lcm_made : (p : CodePair) → IsPairOfLeads ks i j p → IsWeighed (key_variables (lead_with_index ks i)) m.weights p.lcm.monomial → HasLcm m p
   lcm_made p h w = record {
     weighed = subst (λ z. IsWeighed z m.weights p.lcm.monomial) (variables_at i there) w;
-    lcm = subst (λ z. key_of z p.lcm ≡ key_lcm (key_of z (lead_at ks i)) (key_of z (lead_at ks j))) (variables_at i there) h.lcm
+    lcm = subst (λ z. key_of z p.lcm ≡ key_lcm (key_of z (lead_with_index ks i)) (key_of z (lead_with_index ks j))) (variables_at i there) h.lcm
         ∙ ap₂ key_lcm (at i there) (at j known)
         ∙ sym (ap (lcm_of (lead_sums n ks)) (ap₂ (λ a b. (a, b)) h.left h.right));
   }
@@ -84,10 +84,10 @@ module _ (m : LeadsShown) (i j : ℕ) (order : i < j) (known : j < length m.keys
       → IsPairOfLeads ks i j p → new ≡ old ++ (p ∷ []) → (x : Pair)
       → count x (pairs_of new) ≡ count x (pairs_of old) + cond (is_same_pair x (i, j) && are_together (lead_sums n ks) i j) 1 0
   pair_pushed old new p h e x =
-      let a : count x (pairs_of new) ≡ count x (pairs_of old ++ (pair_of p ∷ [])) = ap (λ l. count x (pairs_of l)) e
-      ∙ ap (count x) (map-append pair_of old (p ∷ [])) in
-      let b = count-append x (pairs_of old) (pair_of p ∷ []) in
-      let d : ◌≡◌ {A = ℕ} (cond (is_same_pair x (pair_of p)) 1 0) (cond (is_same_pair x (i, j)) 1 0) =
+      let a : count x (pairs_of new) ≡ count x (pairs_of old ++ (index_pair_of p ∷ [])) = ap (λ l. count x (pairs_of l)) e
+      ∙ ap (count x) (map-append index_pair_of old (p ∷ [])) in
+      let b = count-append x (pairs_of old) (index_pair_of p ∷ []) in
+      let d : ◌≡◌ {A = ℕ} (cond (is_same_pair x (index_pair_of p)) 1 0) (cond (is_same_pair x (i, j)) 1 0) =
       ap (λ y. cond (is_same_pair x y) 1 0) (ap₂ (λ a b. (a, b)) h.left h.right) in
       let t : are_together (lead_sums n ks) i j ≡ true = sym together_is ∙ eq-eqb _ _ h.together in
       let f : ◌≡◌ {A = ℕ} (cond (is_same_pair x (i, j) && are_together (lead_sums n ks) i j) 1 0) (cond (is_same_pair x (i, j)) 1 0) =

@@ -11,7 +11,7 @@ use Rattle.basis_steps.specs.Criteria.{lcm_of}
 use Rattle.basis_steps.specs.Pairs.{Pair, count, is_same_pair}
 use Rattle.basis_steps.specs.Queues.{IsSorted, compare_pairs}
 use Rattle.pair_criteria.specs.declared.pair.Pair.{Pair as CodePair}
-use Rattle.pair_updates.specs.Pairs.{AreIndices, pair_of, pairs_of}
+use Rattle.pair_updates.specs.Pairs.{AreIndices, index_pair_of, pairs_of}
 
 stands_first : (x : Pair) (xs : List Pair) → 0 < count x (x ∷ xs)
 stands_first x xs =
@@ -23,7 +23,7 @@ pub each_counted : (P : Pair → Type 0) (xs : List Pair) → ((x : Pair) → 0 
 each_counted P [] h = tt
 each_counted P (x ∷ xs) h = (h x (stands_first x xs), each_counted P xs (λ y l. h y (omega (arith, l))))
 
-pub each_queued : (P : Pair → Type 0) (xs : List CodePair) → Each P (pairs_of xs) → Each (λ x. P (pair_of x)) xs
+pub each_queued : (P : Pair → Type 0) (xs : List CodePair) → Each P (pairs_of xs) → Each (λ x. P (index_pair_of x)) xs
 each_queued P [] h = tt
 each_queued P (x ∷ xs) h = (h.0, each_queued P xs h.1)
 

@@ -16,7 +16,7 @@ use Rattle.pair_updates.proofs.LeastDegree.{sorted_without}
 use Rattle.pair_updates.proofs.PairOrder.{pairs_total}
 use Rattle.pair_updates.proofs.SameLeads.{each_counted}
 use Rattle.pair_updates.specs.Leads.{LeadsShown, setting_of_leads, sums_shown}
-use Rattle.pair_updates.specs.Pairs.{IsRealPair, pair_of, pairs_of, AreIndices}
+use Rattle.pair_updates.specs.Pairs.{IsRealPair, index_pair_of, pairs_of, AreIndices}
 use Rattle.pair_updates.specs.Updating.{HasLeft, Staying}
 
 -- a sorted list has no pair twice
@@ -66,29 +66,29 @@ module _ (m : LeadsShown) (h : ℕ) (whole : List Pair) (drops : List Drop) wher
   }
 
   module _ (kept : List CodePair) (x : CodePair) (rest : List CodePair) (later : List Drop) (s : Staying m h whole drops kept (x ∷ rest) later) where
-    kept_is : pairs_of (kept ++ (x ∷ [])) ≡ pairs_of kept ++ (pair_of x ∷ [])
-    kept_is = map-append pair_of kept (x ∷ [])
+    kept_is : pairs_of (kept ++ (x ∷ [])) ≡ pairs_of kept ++ (index_pair_of x ∷ [])
+    kept_is = map-append index_pair_of kept (x ∷ [])
 
-    pub one_stays : (LeavesFor G h (pair_of x) → ⊥) → Staying m h whole drops (kept ++ (x ∷ [])) rest later
+    pub one_stays : (LeavesFor G h (index_pair_of x) → ⊥) → Staying m h whole drops (kept ++ (x ∷ [])) rest later
     one_stays not = record {
       added = s.added;
       appended = s.appended;
       left = s.left;
       stay = subst (Each (λ x. LeavesFor G h x → ⊥)) (sym kept_is)
-          (Each_append (λ x. LeavesFor G h x → ⊥) (pairs_of kept) (pair_of x ∷ []) s.stay (not, tt));
+          (Each_append (λ x. LeavesFor G h x → ⊥) (pairs_of kept) (index_pair_of x ∷ []) s.stay (not, tt));
       kept_real = Each_append (IsRealPair m) kept (x ∷ []) s.kept_real (s.rest_real.0, tt);
       rest_real = s.rest_real.1;
       within = s.within.1;
-      same = λ y. omega (arith, s.same y, count-append y (pairs_of kept) (pair_of x ∷ []), ap (count y) kept_is);
+      same = λ y. omega (arith, s.same y, count-append y (pairs_of kept) (index_pair_of x ∷ []), ap (count y) kept_is);
       sorted = λ w. subst (IsSorted (setting_of_leads m.variables m) G)
-          (sym (append_assoc (pairs_of kept) (pair_of x ∷ []) (pairs_of rest)) ∙ ap (λ l. l ++ pairs_of rest) (sym kept_is)) (s.sorted w);
+          (sym (append_assoc (pairs_of kept) (index_pair_of x ∷ []) (pairs_of rest)) ∙ ap (λ l. l ++ pairs_of rest) (sym kept_is)) (s.sorted w);
     }
 
-    pub one_leaves : LeavesFor G h (pair_of x) → Staying m h whole drops kept rest (later ++ ((pair_of x, h) ∷ []))
+    pub one_leaves : LeavesFor G h (index_pair_of x) → Staying m h whole drops kept rest (later ++ ((index_pair_of x, h) ∷ []))
     one_leaves leaves = record {
-      added = s.added ++ ((pair_of x, h) ∷ []);
-      appended = ap (λ l. l ++ ((pair_of x, h) ∷ [])) s.appended ∙ append_assoc drops s.added ((pair_of x, h) ∷ []);
-      left = Each_append (HasLeft m h) s.added ((pair_of x, h) ∷ []) s.left ((leaves, refl), tt);
+      added = s.added ++ ((index_pair_of x, h) ∷ []);
+      appended = ap (λ l. l ++ ((index_pair_of x, h) ∷ [])) s.appended ∙ append_assoc drops s.added ((index_pair_of x, h) ∷ []);
+      left = Each_append (HasLeft m h) s.added ((index_pair_of x, h) ∷ []) s.left ((leaves, refl), tt);
       stay = s.stay;
       kept_real = s.kept_real;
       rest_real = s.rest_real.1;
@@ -96,10 +96,10 @@ module _ (m : LeadsShown) (h : ℕ) (whole : List Pair) (drops : List Drop) wher
       same = λ y. omega (
         arith,
         s.same y,
-        count-append y (pairs_dropped s.added) (pair_of x ∷ []),
-        ap (count y) (map-append (λ (d : Drop). d.0) s.added ((pair_of x, h) ∷ [])),
+        count-append y (pairs_dropped s.added) (index_pair_of x ∷ []),
+        ap (count y) (map-append (λ (d : Drop). d.0) s.added ((index_pair_of x, h) ∷ [])),
       );
-      sorted = λ w. sorted_without (setting_of_leads m.variables m) G (pairs_of kept) (pairs_of rest) (pair_of x) (s.sorted w);
+      sorted = λ w. sorted_without (setting_of_leads m.variables m) G (pairs_of kept) (pairs_of rest) (index_pair_of x) (s.sorted w);
     }
 
 -- those that stay are of the earlier members that they were of

@@ -3,11 +3,11 @@ use Rattle.std.specs.Prelude.{List, MatchOption, None, Option, get_or, length, m
 use Rattle.formal_sums.specs.FormalSums.{FormalSum}
 use Rattle.bases.specs.Settings.{Setting}
 use Rattle.basis_steps.specs.Criteria.{IsPair}
-use Rattle.basis_steps.specs.Pairs.{Drop}
+use Rattle.basis_steps.specs.Pairs.{Drop, Pair}
 use Rattle.basis_steps.specs.Updates.{IsFirstLive, IsFirstSpared, IsNewDrop, Remains}
-use Rattle.pair_criteria.specs.declared.pair.Pair.{Pair as CodePair}
 use Rattle.pair_updates.specs.Leads.{LeadsShown, sums_shown}
-use Rattle.pair_updates.specs.Pairs.{IsRealPair, pair_of}
+use Rattle.pair_updates.specs.Rows.{bits_above}
+use Rattle.pair_updates.specs.declared.meeting.NewPair.{NewPair}
 use Rattle.pair_updates.specs.declared.dropped.Dropped.{Dropped}
 use Rattle.pair_updates.specs.declared.dropping.Fate.{Fate}
 use Rattle.pair_updates.specs.declared.dropping.Fate.TheVariants as fates
@@ -16,19 +16,28 @@ use Rattle.pair_updates.specs.declared.dropping.Fate.TheVariants as fates
 abbrev pub drops_of : List Dropped → List Drop
 drops_of ds = map (λ d. ((d.i, d.j), d.k)) ds
 
+-- the indices of a new pair
+abbrev pub new_pair_of : NewPair → Pair
+new_pair_of x = (x.i, x.j)
+
+-- a pair of members, with the bits that say where its earlier lead exceeds the new one
+pub record IsMet (m : LeadsShown) (x : NewPair) : Type 0 where
+  pub pair : IsPair (sums_shown m) (new_pair_of x)
+  pub above : x.above ≡ bits_above m x.i x.j
+
 -- the pair of member i and the new member h, or nothing where their leads stand at two positions
-abbrev pub IsNewPair : LeadsShown → (h i : ℕ) → Option CodePair → Type 0
-IsNewPair m h i pair = MatchOption pair (IsPair (sums_shown m) (i, h) → ⊥) (λ x. IsRealPair m x × (pair_of x ≡ (i, h)))
+abbrev pub IsNewPair : LeadsShown → (h i : ℕ) → Option NewPair → Type 0
+IsNewPair m h i pair = MatchOption pair (IsPair (sums_shown m) (i, h) → ⊥) (λ x. IsMet m x × (new_pair_of x ≡ (i, h)))
 
 -- those of each earlier member and the new member h, in their order
-pub record AreNewPairs (m : LeadsShown) (h : ℕ) (pairs : List (Option CodePair)) : Type 0 where
+pub record AreNewPairs (m : LeadsShown) (h : ℕ) (pairs : List (Option NewPair)) : Type 0 where
   pub len : length pairs ≡ h
   pub each : (i : ℕ) → i < h → IsNewPair m h i (get_or pairs i None)
 
 -- the pair is one of those of its new member
-pub record IsNewIn (m : LeadsShown) (news : List (Option CodePair)) (x : CodePair) : Type 0 where
+pub record IsNewIn (m : LeadsShown) (news : List (Option NewPair)) (x : NewPair) : Type 0 where
   pub pairs : AreNewPairs m x.j news
-  pub real : IsRealPair m x
+  pub met : IsMet m x
 
 -- what becomes of the pair of i and h: there is none; it is dropped for k; or it remains and is the first of its group, spared by the product criterion or queued (Gebauer and Möller 1988)
 abbrev pub IsFate : {n : ℕ} → Setting n → List (FormalSum n) → (h i : ℕ) → Fate → Type 0

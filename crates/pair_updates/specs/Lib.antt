@@ -1,4 +1,5 @@
 pub mod Leads
+pub mod Rows
 pub mod Pairs
 pub mod LeadCriteria
 pub mod Queueing

@@ -1,7 +1,7 @@
 // The order of the queue.
 ghost use Rattle.std.specs.Prelude.{◌≡◌};
 ghost use Rattle.basis_steps.specs.Queues.{compare_pairs as compare_plain};
-ghost use Rattle.pair_updates.specs.Pairs.{HasLcm, pair_of};
+ghost use Rattle.pair_updates.specs.Pairs.{HasLcm, index_pair_of};
 ghost use Rattle.pair_updates.specs.Leads.{setting_of_leads, sums_shown};
 
 use crate::leads::Leads;
@@ -13,7 +13,7 @@ use std::cmp::Ordering;
 pub(crate) fn compare_pairs(leads: &Leads, x: &Pair, y: &Pair) -> Ordering
     requires left { HasLcm leads.now x.now }
     requires right { HasLcm leads.now y.now }
-    ensures { let m = leads.now in result ≡ compare_plain (setting_of_leads m.variables m) (sums_shown m) (pair_of x.now) (pair_of y.now) }
+    ensures { let m = leads.now in result ≡ compare_plain (setting_of_leads m.variables m) (sums_shown m) (index_pair_of x.now) (index_pair_of y.now) }
 {
     let left = &x.lcm.monomial;
     let right = &y.lcm.monomial;

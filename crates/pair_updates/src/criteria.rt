@@ -1,11 +1,13 @@
 // The tests that the criteria are made of, by the leads.
 ghost use Rattle.std.specs.Prelude.{◌≡◌, ◌<◌, ◌↔◌, IsTrue, length};
 ghost use Rattle.monomials.specs.Exponents.{Divides, exponents_of, lcm};
+ghost use Rattle.bases.specs.Leads.{leads as leads_of};
 ghost use Rattle.basis_steps.specs.Criteria.{IsPair};
 ghost use Rattle.pair_updates.specs.Leads.{sums_shown};
 ghost use Rattle.pair_updates.specs.LeadCriteria.{DividesLcm, ProductSpares};
 
 use crate::leads::Leads;
+use crate::rows::divides_rows;
 use monomial_orders::Mono;
 use pair_criteria::product_applies;
 
@@ -35,6 +37,24 @@ fn divides_common(k: &Mono, a: &Mono, b: &Mono) -> bool
     true
 }
 
+// Does the lead of member k divide the lcm of the pair, where it stands at their position? The first sixteen variables are asked at once.
+fn divides_at_position(leads: &Leads, i: usize, j: usize, k: usize) -> bool
+    requires order { i < j }
+    requires within { j < length leads.now.keys }
+    requires known { k < length leads.now.keys }
+    requires position { (leads_of (sums_shown leads.now) k).0 ≡ (leads_of (sums_shown leads.now) i).0 }
+    ensures { IsTrue result ↔ DividesLcm leads.now (i, j) k }
+{
+    if !divides_rows(leads.row(k), leads.row(i), leads.row(j)) {
+        return false;
+    }
+    let lead = leads.at(k);
+    if lead.monomial.variables() <= 16 {
+        return true;
+    }
+    divides_common(&lead.monomial, &leads.at(i).monomial, &leads.at(j).monomial)
+}
+
 /// Does the lead of member k divide the lcm of the pair?
 pub fn divides_lcm(leads: &Leads, i: usize, j: usize, k: usize) -> bool
     requires order { i < j }
@@ -42,11 +62,8 @@ pub fn divides_lcm(leads: &Leads, i: usize, j: usize, k: usize) -> bool
     requires known { k < length leads.now.keys }
     ensures { IsTrue result ↔ DividesLcm leads.now (i, j) k }
 {
-    let lead = leads.at(k);
-    let left = leads.at(i);
-    let right = leads.at(j);
-    if lead.position != left.position {
+    if leads.at(k).position != leads.at(i).position {
         return false;
     }
-    divides_common(&lead.monomial, &left.monomial, &right.monomial)
+    divides_at_position(leads, i, j, k)
 }

@@ -1,21 +1,19 @@
 // Which pairs a new member drops (Gebauer and Möller 1988).
 ghost use Rattle.std.specs.Prelude.{ℕ, List, ◌≡◌, ◌<◌, ◌↔◌, IsTrue, MatchOption, length};
-ghost use Rattle.monomials.specs.Exponents.{Divides, exponents_of};
-ghost use Rattle.monomial_orders.specs.Kept.{IsWeighed};
 ghost use Rattle.basis_steps.specs.Criteria.{IsPair};
 ghost use Rattle.basis_steps.specs.Drops.{LeavesFor, YieldsTo};
 ghost use Rattle.basis_steps.specs.Updates.{IsFirstSpared, IsOfGroup, Remains, YieldsFirstTo};
 ghost use Rattle.formal_sums.specs.FormalSums.{Each};
-ghost use Rattle.pair_updates.specs.Dropping.{AreNewPairs, IsFate, IsNewIn};
+ghost use Rattle.pair_updates.specs.Dropping.{AreNewPairs, IsFate, IsMet, IsNewIn};
 ghost use Rattle.pair_updates.specs.FirstYields.{AreFirstYields, HasGroup};
-ghost use Rattle.pair_updates.specs.Leads.{LeadsShown, setting_of_leads, sums_shown};
+ghost use Rattle.pair_updates.specs.Leads.{setting_of_leads, sums_shown};
 ghost use Rattle.pair_updates.specs.LeadCriteria.{ProductSpares};
 ghost use Rattle.pair_updates.specs.declared.dropping.Fate.TheVariants as fates;
 
 use crate::criteria::{divides_lcm, product_spares};
 use crate::leads::Leads;
-use monomial_orders::Mono;
-use pair_criteria::Pair;
+use crate::meeting::NewPair;
+use crate::rows::is_within;
 
 /// What becomes of the pair of an earlier member and a new one.
 #[derive(Clone, Copy)]
@@ -46,55 +44,61 @@ pub(crate) fn leaves_for(leads: &Leads, h: usize, i: usize, j: usize) -> bool
     !divides_lcm(leads, j, h, i)
 }
 
-// Does the monomial divide the other one, and is it another? Most that do not divide it have a greater degree, or fail the test
-// by one exponent.
-fn divides_properly(divisor: &Mono, m: &Mono) -> bool
-    requires { length divisor.now.exponents ≡ length m.now.exponents }
-    ensures { (ws : List ℕ) → let n = length m.now.exponents in IsWeighed n ws divisor.now → IsWeighed n ws m.now
-        → (IsTrue result ↔ (Divides (exponents_of n divisor.now.exponents) (exponents_of n m.now.exponents)
-        × (exponents_of n divisor.now.exponents ≡ exponents_of n m.now.exponents → ⊥))) }
+/// Does the pair yield to that of j and the same new member, with these bits? By its bits most do not.
+pub(crate) fn yields_to(leads: &Leads, pair: &NewPair, j: usize, above: u64) -> bool
+    requires pair { IsMet leads.now pair.now }
+    requires other { IsMet leads.now (record { i = j; j = pair.now.j; above = above }) }
+    ensures { IsTrue result ↔ YieldsTo (sums_shown leads.now) pair.now.j pair.now.i j }
 {
-    if divisor.degree() > m.degree() {
+    if !is_within(above, pair.above) {
         return false;
     }
-    if !divisor.divides(m) {
+    if !divides_lcm(leads, pair.i as usize, pair.j as usize, j) {
         return false;
     }
-    !divisor.equal(m)
+    if above != pair.above {
+        return true;
+    }
+    !divides_lcm(leads, j, pair.j as usize, pair.i as usize)
 }
 
-/// Does the pair yield to that of j and the same new member?
-pub(crate) fn yields_to(news: &[Option<Pair>], pair: &Pair, j: usize) -> bool
-    requires known { j < length news.now }
-    requires over { (m : LeadsShown) × IsNewIn m news.now pair.now }
-    ensures { (m : LeadsShown) → IsNewIn m news.now pair.now → (IsTrue result ↔ YieldsTo (sums_shown m) pair.now.j pair.now.i j) }
+// Have two pairs with one new member one lcm? Those that have not differ in their bits most often.
+fn have_one_lcm(leads: &Leads, pair: &NewPair, other: &NewPair) -> bool
+    requires pair { IsMet leads.now pair.now }
+    requires other { IsMet leads.now other.now }
+    requires one { other.now.j ≡ pair.now.j }
+    ensures { IsTrue result ↔ IsOfGroup (sums_shown leads.now) pair.now.j pair.now.i other.now.i }
 {
-    match &news[j] {
-        Some(other) => divides_properly(&other.lcm.monomial, &pair.lcm.monomial),
-        None => false,
+    if other.above != pair.above {
+        return false;
     }
+    if !divides_lcm(leads, pair.i as usize, pair.j as usize, other.i as usize) {
+        return false;
+    }
+    divides_lcm(leads, other.i as usize, pair.j as usize, pair.i as usize)
 }
 
 // Are the pair and that of j with the same new member of one group?
-fn is_of_group(news: &[Option<Pair>], pair: &Pair, j: usize) -> bool
-    requires { j < length news.now }
-    ensures { (m : LeadsShown) → IsNewIn m news.now pair.now → (IsTrue result ↔ IsOfGroup (sums_shown m) pair.now.j pair.now.i j) }
+fn is_of_group(leads: &Leads, news: &[Option<NewPair>], pair: &NewPair, j: usize) -> bool
+    requires new { IsNewIn leads.now news.now pair.now }
+    requires known { j < length news.now }
+    ensures { IsTrue result ↔ IsOfGroup (sums_shown leads.now) pair.now.j pair.now.i j }
 {
     match &news[j] {
-        Some(other) => other.lcm.monomial.equal(&pair.lcm.monomial),
+        Some(other) => have_one_lcm(leads, pair, other),
         None => false,
     }
 }
 
 // Is the pair of j and the new member of the group of the pair, and does the product criterion spare it?
-fn is_spared(leads: &Leads, news: &[Option<Pair>], pair: &Pair, j: usize) -> bool
+fn is_spared(leads: &Leads, news: &[Option<NewPair>], pair: &NewPair, j: usize) -> bool
     requires new { IsNewIn leads.now news.now pair.now }
     requires known { j < length news.now }
     ensures both { IsTrue result → IsOfGroup (sums_shown leads.now) pair.now.j pair.now.i j }
     ensures applies { IsTrue result → ProductSpares leads.now (j, pair.now.j) }
     ensures none { IsOfGroup (sums_shown leads.now) pair.now.j pair.now.i j → ProductSpares leads.now (j, pair.now.j) → IsTrue result }
 {
-    if !is_of_group(news, pair, j) {
+    if !is_of_group(leads, news, pair, j) {
         return false;
     }
     product_spares(leads, j, pair.j as usize)
@@ -102,7 +106,12 @@ fn is_spared(leads: &Leads, news: &[Option<Pair>], pair: &Pair, j: usize) -> boo
 
 // The first member of the group of the pair whose pair with the new member the product criterion spares, where these members have
 // the whole group.
-fn first_spared(leads: &Leads, news: &[Option<Pair>], left: &[usize], pair: &Pair) -> Option<usize>
+fn first_spared(
+    leads: &Leads,
+    news: &[Option<NewPair>],
+    left: &[usize],
+    pair: &NewPair,
+) -> Option<usize>
     requires new { IsNewIn leads.now news.now pair.now }
     requires within { Each (λ c. c < length news.now) left.now }
     requires group { HasGroup (sums_shown leads.now) pair.now.j pair.now.i left.now }
@@ -119,15 +128,15 @@ fn first_spared(leads: &Leads, news: &[Option<Pair>], left: &[usize], pair: &Pai
 }
 
 // The first member of the group of the pair, where these members have the whole group.
-fn first_of_group(news: &[Option<Pair>], left: &[usize], pair: &Pair) -> usize
-    requires new { (m : LeadsShown) × IsNewIn m news.now pair.now }
+fn first_of_group(leads: &Leads, news: &[Option<NewPair>], left: &[usize], pair: &NewPair) -> usize
+    requires new { IsNewIn leads.now news.now pair.now }
     requires within { Each (λ c. c < length news.now) left.now }
-    ensures member { (m : LeadsShown) → IsNewIn m news.now pair.now → IsOfGroup (sums_shown m) pair.now.j pair.now.i result }
-    ensures first { (m : LeadsShown) → IsNewIn m news.now pair.now → HasGroup (sums_shown m) pair.now.j pair.now.i left.now
-        → (l : ℕ) → l < result → IsOfGroup (sums_shown m) pair.now.j pair.now.i l → ⊥ }
+    ensures member { IsOfGroup (sums_shown leads.now) pair.now.j pair.now.i result }
+    ensures first { HasGroup (sums_shown leads.now) pair.now.j pair.now.i left.now
+        → (l : ℕ) → l < result → IsOfGroup (sums_shown leads.now) pair.now.j pair.now.i l → ⊥ }
 {
     for k in 0..left.len() {
-        if is_of_group(news, pair, left[k]) {
+        if is_of_group(leads, news, pair, left[k]) {
             return left[k];
         }
     }
@@ -143,7 +152,7 @@ fn fate_behind(c: usize, i: usize, itself: Fate) -> Fate
 }
 
 // What becomes of the pair, which yields to none, where these members have its whole group.
-fn fate_in_group(leads: &Leads, news: &[Option<Pair>], left: &[usize], pair: &Pair) -> Fate
+fn fate_in_group(leads: &Leads, news: &[Option<NewPair>], left: &[usize], pair: &NewPair) -> Fate
     requires new { IsNewIn leads.now news.now pair.now }
     requires within { Each (λ c. c < length news.now) left.now }
     requires group { HasGroup (sums_shown leads.now) pair.now.j pair.now.i left.now }
@@ -153,7 +162,7 @@ fn fate_in_group(leads: &Leads, news: &[Option<Pair>], left: &[usize], pair: &Pa
     match first_spared(leads, news, left, pair) {
         Some(c) => fate_behind(c, pair.i as usize, Fate::Spared),
         None => fate_behind(
-            first_of_group(news, left, pair),
+            first_of_group(leads, news, left, pair),
             pair.i as usize,
             Fate::Queued,
         ),
@@ -163,9 +172,9 @@ fn fate_in_group(leads: &Leads, news: &[Option<Pair>], left: &[usize], pair: &Pa
 // What becomes of the pair, which yields first to that of this member, where there is one. Else these members have its whole group.
 fn fate_by(
     leads: &Leads,
-    news: &[Option<Pair>],
+    news: &[Option<NewPair>],
     left: &[usize],
-    pair: &Pair,
+    pair: &NewPair,
     first: Option<usize>,
 ) -> Fate
     requires new { IsNewIn leads.now news.now pair.now }
@@ -185,7 +194,7 @@ fn fate_by(
 /// has the members whose pairs yield to none.
 pub(crate) fn fate_of(
     leads: &Leads,
-    news: &[Option<Pair>],
+    news: &[Option<NewPair>],
     firsts: &[Option<usize>],
     left: &[usize],
     h: usize,

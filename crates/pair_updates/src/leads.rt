@@ -1,6 +1,6 @@
 // The leads of the members.
 ghost use Rattle.std.specs.Prelude.{◌≡◌, ◌<◌, ◌≤◌, ◌+◌, ◌++◌, [], length, take, OnOk, OnErr};
-ghost use Rattle.std.specs.Vec.{vec_capacity};
+ghost use Rattle.std.specs.Vec.{vec_capacity, vec_len};
 ghost use Rattle.formal_sums.specs.FormalSums.{Each};
 ghost use Rattle.bases.specs.Leads.{leads};
 ghost use Rattle.term_lists.specs.Vectors.{key_of};
@@ -8,7 +8,9 @@ ghost use Rattle.monomial_orders.specs.Comparisons.{key_comparison};
 ghost use Rattle.monomial_orders.specs.Kept.{IsWeighed};
 ghost use Rattle.monomials.specs.Exponents.{exponents_of};
 ghost use Rattle.pair_updates.specs.Leads.{sums_shown};
+ghost use Rattle.pair_updates.specs.Rows.{lead_row, rows_of};
 
+use crate::rows::row_of;
 use module_vectors::{Key, NoMemory};
 use monomial_orders::{ModOrder, Mono, Order, Weights};
 use std::alloc::Global;
@@ -22,6 +24,8 @@ pub struct Leads {
     weights: Weights,
     rank: u128,
     keys: Vec<Key>,
+    // The first sixteen exponents of each, in one place.
+    rows: Vec<[u16; 16]>,
 }
 
 // By hand, so that each drop of one is a call.
@@ -33,15 +37,17 @@ impl Drop for Leads {
             weights: _,
             rank: _,
             keys: _,
+            rows: _,
         } = self;
     }
 }
 
 impl Model for Leads {
-    ghost use Rattle.std.specs.Prelude.{length};
+    ghost use Rattle.std.specs.Prelude.{length, ◌≡◌};
     ghost use Rattle.formal_sums.specs.FormalSums.{Each};
     ghost use Rattle.monomial_orders.specs.Kept.{IsWeighed};
     ghost use Rattle.pair_updates.specs.Leads.{LeadsShown};
+    ghost use Rattle.pair_updates.specs.Rows.{rows_of};
 
     ghost Value = { LeadsShown };
 
@@ -54,7 +60,19 @@ impl Model for Leads {
       keys = l.keys.items;
     } };
 
-    ghost invariant = { λ l. Each (λ k. IsWeighed (length l.weights) l.weights k.monomial) l.keys.items };
+    ghost invariant = { λ l. Each (λ k. IsWeighed (length l.weights) l.weights k.monomial) l.keys.items × (l.rows.items ≡ rows_of l.keys.items) };
+}
+
+// The rows of the keys behind those that have one, in the room for them.
+fn push_rows(keys: &[Key], rows: &mut Vec<[u16; 16]>)
+    requires rows { rows.old.items ≡ rows_of (take (vec_len rows.old) keys.now) }
+    requires few { vec_len rows.old ≤ length keys.now }
+    requires room { length keys.now ≤ vec_capacity rows.old }
+    ensures { rows.new.items ≡ rows_of keys.now }
+{
+    for k in rows.len()..keys.len() {
+        rows.push_reserved(row_of(&keys[k].monomial));
+    }
 }
 
 impl Leads {
@@ -81,6 +99,7 @@ impl Leads {
             weights,
             rank,
             keys: Vec::new(alloc),
+            rows: Vec::new(alloc),
         }
     }
 
@@ -123,6 +142,14 @@ impl Leads {
         &self.keys[index]
     }
 
+    /// The first sixteen exponents of the lead with this index, with zeros behind the last.
+    pub(crate) fn row(&self, index: usize) -> &[u16; 16]
+        requires known { index < length self.now.keys }
+        ensures { result.now ≡ lead_row self.now index }
+    {
+        &self.rows[index]
+    }
+
     /// Compares two monomials of the ring by its order.
     pub fn compare(&self, a: &Mono, b: &Mono) -> Ordering
         requires left { IsWeighed self.now.variables self.now.weights a.now }
@@ -145,7 +172,9 @@ impl Leads {
         ensures ok { OnOk result (self.new ≡ record self.old { keys = self.old.keys ++ keys.old.items }) }
         ensures err { OnErr result (self.new ≡ self.old) }
     {
+        self.rows.reserve(keys.len())?;
         self.keys.append(keys)?;
+        push_rows(&self.keys, &mut self.rows);
         Ok(())
     }
 
@@ -154,5 +183,6 @@ impl Leads {
         ensures { self.new ≡ record self.old { keys = take count self.old.keys } }
     {
         self.keys.truncate(count);
+        self.rows.truncate(count);
     }
 }

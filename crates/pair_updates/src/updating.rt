@@ -15,11 +15,12 @@ use crate::dropped::Dropped;
 use crate::dropping::{Fate, fate_of, leaves_for};
 use crate::joining::push_pair;
 use crate::leads::Leads;
+use crate::meeting::{NewPair, pairs_with};
 use crate::merging::merge;
 use crate::sorting::sort_pairs;
 use crate::yielding::{FirstYields, first_yields};
 use module_vectors::NoMemory;
-use pair_criteria::{Pair, pair_of};
+use pair_criteria::Pair;
 use std::alloc::Global;
 use std::collections::VecDeque;
 
@@ -37,19 +38,6 @@ fn copies(alloc: Global, pairs: &[Pair]) -> Result<Vec<Pair>, NoMemory>
         });
     }
     Ok(copied)
-}
-
-// The pairs of each earlier member and member h, in their order: nothing where the leads stand at two positions.
-fn pairs_with(alloc: Global, leads: &Leads, h: usize) -> Result<Vec<Option<Pair>>, NoMemory>
-    requires { h < length leads.now.keys }
-    ensures { IfOk result (λ pairs. AreNewPairs leads.now h pairs.items) }
-{
-    let mut pairs = Vec::with_capacity(alloc, h)?;
-    for i in 0..h {
-        let pair = pair_of(alloc, leads.weights(), leads.keys(), i as u64, h as u64)?;
-        pairs.push_reserved(pair);
-    }
-    Ok(pairs)
 }
 
 // The pair at place `next` stays as member h comes, and moves to place `kept`, or it is dropped for h. Returns how many are kept.
@@ -83,6 +71,23 @@ fn stay_or_drop(
     Ok(kept + 1)
 }
 
+// How many of the pairs do not leave for member h until one does: most members drop none.
+fn count_staying(leads: &Leads, h: usize, pairs: &[Pair]) -> usize
+    requires within { h < length leads.now.keys }
+    requires real { Each (IsRealPair leads.now) pairs.now }
+    requires earlier { Each (AreIndices h) (pairs_of pairs.now) }
+    ensures few { result ≤ length pairs.now }
+    ensures staying { (drops : List Drop) → Staying leads.now h (pairs_of pairs.now) drops (take result pairs.now) (drop result pairs.now) drops }
+{
+    for k in 0..pairs.len() {
+        let x = &pairs[k];
+        if leaves_for(leads, h, x.i as usize, x.j as usize) {
+            return k;
+        }
+    }
+    pairs.len()
+}
+
 // Those of the pairs that do not leave for member h stay, and the others are dropped for it.
 fn stay(
     leads: &Leads,
@@ -95,8 +100,9 @@ fn stay(
     requires earlier { Each (AreIndices h) (pairs_of pairs.old.items) }
     ensures { OnOk result (Staying leads.now h (pairs_of pairs.old.items) (drops_of dropped.old.items) pairs.new.items [] (drops_of dropped.new.items)) }
 {
-    let mut kept = 0;
-    for next in 0..pairs.len() {
+    let staying = count_staying(leads, h, pairs);
+    let mut kept = staying;
+    for next in staying..pairs.len() {
         kept = stay_or_drop(leads, h, pairs, kept, next, dropped)?;
     }
     pairs.truncate(kept);
@@ -107,7 +113,7 @@ fn stay(
 fn join_one(
     alloc: Global,
     leads: &Leads,
-    news: &[Option<Pair>],
+    news: &[Option<NewPair>],
     yields: &FirstYields,
     h: usize,
     i: usize,
@@ -156,7 +162,7 @@ fn join(
     ensures { OnOk result (Joining leads.now h h (pairs_of queued.old.items) (drops_of dropped.old.items) queued.new.items (drops_of dropped.new.items)) }
 {
     let news = pairs_with(alloc, leads, h)?;
-    let yields = first_yields(alloc, &news)?;
+    let yields = first_yields(alloc, leads, &news)?;
     for i in 0..h {
         join_one(alloc, leads, &news, &yields, h, i, queued, dropped)?;
     }

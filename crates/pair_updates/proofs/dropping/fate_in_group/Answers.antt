@@ -1,9 +1,6 @@
 use Rattle.pair_updates.proofs.NewFates.{live_fate, spared_fate}
 use Rattle.pair_updates.proofs.dropping.fate_in_group.Goals as goal
 
-pub first_of_group-requires-clause-new : goal.first_of_group-requires-clause-new
-first_of_group-requires-clause-new c = (c.args.leads.now, c.requires.new)
-
 pub returns-in-Some : goal.returns-in-Some
 returns-in-Some c =
     spared_fate c.args.leads.now c.args.news.now c.args.pair.now c.requires.new c.requires.remains c.in-Some.c c.fate_behind.result
@@ -13,5 +10,5 @@ pub returns-in-None : goal.returns-in-None
 returns-in-None c =
     let m = c.args.leads.now in
     live_fate m c.args.news.now c.args.pair.now c.requires.new c.requires.remains c.first_of_group.result c.fate_behind-in-None.result
-    (c.first_of_group.ensures.member m c.requires.new) (c.first_of_group.ensures.first m c.requires.new c.requires.group)
+    c.first_of_group.ensures.member (c.first_of_group.ensures.first c.requires.group)
     c.in-None.ensures c.fate_behind-in-None.ensures.same c.fate_behind-in-None.ensures.other

@@ -1,25 +1,51 @@
-use Rattle.std.proofs.Common.{sym, ◌∙◌}
+use Rattle.std.proofs.Common.{refl}
 use Rattle.std.proofs.lemmas.Bool.{false≢true}
-use Rattle.pair_updates.proofs.NewFates.{none_new, proper_over, some_new, yields_is}
+use Rattle.basis_steps.proofs.RuleTests.{yields, yields_first, yields_not}
+use Rattle.pair_updates.proofs.CriterionTests.{not_true}
+use Rattle.pair_updates.proofs.MetPairs.{kept_same, kept_within}
+use Rattle.pair_updates.proofs.Negating.{not_both, not_of}
+use Rattle.pair_updates.specs.Leads.{sums_shown}
 use Rattle.pair_updates.proofs.dropping.yields_to.Goals as goal
 
-pub divides_properly-requires : goal.divides_properly-requires
-divides_properly-requires c =
-    let o = c.requires.over in
-    let y = some_new o.0 c.args.news.now c.args.pair.now o.1 c.args.j c.in-Some.other c.index-news-j.result c.requires.known c.index-news-j.is c.in-Some.is in
-    (y.0).lcm.weighed.variables ∙ sym o.1.real.lcm.weighed.variables
-
-pub returns-in-Some : goal.returns-in-Some
-returns-in-Some c = λ m h.
-    let news = c.args.news.now in
+pub returns-then-not-is_within : goal.returns-then-not-is_within
+returns-then-not-is_within c =
+    let m = c.args.leads.now in
     let x = c.args.pair.now in
-    let z = c.in-Some.other in
-    let y = some_new m news x h c.args.j z c.index-news-j.result c.requires.known c.index-news-j.is c.in-Some.is in
-    yields_is m news x h c.args.j z y.0 y.1 c.divides_properly.result
-    (proper_over m news x h c.args.j z y.0 y.1 c.divides_properly.result c.divides_properly.ensures)
+    let o = c.requires.other in (
+      (λ e. absurd (false≢true e)),
+      (λ y. absurd (not_true _ c.if-not-is_within.true (c.is_within.ensures.1
+          (kept_within m x.i x.j c.args.j c.args.above x.above o.above c.requires.pair.above
+          (yields_first (sums_shown m) x.j x.i c.args.j o.pair.within o.pair.ordered c.requires.pair.pair y))))),
+    )
 
-pub returns-in-None : goal.returns-in-None
-returns-in-None c = λ m h. (
-  (λ e. absurd (false≢true e)),
-  (λ q. absurd (none_new m c.args.news.now c.args.pair.now h c.args.j c.index-news-j.result c.requires.known c.index-news-j.is c.in-None.is q.pair)),
-)
+pub returns-then-not-divides_lcm : goal.returns-then-not-divides_lcm
+returns-then-not-divides_lcm c =
+    let m = c.args.leads.now in
+    let x = c.args.pair.now in
+    let o = c.requires.other in (
+      (λ e. absurd (false≢true e)),
+      (λ y. absurd (not_true _ c.if-not-divides_lcm.true (c.divides_lcm.ensures.1
+          (yields_first (sums_shown m) x.j x.i c.args.j o.pair.within o.pair.ordered c.requires.pair.pair y)))),
+    )
+
+pub returns : goal.returns
+returns c =
+    let m = c.args.leads.now in
+    let x = c.args.pair.now in
+    let o = c.requires.other in (
+      (λ t. yields (sums_shown m) x.j x.i c.args.j o.pair.within o.pair.ordered c.requires.pair.pair (c.divides_lcm.ensures.0 c.if-not-divides_lcm.false)
+          (λ d. not_both c.divides_lcm-2.result t (c.divides_lcm-2.ensures.1 d))),
+      (λ y. not_of c.divides_lcm-2.result
+          (λ t. yields_not (sums_shown m) x.j x.i c.args.j o.pair.within o.pair.ordered c.requires.pair.pair y (c.divides_lcm-2.ensures.0 t))),
+    )
+
+pub returns-then-above-pair : goal.returns-then-above-pair
+returns-then-above-pair c =
+    let m = c.args.leads.now in
+    let x = c.args.pair.now in
+    let o = c.requires.other in
+    let d = c.divides_lcm.ensures.0 c.if-not-divides_lcm.false in (
+      (λ t. yields (sums_shown m) x.j x.i c.args.j o.pair.within o.pair.ordered c.requires.pair.pair d
+          (λ b. c.if-above-pair.true (kept_same m x.i x.j c.args.j c.args.above x.above o.above c.requires.pair.above d b))),
+      (λ y. refl),
+    )

@@ -1,23 +1,27 @@
 use Rattle.std.proofs.Common.{List, [], arith, drop, refl, subst, sym, take, ◌∙◌, ◌≡◌}
 use Rattle.std.proofs.lemmas.List.{drop_all}
 use Rattle.pair_criteria.specs.declared.pair.Pair.{Pair as CodePair}
-use Rattle.pair_updates.proofs.StayingPairs.{none_looked_at}
-use Rattle.pair_updates.proofs.Swapping.{none_dropped, none_taken}
 use Rattle.pair_updates.specs.Dropping.{drops_of}
-use Rattle.pair_updates.specs.Pairs.{pairs_of}
+use Rattle.formal_sums.specs.FormalSums.{Each}
+use Rattle.pair_updates.specs.Pairs.{AreIndices, IsRealPair, pairs_of}
 use Rattle.pair_updates.specs.Updating.{Staying}
 use Rattle.pair_updates.proofs.updating.stay.Goals as goal
 
+pub count_staying-staying-requires : goal.count_staying-staying-requires
+count_staying-staying-requires c =
+    let pairs : List CodePair = c.args.pairs.now.items in
+    record {
+      within = c.requires.within;
+      real = subst (λ (l : List CodePair). Each (IsRealPair c.args.leads.now) l) (sym c.deref.ensures.value) c.requires.real;
+      earlier = subst (λ (l : List CodePair). Each (AreIndices c.args.h) (pairs_of l)) (sym c.deref.ensures.value) c.requires.earlier;
+    }
+
 pub loop-next-init : goal.loop-next-init
 loop-next-init c =
-    let m = c.args.leads.now in
-    let pairs = c.args.pairs.now.items in
+    let drops = drops_of c.args.dropped.now.items in
     record {
-      staying = subst (λ (l : List CodePair). Staying m c.args.h (pairs_of pairs) (drops_of c.args.dropped.now.items) l (drop 0 pairs) (drops_of c.args.dropped.now.items))
-          (sym (none_taken pairs))
-          (subst (λ (l : List CodePair). Staying m c.args.h (pairs_of pairs) (drops_of c.args.dropped.now.items) [] l (drops_of c.args.dropped.now.items))
-          (sym (none_dropped pairs))
-          (none_looked_at m c.args.h (pairs_of pairs) (drops_of c.args.dropped.now.items) pairs refl c.requires.real c.requires.earlier));
+      staying = subst (λ (l : List CodePair). Staying c.args.leads.now c.args.h (pairs_of l) drops (take c.count_staying-staying.result l)
+          (drop c.count_staying-staying.result l) drops) c.deref.ensures.value (c.count_staying-staying.ensures.staying drops);
       kept = omega arith;
       len = refl;
     }

@@ -1,7 +1,7 @@
 use Rattle.std.proofs.Common.{None, get_or, length, ℕ, ◌<◌, ◌≡◌, ◌≤◌}
 use Rattle.std.specs.Vec.{vec_capacity}
 use Rattle.pair_updates.specs.Dropping.{IsNewPair}
-use Rattle.pair_updates.proofs.updating.pairs_with.Given as goal
+use Rattle.pair_updates.proofs.meeting.pairs_with.Given as goal
 
 abbrev pub invariant-loop-i : goal.invariant-loop-i
 invariant-loop-i l = record {

@@ -1,0 +1,76 @@
+-- New pairs, by the bits that say where their leads exceed the new one
+use Rattle.std.proofs.Common.{List, [], ap, ap₂, arith, get_or, inl, inr, length, refl, subst, sym, ℕ, ◌++◌, ◌<◌, ◌∙◌, ◌∷◌, ◌≡◌, ◌≤◌, ◌⊎◌}
+use Rattle.std.proofs.lemmas.Bool.{cases_lt}
+use Rattle.std.proofs.lemmas.List.{get_or_append_left, get_or_push, length_push}
+use Rattle.std.proofs.lemmas.Nat.{and_comm}
+use Rattle.std.specs.Prelude.{bit_and}
+use Rattle.formal_sums.specs.FormalSums.{FormalSum}
+use Rattle.bases.specs.Leads.{leads}
+use Rattle.basis_steps.specs.Pairs.{Pair}
+use Rattle.pair_updates.proofs.RowMasks.{divisor_exceeds, implied_four}
+use Rattle.pair_updates.specs.Dropping.{IsMet, new_pair_of}
+use Rattle.pair_updates.specs.FirstYields.{AreActive}
+use Rattle.pair_updates.specs.LeadCriteria.{DividesLcm}
+use Rattle.pair_updates.specs.Leads.{LeadsShown, sums_shown}
+use Rattle.pair_updates.specs.Rows.{bits_above, lead_row}
+use Rattle.pair_updates.specs.declared.meeting.NewPair.{NewPair}
+
+module _ (m : LeadsShown) where
+  abbrev G : List (FormalSum m.variables)
+  G = sums_shown m
+
+  -- where the lead of j divides the lcm of i and h, it exceeds lead h only where lead i does
+  pub bits_within : (i h j : ℕ) → DividesLcm m (i, h) j → bit_and (bits_above m j h) (bits_above m i h) ≡ bits_above m j h
+  bits_within i h j d =
+      implied_four (lead_row m j) (lead_row m h) (lead_row m i) (lead_row m h)
+      (λ t. divisor_exceeds 16 t (leads G j).1 (leads G i).1 (leads G h).1 (d.0, ap (λ z. z.1) d.1))
+
+  -- so equal lcms have equal bits
+  pub same_bits : (i h j : ℕ) → DividesLcm m (i, h) j → DividesLcm m (j, h) i → bits_above m j h ≡ bits_above m i h
+  same_bits i h j a b =
+      sym (bits_within i h j a) ∙ and_comm (bits_above m j h) (bits_above m i h) ∙ bits_within j h i b
+
+  pub kept_within :
+      (i h j a b : ℕ) → a ≡ bits_above m j h → b ≡ bits_above m i h → DividesLcm m (i, h) j → bit_and a b ≡ a
+  kept_within i h j a b ea eb d = ap₂ bit_and ea eb ∙ bits_within i h j d ∙ sym ea
+
+  pub kept_same :
+      (i h j a b : ℕ) → a ≡ bits_above m j h → b ≡ bits_above m i h → DividesLcm m (i, h) j → DividesLcm m (j, h) i → a ≡ b
+  kept_same i h j a b ea eb d e = ea ∙ same_bits i h j d e ∙ sym eb
+
+  -- a pair that is met, by its indices
+  pub met_at : (h i : ℕ) (x : NewPair) → IsMet m x → new_pair_of x ≡ (i, h) → IsMet m (record { i = i; j = h; above = x.above })
+  met_at h i x met e =
+      subst (λ (p : Pair). IsMet m (record { i = p.0; j = p.1; above = x.above })) e (record { pair = met.pair; above = met.above })
+
+  pub other_pair : (h : ℕ) (y : NewPair) → IsMet m y → y.j ≡ h → IsMet m (record { i = y.i; j = h; above = y.above })
+  other_pair h y met e = met_at h y.i y met (ap (λ j. (y.i, j)) e)
+
+  pub active_none : (h : ℕ) → AreActive m h [] []
+  active_none h = record { len = refl; each = λ x lt. absurd (omega (arith, lt)) }
+
+  -- one more active member
+  pub active_pushed :
+      (h i a : ℕ) (members above : List ℕ) → AreActive m h members above → IsMet m (record { i = i; j = h; above = a })
+      → AreActive m h (members ++ i ∷ []) (above ++ a ∷ [])
+  active_pushed h i a members above all met = record {
+    len = let e = all.len in omega (arith, e, length_push members i, length_push above a);
+    each = λ x lt. go x lt (cases_lt x (length members));
+  }
+    where
+      at : (x k l : ℕ) → get_or (members ++ i ∷ []) x 0 ≡ k → get_or (above ++ a ∷ []) x 0 ≡ l → IsMet m (record { i = k; j = h; above = l })
+          → IsMet m (record { i = get_or (members ++ i ∷ []) x 0; j = h; above = get_or (above ++ a ∷ []) x 0 })
+      at x k l e f is =
+          subst (λ z. IsMet m (record { i = z; j = h; above = get_or (above ++ a ∷ []) x 0 })) (sym e)
+          (subst (λ z. IsMet m (record { i = k; j = h; above = z })) (sym f) is)
+
+      go : (x : ℕ) → x < length (members ++ i ∷ []) → (x < length members) ⊎ (length members ≤ x)
+          → IsMet m (record { i = get_or (members ++ i ∷ []) x 0; j = h; above = get_or (above ++ a ∷ []) x 0 })
+      go x lt (inl l) =
+          at x (get_or members x 0) (get_or above x 0) (get_or_append_left members (i ∷ []) 0 x l)
+          (get_or_append_left above (a ∷ []) 0 x (let e = all.len in omega (arith, e, l))) (all.each x l)
+      go x lt (inr l) =
+          let e : x ≡ length members = omega (arith, lt, l, length_push members i) in
+          let f : x ≡ length above = let q = all.len in omega (arith, e, q) in
+          at x i a (ap (λ z. get_or (members ++ i ∷ []) z 0) e ∙ get_or_push members i 0 (length members) refl)
+          (ap (λ z. get_or (above ++ a ∷ []) z 0) f ∙ get_or_push above a 0 (length above) refl) met

@@ -1,0 +1,41 @@
+use Rattle.std.proofs.lemmas.Bool.{false≢true}
+use Rattle.basis_steps.proofs.RuleTests.{group, group_first, group_second}
+use Rattle.pair_updates.proofs.CriterionTests.{not_true}
+use Rattle.pair_updates.proofs.MetPairs.{kept_same, other_pair}
+use Rattle.pair_updates.specs.Leads.{sums_shown}
+use Rattle.pair_updates.proofs.dropping.have_one_lcm.Goals as goal
+
+pub returns-then-other-pair : goal.returns-then-other-pair
+returns-then-other-pair c =
+    let m = c.args.leads.now in
+    let x = c.args.pair.now in
+    let y = c.args.other.now in
+    let o = other_pair m x.j y c.requires.other c.requires.one in (
+      (λ e. absurd (false≢true e)),
+      (λ g. absurd (c.if-other-pair.true (kept_same m x.i x.j y.i y.above x.above o.above c.requires.pair.above
+          (group_first (sums_shown m) x.j x.i y.i o.pair.within o.pair.ordered c.requires.pair.pair g)
+          (group_second (sums_shown m) x.j x.i y.i o.pair.within o.pair.ordered c.requires.pair.pair g)))),
+    )
+
+pub returns-then-not-divides_lcm : goal.returns-then-not-divides_lcm
+returns-then-not-divides_lcm c =
+    let m = c.args.leads.now in
+    let x = c.args.pair.now in
+    let y = c.args.other.now in
+    let o = other_pair m x.j y c.requires.other c.requires.one in (
+      (λ e. absurd (false≢true e)),
+      (λ g. absurd (not_true _ c.if-not-divides_lcm.true (c.divides_lcm.ensures.1
+          (group_first (sums_shown m) x.j x.i y.i o.pair.within o.pair.ordered c.requires.pair.pair g)))),
+    )
+
+pub returns : goal.returns
+returns c =
+    let m = c.args.leads.now in
+    let x = c.args.pair.now in
+    let y = c.args.other.now in
+    let o = other_pair m x.j y c.requires.other c.requires.one in (
+      (λ t. group (sums_shown m) x.j x.i y.i o.pair.within o.pair.ordered c.requires.pair.pair (c.divides_lcm.ensures.0 c.if-not-divides_lcm.false)
+          (c.divides_lcm-2.ensures.0 t)),
+      (λ g. c.divides_lcm-2.ensures.1
+          (group_second (sums_shown m) x.j x.i y.i o.pair.within o.pair.ordered c.requires.pair.pair g)),
+    )

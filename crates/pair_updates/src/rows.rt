@@ -1,0 +1,71 @@
+// The first sixteen exponents of leads, side by side.
+ghost use Rattle.std.specs.Prelude.{ℕ, ◌≡◌, ◌<◌, ◌≤◌, ◌↔◌, ◌-◌, IsTrue, bit_and, length, ltb, max, slice_index};
+ghost use Rattle.std.specs.Simd.Lanes.{mask_l, zip2};
+ghost use Rattle.monomials.specs.Exponents.{exponents_of};
+ghost use Rattle.pair_updates.specs.Rows.{exceeding, row};
+
+use monomial_orders::Mono;
+use std::simd::prelude::*;
+
+/// The first sixteen exponents, with zeros behind the last.
+pub(crate) fn row_of(m: &Mono) -> [u16; 16]
+    ensures { let es = m.now.exponents in result ≡ row 16 (exponents_of (length es) es) }
+{
+    let exponents = m.exponents();
+    let mut places = [0; 16];
+    for k in 0..exponents.len().min(16) {
+        places[k] = exponents[k];
+    }
+    places
+}
+
+/// Is each place of the one at most the greater of the two others? All are looked at, so that no branch is taken.
+pub(crate) fn divides_rows(k: &[u16; 16], a: &[u16; 16], b: &[u16; 16]) -> bool
+    ensures { IsTrue result ↔ ((v : ℕ) → v < 16 → slice_index k.now v ≤ max (slice_index a.now v) (slice_index b.now v)) }
+{
+    let mut divides = true;
+    for v in 0..16 {
+        if k[v] > a[v].max(b[v]) {
+            divides = false;
+        }
+    }
+    divides
+}
+
+// A bit for each of sixteen places at which the one is below the other, the first place's lowest.
+fn below(a: u16x16, b: u16x16) -> u64
+    requires left { length a ≡ 16 }
+    requires right { length b ≡ 16 }
+    ensures { result ≡ mask_l (zip2 (λ x y. ltb x y) a b) }
+{
+    a.simd_lt(b).to_bitmask()
+}
+
+// By how much each place of the one is above the other's, 0 where it is not.
+fn excesses(a: &[u16; 16], b: &[u16; 16]) -> [u16; 16]
+    ensures { result ≡ zip2 ◌-◌ a.now b.now }
+{
+    let mut to = [0; 16];
+    for v in 0..16 {
+        to[v] = a[v].saturating_sub(b[v]);
+    }
+    to
+}
+
+/// In which places the one exceeds the other by more than 0, 1, 2 and 3: a bit for each place and number, those of one number together.
+pub(crate) fn exceeding_places(a: &[u16; 16], b: &[u16; 16]) -> u64
+    ensures { result ≡ mask_l (exceeding a.now b.now) }
+{
+    let excess = u16x16::from_array(excesses(a, b));
+    below(u16x16::splat(0), excess)
+        | below(u16x16::splat(1), excess) << 16
+        | below(u16x16::splat(2), excess) << 32
+        | below(u16x16::splat(3), excess) << 48
+}
+
+/// Is each bit of the one a bit of the other?
+pub(crate) fn is_within(a: u64, b: u64) -> bool
+    ensures { IsTrue result ↔ (bit_and a b ≡ a) }
+{
+    a & b == a
+}
