@@ -1,7 +1,8 @@
 -- A row that is cleared term by term, and taken out
-use Rattle.std.specs.Prelude.{Contains, Err, IfErr, Ok, OnOk, Result, nat_eq}
-use Rattle.std.proofs.Common.{Bool, List, [], ap, append-nil, ap₂, arith, cond, drop, eq-eqb, eqb-true, false, get_or, length, mod-lt, refl, subst}
-use Rattle.std.proofs.Common.{suc, sym, take, true, zero, ℕ, ◌%◌, ◌*◌, ◌++◌, ◌+◌, ◌-◌, ◌<◌, ◌∙◌, ◌∷◌, ◌≡◌}
+use Rattle.std.specs.Prelude.{Contains, Err, IfErr, IfOk, Ok, OnOk, Result, nat_eq}
+use Rattle.std.proofs.Common.{Bool, List, [], ap, append-nil, ap₂, arith, cond, drop, eq-eqb, eqb-true, false, get_or, inl, inr, length, mod-lt, refl, subst}
+use Rattle.std.proofs.Common.{suc, sym, take, true, zero, ℕ, ◌%◌, ◌*◌, ◌++◌, ◌+◌, ◌-◌, ◌<◌, ◌∙◌, ◌∷◌, ◌≡◌, ◌⊎◌}
+use Rattle.std.proofs.lemmas.Bool.{cases_eq}
 use Rattle.std.proofs.lemmas.List.{append_assoc, map-append, take-append-drop, take_more}
 use Rattle.std.proofs.lemmas.List.Elements.{Contains-append_left, Contains-append_right}
 use Rattle.residues.proofs.Congruences.{IsCongruent_add, IsCongruent_cancel, IsCongruent_minus, IsCongruent_mod, IsCongruent_multiply}
@@ -15,15 +16,16 @@ use Rattle.formal_sums.proofs.WeightedSums.{weighted_sum-scale}
 use Rattle.formal_sums.specs.FormalSums.{Each, FormalSum, IsSame, indicator, product, scale, shift, weighted_sum}
 use Rattle.minimal_laws.proofs.Rows.{linear_component}
 use Rattle.minimal_laws.specs.Cancellation.{cleared, component}
-use Rattle.term_lists.specs.Rings.{variables}
+use Rattle.term_lists.proofs.Scaling.{Each_at}
+use Rattle.term_lists.specs.Rings.{ring_comparison, variables}
 use Rattle.term_lists.specs.Stops.{ScaledStops}
-use Rattle.term_lists.specs.Vectors.{StandsFor, sum_of}
+use Rattle.term_lists.specs.Vectors.{AreTermsOver, IsMonomialOver, IsVectorOver, StandsFor, sum_of}
 use Rattle.term_lists.specs.declared.key.Key.{Key as CodeKey}
 use Rattle.term_lists.specs.declared.ring.Ring.{Ring}
 use Rattle.term_lists.specs.declared.stop.VectStop.{VectStop}
 use Rattle.term_lists.specs.declared.stop.VectStop.TheVariants.{Degree, Memory}
-use Rattle.column_passes.specs.Clearing.{ClearingStops, IsMonomialAt, multiple_of}
-use Rattle.column_passes.proofs.Lists.{all_append}
+use Rattle.column_passes.specs.Clearing.{ClearingStops, IsMonomialAt, MakeEntry, multiple_of}
+use Rattle.column_passes.proofs.Lists.{all_append, all_map, each_in}
 
 abbrev Terms : Type 0
 Terms = List (CodeKey × ℕ)
@@ -45,7 +47,7 @@ component-other {n} r t ne =
     ap (λ b. cond b (((0, exponents_of n t.0.monomial.exponents), t.1) ∷ []) []) (nat_eq-other t.0.position r ne)
 
 -- minus the product of two residues
-minus_product : (p s c f : ℕ) → 0 < p → f ≡ (p - (s * c) % p) % p → IsCongruent p f ((p - 1) * s * c)
+pub minus_product : (p s c f : ℕ) → 0 < p → f ≡ (p - (s * c) % p) % p → IsCongruent p f ((p - 1) * s * c)
 minus_product p s c f pos e =
     IsCongruent_cancel pos (s * c)
     (IsCongruent_trans (IsCongruent_trans
@@ -59,7 +61,7 @@ minus_product p s c f pos e =
         let lt : x % p < p = mod-lt x pos in
         IsCongruent_trans (IsCongruent_of p (x % p + (p - x % p)) (1 + (p - 1) * 1) (omega (arith, lt, pos))) (IsCongruent_minus p 1 pos)
 
-scale_congruent : {n p : ℕ} (c d : ℕ) (m : Exponents n) (v : FormalSum n) → IsCongruent p c d → IsSame p (scale c m v) (scale d m v)
+pub scale_congruent : {n p : ℕ} (c d : ℕ) (m : Exponents n) (v : FormalSum n) → IsCongruent p c d → IsSame p (scale c m v) (scale d m v)
 scale_congruent {n} {p} c d m v h = record {
   by_key = λ k.
       IsCongruent_trans (IsCongruent_of p _ _ (weighted_sum-scale (indicator k) c m v))
@@ -168,6 +170,86 @@ component_none n r (t ∷ v) h =
 pub cleared_other : (n p r s : ℕ) (w : FormalSum n) (v : Terms) → Each (λ t. t.0.position ≡ r → ⊥) v → cleared p r s w (sum_of n v) ≡ sum_of n v
 cleared_other n p r s w v h = ap (λ u. sum_of n v ++ product (scale ((p - 1) * s) (unit n) u) w) (component_none n r v h) ∙ append-nil (sum_of n v)
 
+-- ---- the terms of one row
+component-append : {n : ℕ} (r : ℕ) (u v : FormalSum n) → component r (u ++ v) ≡ component r u ++ component r v
+component-append r [] v = refl
+component-append {n} r (t ∷ u) v = go (nat_eq t.0.0 r) (component-append r u v)
+  where
+    go :
+        (b : Bool) → component r (u ++ v) ≡ component r u ++ component r v
+        → cond b (((0, t.0.1), t.1) ∷ component r (u ++ v)) (component r (u ++ v))
+        ≡ cond b (((0, t.0.1), t.1) ∷ component r u) (component r u) ++ component r v
+    go true e = ap (λ z. ((0, t.0.1), t.1) ∷ z) e
+    go false e = e
+
+module _ (ring : Ring) (r : ℕ) (v : Terms) (i : ℕ) (t : CodeKey × ℕ) (lt : i < length v) (is : t ≡ get_or v i t) where
+  split_component :
+      component r (sum_of (variables ring) (take (i + 1) v))
+      ≡ component r (sum_of (variables ring) (take i v)) ++ component r (sum_of (variables ring) (t ∷ []))
+  split_component =
+      let n = variables ring in
+      ap (λ z. component r (sum_of n z)) (take_more v i t lt ∙ ap (λ x. take i v ++ x ∷ []) (sym is))
+      ∙ ap (component r) (map-append _ (take i v) (t ∷ [])) ∙ component-append r (sum_of n (take i v)) (sum_of n (t ∷ []))
+
+  -- one more term of the row
+  entry_here :
+      (old new : Terms) → new ≡ old ++ t ∷ [] → AreTermsOver ring v → Each (λ x. Contains v x) old → AreTermsOver ring old
+      → component r (sum_of (variables ring) old) ≡ component r (sum_of (variables ring) (take i v))
+      → AreTermsOver ring new × Each (λ x. Contains v x) new
+      × (component r (sum_of (variables ring) new) ≡ component r (sum_of (variables ring) (take (i + 1) v)))
+  entry_here old new e over inside terms same =
+      let n = variables ring in (
+        subst (AreTermsOver ring) (sym e)
+            (all_append _ old (t ∷ []) terms (Each_at (λ x. IsMonomialOver ring x.0.monomial × (x.1 < ring.modulus.value)) v i t over lt is, tt)),
+        subst (Each (λ x. Contains v x)) (sym e) (all_append _ old (t ∷ []) inside ((i, lt, sym is), tt)),
+        ap (λ z. component r (sum_of n z)) e ∙ ap (component r) (map-append _ old (t ∷ [])) ∙ component-append r (sum_of n old) (sum_of n (t ∷ []))
+            ∙ ap (λ z. z ++ component r (sum_of n (t ∷ []))) same ∙ sym split_component,
+      )
+
+  -- a term of another row
+  entry_other :
+      (old : Terms) → (t.0.position ≡ r → ⊥)
+      → component r (sum_of (variables ring) old) ≡ component r (sum_of (variables ring) (take i v))
+      → component r (sum_of (variables ring) old) ≡ component r (sum_of (variables ring) (take (i + 1) v))
+  entry_other old ne same =
+      let n = variables ring in
+      same ∙ sym (split_component ∙ ap (λ z. component r (sum_of n (take i v)) ++ z) (component-other r t ne) ∙ append-nil (component r (sum_of n (take i v))))
+
+  pub entry_more :
+      (old new : Terms) → (t.0.position ≡ r → new ≡ old ++ t ∷ []) → ((t.0.position ≡ r → ⊥) → new ≡ old)
+      → AreTermsOver ring v → Each (λ x. Contains v x) old → AreTermsOver ring old
+      → component r (sum_of (variables ring) old) ≡ component r (sum_of (variables ring) (take i v))
+      → AreTermsOver ring new × Each (λ x. Contains v x) new
+      × (component r (sum_of (variables ring) new) ≡ component r (sum_of (variables ring) (take (i + 1) v)))
+  entry_more old new here other over inside terms same = go (cases_eq t.0.position r)
+    where
+      go :
+          (t.0.position ≡ r) ⊎ (t.0.position ≡ r → ⊥)
+          → AreTermsOver ring new × Each (λ x. Contains v x) new
+          × (component r (sum_of (variables ring) new) ≡ component r (sum_of (variables ring) (take (i + 1) v)))
+      go (inl e) = entry_here old new (here e) over inside terms same
+      go (inr ne) = let e = sym (other ne) in (
+        subst (AreTermsOver ring) e terms,
+        subst (Each (λ x. Contains v x)) e inside,
+        ap (λ z. component r (sum_of (variables ring) z)) (other ne) ∙ entry_other old ne same,
+      )
+
+-- what the terms of the row take away is what all terms do
+pub of_entry :
+    (ring : Ring) (r s : ℕ) (w v entry taken : Terms) → MakeEntry ring r v entry → StandsFor ring taken (multiple_of ring r s w entry)
+    → StandsFor ring taken (multiple_of ring r s w v)
+of_entry ring r s w v entry taken h e =
+    let n = variables ring in
+    subst (λ u. StandsFor ring taken (product (scale ((ring.modulus.value - 1) * s) (unit n) u) (sum_of n w))) h.component e
+
+pub entry_stop :
+    (ring : Ring) (r : ℕ) (w v entry : Terms) (stop : VectStop) → MakeEntry ring r v entry → ClearingStops r w entry stop → ClearingStops r w v stop
+entry_stop ring r w v entry Memory h s = tt
+entry_stop ring r w v entry (Degree a b) h s = (at s.0, s.1, s.2)
+  where
+    at : IsMonomialAt r entry a → IsMonomialAt r v a
+    at (t, c, p, m) = (t, each_in (λ x. Contains v x) entry t h.contained c, p, m)
+
 -- ---- why a term is not cleared
 pub clear_stop : (r : ℕ) (w : Terms) (t : CodeKey × ℕ) (f : ℕ) (stop : VectStop) → t.0.position ≡ r → ScaledStops f t.0.monomial w stop
     → ClearingStops r w (t ∷ []) stop
@@ -204,3 +286,10 @@ each_more P xs i x lt is h q = subst (Each P) (sym (take_more xs i x lt ∙ ap (
 pub on_ok : {X E : Type 0} (r : Result X E) (P Q : Type 0) → (P → Q) → OnOk r P → OnOk r Q
 on_ok (Ok x) P Q f h = f h
 on_ok (Err e) P Q f h = tt
+
+pub if_ok : {X E : Type 0} (r : Result X E) (P Q : X → Type 0) → ((x : X) → P x → Q x) → IfOk r P → IfOk r Q
+if_ok (Ok x) P Q f h = f x h
+if_ok (Err e) P Q f h = tt
+
+pub vector_terms : (ring : Ring) (v : Terms) → IsVectorOver ring (ring_comparison ring) v → AreTermsOver ring v
+vector_terms ring v h = all_map _ _ v (λ t e. (e.weighed, e.reduced)) h.each

@@ -1,13 +1,18 @@
 -- The constants of vectors in the code
-use Rattle.std.proofs.Common.{Bool, List, [], ap, append-nil, arith, cond, false, get_or, length, refl, subst, sym, take, true, ℕ, ◌++◌, ◌+◌, ◌<◌}
+use Rattle.std.proofs.Common.{Bool, List, [], ap, append-nil, arith, cond, false, get_or, length, refl, subst, sym, take, true, ℕ, ◌*◌, ◌++◌, ◌+◌, ◌<◌}
 use Rattle.std.proofs.Common.{◌∙◌, ◌∷◌, ◌≡◌}
 use Rattle.std.proofs.lemmas.List.{map-append, take_more}
 use Rattle.std.proofs.lemmas.List.Elements.{filter-append}
+use Rattle.std.proofs.lemmas.List.Sorted.{IsPermutation-map, sum_by-IsPermutation}
+use Rattle.std.proofs.lemmas.List.Sums.{sum_by-cons}
+use Rattle.std.specs.List.{sum_by}
+use Rattle.std.specs.List.Sorted.{IsPermutation}
 use Rattle.monomials.proofs.Monomials.{same_exponents-refl, same_exponents-true}
 use Rattle.monomials.proofs.Weighing.{weighted_degree-unit, weighted_degree_zero}
 use Rattle.monomials.specs.Exponents.{exponents_of, same_exponents, unit}
 use Rattle.monomials.specs.Weights.{weighted_degree}
-use Rattle.formal_sums.specs.FormalSums.{FormalSum}
+use Rattle.residues.proofs.Congruences.{IsCongruent_of}
+use Rattle.formal_sums.specs.FormalSums.{FormalSum, IsSame, Key, Term, indicator, weighted_sum}
 use Rattle.betti_laws.specs.ConstantParts.{constant_part}
 use Rattle.term_lists.specs.Rings.{variables}
 use Rattle.term_lists.specs.Vectors.{AreTermsOver, IsMonomialOver, key_of, sum_of}
@@ -73,3 +78,17 @@ module _ (ring : Ring) where
       e ∙ ap (λ z. z ++ constant_part (sum_of n (t ∷ []))) h ∙ sym (filter-append _ (sum_of n (take i v)) (sum_of n (t ∷ [])))
       ∙ ap constant_part (sym (map-append _ (take i v) (t ∷ [])))
       ∙ ap (λ z. constant_part (sum_of n z)) (sym (take_more v i t lt ∙ ap (λ x. take i v ++ x ∷ []) (sym is)))
+
+-- ---- terms in another order
+weighted_by : {n : ℕ} (f : Key n → ℕ) (v : FormalSum n) → weighted_sum f v ≡ sum_by (λ (t : Term n). t.1 * f t.0) v
+weighted_by f [] = refl
+weighted_by {n} f (t ∷ v) = ap (λ x. t.1 * f t.0 + x) (weighted_by f v) ∙ sym (sum_by-cons (λ (t : Term n). t.1 * f t.0) t v)
+
+pub terms_reordered : (n p : ℕ) (old new : Terms) → IsPermutation old new → IsSame p (sum_of n new) (sum_of n old)
+terms_reordered n p old new h = record {
+  by_key = λ k.
+      let f = λ (t : Term n). t.1 * indicator k t.0 in
+      let moved = IsPermutation-map (λ (t : CodeKey × ℕ). (key_of n t.0, t.1)) old new h in
+      IsCongruent_of p _ _
+      (weighted_by (indicator k) (sum_of n new) ∙ sum_by-IsPermutation f (sum_of n old) (sum_of n new) moved ∙ sym (weighted_by (indicator k) (sum_of n old)));
+}

@@ -12,6 +12,7 @@ pub mod Numbering
 pub mod Passes
 pub mod Places
 pub mod Reordering
+pub mod RowClearing
 pub mod Turning
 pub mod Units
 pub mod Zeros

@@ -17,7 +17,7 @@ use Rattle.term_lists.specs.Rings.{ring_comparison, variables}
 use Rattle.term_lists.specs.Vectors.{IsTerm, IsVectorOver, sum_of}
 use Rattle.term_lists.specs.declared.key.Key.{Key as CodeKey}
 use Rattle.term_lists.specs.declared.ring.Ring.{Ring}
-use Rattle.column_passes.specs.Clearing.{lowered}
+use Rattle.column_passes.specs.Clearing.{lowered_behind}
 
 abbrev Terms : Type 0
 Terms = List (CodeKey × ℕ)
@@ -30,13 +30,13 @@ abbrev pub without_terms : ℕ → Terms → Terms
 without_terms r [] = []
 without_terms r (t ∷ v) = cond (nat_eq t.0.position r) (without_terms r v) (low r t ∷ without_terms r v)
 
-pub lowered_filter : (r : ℕ) (v : Terms) → lowered r (filter (λ (t : CodeKey × ℕ). not (t.0.position == r)) v) ≡ without_terms r v
+pub lowered_filter : (r : ℕ) (v : Terms) → lowered_behind r (filter (λ (t : CodeKey × ℕ). not (t.0.position == r)) v) ≡ without_terms r v
 lowered_filter r [] = refl
 lowered_filter r (t ∷ v) = go (nat_eq t.0.position r) (lowered_filter r v)
   where
     go :
-        (b : Bool) → lowered r (filter (λ (t : CodeKey × ℕ). not (t.0.position == r)) v) ≡ without_terms r v
-        → lowered r (cond (not b) (t ∷ filter (λ (t : CodeKey × ℕ). not (t.0.position == r)) v) (filter (λ (t : CodeKey × ℕ). not (t.0.position == r)) v))
+        (b : Bool) → lowered_behind r (filter (λ (t : CodeKey × ℕ). not (t.0.position == r)) v) ≡ without_terms r v
+        → lowered_behind r (cond (not b) (t ∷ filter (λ (t : CodeKey × ℕ). not (t.0.position == r)) v) (filter (λ (t : CodeKey × ℕ). not (t.0.position == r)) v))
         ≡ cond b (without_terms r v) (low r t ∷ without_terms r v)
     go true e = e
     go false e = ap (λ z. low r t ∷ z) e
@@ -109,33 +109,33 @@ module _ (ring : Ring) (r : ℕ) where
 
 -- ---- the loop that lowers positions in place
 lowered_get :
-    (r : ℕ) (xs : Terms) (i : ℕ) (d : CodeKey × ℕ) → i < length xs → get_or (lowered r (take i xs) ++ drop i xs) i d ≡ get_or xs i d
+    (r : ℕ) (xs : Terms) (i : ℕ) (d : CodeKey × ℕ) → i < length xs → get_or (lowered_behind r (take i xs) ++ drop i xs) i d ≡ get_or xs i d
 lowered_get r [] i d lt = absurd (omega arith)
 lowered_get r (x ∷ xs) zero d lt = refl
 lowered_get r (x ∷ xs) (suc i) d lt = lowered_get r xs i d (omega arith)
 
 lowered_set :
     (r : ℕ) (xs : Terms) (i : ℕ) (t : CodeKey × ℕ) → i < length xs → t ≡ get_or xs i t
-    → set (lowered r (take i xs) ++ drop i xs) i (low r t) ≡ lowered r (take (suc i) xs) ++ drop (suc i) xs
+    → set (lowered_behind r (take i xs) ++ drop i xs) i (low r t) ≡ lowered_behind r (take (suc i) xs) ++ drop (suc i) xs
 lowered_set r [] i t lt e = absurd (omega arith)
 lowered_set r (x ∷ xs) zero t lt e = ap (λ y. low r y ∷ xs) e
 lowered_set r (x ∷ xs) (suc i) t lt e = ap (λ z. low r x ∷ z) (lowered_set r xs i t (omega arith) e)
 
 -- x is read, and y is where the position is written
 pub lowered_step :
-    (r : ℕ) (xs ys : Terms) (i q : ℕ) (x y : CodeKey × ℕ) → i < length xs → ys ≡ lowered r (take i xs) ++ drop i xs → x ≡ get_or ys i x → y ≡ get_or ys i y
+    (r : ℕ) (xs ys : Terms) (i q : ℕ) (x y : CodeKey × ℕ) → i < length xs → ys ≡ lowered_behind r (take i xs) ++ drop i xs → x ≡ get_or ys i x → y ≡ get_or ys i y
     → q ≡ cond (nat_lt x.0.position r) x.0.position (x.0.position - 1)
-    → set ys i (record { position = q; monomial = y.0.monomial }, y.1) ≡ lowered r (take (i + 1) xs) ++ drop (i + 1) xs
+    → set ys i (record { position = q; monomial = y.0.monomial }, y.1) ≡ lowered_behind r (take (i + 1) xs) ++ drop (i + 1) xs
 lowered_step r xs ys i q x y lt e hx hy eq =
     let ex : x ≡ get_or xs i x = hx ∙ ap (λ z. get_or z i x) e ∙ lowered_get r xs i x lt in
     let ey : y ≡ get_or xs i y = hy ∙ ap (λ z. get_or z i y) e ∙ lowered_get r xs i y lt in
     let xy : y ≡ x = ey ∙ same xs i y x lt ∙ sym ex in
     let j : suc i ≡ i + 1 = omega arith in
     ap (λ z. set z i (record { position = q; monomial = y.0.monomial }, y.1)) e
-    ∙ ap (λ (z : ℕ). set (lowered r (take i xs) ++ drop i xs) i (record { position = z; monomial = y.0.monomial }, y.1)) eq
-    ∙ ap (λ (z : CodeKey × ℕ). set (lowered r (take i xs) ++ drop i xs) i
+    ∙ ap (λ (z : ℕ). set (lowered_behind r (take i xs) ++ drop i xs) i (record { position = z; monomial = y.0.monomial }, y.1)) eq
+    ∙ ap (λ (z : CodeKey × ℕ). set (lowered_behind r (take i xs) ++ drop i xs) i
     (record { position = cond (nat_lt x.0.position r) x.0.position (x.0.position - 1); monomial = z.0.monomial }, z.1)) xy
-    ∙ lowered_set r xs i x lt ex ∙ ap (λ k. lowered r (take k xs) ++ drop k xs) j
+    ∙ lowered_set r xs i x lt ex ∙ ap (λ k. lowered_behind r (take k xs) ++ drop k xs) j
   where
     same : (xs : Terms) (i : ℕ) (d d' : CodeKey × ℕ) → i < length xs → get_or xs i d ≡ get_or xs i d'
     same [] i d d' lt = absurd (omega arith)

@@ -48,7 +48,7 @@ module _ (ring : Ring) where
       ap (cleared_all ring steps) (cleared_other n ring.modulus.value s.row s.inverse (sum_of n s.column) v other)
       ∙ skipped numbers (j + 1) k from steps v h.1 (omega (arith, le)) more
 
-  cleared_all_same :
+  pub cleared_all_same :
       0 < ring.modulus.value → (steps : List Step) (v w : FormalSum (variables ring)) → IsSame ring.modulus.value v w
       → IsSame ring.modulus.value (cleared_all ring steps v) (cleared_all ring steps w)
   cleared_all_same pos [] v w e = e
@@ -58,7 +58,7 @@ module _ (ring : Ring) where
   module _ (numbers : List ℕ) (steps : List Step) (from next : ℕ) (out : Terms) (V : FormalSum (variables ring)) (numbered : AreNumbered numbers 0 steps)
       (after : from ≤ next) (least : Each (λ t. from ≤ number numbers t → next ≤ number numbers t) out)
       (h : IsSame ring.modulus.value (cleared_all ring (drop from steps) (sum_of (variables ring) out)) V) where
-    to_next : IsSame ring.modulus.value (cleared_all ring (drop next steps) (sum_of (variables ring) out)) V
+    pub to_next : IsSame ring.modulus.value (cleared_all ring (drop next steps) (sum_of (variables ring) out)) V
     to_next =
         let k = next - from in
         let e : from + k ≡ next = omega (arith, after) in

@@ -10,6 +10,8 @@ use Rattle.term_lists.specs.Rings.{ring_comparison, variables}
 use Rattle.term_lists.specs.Vectors.{AreVectorsOver, IsVectorOver, sum_of, sums_of}
 use Rattle.term_lists.specs.declared.key.Key.{Key as CodeKey}
 use Rattle.term_lists.specs.declared.ring.Ring.{Ring}
+use Rattle.constant_rows.specs.Rows.{AreConstantsOf}
+use Rattle.constant_rows.specs.declared.constants.Constants.{Constants}
 use Rattle.column_passes.specs.Constants.{HasNoConstants, IsLeastUnit}
 use Rattle.column_passes.specs.Placing.{ArePlacesAfter, place_after, place_told, without_all}
 use Rattle.column_passes.specs.declared.one_pass.Met.{Met}
@@ -84,6 +86,12 @@ pub record LeaveNumbered (numbers : List ℕ) (leaving : Leaving) : Type 0 where
 -- a step of a vector and a residue
 abbrev pub IsStepOver : Ring → Step → Type 0
 IsStepOver ring s = IsVectorOver ring (ring_comparison ring) s.column × (s.inverse < ring.modulus.value)
+
+-- these constants are the columns of the first steps
+abbrev pub AreStepConstants : Ring → List Step → List Constants → Type 0
+AreStepConstants ring steps [] = ⊤
+AreStepConstants ring [] (c ∷ constants) = ⊥
+AreStepConstants ring (s ∷ steps) (c ∷ constants) = AreConstantsOf ring s.column c × AreStepConstants ring steps constants
 
 -- no step has the vector's first constant in its row
 abbrev pub IsFreeOfSteps : List (CodeKey × ℕ) → List Step → Type 0

@@ -4,7 +4,7 @@ ghost use Rattle.formal_sums.specs.FormalSums.{Each};
 ghost use Rattle.minimal_laws.specs.Cancellation.{cleared, without_row};
 ghost use Rattle.term_lists.specs.Rings.{ring_comparison, variables};
 ghost use Rattle.term_lists.specs.Vectors.{AreTermsOver, IsMonomialOver, IsVectorOver, StandsFor, sum_of};
-ghost use Rattle.column_passes.specs.Clearing.{ClearingStops, lowered, multiple_of};
+ghost use Rattle.column_passes.specs.Clearing.{ClearingStops, MakeEntry, lowered_behind, multiple_of};
 
 use crate::placing::lower_position;
 use module_vectors::{Key, NoMemory, Ring, Vect, VectStop, lawful_setting};
@@ -118,6 +118,42 @@ fn multiple(
     Ok(sum_of_two(alloc, ring, left, right)?)
 }
 
+// Puts a copy of the term behind the others, where it stands in the row.
+fn copy_in_row(
+    alloc: Global,
+    row: u64,
+    term: &(Key, u32),
+    entry: &mut Vec<(Key, u32)>,
+) -> Result<(), NoMemory>
+    ensures here { OnOk result (term.now.0.position ≡ row → entry.new.items ≡ entry.old.items ++ term.now ∷ []) }
+    ensures other { OnOk result ((term.now.0.position ≡ row → ⊥) → entry.new.items ≡ entry.old.items) }
+{
+    if term.0.position != row {
+        return Ok(());
+    }
+    let key = term.0.try_copy(alloc)?;
+    entry.push((key, term.1))?;
+    Ok(())
+}
+
+// Copies of the terms in the row.
+fn terms_in_row(
+    alloc: Global,
+    ring: &Ring,
+    row: u64,
+    terms: &[(Key, u32)],
+) -> Result<Vec<(Key, u32)>, NoMemory>
+    requires { AreTermsOver ring.now terms.now }
+    ensures { IfOk result (λ entry. MakeEntry ring.now row terms.now entry.items) }
+{
+    let _ring = ring;
+    let mut entry = Vec::new(alloc);
+    for term in terms {
+        copy_in_row(alloc, row, term, &mut entry)?;
+    }
+    Ok(entry)
+}
+
 /// v less the multiple of the column w by which its entry in the row vanishes; `inverse` is that of the constant of w there.
 ///
 /// `Degree` comes where a monomial of the entry times one of w has a degree above 65,535, and carries the two; `Memory` where
@@ -139,7 +175,8 @@ pub fn cleared_vector(
     ensures stop { IfErr result (ClearingStops row w.now v) }
 {
     lawful_setting(ring);
-    let taken = match multiple(alloc, ring, w, row, inverse, v.terms()) {
+    let entry = terms_in_row(alloc, ring, row, v.terms())?;
+    let taken = match multiple(alloc, ring, w, row, inverse, &entry) {
         Ok(taken) => taken,
         Err(stop) => return Err(stop),
     };
@@ -148,7 +185,7 @@ pub fn cleared_vector(
 
 // Each term at the position that is left to it when the row leaves.
 fn lower_terms(row: u64, terms: &mut Vec<(Key, u32)>)
-    ensures { terms.new.items ≡ lowered row terms.old.items }
+    ensures { terms.new.items ≡ lowered_behind row terms.old.items }
 {
     for i in 0..terms.len() {
         let position = lower_position(row, terms[i].0.position);

@@ -42,6 +42,8 @@ fn constant_vector(alloc: Global, ring: &Ring, v: &Vect) -> Result<Vect, NoMemor
     for term in v.terms() {
         push_constant(alloc, ring, term, &mut kept)?;
     }
+    // The first row is the greatest, so the terms are in order then.
+    kept.sort_unstable_by_key(|term| term.0.position);
     Vect::from_terms(alloc, ring, kept)
 }
 

@@ -2,14 +2,20 @@ use Rattle.std.proofs.Common.{subst}
 use Rattle.formal_sums.proofs.Sameness.{IsSame_append, IsSame_refl, IsSame_trans}
 use Rattle.term_lists.specs.Rings.{variables}
 use Rattle.term_lists.specs.Vectors.{StandsFor, sum_of}
-use Rattle.column_passes.specs.Clearing.{multiple_of}
+use Rattle.column_passes.specs.Clearing.{MakeEntry, multiple_of}
+use Rattle.column_passes.proofs.Clearings.{of_entry}
 use Rattle.column_passes.proofs.clearing.cleared_vector.Goals as goal
 
 pub returns-clause-sum : goal.returns-clause-sum
 returns-clause-sum c =
     let ring = c.args.ring.now in
-    let taken = subst (λ ts. StandsFor ring c.in-Ok.taken (multiple_of ring c.args.row c.args.inverse c.args.w.now ts)) c.terms.ensures c.in-Ok.ensures.sum in
-    IsSame_trans c.in_ok-sum_of_two.ensures.sum (IsSame_append (IsSame_refl ring.modulus.value (sum_of (variables ring) c.args.v)) taken)
+    let w = c.args.w.now in
+    let v = c.args.v in
+    let entry = c.in_ok-entry.entry.items in
+    let made = subst (λ z. MakeEntry ring c.args.row z entry) c.terms.ensures c.in_ok-entry.ensures in
+    let taken = of_entry ring c.args.row c.args.inverse w v entry c.in-Ok.taken made
+    (subst (λ z. StandsFor ring c.in-Ok.taken (multiple_of ring c.args.row c.args.inverse w z)) c.deref.ensures.value c.in-Ok.ensures.sum) in
+    IsSame_trans c.in_ok-sum_of_two.ensures.sum (IsSame_append (IsSame_refl ring.modulus.value (sum_of (variables ring) v)) taken)
 
 pub multiple-requires-clause-inverse : goal.multiple-requires-clause-inverse
 multiple-requires-clause-inverse c = c.requires.inverse
