@@ -1,5 +1,5 @@
 -- The first maps of a canonical resolution, and one more
-use Rattle.std.specs.Prelude.{Err, IfOk, Ok, Result}
+use Rattle.std.specs.Prelude.{Err, Ok, OnOk, Result}
 use Rattle.std.proofs.Common.{List, Ordering, [], ap, ap₂, arith, eqb-true, false, get_or, length, map, refl, subst, subst₂, suc, sym, true, true≢false, ℕ, ◌++◌, ◌+◌, ◌<◌, ◌==◌, ◌∙◌, ◌∷◌, ◌≡◌, ◌≤◌}
 use Rattle.std.proofs.lemmas.List.{append-nil, append_assoc, get_or_default, length-map}
 use Rattle.formal_sums.proofs.WeightedSums.{Each_append}
@@ -21,8 +21,10 @@ use Rattle.vector_division.proofs.Members.{sums_at}
 use Rattle.resolution_maps.specs.Inducing.{Columns, Tower, induced_through, maps_of, over, tower_comparison}
 use Rattle.resolution_maps.specs.Resolved.{AreFirstMaps, AreVectorsThrough, HavePositions, ResolutionStops}
 use Rattle.schreyer_resolution.specs.Columns.{AreColumnsTo, ColumnStops, IsColumnOf}
+use Rattle.schreyer_resolution.specs.Heads.{AreHeads}
 use Rattle.schreyer_resolution.specs.Progress.{AreResolvedTo, IsNextMap, IsTopMap}
 use Rattle.schreyer_resolution.specs.Steps.{ArePairLeads, IsColumn, IsPairKey, key_at}
+use Rattle.schreyer_resolution.specs.declared.head.Heads.{Heads}
 use Rattle.schreyer_resolution.proofs.Canonical.{columns_canonical, columns_exact, columns_monic, columns_reduced}
 use Rattle.schreyer_resolution.proofs.Heading.{maps_of-more}
 use Rattle.schreyer_resolution.proofs.Pushing.{get_or-map, length-pushed, pushed_default}
@@ -274,6 +276,13 @@ columns_next ring compare cols t keys k next u key h lt is hu hp hc = record {
 -- a tower by its parts
 pub tower_is : (t : Tower) (ring : Ring) (maps : Columns) → t.ring ≡ ring → t.maps ≡ maps → t ≡ over ring maps
 tower_is t ring maps r m = ap₂ over r m
+
+-- the heads of a tower are those of its maps
+pub kept_heads :
+    {X E : Type 0} (r : Result X E) (t : Tower) (ring : Ring) (maps : Columns) (hs : Heads)
+    → t.ring ≡ ring → t.maps ≡ maps → AreHeads (variables t.ring) t.ring.weights t.maps hs → OnOk r (AreHeads (variables ring) ring.weights maps hs)
+kept_heads (Ok x) t ring maps hs r m h = subst₂ (λ z ms. AreHeads (variables z) z.weights ms hs) r m h
+kept_heads (Err e) t ring maps hs r m h = tt
 
 -- the next map by what the calls answer
 pub next_by :

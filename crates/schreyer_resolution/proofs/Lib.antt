@@ -1,4 +1,3 @@
-pub mod Splitting
 pub mod Summing
 pub mod Heading
 pub mod Pushing

@@ -25,7 +25,7 @@ use Rattle.term_lists.specs.Rings.{setting, variables}
 use Rattle.term_lists.specs.Vectors.{HasPositions, IsVectorOver, StandsFor, key_of, sum_of, sums_of}
 use Rattle.term_lists.specs.declared.key.Key.{Key as CodeKey}
 use Rattle.term_lists.specs.declared.ring.Ring.{Ring}
-use Rattle.module_vectors.specs.Trails.{product_lead}
+use Rattle.module_vectors.specs.Trails.{kept_product_lead}
 use Rattle.vector_division.proofs.Members.{sums_at}
 use Rattle.vector_division.specs.Reductions.{HaveLeadsUpTo, IsScaledProduct, cofactors_of, unscaled}
 use Rattle.vector_division.specs.declared.reduction.ScaledProduct.{ScaledProduct}
@@ -212,7 +212,7 @@ module _ (ring : Ring) (compare : (n : ℕ) → Key n → Key n → Ordering) (r
 
     one_below :
         (q : ScaledProduct) → IsLastDivisor F (q.index, exponents_of (variables ring) q.monomial.exponents)
-        → (compare (variables ring) (product_lead (variables ring) cols (unscaled q)) (head_key (sum_of (variables ring) v)) ≡ Greater → ⊥)
+        → (compare (variables ring) (kept_product_lead (variables ring) cols (unscaled q)) (head_key (sum_of (variables ring) v)) ≡ Greater → ⊥)
         → ((induced_setting S F).compare kk (q.index, exponents_of (variables ring) q.monomial.exponents) ≡ Greater) × IsLastDivisor F (q.index, exponents_of (variables ring) q.monomial.exponents)
     one_below q last up = (
       below_lead S lawful F monic kk pair (q.index, exponents_of (variables ring) q.monomial.exponents) last

@@ -32,7 +32,7 @@ use Rattle.term_lists.specs.declared.key.Key.{Key as CodeKey}
 use Rattle.term_lists.specs.declared.ring.Ring.{Ring}
 use Rattle.vector_division.proofs.Members.{sums_at}
 use Rattle.schreyer_resolution.specs.Progress.{IsTopMap}
-use Rattle.schreyer_resolution.specs.Sorting.{by_place, place_of}
+use Rattle.schreyer_resolution.specs.Sorting.{by_place, lead_place}
 
 abbrev Terms : Type 0
 Terms = List (CodeKey × ℕ)
@@ -41,7 +41,7 @@ places_total : IsTotalOrder (λ (k l : ℕ × List ℕ). ordering_then (nat_cmp 
 places_total = then_total (on_total (λ k. k.0) nat_cmp_total) (on_total (λ k. k.1) (back_total nat_list_cmp_total))
 
 pub by_place_weak : IsStrictWeakOrder (λ v w. is_lt (by_place v w))
-by_place_weak = ranks_by places_total place_of
+by_place_weak = ranks_by places_total lead_place
 
 -- what is not above in place is above in the order of columns, or has the same lead
 place_order :

@@ -18,7 +18,7 @@ use Rattle.row_matrix.specs.Naming.{AreNamed, IsGrown}
 use Rattle.row_matrix.specs.Rows.{Entry, column_key, row_sum}
 use Rattle.schreyer_resolution.specs.Columns.{IsFoundLast}
 use Rattle.schreyer_resolution.specs.Pairs.{AreNonzero}
-use Rattle.schreyer_resolution.specs.Sharing.{AreReduced, AreEntriesWithin, IsLastProduct, IsProductEntries, product_of}
+use Rattle.schreyer_resolution.specs.Sharing.{AreReduced, AreEntriesWithin, IsLastProduct, IsProductEntries, column_multiple}
 use Rattle.schreyer_resolution.specs.Steps.{IsLastDivisor}
 use Rattle.schreyer_resolution.specs.declared.numbered.Product.{Product}
 
@@ -62,7 +62,7 @@ pub product_named :
     → IsProductEntries ring cols keys index m entries
 product_named ring cols keys index m entries v w lt low is named =
     let n = variables ring in
-    let here : AreNamed n keys entries (product_of ring cols index m) =
+    let here : AreNamed n keys entries (column_multiple ring cols index m) =
     subst₂ (λ (k : ℕ) (u : Terms). AreNamed k keys entries (scale 1 (exponents_of k m.exponents) (sum_of k u))) w.variables is named in
     record {
       within = within_row n ring.modulus.value (length keys) (column_key n keys) (exponents_of n m.exponents) entries (get_or cols index []) here.known
@@ -83,7 +83,7 @@ module _ (ring : Ring) (cols : List Terms) (keys added : List CodeKey) where
   row_more : (index : ℕ) (m : Monomial) (entries : List Entry) → IsProductEntries ring cols keys index m entries → IsProductEntries ring cols (keys ++ added) index m entries
   row_more index m entries h = record {
     within = wider entries h.within;
-    sum = (named_more (variables ring) keys added entries (product_of ring cols index m) (record { known = known entries h.within; sum = h.sum })).sum;
+    sum = (named_more (variables ring) keys added entries (column_multiple ring cols index m) (record { known = known entries h.within; sum = h.sum })).sum;
   }
 
   products_kept : (products : List Product) → Each (IsLastProduct ring cols keys) products → Each (IsLastProduct ring cols (keys ++ added)) products

@@ -1,5 +1,6 @@
 -- Quotients by shared products: a product is taken away as often as its lead is there
-use Rattle.std.proofs.Common.{List, [], ap, append-nil, arith, get_or, length, subst, sym, ℕ, ◌%◌, ◌*◌, ◌+◌, ◌++◌, ◌-◌, ◌<◌, ◌∙◌, ◌∷◌, ◌≡◌}
+use Rattle.std.proofs.Common.{List, [], ap, append-nil, arith, drop, get_or, length, subst, sym, take, ℕ, ◌%◌, ◌*◌, ◌+◌, ◌++◌, ◌-◌, ◌<◌, ◌∙◌, ◌∷◌, ◌≡◌}
+use Rattle.std.proofs.Math.Seq.{take-append_seam}
 use Rattle.std.proofs.lemmas.List.{map-append}
 use Rattle.residues.proofs.Congruences.{IsCongruent_add, IsCongruent_minus, IsCongruent_mod, IsCongruent_multiply, IsCongruent_of, IsCongruent_refl, IsCongruent_sym, IsCongruent_trans}
 use Rattle.residues.specs.Residues.{IsCongruent}
@@ -18,8 +19,12 @@ use Rattle.vector_division.specs.Reductions.{cofactors_of}
 use Rattle.vector_division.specs.declared.reduction.ScaledProduct.{ScaledProduct}
 use Rattle.row_matrix.specs.Rows.{Entry, column_key, row_sum}
 use Rattle.schreyer_resolution.proofs.NumberedSums.{idle_sums}
-use Rattle.schreyer_resolution.specs.Sharing.{AddsProduct, AreLastQuotients, AreSmall, AreTakenQuotients, AreTouched, AreZeroSums, IsLastProduct, IsProductEntries, numbered_sum, product_of}
+use Rattle.schreyer_resolution.specs.Sharing.{AddsProduct, AreLastQuotients, AreSmall, AreTakenQuotients, AreTouched, AreZeroSums, IsLastProduct, IsProductEntries, column_multiple, numbered_sum}
 use Rattle.schreyer_resolution.specs.declared.numbered.Product.{Product}
+
+-- sums that were lent and written
+pub written_back : (n : ℕ) (new old : List ℕ) → n ≡ length new → take n (new ++ drop (length new) old) ≡ new
+written_back n new old e = ap (λ m. take m (new ++ drop (length new) old)) e ∙ take-append_seam new (drop (length new) old)
 
 -- a residue and the one with the other sign
 pub cancelled : (p r : ℕ) → r < p → IsCongruent p ((p - r) % p + r) 0
@@ -99,8 +104,8 @@ module _ (ring : Ring) (columns : List (List (CodeKey × ℕ))) (keys : List Cod
         count = adds.count ∙ t.count;
         small = small;
         marked = marked;
-        sum = subst (λ v. IsSame ring.modulus.value (product_of ring columns key.position key.monomial) (v ++ numbered_sum K 0 new)) (sym (combination_more qs q))
-            (sum_taken ring.modulus.value r f s.monomial.exponents (product_of ring columns key.position key.monomial) (combination F (cofactors_of (variables ring) qs))
+        sum = subst (λ v. IsSame ring.modulus.value (column_multiple ring columns key.position key.monomial) (v ++ numbered_sum K 0 new)) (sym (combination_more qs q))
+            (sum_taken ring.modulus.value r f s.monomial.exponents (column_multiple ring columns key.position key.monomial) (combination F (cofactors_of (variables ring) qs))
             (numbered_sum K 0 old) (numbered_sum K 0 new) (row_sum K s.entries.items) (sum_of (variables ring) (get_or columns s.index [])) z h.row.sum t.sum (adds.sum (variables ring) K));
       }
 

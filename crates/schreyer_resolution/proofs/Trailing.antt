@@ -19,7 +19,7 @@ use Rattle.term_lists.specs.Stops.{HasMonomial, IsTooGreat}
 use Rattle.term_lists.specs.Vectors.{AreVectorsOver, key_of, sum_of, sums_of}
 use Rattle.term_lists.specs.declared.key.Key.{Key as CodeKey}
 use Rattle.term_lists.specs.declared.ring.Ring.{Ring}
-use Rattle.module_vectors.specs.Trails.{AreMet, HasKey, IsChain, IsInProduct, IsMet, IsPairStart, KeptProduct, last_product, lead_at, product_lead}
+use Rattle.module_vectors.specs.Trails.{AreMet, HasKey, IsChain, IsInProduct, IsMet, IsPairStart, KeptProduct, kept_product_lead, last_product, lead_at}
 use Rattle.module_vectors.specs.declared.trail.KeptTrail.{KeptTrail}
 use Rattle.module_vectors.specs.declared.trail.TrailStart.TheVariants.{Pair}
 use Rattle.vector_division.proofs.Members.{sums_at}
@@ -42,12 +42,12 @@ module _ (n : ℕ) (v : FormalSum n) (list : List Terms) (x : KeptProduct) (all 
 
   pub steps_behind :
       (earlier : List KeptProduct) (qs : List ScaledProduct) (s : KeptProduct)
-      → AreMetFrom n v list earlier qs → IsMet n v list (earlier ++ map unscaled qs) (product_lead n list s)
+      → AreMetFrom n v list earlier qs → IsMet n v list (earlier ++ map unscaled qs) (kept_product_lead n list s)
       → AreMet n [] list (x ∷ earlier) (map unscaled qs ++ s ∷ [])
-  steps_behind earlier [] s h m = (subst (λ e. IsMet n [] list (x ∷ e) (product_lead n list s)) (append-nil earlier) (met_behind (earlier ++ []) (product_lead n list s) m), tt)
+  steps_behind earlier [] s h m = (subst (λ e. IsMet n [] list (x ∷ e) (kept_product_lead n list s)) (append-nil earlier) (met_behind (earlier ++ []) (kept_product_lead n list s) m), tt)
   steps_behind earlier (q ∷ qs) s h m = (
-    met_behind earlier (product_lead n list (unscaled q)) h.0,
-    steps_behind (earlier ++ unscaled q ∷ []) qs s h.1 (subst (λ e. IsMet n v list e (product_lead n list s)) (sym (append_assoc earlier (unscaled q ∷ []) (map unscaled qs))) m),
+    met_behind earlier (kept_product_lead n list (unscaled q)) h.0,
+    steps_behind (earlier ++ unscaled q ∷ []) qs s h.1 (subst (λ e. IsMet n v list e (kept_product_lead n list s)) (sym (append_assoc earlier (unscaled q ∷ []) (map unscaled qs))) m),
   )
 
 last_pushed : (first s : KeptProduct) (xs : List KeptProduct) → last_product first (xs ++ s ∷ []) ≡ s

@@ -38,14 +38,14 @@ pub record AddsProduct (p factor : ℕ) (entries : List Entry) (old new : List �
       → IsSame p (numbered_sum key 0 new) (numbered_sum key 0 old ++ scale factor (unit n) (row_sum key entries))
 
 -- the product of the monomial and the column with this index
-abbrev pub product_of : (ring : Ring) → List (List (CodeKey × ℕ)) → ℕ → Monomial → FormalSum (variables ring)
-product_of ring columns index m = let n = variables ring in scale 1 (exponents_of n m.exponents) (sum_of n (get_or columns index []))
+abbrev pub column_multiple : (ring : Ring) → List (List (CodeKey × ℕ)) → ℕ → Monomial → FormalSum (variables ring)
+column_multiple ring columns index m = let n = variables ring in scale 1 (exponents_of n m.exponents) (sum_of n (get_or columns index []))
 
 -- the entries, by numbers of these keys, are those of this product
 pub record IsProductEntries (ring : Ring) (columns : List (List (CodeKey × ℕ))) (keys : List CodeKey) (index : ℕ) (m : Monomial)
     (entries : List Entry) : Type 0 where
   pub within : AreEntriesWithin ring.modulus.value (length keys) entries
-  pub sum : row_sum (column_key (variables ring) keys) entries ≡ product_of ring columns index m
+  pub sum : row_sum (column_key (variables ring) keys) entries ≡ column_multiple ring columns index m
 
 -- a product of the last column that divides its lead, by numbers of these keys
 pub record IsLastProduct (ring : Ring) (columns : List (List (CodeKey × ℕ))) (keys : List CodeKey) (s : Product) : Type 0 where
@@ -83,7 +83,7 @@ pub record AreTakenQuotients (ring : Ring) (columns : List (List (CodeKey × ℕ
   pub marked : AreTouched touched sums
   pub sum :
       let n = variables ring in
-      IsSame ring.modulus.value (product_of ring columns k.position k.monomial)
+      IsSame ring.modulus.value (column_multiple ring columns k.position k.monomial)
       (combination (sums_of n columns) (cofactors_of n qs) ++ numbered_sum (column_key n keys) 0 sums)
 
 -- the key's product is the sum of such quotients' products
@@ -91,7 +91,7 @@ pub record AreLastQuotients (ring : Ring) (columns : List (List (CodeKey × ℕ)
   pub each : Each (IsLastQuotient ring columns) qs
   pub sum :
       let n = variables ring in
-      IsSame ring.modulus.value (product_of ring columns k.position k.monomial) (combination (sums_of n columns) (cofactors_of n qs))
+      IsSame ring.modulus.value (column_multiple ring columns k.position k.monomial) (combination (sums_of n columns) (cofactors_of n qs))
 
 -- the hashes of each column's keys
 pub record AreColumnHashes (columns : List (List (CodeKey × ℕ))) (hashes : List HashesShown) : Type 0 where

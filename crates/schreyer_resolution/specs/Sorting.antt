@@ -6,10 +6,10 @@ use Rattle.std.specs.declared.cmp.Ordering.{Ordering}
 use Rattle.term_lists.specs.declared.key.Key.{Key as CodeKey}
 
 -- the position and the exponents of the first key; 0 and none where there is none
-abbrev pub place_of : List (CodeKey × ℕ) → ℕ × List ℕ
-place_of [] = (0, [])
-place_of (t ∷ v) = (t.0.position, t.0.monomial.exponents)
+abbrev pub lead_place : List (CodeKey × ℕ) → ℕ × List ℕ
+lead_place [] = (0, [])
+lead_place (t ∷ v) = (t.0.position, t.0.monomial.exponents)
 
 -- the lower position first, and at one position the lex-greater monomial
 abbrev pub by_place : List (CodeKey × ℕ) → List (CodeKey × ℕ) → Ordering
-by_place v w = ordering_then (nat_cmp (place_of v).0 (place_of w).0) (slice_cmp nat_cmp (place_of w).1 (place_of v).1)
+by_place v w = ordering_then (nat_cmp (lead_place v).0 (lead_place w).0) (slice_cmp nat_cmp (lead_place w).1 (lead_place v).1)

@@ -1,16 +1,17 @@
 // Comparisons of products of a monomial and what the leads below make of it; none of the products is made.
-ghost use Rattle.std.specs.Prelude.{◌≡◌, ◌<◌, ◌^◌, length, slice_index};
+ghost use Rattle.std.specs.Prelude.{◌≡◌, ◌<◌, ◌≤◌, ◌^◌, length, slice_index};
 ghost use Rattle.monomials.specs.Exponents.{exponents_of};
 ghost use Rattle.monomials.specs.Weights.{weighted_degree};
-ghost use Rattle.orders.specs.MonomialOrders.{lex, reverse_lex};
-ghost use Rattle.orders.specs.WeightedOrders.{weighted_elimination, weighted_grevlex};
+ghost use Rattle.orders.specs.MonomialOrders.{first_variables, lex, reverse_lex};
+ghost use Rattle.orders.specs.WeightedOrders.{weighted_grevlex};
 ghost use Rattle.monomial_orders.specs.Comparisons.{comparison};
+ghost use Rattle.monomial_orders.specs.Differences.{EndsDifferences};
 ghost use Rattle.monomial_orders.specs.Kept.{AreWeights};
 ghost use Rattle.term_lists.specs.Rings.{variables};
 ghost use Rattle.term_lists.specs.Vectors.{IsMonomialOver};
 ghost use Rattle.schreyer_resolution.specs.Heads.{AreSummands, IsHeadOver, summed};
 
-use crate::head::{Head, MAX_DEGREE};
+use crate::head::Head;
 use module_vectors::Ring;
 use monomial_orders::{Mono, Order};
 use std::cmp::Ordering;
@@ -41,74 +42,72 @@ fn compare_first(a: &[u16], e: &[u64], b: &[u16], f: &[u64]) -> Ordering
     Ordering::Equal
 }
 
+// Of the first m exponents, how many there are up to and with the last that differs: 0 where none does.
+fn differing(a: &[u16], e: &[u64], b: &[u16], f: &[u64], m: usize) -> usize
+    requires left { AreSummands (length a.now) a.now e.now }
+    requires right { AreSummands (length a.now) b.now f.now }
+    requires inside { m ≤ length a.now }
+    ensures { EndsDifferences m (summed a.now e.now) (summed b.now f.now) result }
+{
+    let mut n = m;
+    while n > 0 {
+        let left = place(a, e, n - 1);
+        let right = place(b, f, n - 1);
+        if left != right {
+            return n;
+        }
+        n -= 1;
+    }
+    0
+}
+
 // By the last exponent that differs: the smaller one is the greater.
 fn compare_last(a: &[u16], e: &[u64], b: &[u16], f: &[u64]) -> Ordering
     requires left { AreSummands (length a.now) a.now e.now }
     requires right { AreSummands (length a.now) b.now f.now }
     ensures { let n = length a.now in result ≡ reverse_lex (exponents_of n (summed a.now e.now)) (exponents_of n (summed b.now f.now)) }
 {
-    let mut k = a.len();
-    while k > 0 {
-        k -= 1;
-        let left = place(a, e, k);
-        let right = place(b, f, k);
-        if left != right {
-            return right.cmp(&left);
-        }
+    let n = differing(a, e, b, f, a.len());
+    if n == 0 {
+        return Ordering::Equal;
     }
-    Ordering::Equal
+    let left = place(a, e, n - 1);
+    let right = place(b, f, n - 1);
+    right.cmp(&left)
 }
 
-// The degree of the product by the weights.
-fn total(weights: &[u8], a: &[u16], e: &[u64]) -> u128
+// The degree of the product's first n exponents by the weights.
+fn total(weights: &[u8], a: &[u16], e: &[u64], n: usize) -> u128
     requires summands { AreSummands (length weights.now) a.now e.now }
     requires positive { AreWeights weights.now }
-    ensures { result ≡ weighted_degree weights.now (exponents_of (length a.now) (summed a.now e.now)) }
+    requires inside { n ≤ length a.now }
+    ensures { result ≡ weighted_degree weights.now (first_variables n (exponents_of (length a.now) (summed a.now e.now))) }
 {
     let mut degree: u128 = 0;
-    for k in 0..a.len() {
+    for k in 0..n {
         degree += u128::from(weights[k]) * u128::from(place(a, e, k));
     }
     degree
 }
 
-// By the degree of these weights, then by the last exponent that differs.
-fn compare_graded(weights: &[u8], a: &[u16], e: &[u64], b: &[u16], f: &[u64]) -> Ordering
+// By the degree of the first k exponents by the weights, then by the last of these that differs. Only those up to that one are
+// summed: the others add the same to both degrees.
+fn compare_front(weights: &[u8], k: usize, a: &[u16], e: &[u64], b: &[u16], f: &[u64]) -> Ordering
     requires left { AreSummands (length weights.now) a.now e.now }
     requires right { AreSummands (length weights.now) b.now f.now }
     requires positive { AreWeights weights.now }
     ensures { let n = length a.now in
-        result ≡ weighted_grevlex weights.now (exponents_of n (summed a.now e.now)) (exponents_of n (summed b.now f.now)) }
+        result ≡ weighted_grevlex weights.now (first_variables k (exponents_of n (summed a.now e.now)))
+        (first_variables k (exponents_of n (summed b.now f.now))) }
 {
-    match total(weights, a, e).cmp(&total(weights, b, f)) {
-        Ordering::Equal => compare_last(a, e, b, f),
-        other => other,
+    let n = differing(a, e, b, f, k.min(a.len()));
+    if n == 0 {
+        return Ordering::Equal;
     }
-}
-
-// Graded on the first k exponents, then graded on the others.
-fn compare_eliminating(
-    weights: &[u8],
-    k: usize,
-    a: &[u16],
-    e: &[u64],
-    b: &[u16],
-    f: &[u64],
-) -> Ordering
-    requires left { AreSummands (length weights.now) a.now e.now }
-    requires right { AreSummands (length weights.now) b.now f.now }
-    requires positive { AreWeights weights.now }
-    ensures { let n = length a.now in
-        result ≡ weighted_elimination weights.now k (exponents_of n (summed a.now e.now)) (exponents_of n (summed b.now f.now)) }
-{
-    let at = k.min(a.len());
-    let (first_weights, rest_weights) = weights.split_at(at);
-    let (first_a, rest_a) = a.split_at(at);
-    let (first_b, rest_b) = b.split_at(at);
-    let (first_e, rest_e) = e.split_at(at);
-    let (first_f, rest_f) = f.split_at(at);
-    match compare_graded(first_weights, first_a, first_e, first_b, first_f) {
-        Ordering::Equal => compare_graded(rest_weights, rest_a, rest_e, rest_b, rest_f),
+    let left = place(a, e, n - 1);
+    let right = place(b, f, n - 1);
+    match total(weights, a, e, n).cmp(&total(weights, b, f, n)) {
+        Ordering::Equal => right.cmp(&left),
         other => other,
     }
 }
@@ -120,11 +119,22 @@ fn product_degree(ring: &Ring, a: &Mono, e: &Head) -> u128
     ensures { let n = variables ring.now in
         result ≡ weighted_degree ring.now.weights (exponents_of n (summed a.now.exponents e.now.exponents.items)) }
 {
-    let degree = a.degree();
-    if degree < MAX_DEGREE {
-        degree + e.degree
-    } else {
-        total(ring.weights.as_slice(), a.exponents(), &e.exponents)
+    let _ring = ring;
+    a.degree() + e.degree
+}
+
+// By the degrees, then by the last exponent that differs.
+fn compare_graded(ring: &Ring, a: &Mono, e: &Head, b: &Mono, f: &Head) -> Ordering
+    requires left { IsMonomialOver ring.now a.now }
+    requires right { IsMonomialOver ring.now b.now }
+    requires left_head { IsHeadOver (variables ring.now) ring.now.weights e.now }
+    requires right_head { IsHeadOver (variables ring.now) ring.now.weights f.now }
+    ensures { let n = variables ring.now in result ≡ weighted_grevlex ring.now.weights
+        (exponents_of n (summed a.now.exponents e.now.exponents.items)) (exponents_of n (summed b.now.exponents f.now.exponents.items)) }
+{
+    match product_degree(ring, a, e).cmp(&product_degree(ring, b, f)) {
+        Ordering::Equal => compare_last(a.exponents(), &e.exponents, b.exponents(), &f.exponents),
+        other => other,
     }
 }
 
@@ -139,19 +149,18 @@ pub(crate) fn compare_products(ring: &Ring, a: &Mono, e: &Head, b: &Mono, f: &He
 {
     match &ring.order {
         Order::Lex => compare_first(a.exponents(), &e.exponents, b.exponents(), &f.exponents),
-        Order::Grevlex => match product_degree(ring, a, e).cmp(&product_degree(ring, b, f)) {
-            Ordering::Equal => {
-                compare_last(a.exponents(), &e.exponents, b.exponents(), &f.exponents)
-            }
-            other => other,
-        },
-        Order::Elim(k) => compare_eliminating(
+        Order::Grevlex => compare_graded(ring, a, e, b, f),
+        // Once the first variables are the same, all compare as the others do.
+        Order::Elim(k) => match compare_front(
             ring.weights.as_slice(),
             *k as usize,
             a.exponents(),
             &e.exponents,
             b.exponents(),
             &f.exponents,
-        ),
+        ) {
+            Ordering::Equal => compare_graded(ring, a, e, b, f),
+            other => other,
+        },
     }
 }

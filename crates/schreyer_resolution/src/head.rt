@@ -17,7 +17,7 @@ use std::alloc::Global;
 // more than 65,537 maps would take, is not made.
 const MAX_EXPONENT: u64 = 1 << 48;
 
-pub(crate) const MAX_DEGREE: u128 = 1 << 100;
+const MAX_DEGREE: u128 = 1 << 100;
 
 /// Where the leads of the maps take a position: the position and the monomial at the bottom, the monomial's degree, and
 /// the positions on the way, the lowest first.
@@ -176,7 +176,7 @@ fn next_head(
 {
     let head = below.at(position);
     let (exponents, degree) = lift_exponents(alloc, ring, exponents, &head.exponents)?;
-    let mut way = Vec::new(alloc);
+    let mut way = Vec::with_capacity(alloc, head.way.len() + 1)?;
     for place in &head.way {
         way.push(*place)?;
     }
@@ -193,7 +193,7 @@ fn next_head(
 pub(crate) fn first_heads(alloc: Global, ring: &Ring, columns: &VectList) -> Result<Heads, NoMemory>
     ensures { IfOk result (AreHeads (variables ring.now) ring.now.weights (columns.now ∷ [])) }
 {
-    let mut each = Vec::new(alloc);
+    let mut each = Vec::with_capacity(alloc, columns.len())?;
     for v in columns.as_slice() {
         let (position, exponents) = lead_parts(v);
         each.push(first_head(alloc, ring, position, exponents)?)?;
@@ -215,7 +215,7 @@ pub(crate) fn next_heads(
     ensures { (maps : Columns) → AreHeads (variables ring.now) ring.now.weights maps below.now
         → IfOk result (AreHeads (variables ring.now) ring.now.weights (maps ++ columns.now ∷ [])) }
 {
-    let mut each = Vec::new(alloc);
+    let mut each = Vec::with_capacity(alloc, columns.len())?;
     for v in columns.as_slice() {
         let (position, exponents) = lead_parts(v);
         each.push(next_head(alloc, ring, below, position, exponents)?)?;

@@ -3,11 +3,12 @@ ghost use Rattle.std.specs.Prelude.{◌≡◌, ◌<◌, ◌++◌, ◌∷◌, [],
 ghost use Rattle.monomials.specs.Exponents.{exponents_of};
 ghost use Rattle.term_lists.specs.Rings.{ring_comparison, variables};
 ghost use Rattle.term_lists.specs.Vectors.{IsMonomialOver};
-ghost use Rattle.schreyer_resolution.specs.Heads.{IsHeadOver, summed};
+ghost use Rattle.schreyer_resolution.specs.Heads.{AreHeads, IsHeadOver, summed};
 ghost use Rattle.schreyer_resolution.specs.Ways.{by_way};
 
 use crate::comparing::compare_products;
 use crate::head::{Head, Heads, first_heads, next_heads};
+use crate::hints::hint_of;
 use module_vectors::{Frame, Key, NoMemory, Ring, VectList};
 use monomial_orders::{ModOrder, MonomialOrder};
 use std::alloc::Global;
@@ -106,6 +107,27 @@ impl<'a> Induced<'a> {
         let heads = next_heads(alloc, ring, &below.heads, columns)?;
         Ok(Induced { ring, maps, heads })
     }
+
+    /// The order that the columns of these maps induce, whose heads are at hand.
+    pub(crate) fn by_heads(ring: &'a Ring, maps: &'a [VectList], heads: Heads) -> Induced<'a>
+        requires { AreHeads (variables ring.now) ring.now.weights maps.now heads }
+        ensures ring { result.ring ≡ ring.now }
+        ensures maps { result.maps ≡ maps.now }
+    {
+        Induced { ring, maps, heads }
+    }
+
+    /// The heads of the maps.
+    pub(crate) fn into_heads(self) -> Heads
+        ensures { AreHeads (variables self.entry.ring) self.entry.ring.weights self.entry.maps result }
+    {
+        let Induced {
+            ring: _,
+            maps: _,
+            heads,
+        } = self;
+        heads
+    }
 }
 
 impl<'a> Frame for Induced<'a> {
@@ -120,9 +142,9 @@ impl<'a> Frame for Induced<'a> {
         self.ring
     }
 
-    // No number is made: keys are told apart by the leads below them.
-    fn hint(&self, _key: &Key) -> u64 {
-        0
+    fn hint(&self, key: &Key) -> u64 {
+        let head = self.heads.at(key.position);
+        hint_of(self.ring, &key.monomial, key.position, head)
     }
 
     fn cmp(&self, a: &Key, b: &Key) -> Ordering {

@@ -11,6 +11,7 @@ mod column;
 mod comparing;
 mod divisors;
 mod head;
+mod hints;
 mod induced;
 mod numbered;
 mod pair_leads;

@@ -185,7 +185,7 @@ pub(crate) fn all_products(
     ensures keys { OnOk result (AreKeys (variables ring.now) ring.now.weights numbers.new) }
     ensures products { IfOk result (λ products. Each (IsLastProduct ring.now columns.now numbers.new) products.items) }
 {
-    let mut products = Vec::new(alloc);
+    let mut products = Vec::with_capacity(alloc, numbers.len())?;
     for number in 0..MOST_KEYS {
         if number >= numbers.len() {
             return Ok(products);

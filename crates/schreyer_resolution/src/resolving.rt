@@ -1,5 +1,5 @@
 // The canonical resolution of a module.
-ghost use Rattle.std.specs.Prelude.{◌≡◌, ◌<◌, ◌≤◌, ◌++◌, ◌∷◌, [], ℕ, List, IfErr, IfOk, length, map, replicate};
+ghost use Rattle.std.specs.Prelude.{◌≡◌, ◌<◌, ◌≤◌, ◌++◌, ◌∷◌, [], ℕ, List, IfErr, IfOk, IfSome, OnOk, length, map, replicate};
 ghost use Rattle.formal_sums.specs.FormalSums.{Each};
 ghost use Rattle.bases.specs.Bases.{IsReducedBasis};
 ghost use Rattle.resolution_laws.specs.Resolutions.{IsCanonical, IsCanonicalStart};
@@ -9,6 +9,7 @@ ghost use Rattle.term_lists.specs.declared.key.Key.{Key as KeyValue};
 ghost use Rattle.resolution_maps.specs.Inducing.{Columns, maps_of};
 ghost use Rattle.resolution_maps.specs.Resolved.{AreJoined, AreVectorsThrough, HavePositions, ResolutionStops, columns_of};
 ghost use Rattle.schreyer_resolution.specs.Columns.{AreColumnsTo, ColumnStops, IsAbove, IsBase};
+ghost use Rattle.schreyer_resolution.specs.Heads.{AreHeads};
 ghost use Rattle.schreyer_resolution.specs.Progress.{AreResolvedTo, IsNextMap, IsTopMap};
 ghost use Rattle.schreyer_resolution.specs.Spans.{IsIndexOf};
 ghost use Rattle.schreyer_resolution.specs.Steps.{ArePairLeads};
@@ -16,6 +17,7 @@ ghost use Rattle.schreyer_resolution.specs.Steps.{ArePairLeads};
 use crate::Induced;
 use crate::column::column;
 use crate::divisors::{LeadIndex, index_leads};
+use crate::head::Heads;
 use crate::pair_leads::pair_leads;
 use crate::shared::shared_columns;
 use crate::sorting::sorted_columns;
@@ -79,76 +81,114 @@ fn columns_at<F: Frame>(
     }
 }
 
-// The next map above one that stands on no other.
+// The order that the columns of these maps induce, by the heads of the maps where they are at hand.
+fn order_by<'a>(
+    alloc: Global,
+    ring: &'a Ring,
+    maps: &'a [VectList],
+    heads: Option<Heads>,
+) -> Result<Induced<'a>, NoMemory>
+    requires some { 0 < length maps.now }
+    requires heads { IfSome heads (AreHeads (variables ring.now) ring.now.weights maps.now) }
+    ensures ring { IfOk result (λ f. f.ring ≡ ring.now) }
+    ensures maps { IfOk result (λ f. f.maps ≡ maps.now) }
+{
+    match heads {
+        Some(heads) => Ok(Induced::by_heads(ring, maps, heads)),
+        None => Induced::through(alloc, ring, maps),
+    }
+}
+
+// The next map above one that stands on no other, and the heads of that one.
 fn second_map(
     alloc: Global,
     ring: &Ring,
     maps: &[VectList],
     columns: &VectList,
+    heads: &mut Option<Heads>,
 ) -> Result<VectList, WorkStop>
     requires maps { maps.now ≡ columns.now ∷ [] }
     requires top { IsTopMap ring.now [] columns.now }
     ensures next { IfOk result (IsNextMap ring.now [] columns.now) }
+    ensures heads { OnOk result (IfSome heads.new (AreHeads (variables ring.now) ring.now.weights maps.now)) }
     ensures stop { IfErr result (ColumnStops ring.now [] columns.now) }
 {
     lawful_setting(ring);
     let keys = pair_leads(alloc, ring, columns)?;
     let induced = Induced::through(alloc, ring, maps)?;
-    columns_at(alloc, ring, &induced, &[], columns, &keys)
+    let next = columns_at(alloc, ring, &induced, &[], columns, &keys);
+    *heads = Some(induced.into_heads());
+    next
 }
 
-// The next map above one that stands on others.
+// The next map above one that stands on others, and the heads of all these.
 fn later_map(
     alloc: Global,
     ring: &Ring,
     maps: &[VectList],
     below: &[VectList],
     columns: &VectList,
+    heads: &mut Option<Heads>,
 ) -> Result<VectList, WorkStop>
     requires maps { maps.now ≡ below.now ++ columns.now ∷ [] }
     requires some { 0 < length below.now }
     requires top { IsTopMap ring.now below.now columns.now }
+    requires heads { IfSome heads.old (AreHeads (variables ring.now) ring.now.weights below.now) }
     ensures next { IfOk result (IsNextMap ring.now below.now columns.now) }
+    ensures heads { OnOk result (IfSome heads.new (AreHeads (variables ring.now) ring.now.weights maps.now)) }
     ensures stop { IfErr result (ColumnStops ring.now below.now columns.now) }
 {
-    let frame = Induced::through(alloc, ring, below)?;
+    let frame = order_by(alloc, ring, below, heads.take())?;
     lawful_setting(&frame);
     let keys = pair_leads(alloc, &frame, columns)?;
     let induced = Induced::above(alloc, ring, maps, &frame, columns)?;
-    columns_at(alloc, &frame, &induced, below, columns, &keys)
+    let next = columns_at(alloc, &frame, &induced, below, columns, &keys);
+    *heads = Some(induced.into_heads());
+    next
 }
 
-// The next map above one and those that it stands on, if any.
+// The next map above one and those that it stands on, if any, and the heads of all these.
 fn map_above(
     alloc: Global,
     ring: &Ring,
     maps: &[VectList],
     below: &[VectList],
     columns: &VectList,
+    heads: &mut Option<Heads>,
 ) -> Result<VectList, WorkStop>
     requires maps { maps.now ≡ below.now ++ columns.now ∷ [] }
     requires top { IsTopMap ring.now below.now columns.now }
+    requires heads { IfSome heads.old (AreHeads (variables ring.now) ring.now.weights below.now) }
     ensures next { IfOk result (IsNextMap ring.now below.now columns.now) }
+    ensures heads { OnOk result (IfSome heads.new (AreHeads (variables ring.now) ring.now.weights maps.now)) }
     ensures stop { IfErr result (ColumnStops ring.now below.now columns.now) }
 {
     if below.is_empty() {
-        second_map(alloc, ring, maps, columns)
+        second_map(alloc, ring, maps, columns, heads)
     } else {
-        later_map(alloc, ring, maps, below, columns)
+        later_map(alloc, ring, maps, below, columns, heads)
     }
 }
 
-// The next map.
-fn next_map(alloc: Global, ring: &Ring, maps: &[VectList]) -> Result<VectList, WorkStop>
+// The next map, and the heads of those that it stands on. The heads of all of these but the last one may be at hand.
+fn next_map(
+    alloc: Global,
+    ring: &Ring,
+    maps: &[VectList],
+    heads: &mut Option<Heads>,
+) -> Result<VectList, WorkStop>
     requires some { 0 < length maps.now }
     requires top { (below : Columns) (last : List (List (KeyValue × ℕ))) → maps.now ≡ below ++ last ∷ [] → IsTopMap ring.now below last }
+    requires heads { (below : Columns) (last : List (List (KeyValue × ℕ))) → maps.now ≡ below ++ last ∷ []
+        → IfSome heads.old (AreHeads (variables ring.now) ring.now.weights below) }
     ensures next { (below : Columns) (last : List (List (KeyValue × ℕ))) → maps.now ≡ below ++ last ∷ []
         → IfOk result (IsNextMap ring.now below last) }
+    ensures heads { OnOk result (IfSome heads.new (AreHeads (variables ring.now) ring.now.weights maps.now)) }
     ensures stop { (below : Columns) (last : List (List (KeyValue × ℕ))) → maps.now ≡ below ++ last ∷ []
         → IfErr result (ColumnStops ring.now below last) }
 {
     match maps.split_last() {
-        Some((columns, below)) => map_above(alloc, ring, maps, below, columns),
+        Some((columns, below)) => map_above(alloc, ring, maps, below, columns, heads),
         None => unreachable!(),
     }
 }
@@ -196,8 +236,9 @@ fn start_behind(
     let _rank = rank;
     let _reduced = reduced;
     let mut maps = first;
+    let mut heads: Option<Heads> = None;
     for _ in 1..count {
-        let next = match next_map(alloc, ring, &maps) {
+        let next = match next_map(alloc, ring, &maps, &mut heads) {
             Ok(next) => next,
             Err(stop) => return Err(stop),
         };

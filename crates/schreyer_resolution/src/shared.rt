@@ -245,7 +245,7 @@ fn columns_by(
     requires idle { AreZeroSums work.old.sums.items }
     ensures { IfOk result (λ made. IfSome made (λ next. AreColumnsMade ring.now columns.now induced.now keys.now (length keys.now) next.items)) }
 {
-    let mut next = Vec::new(alloc);
+    let mut next = Vec::with_capacity(alloc, keys.len())?;
     for key in keys {
         match next_column(
             alloc, ring, induced, columns, hashes, key, products, order, numbers, work,

@@ -6,7 +6,7 @@ ghost use Rattle.resolution_laws.specs.Resolutions.{IsCanonicalMap};
 ghost use Rattle.term_lists.specs.Rings.{ring_comparison, setting, variables};
 ghost use Rattle.term_lists.specs.Vectors.{AreVectorsOver, HasPositions, sums_of};
 ghost use Rattle.schreyer_resolution.specs.Progress.{IsTopMap};
-ghost use Rattle.schreyer_resolution.specs.Sorting.{by_place, place_of};
+ghost use Rattle.schreyer_resolution.specs.Sorting.{by_place, lead_place};
 
 use module_vectors::{NoMemory, Ring, Vect, VectList, lawful_setting};
 use std::alloc::Global;
@@ -14,8 +14,8 @@ use std::cmp::Ordering;
 
 // The position and the exponents of the lead; 0 and none where there is none.
 fn place(v: &Vect) -> (u64, &[u16])
-    ensures position { result.0 ≡ (place_of v.now).0 }
-    ensures exponents { result.1.now ≡ (place_of v.now).1 }
+    ensures position { result.0 ≡ (lead_place v.now).0 }
+    ensures exponents { result.1.now ≡ (lead_place v.now).1 }
 {
     match v.lead() {
         Some(lead) => (lead.key.position, lead.key.monomial.exponents()),

@@ -31,12 +31,13 @@ impl Drop for Order {
     }
 }
 
-/// A sum for each number of a key, the numbers of those that may not be 0, and a bit for each place that is still to be looked
-/// at.
+/// A sum for each number of a key, the numbers of those that may not be 0, a bit for each place that is still to be looked at,
+/// and a bit for each word of these bits that has one.
 pub(crate) struct Work {
     pub(crate) sums: Vec<u64>,
     pub(crate) touched: Vec<u32>,
     pub(crate) marks: Vec<u64>,
+    pub(crate) words: Vec<u64>,
 }
 
 // By hand, so that each drop of one is a call.
@@ -46,6 +47,7 @@ impl Drop for Work {
             sums: _,
             touched: _,
             marks: _,
+            words: _,
         } = self;
     }
 }
@@ -57,10 +59,12 @@ pub(crate) fn no_work(alloc: Global, count: usize) -> Result<Work, NoMemory>
 {
     let sums = vec![in alloc; 0; count]?;
     let marks = vec![in alloc; 0; count / 64 + 1]?;
+    let words = vec![in alloc; 0; count / 4096 + 1]?;
     Ok(Work {
         sums,
         touched: Vec::new(alloc),
         marks,
+        words,
     })
 }
 
@@ -107,16 +111,16 @@ fn add_multiple(
     modulus: &Modulus,
     factor: u32,
     entries: &[(u32, u32)],
-    sums: &mut Vec<u64>,
+    sums: &mut [u64],
     touched: &mut Vec<u32>,
 ) -> Result<(), NoMemory>
     requires factor { factor < modulus.now.value }
-    requires small { AreSmall sums.old.items }
-    requires touched { AreTouched touched.old.items sums.old.items }
-    requires within { AreEntriesWithin modulus.now.value (length sums.old.items) entries.now }
-    ensures adds { OnOk result (AddsProduct modulus.now.value factor entries.now sums.old.items sums.new.items) }
-    ensures small { OnOk result (AreSmall sums.new.items) }
-    ensures touched { OnOk result (AreTouched touched.new.items sums.new.items) }
+    requires small { AreSmall sums.old }
+    requires touched { AreTouched touched.old.items sums.old }
+    requires within { AreEntriesWithin modulus.now.value (length sums.old) entries.now }
+    ensures adds { OnOk result (AddsProduct modulus.now.value factor entries.now sums.old sums.new) }
+    ensures small { OnOk result (AreSmall sums.new) }
+    ensures touched { OnOk result (AreTouched touched.new.items sums.new) }
 {
     modulus.domain();
     for entry in entries {
@@ -128,29 +132,37 @@ fn add_multiple(
     Ok(())
 }
 
-// Marks the places of the touched numbers from this one on.
-fn mark(places: &[u32], touched: &[u32], from: usize, marks: &mut Vec<u64>) {
+// Sets the bit with this number.
+fn set_bit(number: usize, bits: &mut Vec<u64>) {
+    if number / 64 < bits.len() {
+        bits[number / 64] |= 1 << (number % 64);
+    }
+}
+
+// Marks the places of the touched numbers from this one on, and the words of their marks.
+fn mark(places: &[u32], touched: &[u32], from: usize, marks: &mut Vec<u64>, words: &mut Vec<u64>) {
     for k in from..touched.len() {
         let place = place_at(places, touched[k]);
         if place / 64 < marks.len() {
-            marks[place / 64] |= 1 << (place % 64);
+            set_bit(place, marks);
+            set_bit(place / 64, words);
         }
     }
 }
 
-// The least marked place of this word, which is marked no more.
-fn take_mark(word: usize, marks: &mut Vec<u64>) -> Option<usize> {
-    if word >= marks.len() {
+// The number of the least bit that is set in this word, which is set no more.
+fn take_bit(word: usize, bits: &mut Vec<u64>) -> Option<usize> {
+    if word >= bits.len() {
         return None;
     }
-    let bits = marks[word];
-    if bits == 0 {
+    let here = bits[word];
+    if here == 0 {
         return None;
     }
-    marks[word] = bits & bits.wrapping_sub(1);
+    bits[word] = here & here.wrapping_sub(1);
     Some(
         word.wrapping_mul(64)
-            .wrapping_add(bits.trailing_zeros() as usize),
+            .wrapping_add(here.trailing_zeros() as usize),
     )
 }
 
@@ -210,7 +222,7 @@ fn take_product(
         modulus,
         modulus.neg(residue),
         &product.entries,
-        &mut work.sums,
+        work.sums.as_mut_slice(),
         &mut work.touched,
     )?;
     mark(
@@ -218,6 +230,7 @@ fn take_product(
         work.touched.as_slice(),
         from,
         &mut work.marks,
+        &mut work.words,
     );
     quotients.push(ScaledProduct {
         index: product.index,
@@ -245,7 +258,7 @@ fn take_word(
     ensures { OnOk result (AreTakenQuotients ring.now columns.now numbers.now key.now quotients.new.items work.new.sums.items work.new.touched.items) }
 {
     'bits: for _ in 0..64 {
-        let place = match take_mark(word, &mut work.marks) {
+        let place = match take_bit(word, &mut work.marks) {
             None => return Ok(()),
             Some(place) => place,
         };
@@ -258,7 +271,37 @@ fn take_word(
     Ok(())
 }
 
-// Takes the products away whose places are or come to be marked, from this word on.
+// Takes the products away whose places are marked in the words that have a bit in this one. A word whose own marks come to be set
+// while it is looked at is looked at once more.
+fn take_words(
+    alloc: Global,
+    ring: &Ring,
+    columns: &[Vect],
+    numbers: &KeyTable,
+    key: &Key,
+    products: &[Product],
+    order: &Order,
+    group: usize,
+    quotients: &mut Vec<ScaledProduct>,
+    work: &mut Work,
+) -> Result<(), NoMemory>
+    requires products { Each (IsLastProduct ring.now columns.now numbers.now) products.now }
+    requires taken { AreTakenQuotients ring.now columns.now numbers.now key.now quotients.old.items work.old.sums.items work.old.touched.items }
+    ensures { OnOk result (AreTakenQuotients ring.now columns.now numbers.now key.now quotients.new.items work.new.sums.items work.new.touched.items) }
+{
+    'words: for _ in 0..128 {
+        let word = match take_bit(group, &mut work.words) {
+            None => return Ok(()),
+            Some(word) => word,
+        };
+        take_word(
+            alloc, ring, columns, numbers, key, products, order, word, quotients, work,
+        )?;
+    }
+    Ok(())
+}
+
+// Takes the products away whose places are or come to be marked, from this word of words on.
 fn take_all(
     alloc: Global,
     ring: &Ring,
@@ -274,9 +317,9 @@ fn take_all(
     requires taken { AreTakenQuotients ring.now columns.now numbers.now key.now [] work.old.sums.items work.old.touched.items }
     ensures { IfOk result (λ qs. AreTakenQuotients ring.now columns.now numbers.now key.now qs.items work.new.sums.items work.new.touched.items) }
 {
-    let mut quotients = Vec::new(alloc);
-    for word in first..work.marks.len() {
-        take_word(
+    let mut quotients = Vec::with_capacity(alloc, 12)?;
+    for group in first..work.words.len() {
+        take_words(
             alloc,
             ring,
             columns,
@@ -284,7 +327,7 @@ fn take_all(
             key,
             products,
             order,
-            word,
+            group,
             &mut quotients,
             work,
         )?;
@@ -311,13 +354,13 @@ fn clear_sums(modulus: &Modulus, touched: &[u32], sums: &mut Vec<u64>) -> bool
     true
 }
 
-// The word of the least place of the touched numbers.
-fn first_word(places: &[u32], touched: &[u32]) -> usize {
+// The word of words that has the bit of the least place of the touched numbers.
+fn first_group(places: &[u32], touched: &[u32]) -> usize {
     let mut least = usize::MAX;
     for number in touched {
         least = least.min(place_at(places, *number));
     }
-    least / 64
+    least / 4096
 }
 
 /// The quotients of the key's product, whose entries these are, by these products, the one with the greatest lead first; none
@@ -344,9 +387,21 @@ pub(crate) fn quotients_of(
     let modulus = &ring.modulus;
     modulus.domain();
     work.touched.clear();
-    add_multiple(modulus, 1, start, &mut work.sums, &mut work.touched)?;
-    mark(&order.places, work.touched.as_slice(), 0, &mut work.marks);
-    let first = first_word(&order.places, work.touched.as_slice());
+    add_multiple(
+        modulus,
+        1,
+        start,
+        work.sums.as_mut_slice(),
+        &mut work.touched,
+    )?;
+    mark(
+        &order.places,
+        work.touched.as_slice(),
+        0,
+        &mut work.marks,
+        &mut work.words,
+    );
+    let first = first_group(&order.places, work.touched.as_slice());
     let quotients = take_all(
         alloc, ring, columns, numbers, key, products, order, first, work,
     )?;

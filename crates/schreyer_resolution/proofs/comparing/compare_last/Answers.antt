@@ -1,20 +1,28 @@
-use Rattle.std.proofs.Common.{ap₂, arith, length, sym, ◌-◌, ◌∙◌}
+use Rattle.std.proofs.Common.{ap, ap₂, arith, subst, sym, ◌∙◌}
 use Rattle.std.specs.Ordering.{nat_cmp}
-use Rattle.monomial_orders.proofs.Comparing.{reverse_lex_at, reverse_lex_same}
+use Rattle.monomials.specs.Exponents.{exponents_of}
+use Rattle.orders.specs.MonomialOrders.{reverse_lex}
+use Rattle.monomial_orders.proofs.Comparing.{last_decides, last_ties}
+use Rattle.monomial_orders.specs.Differences.{EndsDifferences}
 use Rattle.schreyer_resolution.specs.Heads.{summed}
-use Rattle.schreyer_resolution.proofs.Summing.{length-summed}
+use Rattle.schreyer_resolution.proofs.Summing.{length-summed, same-sums}
 use Rattle.schreyer_resolution.proofs.comparing.compare_last.Goals as goal
 
-pub returns-then-left-right : goal.returns-then-left-right
-returns-then-left-right c =
+pub returns-then-n-eq0 : goal.returns-then-n-eq0
+returns-then-n-eq0 c =
     let xs = summed c.args.a.now c.args.e.now in
     let ys = summed c.args.b.now c.args.f.now in
-    c.cmp.ensures ∙ ap₂ nat_cmp c.place-right.ensures.sum c.place-left.ensures.sum
-    ∙ sym (reverse_lex_at (length c.args.a.now) xs ys (c.loop-k.k - 1) (length-summed c.args.a.now c.args.e.now) (length-summed c.args.b.now c.args.f.now ∙ c.requires.right.count) (omega arith) (λ x a b. c.loop-k.invariant.same x (omega arith) b)
-    (λ q. c.if-left-right.true (c.place-left.ensures.sum ∙ q ∙ sym c.place-right.ensures.sum)))
+    let size = length-summed c.args.a.now c.args.e.now in
+    let s = subst (λ m. EndsDifferences m xs ys c.differing-n.result) (sym size) c.differing-n.ensures in
+    sym (last_ties xs ys c.differing-n.result (same-sums c.args.a.now c.args.e.now c.args.b.now c.args.f.now (sym c.requires.right.count)) s c.if-n-eq0.true)
+    ∙ ap (λ j. reverse_lex (exponents_of j xs) (exponents_of j ys)) size
 
 pub returns : goal.returns
 returns c =
     let xs = summed c.args.a.now c.args.e.now in
     let ys = summed c.args.b.now c.args.f.now in
-    sym (reverse_lex_same (length c.args.a.now) xs ys (length-summed c.args.a.now c.args.e.now) (length-summed c.args.b.now c.args.f.now ∙ c.requires.right.count) (λ x lt. c.loop-k.invariant.same x (omega arith) lt))
+    let size = length-summed c.args.a.now c.args.e.now in
+    let s = subst (λ m. EndsDifferences m xs ys c.differing-n.result) (sym size) c.differing-n.ensures in
+    c.cmp.ensures ∙ ap₂ nat_cmp c.place-right.ensures.sum c.place-left.ensures.sum
+    ∙ sym (last_decides xs ys c.differing-n.result (same-sums c.args.a.now c.args.e.now c.args.b.now c.args.f.now (sym c.requires.right.count)) s (omega (arith, c.if-n-eq0.false)))
+    ∙ ap (λ j. reverse_lex (exponents_of j xs) (exponents_of j ys)) size

@@ -3,8 +3,8 @@ use Rattle.term_lists.specs.Rings.{variables}
 use Rattle.schreyer_resolution.proofs.Summing.{summed_degree}
 use Rattle.schreyer_resolution.proofs.comparing.product_degree.Goals as goal
 
-pub returns-then-degree-lt-MAX_DEGREE : goal.returns-then-degree-lt-MAX_DEGREE
-returns-then-degree-lt-MAX_DEGREE c =
+pub returns : goal.returns
+returns c =
     let ring = c.args.ring.now in
-    ap₂ ◌+◌ (c.degree-degree.ensures.value ∙ c.requires.monomial.degree) c.requires.head.degree
+    ap₂ ◌+◌ (c.degree.ensures.value ∙ c.requires.monomial.degree) c.requires.head.degree
     ∙ sym (summed_degree (variables ring) ring.weights c.args.a.now.exponents c.args.e.now.exponents.items c.requires.monomial.variables)

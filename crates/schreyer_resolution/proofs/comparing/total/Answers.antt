@@ -1,8 +1,9 @@
-use Rattle.std.proofs.Common.{ap, ap₂, arith, get_or, length, mul-le-mul, rules, subst, sym, ◌*◌, ◌+◌, ◌<◌, ◌∙◌, ◌≡◌, ◌≤◌}
-use Rattle.std.proofs.lemmas.List.{take_all}
+use Rattle.std.proofs.Common.{ap, ap₂, arith, get_or, length, mul-le-mul, rules, subst, sym, take, ◌*◌, ◌+◌, ◌<◌, ◌∙◌, ◌≡◌, ◌≤◌}
 use Rattle.monomials.specs.Exponents.{exponents_of}
 use Rattle.monomials.specs.Weights.{weighted_degree}
-use Rattle.monomial_orders.proofs.Totals.{total_step, weighted_sum, weighted_sum_is}
+use Rattle.orders.specs.MonomialOrders.{first_variables}
+use Rattle.monomial_orders.proofs.Comparing.{first_sum}
+use Rattle.monomial_orders.proofs.Totals.{total_step, weighted_sum}
 use Rattle.schreyer_resolution.specs.Heads.{summed}
 use Rattle.schreyer_resolution.proofs.Summing.{length-summed}
 use Rattle.schreyer_resolution.proofs.comparing.total.Goals as goal
@@ -22,7 +23,7 @@ loop-k-preserved c =
     record {
       total =
           ap₂ (λ y z. c.loop-k.degree + y * z) c.from.ensures (c.from-in-loop-k.ensures ∙ c.place.ensures.sum)
-          ∙ total_step ws xs k c.loop-k.degree same c.requires.positive (omega (arith, length-summed c.args.a.now c.args.e.now)) c.loop-k.invariant.total;
+          ∙ total_step ws xs k c.loop-k.degree same c.requires.positive (omega (arith, c.loop-k-test.true, c.requires.inside, length-summed c.args.a.now c.args.e.now)) c.loop-k.invariant.total;
       small = omega (arith, e, m, c.loop-k.invariant.small);
     }
 
@@ -30,7 +31,9 @@ pub returns : goal.returns
 returns c =
     let ws = c.args.weights.now in
     let xs = summed c.args.a.now c.args.e.now in
+    let n = c.args.n in
+    let at : c.loop-k.k ≡ n = omega (arith, c.loop-k-test.false, c.loop-k.auto.k-end) in
     c.loop-k.invariant.total
-    ∙ ap₂ weighted_sum (take_all c.loop-k.k ws (omega (arith, c.requires.summands.count))) (take_all c.loop-k.k xs (omega (arith, length-summed c.args.a.now c.args.e.now)))
-    ∙ weighted_sum_is ws xs
-    ∙ ap (λ n. weighted_degree ws (exponents_of n xs)) (length-summed c.args.a.now c.args.e.now)
+    ∙ ap (λ k. weighted_sum (take k ws) (take k xs)) at
+    ∙ first_sum ws xs n (omega (arith, c.requires.inside, length-summed c.args.a.now c.args.e.now))
+    ∙ ap (λ j. weighted_degree ws (first_variables n (exponents_of j xs))) (length-summed c.args.a.now c.args.e.now)

@@ -19,7 +19,7 @@ returns c = λ maps F i heads lead.
     c.in_ok-exponents.ensures.degree c.in_ok-exponents.ensures.low
 
 pub loop-place-init : goal.loop-place-init
-loop-place-init c = c.new-way.ensures.items
+loop-place-init c = c.in_ok-way.ensures.items
 
 pub loop-place-preserved : goal.loop-place-preserved
 loop-place-preserved c =

@@ -11,6 +11,9 @@ map_above-requires-clause-maps c = c.in-Some.ensures.cases.0
 pub map_above-requires-clause-top : goal.map_above-requires-clause-top
 map_above-requires-clause-top c = c.requires.top c.in-Some.below.now c.in-Some.columns.now c.in-Some.ensures.cases.0
 
+pub map_above-requires-clause-heads : goal.map_above-requires-clause-heads
+map_above-requires-clause-heads c = c.requires.heads c.in-Some.below.now c.in-Some.columns.now c.in-Some.ensures.cases.0
+
 pub returns-clause-next : goal.returns-clause-next
 returns-clause-next c = λ below last e.
     let u = split_unique c.in-Some.below.now below c.in-Some.columns.now last (sym c.in-Some.ensures.cases.0 ∙ e) in

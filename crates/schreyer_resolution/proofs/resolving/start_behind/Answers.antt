@@ -1,7 +1,9 @@
+use Rattle.std.specs.Prelude.{IfSome}
 use Rattle.std.proofs.Common.{ap, arith, length, subst, subst₂, sym, ◌+◌, ◌<◌, ◌∙◌, ◌≡◌}
 use Rattle.resolution_laws.specs.Resolutions.{IsExact}
 use Rattle.term_lists.specs.Rings.{variables}
 use Rattle.term_lists.specs.Vectors.{sums_of}
+use Rattle.schreyer_resolution.specs.Heads.{AreHeads}
 use Rattle.schreyer_resolution.specs.Progress.{AreResolvedTo, IsTopMap}
 use Rattle.schreyer_resolution.proofs.FirstMaps.{none_at_all, resolution_stop, resolved_more, some_at_all, some_map, split_unique, start_ended, start_full}
 use Rattle.schreyer_resolution.proofs.Pushing.{length-pushed}
@@ -11,7 +13,7 @@ pub loop-init : goal.loop-init
 loop-init c =
     let one : length c.args.first.items ≡ 1 = c.requires.one in
     let some : 0 < c.args.count = c.requires.some in
-    (c.requires.resolved, one, omega (arith, some))
+    (c.requires.resolved, one, omega (arith, some), λ below last e. tt)
 
 pub next_map-requires-clause-some : goal.next_map-requires-clause-some
 next_map-requires-clause-some c =
@@ -22,6 +24,9 @@ next_map-requires-clause-top c = λ below last e.
     let r = c.loop.invariant.0 in
     let u = split_unique r.below below r.last last (sym (c.deref.ensures.value ∙ r.split) ∙ e) in
     subst₂ (λ b l. IsTopMap c.args.ring.now b l) u.0 u.1 r.top
+
+pub next_map-requires-clause-heads : goal.next_map-requires-clause-heads
+next_map-requires-clause-heads c = λ below last e. c.loop.invariant.3 below last (sym c.deref.ensures.value ∙ e)
 
 pub returns-then-is_empty-clause-start : goal.returns-then-is_empty-clause-start
 returns-then-is_empty-clause-start c =
@@ -52,6 +57,9 @@ loop-preserved c =
           (resolved_more ring c.args.rank c.args.reduced.now c.loop.maps.items r c.in-Ok.next next (some_at_all c.in-Ok.next c.if-is_empty.ensures)),
       omega (arith, one_more, many),
       omega (arith, within),
+      λ below last e.
+          let u = split_unique c.loop.maps.items below c.in-Ok.next last (sym c.in_ok-push.ensures.items ∙ e) in
+          subst (λ b. IfSome c.next_map.new.heads (AreHeads (variables ring) ring.weights b)) (c.deref.ensures.value ∙ u.0) c.in-Ok.ensures.heads,
     )
 
 pub returns-in-Err-clause-stop : goal.returns-in-Err-clause-stop

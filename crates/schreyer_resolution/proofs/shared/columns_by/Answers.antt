@@ -6,7 +6,7 @@ use Rattle.schreyer_resolution.proofs.shared.columns_by.Goals as goal
 
 pub loop-key-init : goal.loop-key-init
 loop-key-init c = record {
-  made = subst (AreColumnsMade c.args.ring.now c.args.columns.now c.args.induced.now c.args.keys.now 0) (sym c.new-next.ensures.items) (made_none c.args.ring.now c.args.columns.now c.args.induced.now c.args.keys.now);
+  made = subst (AreColumnsMade c.args.ring.now c.args.columns.now c.args.induced.now c.args.keys.now 0) (sym c.in_ok-next.ensures.items) (made_none c.args.ring.now c.args.columns.now c.args.induced.now c.args.keys.now);
   numbered = c.requires.keys;
   shared = c.requires.products;
   idle = c.requires.idle;

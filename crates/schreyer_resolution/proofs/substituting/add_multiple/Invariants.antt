@@ -4,7 +4,7 @@ use Rattle.schreyer_resolution.proofs.substituting.add_multiple.Given as goal
 
 abbrev pub invariant-loop-entry : goal.invariant-loop-entry
 invariant-loop-entry l = record {
-  adds : AddsProduct l.modulus.value l.factor (take l.entry-index l.entries) l.fn.sums.items l.sums.items;
-  small : AreSmall l.sums.items;
-  marked : AreTouched l.touched.items l.sums.items;
+  adds : AddsProduct l.modulus.value l.factor (take l.entry-index l.entries) l.fn.sums l.sums;
+  small : AreSmall l.sums;
+  marked : AreTouched l.touched.items l.sums;
 }
